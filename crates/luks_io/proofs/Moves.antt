@@ -1,0 +1,45 @@
+-- The steps of the loops that move bytes piece by piece.
+use Rattle.std.proofs.Common.{◌≡◌, ℕ, ◌+◌, ◌-◌, ◌≤◌, List, ◌++◌, Option, None, Some, ◌∙◌, ap, sym, subst, take, drop, length, take_all, length-drop, length-take-le, arith}
+use Rattle.std.specs.Io.KnownBytes.{Appends, Consumes, Keeps}
+use Rattle.std.proofs.KnownBytes.{Consumes-trans, Appends-trans, Keeps-refl, Keeps-trans}
+use Rattle.std.proofs.Math.Seq.{take-add, take-append-add}
+use Rattle.std.proofs.lemmas.List.{take-append-le}
+use borrow.Rule.Slice.PartMut.{put_mid}
+
+-- the rest of a list, read as a range, is the rest
+rest_of : (xs : List ℕ) (at : ℕ) → take (length xs - at) (drop at xs) ≡ drop at xs
+rest_of xs at = take_all (length xs - at) (drop at xs) (omega (arith, length-drop at xs))
+
+-- the first bytes of a list went out, and then the next n
+pub Appends-next : (a b c : Option (List ℕ)) (xs : List ℕ) (at n : ℕ) → Appends a b (take at xs) → Appends b c (take n (take (length xs - at) (drop at xs)))
+    → Appends a c (take (at + n) xs)
+Appends-next a b c xs at n p q =
+    subst (Appends a c) (sym (take-add at n xs))
+    (Appends-trans a b c (take at xs) (take n (drop at xs)) p (subst (λ l. Appends b c (take n l)) (rest_of xs at) q))
+
+-- the first at bytes of a buffer stay, and its rest becomes ys
+front_of : (xs ys rest : List ℕ) (at n : ℕ) → at ≤ length xs → n ≤ length ys → take (at + n) (take at xs ++ (ys ++ rest)) ≡ take at xs ++ take n ys
+front_of xs ys rest at n within few =
+    ap (λ k. take (k + n) (take at xs ++ (ys ++ rest))) (sym (length-take-le at xs within)) ∙ take-append-add (take at xs) (ys ++ rest) n
+    ∙ ap (λ l. take at xs ++ l) (take-append-le n ys rest few)
+
+-- the first bytes of a buffer were consumed, and then n more were read behind them
+pub Consumes-next : (a b c : Option (List ℕ)) (xs ys : List ℕ) (at n : ℕ) → at ≤ length xs → n ≤ length ys → Consumes a b (take at xs) → Consumes b c (take n ys)
+    → Consumes a c (take (at + n) (put_mid at (length xs - at) xs ys))
+Consumes-next a b c xs ys at n within few p q =
+    subst (Consumes a c) (sym (front_of xs ys _ at n within few)) (Consumes-trans a b c (take at xs) (take n ys) p q)
+
+-- bytes that stayed as they were, and then
+pub Keeps-Consumes : (a b c : Option (List ℕ)) (xs : List ℕ) → Keeps a b → Consumes b c xs → Consumes a c xs
+Keeps-Consumes None b c xs p q = tt
+Keeps-Consumes (Some x) None c xs p q = absurd p
+Keeps-Consumes (Some x) (Some y) None xs p q = absurd q
+Keeps-Consumes (Some x) (Some y) (Some z) xs p q = sym p ∙ q
+
+pub Keeps-Appends : (a b c : Option (List ℕ)) (xs : List ℕ) → Keeps a b → Appends b c xs → Appends a c xs
+Keeps-Appends None b c xs p q = tt
+Keeps-Appends (Some x) None c xs p q = absurd p
+Keeps-Appends (Some x) (Some y) None xs p q = absurd q
+Keeps-Appends (Some x) (Some y) (Some z) xs p q = q ∙ ap (λ l. l ++ xs) p
+
+pub ruleset kept_bytes = (Keeps-refl, Keeps-trans, Keeps-Consumes, Keeps-Appends)

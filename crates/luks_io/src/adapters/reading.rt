@@ -1,0 +1,45 @@
+//! Sources over std's readers.
+
+ghost use Rattle.std.specs.Prelude.{◌≡◌};
+
+use super::{Answer, REPEATS, answer_of};
+use crate::DeviceFault;
+use crate::source::Source;
+use std::io::Read;
+
+/// A source over a reader. It tells the bytes that the reader tells.
+#[derive(Drop)]
+pub struct ReadSource<R> {
+    reader: R,
+    failures: u64,
+}
+
+impl<R: Read> ReadSource<R> {
+    /// A source over this reader, with no failure so far.
+    pub fn new(reader: R) -> ReadSource<R>
+        ensures bytes { ⟦<ReadSource<R> as Source>⟧.to_come result ≡ R.remaining reader }
+        ensures failures { ⟦<ReadSource<R> as Source>⟧.failures result ≡ 0 }
+    {
+        ReadSource {
+            reader,
+            failures: 0,
+        }
+    }
+}
+
+impl<R: Read> Source for ReadSource<R> {
+    ghost to_come = { λ s. R.remaining s.reader };
+
+    ghost failures = { λ s. s.failures };
+
+    fn read(&mut self, buf: &mut [u8]) -> Result<usize, DeviceFault> {
+        for _ in 0..=REPEATS {
+            match answer_of(self.reader.read(buf)) {
+                Answer::Moved(count) => return Ok(count),
+                Answer::Interrupted => {}
+                Answer::Failed => break,
+            }
+        }
+        Err(DeviceFault::counted(&mut self.failures))
+    }
+}

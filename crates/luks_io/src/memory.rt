@@ -1,0 +1,131 @@
+//! Sources and sinks over memory, which tell their bytes.
+
+ghost use Rattle.std.specs.Prelude.{◌≡◌, ◌+◌, ◌-◌, ◌<◌, ◌≤◌, ◌↔◌, ℕ, List, [], Some, length, take, drop, min, vec_len, IfOk, IsErr};
+ghost use Rattle.std.specs.Io.{ReadsAtMost};
+ghost use Rattle.std.specs.Io.KnownBytes.{ReadConsumes, WriteAppends};
+ghost use Rattle.luks_io.specs.Bytes.{CountsFailure, TakesSome};
+
+use crate::DeviceFault;
+use crate::sink::Sink;
+use crate::source::Source;
+use std::alloc::{AllocError, Global};
+use std::marker::Model;
+
+/// Reads from bytes in memory. No read of it fails. A clause sees the bytes that are left.
+#[derive(Drop)]
+pub struct MemSource<'a> {
+    left: &'a [u8],
+}
+
+impl<'a> Model for MemSource<'a> {
+    ghost Value = { List ℕ };
+
+    ghost view = { λ s. s.left.now };
+}
+
+impl<'a> MemSource<'a> {
+    /// A source of these bytes.
+    pub fn new(bytes: &'a [u8]) -> MemSource<'a>
+        ensures { result ≡ bytes.entry.now }
+    {
+        MemSource { left: bytes }
+    }
+
+    /// The bytes that no read has taken yet.
+    pub fn left(&self) -> &'a [u8]
+        ensures { result.now ≡ self.now }
+    {
+        self.left
+    }
+}
+
+impl<'a> Source for MemSource<'a> {
+    ghost to_come = { λ s. Some s };
+
+    ghost failures = { λ _. 0 };
+
+    /// Gives as many of the bytes that are left as the buffer has room for.
+    fn read(&mut self, buf: &mut [u8]) -> Result<usize, DeviceFault>
+        ensures bound { ReadsAtMost result buf.new }
+        ensures bytes { ReadConsumes (Some self.old) (Some self.new) result buf.new }
+        ensures counts { CountsFailure 0 0 result }
+        ensures count { IfOk result (λ n. n ≡ min (length buf.new) (length self.old)) }
+    {
+        let count = buf.len().min(self.left.len());
+        let (now, later) = self.left.split_at(count);
+        buf[..count].copy_from_slice(now);
+        self.left = later;
+        Ok(count)
+    }
+}
+
+/// Writes into memory that was taken beforehand. It takes what still fits; a write to a full one fails.
+#[derive(Drop)]
+pub struct MemSink {
+    bytes: Vec<u8>,
+    len: usize,
+    failures: u64,
+}
+
+impl Model for MemSink {
+    ghost use Rattle.std.specs.Prelude.{◌-◌, ◌≤◌, take, vec_len};
+    ghost use Rattle.luks_io.specs.Memory.{Held};
+
+    ghost Value = { Held };
+
+    ghost view = { λ s. record { written = take s.len s.bytes.items; room = vec_len s.bytes - s.len; failures = s.failures } };
+
+    ghost invariant = { λ s. s.len ≤ vec_len s.bytes };
+}
+
+impl MemSink {
+    /// An empty sink with room for so many bytes. All of it is taken here, and no write takes more.
+    pub fn new(alloc: Global, room: usize) -> Result<MemSink, AllocError>
+        ensures { IfOk result (λ s. s ≡ record { written = []; room = room; failures = 0 }) }
+    {
+        let bytes = vec![in alloc; 0; room]?;
+        Ok(MemSink {
+            bytes,
+            len: 0,
+            failures: 0,
+        })
+    }
+
+    /// The bytes that were written.
+    pub fn as_slice(&self) -> &[u8]
+        ensures { result.now ≡ self.now.written }
+    {
+        &self.bytes[..self.len]
+    }
+
+    /// How many writes failed.
+    pub fn failures(&self) -> u64
+        ensures { result ≡ self.now.failures }
+    {
+        self.failures
+    }
+}
+
+impl Sink for MemSink {
+    ghost written = { λ s. Some s.written };
+
+    ghost failures = { λ s. s.failures };
+
+    /// Takes as many of the bytes as still fit. It fails only where there are some and none fits.
+    fn write(&mut self, buf: &[u8]) -> Result<usize, DeviceFault>
+        ensures bound { TakesSome result buf.now }
+        ensures bytes { WriteAppends (Some self.old.written) (Some self.new.written) result buf.now }
+        ensures counts { CountsFailure self.old.failures self.new.failures result }
+        ensures count { IfOk result (λ n. n ≡ min (length buf.now) self.old.room) }
+        ensures room { IfOk result (λ n. self.new.room ≡ self.old.room - n) }
+        ensures full { IsErr result ↔ ((self.old.room ≡ 0) × (0 < length buf.now)) }
+    {
+        let fitting = buf.len().min(self.bytes.len() - self.len);
+        if fitting == 0 && !buf.is_empty() {
+            return Err(DeviceFault::counted(&mut self.failures));
+        }
+        self.bytes[self.len..self.len + fitting].copy_from_slice(&buf[..fitting]);
+        self.len += fitting;
+        Ok(fitting)
+    }
+}

@@ -1,0 +1,48 @@
+//! What takes bytes.
+
+ghost use Rattle.std.specs.Prelude.{◌≡◌, ◌<◌, ◌≤◌, ℕ, List, Option, length, take, OnOk, IfErr};
+ghost use Rattle.std.specs.Io.KnownBytes.{Appends, WriteAppends};
+ghost use Rattle.luks_io.specs.Bytes.{CountsFailure, TakesSome};
+
+use crate::DeviceFault;
+
+/// Takes bytes, each call's behind those of the calls before.
+pub trait Sink {
+    /// The bytes that were written, where the sink tells them.
+    ghost written: { Self → Option (List ℕ) };
+
+    /// How many writes have failed. It stays at its greatest value.
+    ghost failures: { Self → ℕ };
+
+    /// Writes a beginning of the buffer, and answers its length: at least one byte where there are any.
+    /// A failure writes nothing.
+    fn write(&mut self, buf: &[u8]) -> Result<usize, DeviceFault>
+        ensures bound { TakesSome result buf.now }
+        ensures bytes { WriteAppends (written self.old) (written self.new) result buf.now }
+        ensures counts { CountsFailure (failures self.old) (failures self.new) result };
+}
+
+/// A write failed after `written` bytes.
+#[derive(Clone, Copy, Debug, PartialEq, Eq)]
+pub struct WriteFault {
+    pub written: usize,
+}
+
+/// Writes all the bytes.
+///
+/// A [`WriteFault`] says that a write failed, and that exactly the first `written` bytes went out before.
+pub fn put_all<S: Sink>(sink: &mut S, bytes: &[u8]) -> Result<(), WriteFault>
+    ensures ok { OnOk result (Appends (S.written sink.old) (S.written sink.new) bytes.now) }
+    ensures err { IfErr result (λ fault. (fault.written < length bytes.now)
+        × Appends (S.written sink.old) (S.written sink.new) (take fault.written bytes.now)) }
+    ensures counts { CountsFailure (S.failures sink.old) (S.failures sink.new) result }
+{
+    let mut at = 0;
+    while at < bytes.len() {
+        match sink.write(&bytes[at..]) {
+            Ok(n) => at += n,
+            Err(DeviceFault) => return Err(WriteFault { written: at }),
+        }
+    }
+    Ok(())
+}

@@ -1,0 +1,173 @@
+//! What no clause says: that calls can succeed, how often an interruption is waited for, and devices that fail.
+
+ghost use Rattle.std.specs.Prelude.{◌≤◌, IfOk};
+
+use crate::DeviceFault;
+use crate::adapters::{ReadSource, WriteSink};
+use crate::memory::{MemSink, MemSource};
+use crate::sink::{Sink, WriteFault, put_all};
+use crate::source::{ReadFault, Source, fill};
+use std::io::{self, ErrorKind, Read, Write};
+use std::process::Abort;
+use std::test::Fail;
+
+/// A reader and a writer that is interrupted so many times, and then moves at most `piece` bytes a call,
+/// each of them 7. It refuses for good once `left` calls moved bytes.
+#[derive(Drop)]
+struct Device {
+    interruptions: u32,
+    piece: usize,
+    left: u32,
+}
+
+impl Device {
+    fn answer(&mut self, room: usize) -> io::Result<usize>
+        ensures { IfOk result (λ n. n ≤ room) }
+    {
+        if self.interruptions > 0 {
+            self.interruptions -= 1;
+            return Err(io::Error::from(ErrorKind::Interrupted));
+        }
+        if self.left == 0 {
+            return Err(io::Error::from(ErrorKind::Other));
+        }
+        self.left -= 1;
+        Ok(self.piece.min(room))
+    }
+}
+
+impl Read for Device {
+    fn read(&mut self, buf: &mut [u8]) -> io::Result<usize> {
+        let count = self.answer(buf.len())?;
+        for byte in buf[..count].iter_mut() {
+            *byte = 7;
+        }
+        Ok(count)
+    }
+}
+
+impl Write for Device {
+    fn write(&mut self, buf: &[u8]) -> io::Result<usize> {
+        self.answer(buf.len())
+    }
+
+    fn flush(&mut self) -> io::Result<()> {
+        self.answer(1).map(|_| ())
+    }
+}
+
+fn make_device(interruptions: u32, piece: usize, left: u32) -> Device {
+    Device {
+        interruptions,
+        piece,
+        left,
+    }
+}
+
+#[test]
+fn reads_wait_for_a_hundred_interruptions(rt: HostRuntime) {
+    let mut buf = [0u8; 4];
+    assert_eq!(rt;
+        ReadSource::new(make_device(100, 3, 9)).read(&mut buf),
+        Ok(3)
+    );
+    assert_eq!(rt; buf, [7, 7, 7, 0]);
+    assert_eq!(rt;
+        ReadSource::new(make_device(101, 3, 9)).read(&mut buf),
+        Err(DeviceFault)
+    );
+}
+
+#[test]
+fn writes_wait_for_a_hundred_interruptions(rt: HostRuntime) {
+    assert_eq!(rt;
+        WriteSink::new(make_device(100, 3, 9)).write(b"abcde"),
+        Ok(3)
+    );
+    assert_eq!(rt;
+        WriteSink::new(make_device(101, 3, 9)).write(b"abcde"),
+        Err(DeviceFault)
+    );
+    assert_eq!(rt; WriteSink::new(make_device(100, 3, 9)).flush(), Ok(()));
+    assert_eq!(rt;
+        WriteSink::new(make_device(101, 3, 9)).flush(),
+        Err(DeviceFault)
+    );
+    assert_eq!(rt;
+        WriteSink::new(make_device(0, 3, 0)).flush(),
+        Err(DeviceFault)
+    );
+}
+
+#[test]
+fn the_end_is_no_failure(rt: HostRuntime) {
+    let mut buf = [0u8; 4];
+    assert_eq!(rt; ReadSource::new(make_device(0, 0, 9)).read(&mut buf), Ok(0));
+    assert_eq!(rt;
+        fill(&mut ReadSource::new(make_device(0, 0, 9)), &mut buf),
+        Ok(0)
+    );
+}
+
+#[test]
+fn a_write_of_nothing_is_a_failure(rt: HostRuntime) {
+    assert_eq!(rt;
+        WriteSink::new(make_device(0, 0, 9)).write(b"a"),
+        Err(DeviceFault)
+    );
+    assert_eq!(rt; WriteSink::new(make_device(0, 0, 0)).write(b""), Ok(0));
+}
+
+#[test]
+fn a_fault_tells_how_far_it_came(rt: HostRuntime) {
+    let mut buf = [0u8; 8];
+    assert_eq!(rt;
+        fill(&mut ReadSource::new(make_device(0, 3, 9)), &mut buf),
+        Ok(8)
+    );
+    assert_eq!(rt;
+        fill(&mut ReadSource::new(make_device(0, 3, 2)), &mut buf),
+        Err(ReadFault { got: 6 })
+    );
+    assert_eq!(rt;
+        put_all(&mut WriteSink::new(make_device(0, 3, 3)), b"abcdefgh"),
+        Ok(())
+    );
+    assert_eq!(rt;
+        put_all(&mut WriteSink::new(make_device(0, 3, 2)), b"abcdefgh"),
+        Err(WriteFault { written: 6 })
+    );
+}
+
+#[test]
+fn readers_of_std_are_sources(rt: HostRuntime) {
+    let bytes: &[u8] = b"0123456789";
+    let mut source = ReadSource::new(bytes);
+    let mut buf = [0u8; 6];
+    assert_eq!(rt; fill(&mut source, &mut buf), Ok(6));
+    assert_eq!(rt; buf.as_slice(), b"012345".as_slice());
+    assert_eq!(rt; fill(&mut source, &mut buf), Ok(4));
+    assert_eq!(rt; buf.as_slice(), b"678945".as_slice());
+}
+
+fn check_memory(rt: &(impl Abort + AllocGlobal)) -> Result<(), Fail> {
+    let mut source = MemSource::new(b"0123456789");
+    let mut buf = [0u8; 6];
+    assert_eq!(rt; fill(&mut source, &mut buf), Ok(6));
+    assert_eq!(rt; source.left(), b"6789".as_slice());
+
+    let mut sink = MemSink::new(rt.alloc(), 8)?;
+    assert_eq!(rt; put_all(&mut sink, &buf), Ok(()));
+    assert_eq!(rt; put_all(&mut sink, &buf), Err(WriteFault { written: 2 }));
+    assert_eq!(rt; sink.as_slice(), b"01234501".as_slice());
+    assert_eq!(rt; sink.failures(), 1);
+    assert_eq!(rt; sink.write(b""), Ok(0));
+    assert_eq!(rt; sink.write(b"a"), Err(DeviceFault));
+    assert_eq!(rt; sink.failures(), 2);
+    Ok(())
+}
+
+#[test]
+fn memory_gives_and_takes(rt: HostRuntime) -> Result<(), Fail> {
+    check_memory(&rt)
+}
