@@ -1,7 +1,7 @@
 -- The steps of the loops that move bytes piece by piece.
-use Rattle.std.proofs.Common.{◌≡◌, ℕ, ◌+◌, ◌-◌, ◌≤◌, List, ◌++◌, Option, None, Some, ◌∙◌, ap, sym, subst, take, drop, length, take_all, length-drop, length-take-le, arith}
-use Rattle.std.specs.Io.KnownBytes.{Appends, Consumes, Keeps}
-use Rattle.std.proofs.KnownBytes.{Consumes-trans, Appends-trans, Keeps-refl, Keeps-trans}
+use Rattle.std.proofs.Common.{◌≡◌, ℕ, ◌+◌, ◌-◌, ◌≤◌, List, ◌++◌, Option, ◌∙◌, ap, sym, subst, take, drop, length, take_all, length-drop, length-take-le, arith}
+use Rattle.std.specs.Io.KnownBytes.{Appends, Consumes}
+use Rattle.std.proofs.KnownBytes.{Consumes-trans, Appends-trans}
 use Rattle.std.proofs.Math.Seq.{take-add, take-append-add}
 use Rattle.std.proofs.lemmas.List.{take-append-le}
 use borrow.Rule.Slice.PartMut.{put_mid}
@@ -28,18 +28,3 @@ pub Consumes-next : (a b c : Option (List ℕ)) (xs ys : List ℕ) (at n : ℕ) 
     → Consumes a c (take (at + n) (put_mid at (length xs - at) xs ys))
 Consumes-next a b c xs ys at n within few p q =
     subst (Consumes a c) (sym (front_of xs ys _ at n within few)) (Consumes-trans a b c (take at xs) (take n ys) p q)
-
--- bytes that stayed as they were, and then
-pub Keeps-Consumes : (a b c : Option (List ℕ)) (xs : List ℕ) → Keeps a b → Consumes b c xs → Consumes a c xs
-Keeps-Consumes None b c xs p q = tt
-Keeps-Consumes (Some x) None c xs p q = absurd p
-Keeps-Consumes (Some x) (Some y) None xs p q = absurd q
-Keeps-Consumes (Some x) (Some y) (Some z) xs p q = sym p ∙ q
-
-pub Keeps-Appends : (a b c : Option (List ℕ)) (xs : List ℕ) → Keeps a b → Appends b c xs → Appends a c xs
-Keeps-Appends None b c xs p q = tt
-Keeps-Appends (Some x) None c xs p q = absurd p
-Keeps-Appends (Some x) (Some y) None xs p q = absurd q
-Keeps-Appends (Some x) (Some y) (Some z) xs p q = q ∙ ap (λ l. l ++ xs) p
-
-pub ruleset kept_bytes = (Keeps-refl, Keeps-trans, Keeps-Consumes, Keeps-Appends)

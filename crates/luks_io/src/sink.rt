@@ -1,8 +1,8 @@
 //! What takes bytes.
 
 ghost use Rattle.std.specs.Prelude.{◌≡◌, ◌<◌, ◌≤◌, ℕ, List, Option, length, take, OnOk, IfErr};
-ghost use Rattle.std.specs.Io.KnownBytes.{Appends, WriteAppends};
-ghost use Rattle.luks_io.specs.Bytes.{CountsFailure, TakesSome};
+ghost use Rattle.std.specs.Io.KnownBytes.{WriteAppends};
+ghost use Rattle.luks_io.specs.Bytes.{Adds, CountsFailure, TakesSome};
 
 use crate::DeviceFault;
 
@@ -32,9 +32,9 @@ pub struct WriteFault {
 ///
 /// A [`WriteFault`] says that a write failed, and that exactly the first `written` bytes went out before.
 pub fn put_all<S: Sink>(sink: &mut S, bytes: &[u8]) -> Result<(), WriteFault>
-    ensures ok { OnOk result (Appends (S.written sink.old) (S.written sink.new) bytes.now) }
+    ensures ok { OnOk result (Adds (S.written sink.old) (S.written sink.new) bytes.now) }
     ensures err { IfErr result (λ fault. (fault.written < length bytes.now)
-        × Appends (S.written sink.old) (S.written sink.new) (take fault.written bytes.now)) }
+        × Adds (S.written sink.old) (S.written sink.new) (take fault.written bytes.now)) }
     ensures counts { CountsFailure (S.failures sink.old) (S.failures sink.new) result }
 {
     let mut at = 0;

@@ -1,9 +1,9 @@
 //! What gives bytes.
 
-ghost use Rattle.std.specs.Prelude.{◌≡◌, ◌<◌, ◌≤◌, ℕ, List, Option, length, take, IfOk, IfErr, MatchResult};
+ghost use Rattle.std.specs.Prelude.{◌≡◌, ◌<◌, ◌≤◌, ℕ, List, Option, length, take, IfOk, IfErr};
 ghost use Rattle.std.specs.Io.{ReadsAtMost};
-ghost use Rattle.std.specs.Io.KnownBytes.{Consumes, IsAtEnd, ReadConsumes};
-ghost use Rattle.luks_io.specs.Bytes.{CountsFailure};
+ghost use Rattle.std.specs.Io.KnownBytes.{ReadConsumes};
+ghost use Rattle.luks_io.specs.Bytes.{CountsFailure, GivesAll, TakesNext};
 
 use crate::DeviceFault;
 
@@ -34,11 +34,11 @@ pub struct ReadFault {
 ///
 /// A [`ReadFault`] says how many bytes were consumed before a read failed. They stand in front.
 pub fn fill<S: Source>(source: &mut S, buf: &mut [u8]) -> Result<usize, ReadFault>
-    ensures bound { MatchResult result (λ n. n ≤ length buf.new) (λ fault. fault.got < length buf.new) }
-    ensures bytes { MatchResult result
-        (λ n. Consumes (S.to_come source.old) (S.to_come source.new) (take n buf.new))
-        (λ fault. Consumes (S.to_come source.old) (S.to_come source.new) (take fault.got buf.new)) }
-    ensures end { IfOk result (λ n. n < length buf.new → IsAtEnd (S.to_come source.new)) }
+    ensures ok { IfOk result (λ count. (count ≤ length buf.new)
+        × TakesNext (S.to_come source.old) (S.to_come source.new) count (take count buf.new)) }
+    ensures end { IfOk result (GivesAll (S.to_come source.old) (length buf.new)) }
+    ensures err { IfErr result (λ fault. (fault.got < length buf.new)
+        × TakesNext (S.to_come source.old) (S.to_come source.new) fault.got (take fault.got buf.new)) }
     ensures counts { CountsFailure (S.failures source.old) (S.failures source.new) result }
 {
     let mut at = 0;

@@ -1,0 +1,5 @@
+pub mod Bytes
+pub mod Hash
+pub mod Hmac
+pub mod Pbkdf2
+pub mod Stripes
