@@ -1,0 +1,47 @@
+//! What the commands do.
+
+ghost use Rattle.std.specs.Prelude.{◌≡◌, ◌≢◌};
+ghost use Rattle.luks_cli.specs.Command.{request_of};
+ghost use Rattle.luks_cli.specs.Outcome.{outcome_of};
+ghost use Rattle.luks_cli.specs.Report.{report_of};
+ghost use Rattle.luks_cli.specs.Run.{Bytes, Counts, Runs, TakesNoMemory, Tell, prompt_of};
+
+use crate::command::Command;
+use crate::message::Message;
+use crate::report::Report;
+use luks_io::sink::Sink;
+use luks_io::source::Source;
+use std::alloc::Global;
+
+mod stripes;
+
+/// Runs a command over its first input, its second one and the output.
+///
+/// What is written, told and taken of both inputs is one function of the command and of the bytes that the inputs give.
+/// Where memory is refused or a read or a write fails, what was written is a beginning of that output, and no input was
+/// taken further than stated; a failed read or write is told exactly where one failed.
+pub fn execute<I: Source, K: Source, O: Sink>(
+    _alloc: Global,
+    command: &Command<'_>,
+    image: &mut I,
+    secret: &mut K,
+    out: &mut O,
+) -> Report
+    ensures run { (before : Bytes) → Tell (I.to_come image.old) (K.to_come secret.old) (O.written out.old) before →
+        Runs (prompt_of (request_of command.now) before) (outcome_of (request_of command.now) before.image before.secret) before
+            result.message (I.to_come image.new) (K.to_come secret.new) (O.written out.new) }
+    ensures status { result ≡ report_of result.message }
+    ensures memory { TakesNoMemory (request_of command.now) → result.message ≢ Message.OutOfMemory }
+    ensures counts { Counts result.message
+        (record { image = I.failures image.old; secret = K.failures secret.old; written = O.failures out.old })
+        (record { image = I.failures image.new; secret = K.failures secret.new; written = O.failures out.new }) }
+{
+    let done = match command {
+        Command::AfSplit(splitting) => stripes::split(splitting, image, secret, out),
+        Command::AfMerge(merging) => stripes::merge(merging, image, out),
+    };
+    match done {
+        Ok(()) => Report::of(Message::Done),
+        Err(message) => Report::of(message),
+    }
+}

@@ -1,0 +1,192 @@
+//! `afSplit` and `afMerge`: keys and the stripes that hold them.
+
+ghost use Rattle.std.specs.Prelude.{◌≡◌, ◌≢◌, ◌*◌, ◌≤◌, ◌⊎◌, List, ℕ, [], Some, Option, IfOk, IfErr, OnOk, length, take};
+ghost use Rattle.luks_kdf.specs.Stripes.{chain_after};
+ghost use Rattle.luks_cli.specs.Run.{count_reads, count_writes, ending_of};
+ghost use Rattle.luks_cli.specs.Run.{Bytes, Counts, Runs, Tell, none_owed};
+ghost use Rattle.luks_cli.specs.Outcome.{merge_outcome, split_outcome};
+ghost use Rattle.luks_cli.specs.Stripe.{NoKeyRead, Passed, StopsPassing, StopsTaking, Taken, split_promptly};
+
+use crate::command::{Merging, Splitting};
+use crate::message::Message;
+use luks_io::sink::{Sink, put_all};
+use luks_io::source::{Source, fill};
+use luks_kdf::{AfSplitter, Hash};
+
+/// The length of the longest key.
+const LONGEST_KEY: usize = 512;
+
+/// Reads a key, which is all that the source gives, into the front of the buffer. Answers its length.
+/// The buffer has room for one byte more than the longest key.
+fn read_key<S: Source>(source: &mut S, buf: &mut [u8]) -> Result<usize, Message>
+    requires { length buf.old ≡ 513 }
+    ensures length { IfOk result (λ len. (1 ≤ len) × (len ≤ 512)) }
+    ensures key { IfOk result (λ len. (key : List ℕ) → S.to_come source.old ≡ Some key →
+        (take len buf.new ≡ key) × (S.to_come source.new ≡ Some [])) }
+    ensures err { IfErr result (λ message. (key : List ℕ) → S.to_come source.old ≡ Some key →
+        NoKeyRead key (S.to_come source.new) message) }
+    ensures only { IfErr result (λ message. (message ≡ Message.KeyLength) ⊎ (message ≡ Message.ReadFailed)) }
+    ensures reads { S.failures source.new ≡ count_reads (ending_of result) (S.failures source.old) }
+{
+    let len = fill(source, buf)?;
+    if len == 0 || len > LONGEST_KEY {
+        return Err(Message::KeyLength);
+    }
+    Ok(len)
+}
+
+/// Writes so many random stripes, each as it is whole, and answers the splitter that has taken them.
+fn pass_stripes<R: Source, O: Sink>(
+    hash: Hash,
+    count: usize,
+    stripe: &mut [u8],
+    random: &mut R,
+    out: &mut O,
+) -> Result<AfSplitter, Message>
+    requires some { 1 ≤ length stripe.old }
+    requires room { length stripe.old ≤ 512 }
+    requires few { count ≤ 4000 }
+    ensures len { IfOk result (λ splitter. length splitter.block ≡ length stripe.new) }
+    ensures ok { IfOk result (λ splitter. (bytes before : List ℕ) → R.to_come random.old ≡ Some bytes → O.written out.old ≡ Some before →
+        (splitter ≡ chain_after hash (length stripe.new) bytes count)
+        × Passed bytes before (R.to_come random.new) (O.written out.new) (count * length stripe.new) (count * length stripe.new)) }
+    ensures err { IfErr result (λ message. (bytes before : List ℕ) → R.to_come random.old ≡ Some bytes → O.written out.old ≡ Some before →
+        StopsPassing count (length stripe.new) bytes before (R.to_come random.new) (O.written out.new) message) }
+    ensures memory { IfErr result (λ message. message ≢ Message.OutOfMemory) }
+    ensures reads { R.failures random.new ≡ count_reads (ending_of result) (R.failures random.old) }
+    ensures writes { O.failures out.new ≡ count_writes (ending_of result) (O.failures out.old) }
+{
+    let mut splitter = AfSplitter::new(hash, stripe.len());
+    'stripes: for _ in 0..count {
+        if fill(random, stripe)? < stripe.len() {
+            return Err(Message::FewRandomBytes);
+        }
+        put_all(out, stripe)?;
+        splitter.stripe(stripe);
+    }
+    Ok(splitter)
+}
+
+/// Splits the key that the first source gives into stripes, the random ones first. The buffers are for the key, with a byte
+/// more than the longest has, and for one stripe.
+fn write_split<K: Source, R: Source, O: Sink>(
+    splitting: &Splitting<'_>,
+    key_buf: &mut [u8],
+    stripe_buf: &mut [u8],
+    key: &mut K,
+    random: &mut R,
+    out: &mut O,
+) -> Result<(), Message>
+    requires key_room { length key_buf.old ≡ 513 }
+    requires stripe_room { length stripe_buf.old ≡ 512 }
+    ensures run { (before : Bytes) → Tell (K.to_come key.old) (R.to_come random.old) (O.written out.old) before →
+        Runs (split_promptly (length before.image)) (split_outcome splitting.now.hash splitting.now.stripes.number before.image before.secret) before
+            (ending_of result) (K.to_come key.new) (R.to_come random.new) (O.written out.new) }
+    ensures memory { IfErr result (λ message. message ≢ Message.OutOfMemory) }
+    ensures counts { Counts (ending_of result)
+        (record { image = K.failures key.old; secret = R.failures random.old; written = O.failures out.old })
+        (record { image = K.failures key.new; secret = R.failures random.new; written = O.failures out.new }) }
+{
+    let len = read_key(key, key_buf)?;
+    let stripe = &mut stripe_buf[..len];
+    let splitter = pass_stripes(splitting.hash, splitting.stripes.get() - 1, stripe, random, out)?;
+    splitter.last(&key_buf[..len], stripe);
+    put_all(out, stripe)?;
+    Ok(())
+}
+
+/// Takes so many stripes, one at a time, and answers the splitter that has taken them.
+fn take_stripes<S: Source>(
+    hash: Hash,
+    count: usize,
+    stripe: &mut [u8],
+    stripes: &mut S,
+) -> Result<AfSplitter, Message>
+    requires some { 1 ≤ length stripe.old }
+    requires room { length stripe.old ≤ 512 }
+    ensures len { IfOk result (λ splitter. length splitter.block ≡ length stripe.new) }
+    ensures ok { IfOk result (λ splitter. (bytes : List ℕ) → S.to_come stripes.old ≡ Some bytes →
+        (splitter ≡ chain_after hash (length stripe.new) bytes count) × Taken bytes (S.to_come stripes.new) (count * length stripe.new)) }
+    ensures err { IfErr result (λ message. (bytes : List ℕ) → S.to_come stripes.old ≡ Some bytes →
+        StopsTaking count (length stripe.new) bytes (S.to_come stripes.new) message) }
+    ensures only { IfErr result (λ message. (message ≡ Message.FewStripes) ⊎ (message ≡ Message.ReadFailed)) }
+    ensures reads { S.failures stripes.new ≡ count_reads (ending_of result) (S.failures stripes.old) }
+{
+    let mut splitter = AfSplitter::new(hash, stripe.len());
+    'stripes: for _ in 0..count {
+        if fill(stripes, stripe)? < stripe.len() {
+            return Err(Message::FewStripes);
+        }
+        splitter.stripe(stripe);
+    }
+    Ok(splitter)
+}
+
+/// Merges the stripes that the source gives first into their key, and writes it.
+fn write_merged<S: Source, O: Sink>(
+    merging: &Merging<'_>,
+    stripe_buf: &mut [u8],
+    key_buf: &mut [u8],
+    stripes: &mut S,
+    out: &mut O,
+) -> Result<(), Message>
+    requires stripe_room { length stripe_buf.old ≡ 512 }
+    requires key_room { length key_buf.old ≡ 512 }
+    ensures run { (secret : Option (List ℕ)) (before : Bytes) → Tell (S.to_come stripes.old) secret (O.written out.old) before →
+        Runs none_owed (merge_outcome merging.now.hash merging.now.stripes.number merging.now.key_bytes.number before.image) before
+            (ending_of result) (S.to_come stripes.new) secret (O.written out.new) }
+    ensures memory { IfErr result (λ message. message ≢ Message.OutOfMemory) }
+    ensures counts { (secret : ℕ) → Counts (ending_of result)
+        (record { image = S.failures stripes.old; secret = secret; written = O.failures out.old })
+        (record { image = S.failures stripes.new; secret = secret; written = O.failures out.new }) }
+{
+    let len = merging.key_bytes.get();
+    let stripe = &mut stripe_buf[..len];
+    let key = &mut key_buf[..len];
+    let splitter = take_stripes(merging.hash, merging.stripes.get() - 1, stripe, stripes)?;
+    if fill(stripes, stripe)? < len {
+        return Err(Message::FewStripes);
+    }
+    splitter.last(stripe, key);
+    put_all(out, key)?;
+    Ok(())
+}
+
+/// `afSplit`.
+pub(super) fn split<K: Source, R: Source, O: Sink>(
+    splitting: &Splitting<'_>,
+    key: &mut K,
+    random: &mut R,
+    out: &mut O,
+) -> Result<(), Message>
+    ensures run { (before : Bytes) → Tell (K.to_come key.old) (R.to_come random.old) (O.written out.old) before →
+        Runs (split_promptly (length before.image)) (split_outcome splitting.now.hash splitting.now.stripes.number before.image before.secret) before
+            (ending_of result) (K.to_come key.new) (R.to_come random.new) (O.written out.new) }
+    ensures memory { IfErr result (λ message. message ≢ Message.OutOfMemory) }
+    ensures counts { Counts (ending_of result)
+        (record { image = K.failures key.old; secret = R.failures random.old; written = O.failures out.old })
+        (record { image = K.failures key.new; secret = R.failures random.new; written = O.failures out.new }) }
+{
+    let mut key_buf = [0; LONGEST_KEY + 1];
+    let mut stripe_buf = [0; LONGEST_KEY];
+    write_split(splitting, &mut key_buf, &mut stripe_buf, key, random, out)
+}
+
+/// `afMerge`.
+pub(super) fn merge<S: Source, O: Sink>(
+    merging: &Merging<'_>,
+    stripes: &mut S,
+    out: &mut O,
+) -> Result<(), Message>
+    ensures run { (secret : Option (List ℕ)) (before : Bytes) → Tell (S.to_come stripes.old) secret (O.written out.old) before →
+        Runs none_owed (merge_outcome merging.now.hash merging.now.stripes.number merging.now.key_bytes.number before.image) before
+            (ending_of result) (S.to_come stripes.new) secret (O.written out.new) }
+    ensures memory { IfErr result (λ message. message ≢ Message.OutOfMemory) }
+    ensures counts { (secret : ℕ) → Counts (ending_of result)
+        (record { image = S.failures stripes.old; secret = secret; written = O.failures out.old })
+        (record { image = S.failures stripes.new; secret = secret; written = O.failures out.new }) }
+{
+    let mut stripe_buf = [0; LONGEST_KEY];
+    let mut key_buf = [0; LONGEST_KEY];
+    write_merged(merging, &mut stripe_buf, &mut key_buf, stripes, out)
+}

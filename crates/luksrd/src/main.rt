@@ -1,0 +1,83 @@
+//! `luksrd`: reads the words, opens the inputs, runs the command, and tells how it ended.
+//!
+//! Everything that can be said of a run is said by `luks_cli`'s `plan` and `execute`; here are only the devices.
+#![tactic(auto)]
+
+mod input;
+
+use input::{Input, OpenFault};
+use luks_cli::command::{Command, plan};
+use luks_cli::execute::execute;
+use luks_cli::message::Message;
+use luks_cli::report::Report;
+use luks_io::adapters::{ReadSource, WriteSink};
+use std::env;
+use std::io::{BufWriter, ErrorKind};
+use std::process::ExitCode;
+
+/// How many bytes of a file are read, and of the output written, at once.
+const BUFFER: usize = 65536;
+
+fn main(rt: HostRuntime) -> ExitCode {
+    let words = match env::args(&rt) {
+        Ok(words) => words,
+        Err(e) if e.kind() == ErrorKind::OutOfMemory => return tell(&rt, Message::OutOfMemory),
+        Err(_) => return tell(&rt, Message::Usage),
+    };
+    let Ok(words) = words.skip(1).collect::<Vec<String>>(rt.alloc()) else {
+        return tell(&rt, Message::OutOfMemory);
+    };
+    match plan(rt.alloc(), words.as_slice()) {
+        Ok(command) => run(&rt, &command),
+        Err(fault) => tell_report(&rt, &Report::of_fault(fault)),
+    }
+}
+
+/// Opens the inputs, the image first, and runs the command over them.
+fn run(rt: &HostRuntime, command: &Command<'_>) -> ExitCode {
+    let image = match Input::open(rt, command.image()) {
+        Ok(image) => image,
+        Err(fault) => return tell_fault(rt, fault, command.image()),
+    };
+    let secret = match command.secret() {
+        None => Input::Empty,
+        Some(name) => match Input::open(rt, name) {
+            Ok(secret) => secret,
+            Err(fault) => return tell_fault(rt, fault, name),
+        },
+    };
+    let Ok(writer) = BufWriter::with_capacity(rt.alloc(), BUFFER, rt.stdout()) else {
+        return tell(rt, Message::OutOfMemory);
+    };
+    let mut out = WriteSink::new(writer);
+    let mut image = ReadSource::new(image);
+    let mut secret = ReadSource::new(secret);
+    let report = execute(rt.alloc(), command, &mut image, &mut secret, &mut out);
+    if out.flush().is_err() {
+        return tell(rt, Message::WriteFailed);
+    }
+    tell_report(rt, &report)
+}
+
+/// Tells that an input was not opened.
+fn tell_fault(rt: &impl Eprint, fault: OpenFault, name: &str) -> ExitCode {
+    match fault {
+        OpenFault::Memory => tell(rt, Message::OutOfMemory),
+        OpenFault::NotOpened => {
+            let _ = eprintln!(rt; "luksrd: cannot open {name}");
+            ExitCode::from(4)
+        }
+    }
+}
+
+/// Tells how a run ended.
+fn tell(rt: &impl Eprint, message: Message) -> ExitCode {
+    tell_report(rt, &Report::of(message))
+}
+
+/// Prints the message of a report and gives its status. Where the message can't be printed there is nobody to tell.
+fn tell_report(rt: &impl Eprint, report: &Report) -> ExitCode {
+    let message = report.message;
+    let _ = eprint!(rt; "{message}");
+    ExitCode::from(report.status)
+}
