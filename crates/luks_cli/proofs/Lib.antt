@@ -1,5 +1,5 @@
 pub mod GrammarLemmas
-pub mod NumberLemmas
 pub mod MergeLemmas
+pub mod NumberLemmas
 pub mod SplitLemmas
 pub mod StripeLemmas

@@ -99,7 +99,7 @@ may_pass h count key random j taken written some within there below fits few =
             within = within;
             fits = omega (arith, length-append (take needed random) (xor (chain_of h (length key) (take needed random) (count - 1)) key));
             begins = take-append-le written (take needed random) (xor (chain_of h (length key) (take needed random) (count - 1)) key) (omega arith)
-              ∙ take-take written needed random (omega arith);
+                ∙ take-take written needed random (omega arith);
           })
     ]
 
@@ -162,11 +162,14 @@ module _ (h : Hash) (count : ℕ) (before : Bytes) (k r w : Option (List ℕ)) (
     pub runs_to_end : Adds w w' last → Completes (split_outcome h count before.image before.secret) before Done k r w'
     runs_to_end a =
         rw (key_allowed h count before.image before.secret some room, random_enough h count before.image before.secret p.there)
-        (record { told = refl; left = record {
-          image = key_gone;
-          secret = p.left;
-          written = a _ p.output ∙ ap Some (append_assoc before.written _ last ∙ ap (λ l. before.written ++ (take ((count - 1) * length before.image) before.secret ++ l)) last_is);
-        } })
+        (record {
+          told = refl;
+          left = record {
+            image = key_gone;
+            secret = p.left;
+            written = a _ p.output ∙ ap Some (append_assoc before.written _ last ∙ ap (λ l. before.written ++ (take ((count - 1) * length before.image) before.secret ++ l)) last_is);
+          };
+        })
 
     -- a write failed within it
     pub runs_without_last : (n : ℕ) → n < length last → length last ≡ length before.image → Adds w w' (take n last)

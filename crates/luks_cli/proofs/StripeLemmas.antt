@@ -57,9 +57,14 @@ module _ (random before : List ℕ) (i len : ℕ) (r w : Option (List ℕ)) (p :
       let next = taken_more random before (i * len) len r w r' (take len stripe) p t in
       let is : take k stripe ≡ take k (drop (i * len) random) =
       ap (take k) (sym (take_all len stripe (omega arith)) ∙ next.1) ∙ take-take k len (drop (i * len) random) (omega arith) in
-      let more : (i + 1) * len ≡ i * len + len = omega arith in
-      (i, i * len + k, below, omega arith, omega arith,
-      rw more (record { there = next.0; left = next.2; output = written_more random before (i * len) k r w w' (take k stripe) p a is }))
+      let more : (i + 1) * len ≡ i * len + len = omega arith in (
+        i,
+        i * len + k,
+        below,
+        omega arith,
+        omega arith,
+        rw more (record { there = next.0; left = next.2; output = written_more random before (i * len) k r w w' (take k stripe) p a is }),
+      )
 
   -- the stripe that was taken is the next one
   pub stripe_taken : (r' : Option (List ℕ)) (stripe : List ℕ) → length stripe ≡ len → TakesNext r r' len (take len stripe) → stripe ≡ stripe_at len random i

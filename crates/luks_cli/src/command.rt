@@ -6,13 +6,13 @@ ghost use Rattle.luks_cli.specs.Command.{command_of, fault_for, reads_standard_t
 ghost use Rattle.luks_cli.specs.Command.{hash_in, key_bytes_in, request_of, stripes_in};
 ghost use Rattle.luks_cli.specs.Command.{subcommand_in, text_in};
 
-pub use number::{KeyBytes, StripeCount};
-pub use usage::USAGE;
-
-use clap::{ArgMatches, error::ErrorKind};
+use clap::ArgMatches;
+use clap::error::ErrorKind;
 use luks_kdf::Hash;
+pub use number::{KeyBytes, StripeCount};
 use std::alloc::{AllocError, Global};
 use std::convert::AsStr;
+pub use usage::USAGE;
 
 mod grammar;
 mod number;
@@ -159,7 +159,7 @@ fn hash(options: &ArgMatches<'_>) -> Option<Hash>
 // The number of `--stripes`.
 #[tactic(auto, unfolding(crate::specs::Command::stripes_in))]
 fn stripes(options: &ArgMatches<'_>) -> Option<StripeCount>
-    ensures { option_map (λ count. count.number) result ≡ stripes_in (rows_of (found_of options.now)) }
+    ensures { option_map (λ stripes. stripes.count) result ≡ stripes_in (rows_of (found_of options.now)) }
 {
     StripeCount::read(text(options, "stripes")?)
 }
@@ -167,7 +167,7 @@ fn stripes(options: &ArgMatches<'_>) -> Option<StripeCount>
 // The number of `--key-bytes`.
 #[tactic(auto, unfolding(crate::specs::Command::key_bytes_in))]
 fn key_bytes(options: &ArgMatches<'_>) -> Option<KeyBytes>
-    ensures { option_map (λ count. count.number) result ≡ key_bytes_in (rows_of (found_of options.now)) }
+    ensures { option_map (λ key. key.bytes) result ≡ key_bytes_in (rows_of (found_of options.now)) }
 {
     KeyBytes::read(text(options, "key-bytes")?)
 }

@@ -14,6 +14,8 @@ use luks_io::source::Source;
 use std::alloc::Global;
 
 mod stripes;
+#[cfg(test)]
+mod tests;
 
 /// Runs a command over its first input, its second one and the output.
 ///
@@ -27,9 +29,11 @@ pub fn execute<I: Source, K: Source, O: Sink>(
     secret: &mut K,
     out: &mut O,
 ) -> Report
-    ensures run { (before : Bytes) → Tell (I.to_come image.old) (K.to_come secret.old) (O.written out.old) before →
-        Runs (prompt_of (request_of command.now) before) (outcome_of (request_of command.now) before.image before.secret) before
-            result.message (I.to_come image.new) (K.to_come secret.new) (O.written out.new) }
+    ensures run { (before : Bytes)
+        → Tell (I.to_come image.old) (K.to_come secret.old) (O.written out.old) before
+        → let request = request_of command.now in
+        Runs (prompt_of request before) (outcome_of request before.image before.secret) before
+        result.message (I.to_come image.new) (K.to_come secret.new) (O.written out.new) }
     ensures status { result ≡ report_of result.message }
     ensures memory { TakesNoMemory (request_of command.now) → result.message ≢ Message.OutOfMemory }
     ensures counts { Counts result.message

@@ -72,7 +72,7 @@ impl From<ReadFault> for Message {
     ghost from_gives = { λ _ message. message ≡ Message.ReadFailed };
 
     fn from(_fault: ReadFault) -> Message {
-        Message::ReadFailed
+        Self::ReadFailed
     }
 }
 
@@ -82,6 +82,6 @@ impl From<WriteFault> for Message {
     ghost from_gives = { λ _ message. message ≡ Message.WriteFailed };
 
     fn from(_fault: WriteFault) -> Message {
-        Message::WriteFailed
+        Self::WriteFailed
     }
 }

@@ -21,11 +21,12 @@ const LONGEST_KEY: usize = 512;
 fn read_key<S: Source>(source: &mut S, buf: &mut [u8]) -> Result<usize, Message>
     requires { length buf.old ≡ 513 }
     ensures length { IfOk result (λ len. (1 ≤ len) × (len ≤ 512)) }
-    ensures key { IfOk result (λ len. (key : List ℕ) → S.to_come source.old ≡ Some key →
-        (take len buf.new ≡ key) × (S.to_come source.new ≡ Some [])) }
-    ensures err { IfErr result (λ message. (key : List ℕ) → S.to_come source.old ≡ Some key →
-        NoKeyRead key (S.to_come source.new) message) }
-    ensures only { IfErr result (λ message. (message ≡ Message.KeyLength) ⊎ (message ≡ Message.ReadFailed)) }
+    ensures key { IfOk result (λ len. (key : List ℕ) → S.to_come source.old ≡ Some key
+        → (take len buf.new ≡ key) × (S.to_come source.new ≡ Some [])) }
+    ensures err { IfErr result (λ message. (key : List ℕ) → S.to_come source.old ≡ Some key
+        → NoKeyRead key (S.to_come source.new) message) }
+    ensures only { IfErr result (λ message.
+        (message ≡ Message.KeyLength) ⊎ (message ≡ Message.ReadFailed)) }
     ensures reads { S.failures source.new ≡ count_reads (ending_of result) (S.failures source.old) }
 {
     let len = fill(source, buf)?;
@@ -47,11 +48,15 @@ fn pass_stripes<R: Source, O: Sink>(
     requires room { length stripe.old ≤ 512 }
     requires few { count ≤ 4000 }
     ensures len { IfOk result (λ splitter. length splitter.block ≡ length stripe.new) }
-    ensures ok { IfOk result (λ splitter. (bytes before : List ℕ) → R.to_come random.old ≡ Some bytes → O.written out.old ≡ Some before →
-        (splitter ≡ chain_after hash (length stripe.new) bytes count)
-        × Passed bytes before (R.to_come random.new) (O.written out.new) (count * length stripe.new) (count * length stripe.new)) }
-    ensures err { IfErr result (λ message. (bytes before : List ℕ) → R.to_come random.old ≡ Some bytes → O.written out.old ≡ Some before →
-        StopsPassing count (length stripe.new) bytes before (R.to_come random.new) (O.written out.new) message) }
+    ensures ok { IfOk result (λ splitter.
+        (bytes before : List ℕ) → R.to_come random.old ≡ Some bytes → O.written out.old ≡ Some before
+        → (splitter ≡ chain_after hash (length stripe.new) bytes count)
+        × Passed bytes before (R.to_come random.new) (O.written out.new)
+        (count * length stripe.new) (count * length stripe.new)) }
+    ensures err { IfErr result (λ message.
+        (bytes before : List ℕ) → R.to_come random.old ≡ Some bytes → O.written out.old ≡ Some before
+        → StopsPassing count (length stripe.new) bytes before
+        (R.to_come random.new) (O.written out.new) message) }
     ensures memory { IfErr result (λ message. message ≢ Message.OutOfMemory) }
     ensures reads { R.failures random.new ≡ count_reads (ending_of result) (R.failures random.old) }
     ensures writes { O.failures out.new ≡ count_writes (ending_of result) (O.failures out.old) }
@@ -79,9 +84,11 @@ fn write_split<K: Source, R: Source, O: Sink>(
 ) -> Result<(), Message>
     requires key_room { length key_buf.old ≡ 513 }
     requires stripe_room { length stripe_buf.old ≡ 512 }
-    ensures run { (before : Bytes) → Tell (K.to_come key.old) (R.to_come random.old) (O.written out.old) before →
-        Runs (split_promptly (length before.image)) (split_outcome splitting.now.hash splitting.now.stripes.number before.image before.secret) before
-            (ending_of result) (K.to_come key.new) (R.to_come random.new) (O.written out.new) }
+    ensures run { (before : Bytes)
+        → Tell (K.to_come key.old) (R.to_come random.old) (O.written out.old) before
+        → Runs (split_promptly (length before.image))
+        (split_outcome splitting.now.hash splitting.now.stripes.count before.image before.secret)
+        before (ending_of result) (K.to_come key.new) (R.to_come random.new) (O.written out.new) }
     ensures memory { IfErr result (λ message. message ≢ Message.OutOfMemory) }
     ensures counts { Counts (ending_of result)
         (record { image = K.failures key.old; secret = R.failures random.old; written = O.failures out.old })
@@ -89,7 +96,13 @@ fn write_split<K: Source, R: Source, O: Sink>(
 {
     let len = read_key(key, key_buf)?;
     let stripe = &mut stripe_buf[..len];
-    let splitter = pass_stripes(splitting.hash, splitting.stripes.get() - 1, stripe, random, out)?;
+    let splitter = pass_stripes(
+        splitting.hash,
+        splitting.stripes.get() - 1,
+        stripe,
+        random,
+        out,
+    )?;
     splitter.last(&key_buf[..len], stripe);
     put_all(out, stripe)?;
     Ok(())
@@ -105,11 +118,13 @@ fn take_stripes<S: Source>(
     requires some { 1 ≤ length stripe.old }
     requires room { length stripe.old ≤ 512 }
     ensures len { IfOk result (λ splitter. length splitter.block ≡ length stripe.new) }
-    ensures ok { IfOk result (λ splitter. (bytes : List ℕ) → S.to_come stripes.old ≡ Some bytes →
-        (splitter ≡ chain_after hash (length stripe.new) bytes count) × Taken bytes (S.to_come stripes.new) (count * length stripe.new)) }
-    ensures err { IfErr result (λ message. (bytes : List ℕ) → S.to_come stripes.old ≡ Some bytes →
-        StopsTaking count (length stripe.new) bytes (S.to_come stripes.new) message) }
-    ensures only { IfErr result (λ message. (message ≡ Message.FewStripes) ⊎ (message ≡ Message.ReadFailed)) }
+    ensures ok { IfOk result (λ splitter. (bytes : List ℕ) → S.to_come stripes.old ≡ Some bytes
+        → (splitter ≡ chain_after hash (length stripe.new) bytes count)
+        × Taken bytes (S.to_come stripes.new) (count * length stripe.new)) }
+    ensures err { IfErr result (λ message. (bytes : List ℕ) → S.to_come stripes.old ≡ Some bytes
+        → StopsTaking count (length stripe.new) bytes (S.to_come stripes.new) message) }
+    ensures only { IfErr result (λ message.
+        (message ≡ Message.FewStripes) ⊎ (message ≡ Message.ReadFailed)) }
     ensures reads { S.failures stripes.new ≡ count_reads (ending_of result) (S.failures stripes.old) }
 {
     let mut splitter = AfSplitter::new(hash, stripe.len());
@@ -132,9 +147,11 @@ fn write_merged<S: Source, O: Sink>(
 ) -> Result<(), Message>
     requires stripe_room { length stripe_buf.old ≡ 512 }
     requires key_room { length key_buf.old ≡ 512 }
-    ensures run { (secret : Option (List ℕ)) (before : Bytes) → Tell (S.to_come stripes.old) secret (O.written out.old) before →
-        Runs none_owed (merge_outcome merging.now.hash merging.now.stripes.number merging.now.key_bytes.number before.image) before
-            (ending_of result) (S.to_come stripes.new) secret (O.written out.new) }
+    ensures run { (secret : Option (List ℕ)) (before : Bytes)
+        → Tell (S.to_come stripes.old) secret (O.written out.old) before
+        → let m = merging.now in
+        Runs none_owed (merge_outcome m.hash m.stripes.count m.key_bytes.bytes before.image)
+        before (ending_of result) (S.to_come stripes.new) secret (O.written out.new) }
     ensures memory { IfErr result (λ message. message ≢ Message.OutOfMemory) }
     ensures counts { (secret : ℕ) → Counts (ending_of result)
         (record { image = S.failures stripes.old; secret = secret; written = O.failures out.old })
@@ -159,9 +176,11 @@ pub(super) fn split<K: Source, R: Source, O: Sink>(
     random: &mut R,
     out: &mut O,
 ) -> Result<(), Message>
-    ensures run { (before : Bytes) → Tell (K.to_come key.old) (R.to_come random.old) (O.written out.old) before →
-        Runs (split_promptly (length before.image)) (split_outcome splitting.now.hash splitting.now.stripes.number before.image before.secret) before
-            (ending_of result) (K.to_come key.new) (R.to_come random.new) (O.written out.new) }
+    ensures run { (before : Bytes)
+        → Tell (K.to_come key.old) (R.to_come random.old) (O.written out.old) before
+        → Runs (split_promptly (length before.image))
+        (split_outcome splitting.now.hash splitting.now.stripes.count before.image before.secret)
+        before (ending_of result) (K.to_come key.new) (R.to_come random.new) (O.written out.new) }
     ensures memory { IfErr result (λ message. message ≢ Message.OutOfMemory) }
     ensures counts { Counts (ending_of result)
         (record { image = K.failures key.old; secret = R.failures random.old; written = O.failures out.old })
@@ -178,9 +197,11 @@ pub(super) fn merge<S: Source, O: Sink>(
     stripes: &mut S,
     out: &mut O,
 ) -> Result<(), Message>
-    ensures run { (secret : Option (List ℕ)) (before : Bytes) → Tell (S.to_come stripes.old) secret (O.written out.old) before →
-        Runs none_owed (merge_outcome merging.now.hash merging.now.stripes.number merging.now.key_bytes.number before.image) before
-            (ending_of result) (S.to_come stripes.new) secret (O.written out.new) }
+    ensures run { (secret : Option (List ℕ)) (before : Bytes)
+        → Tell (S.to_come stripes.old) secret (O.written out.old) before
+        → let m = merging.now in
+        Runs none_owed (merge_outcome m.hash m.stripes.count m.key_bytes.bytes before.image)
+        before (ending_of result) (S.to_come stripes.new) secret (O.written out.new) }
     ensures memory { IfErr result (λ message. message ≢ Message.OutOfMemory) }
     ensures counts { (secret : ℕ) → Counts (ending_of result)
         (record { image = S.failures stripes.old; secret = secret; written = O.failures out.old })

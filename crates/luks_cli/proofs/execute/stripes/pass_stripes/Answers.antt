@@ -1,4 +1,4 @@
-use Rattle.std.proofs.Common.{◌≡◌, ◌<◌, ◌*◌, ℕ, ◌∙◌, sym, length, take, drop, arith, refl}
+use Rattle.std.proofs.Common.{◌≡◌, ◌<◌, ◌∙◌, sym, length, arith, refl}
 use Rattle.std.proofs.lemmas.Result.{err_from_is_err_and}
 use Rattle.luks_kdf.proofs.StripesLemmas.{chain_more, chain_start}
 use Rattle.luks_cli.proofs.StripeLemmas.{passed_more, passed_none, stops_reading, stops_short, stops_writing, stripe_taken}
@@ -44,10 +44,11 @@ stripes-preserved g c =
       writes = c.in_ok-put_all.ensures.counts ∙ c.stripes.invariant.writes;
       len = c.stripe.ensures.len ∙ c.stripes.invariant.len ∙ sym c.fill.auto.buf;
       passed = λ bytes before is was.
-        let passed = c.stripes.invariant.passed bytes before is was in
-        rw c.fill.auto.buf
-        (c.stripe.ensures.next ∙ chain_more _ _ bytes _ _ c.fill.new.buf passed.0 (stripe_taken bytes before _ _ _ _ passed.1 _ c.fill.new.buf c.fill.auto.buf taken),
-        passed_more bytes before _ _ _ _ passed.1 _ _ c.fill.new.buf c.fill.auto.buf taken c.in_ok-put_all.ensures.ok);
+          let passed = c.stripes.invariant.passed bytes before is was in
+          rw c.fill.auto.buf (
+            c.stripe.ensures.next ∙ chain_more _ _ bytes _ _ c.fill.new.buf passed.0 (stripe_taken bytes before _ _ _ _ passed.1 _ c.fill.new.buf c.fill.auto.buf taken),
+            passed_more bytes before _ _ _ _ passed.1 _ _ c.fill.new.buf c.fill.auto.buf taken c.in_ok-put_all.ensures.ok,
+          );
     }
 
 pub returns-clause-ok : goal.returns-clause-ok

@@ -10,6 +10,6 @@ invariant-stripes g l = record {
   writes : g.O.Sink.failures l.out ≡ g.O.Sink.failures l.initial.out;
   len : length l.splitter.block ≡ length l.stripe;
   passed : (bytes before : List ℕ) → g.R.Source.to_come l.initial.random ≡ Some bytes → g.O.Sink.written l.initial.out ≡ Some before →
-    (l.splitter ≡ chain_after l.fn.hash (length l.stripe) bytes l.counter)
-    × Passed bytes before (g.R.Source.to_come l.random) (g.O.Sink.written l.out) (l.counter * length l.stripe) (l.counter * length l.stripe);
+      (l.splitter ≡ chain_after l.fn.hash (length l.stripe) bytes l.counter)
+      × Passed bytes before (g.R.Source.to_come l.random) (g.O.Sink.written l.out) (l.counter * length l.stripe) (l.counter * length l.stripe);
 }

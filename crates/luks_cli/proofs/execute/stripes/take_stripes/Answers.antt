@@ -1,4 +1,4 @@
-use Rattle.std.proofs.Common.{◌≡◌, ◌+◌, ◌<◌, ◌≤◌, ◌*◌, ◌∙◌, sym, length, take, refl, arith}
+use Rattle.std.proofs.Common.{◌≡◌, ◌+◌, ◌<◌, ◌≤◌, ◌∙◌, sym, length, refl, arith}
 use Rattle.std.proofs.Math.Nat.{mul-le-mul_right}
 use Rattle.std.proofs.lemmas.Result.{err_from_is_err_and}
 use Rattle.luks_kdf.proofs.StripesLemmas.{chain_more, chain_start}
@@ -35,9 +35,9 @@ stripes-preserved g c =
       reads = c.in_ok-fill.ensures.counts ∙ c.stripes.invariant.reads;
       len = c.stripe.ensures.len ∙ c.stripes.invariant.len ∙ sym c.fill.auto.buf;
       taken = λ bytes is.
-        let taken = c.stripes.invariant.taken bytes is in
-        let more = stripe_more bytes _ _ _ taken.1 _ c.fill.new.buf c.fill.auto.buf (rw full at c.in_ok-fill.ensures.ok.1) in
-        rw c.fill.auto.buf (c.stripe.ensures.next ∙ chain_more _ _ bytes _ _ c.fill.new.buf taken.0 more.1, more.0);
+          let taken = c.stripes.invariant.taken bytes is in
+          let more = stripe_more bytes _ _ _ taken.1 _ c.fill.new.buf c.fill.auto.buf (rw full at c.in_ok-fill.ensures.ok.1) in
+          rw c.fill.auto.buf (c.stripe.ensures.next ∙ chain_more _ _ bytes _ _ c.fill.new.buf taken.0 more.1, more.0);
     }
 
 pub returns-clause-ok : goal.returns-clause-ok

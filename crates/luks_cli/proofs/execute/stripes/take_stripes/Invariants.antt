@@ -9,5 +9,5 @@ invariant-stripes g l = record {
   reads : g.S.Source.failures l.stripes ≡ g.S.Source.failures l.initial.stripes;
   len : length l.splitter.block ≡ length l.stripe;
   taken : (bytes : List ℕ) → g.S.Source.to_come l.initial.stripes ≡ Some bytes →
-    (l.splitter ≡ chain_after l.fn.hash (length l.stripe) bytes l.counter) × Taken bytes (g.S.Source.to_come l.stripes) (l.counter * length l.stripe);
+      (l.splitter ≡ chain_after l.fn.hash (length l.stripe) bytes l.counter) × Taken bytes (g.S.Source.to_come l.stripes) (l.counter * length l.stripe);
 }

@@ -10,7 +10,7 @@ returns-in_err-splitter-clause-run g c =
     let p = err_from_is_err_and c.from_residual.result c.from_residual.ensures.1 in
     let size = c.args.merging.now.key_bytes.in_range in
     let len = c.get-len.ensures in
-    let stripe : length c.take_stripes.new.stripe ≡ c.args.merging.now.key_bytes.number =
+    let stripe : length c.take_stripes.new.stripe ≡ c.args.merging.now.key_bytes.bytes =
     c.take_stripes.auto.stripe ∙ length-take-le c.get-len.result c.args.stripe_buf.now (omega arith) ∙ len in
     rw (p.1, p.2) (λ secret before tell.
     runs_without_stripes _ _ _ before _ _ _ _ (stops_before _ _ _ _ _ (rw (stripe, c.get.ensures) at (c.in_err-splitter.ensures.err before.image tell.image))) tell.secret tell.written)
@@ -22,13 +22,13 @@ returns-in_err-fill-clause-run g c =
     let size = m.key_bytes.in_range in
     let count = m.stripes.in_range in
     let len = c.get-len.ensures in
-    let stripe : length c.take_stripes.new.stripe ≡ m.key_bytes.number =
+    let stripe : length c.take_stripes.new.stripe ≡ m.key_bytes.bytes =
     c.take_stripes.auto.stripe ∙ length-take-le c.get-len.result c.args.stripe_buf.now (omega arith) ∙ len in
-    let few : c.in_err-fill.field-0.0.got < m.key_bytes.number = omega (arith, c.in_err-fill.ensures.err.0, c.fill.auto.buf) in
-    let below : m.stripes.number - 1 + 1 ≤ m.stripes.number = omega arith in
+    let few : c.in_err-fill.field-0.0.got < m.key_bytes.bytes = omega (arith, c.in_err-fill.ensures.err.0, c.fill.auto.buf) in
+    let below : m.stripes.count - 1 + 1 ≤ m.stripes.count = omega arith in
     rw (p.1, p.2) (λ secret before tell.
     let taken = rw (stripe, c.get.ensures) at (c.in_ok-splitter.ensures.ok before.image tell.image) in
-    runs_without_stripes m.hash m.stripes.number m.key_bytes.number before ReadFailed _ _ _
+    runs_without_stripes m.hash m.stripes.count m.key_bytes.bytes before ReadFailed _ _ _
     (stops_reading before.image _ _ _ taken.1 _ _ _ _ (mul-le-mul_right _ below) few c.in_err-fill.ensures.err.1) tell.secret tell.written)
 
 pub returns-then-branch-len-clause-run : goal.returns-then-branch-len-clause-run
@@ -37,12 +37,12 @@ returns-then-branch-len-clause-run g c secret before tell =
     let size = m.key_bytes.in_range in
     let count = m.stripes.in_range in
     let len = c.get-len.ensures in
-    let stripe : length c.take_stripes.new.stripe ≡ m.key_bytes.number =
+    let stripe : length c.take_stripes.new.stripe ≡ m.key_bytes.bytes =
     c.take_stripes.auto.stripe ∙ length-take-le c.get-len.result c.args.stripe_buf.now (omega arith) ∙ len in
-    let few : c.in_ok-fill.field-0 < m.key_bytes.number = omega arith in
-    let below : m.stripes.number - 1 + 1 ≤ m.stripes.number = omega arith in
+    let few : c.in_ok-fill.field-0 < m.key_bytes.bytes = omega arith in
+    let below : m.stripes.count - 1 + 1 ≤ m.stripes.count = omega arith in
     let taken = rw (stripe, c.get.ensures) at (c.in_ok-splitter.ensures.ok before.image tell.image) in
-    runs_without_stripes m.hash m.stripes.number m.key_bytes.number before FewStripes _ _ _
+    runs_without_stripes m.hash m.stripes.count m.key_bytes.bytes before FewStripes _ _ _
     (stops_short before.image _ _ _ taken.1 _ _ _ _ (mul-le-mul_right _ below) few (rw (c.fill.auto.buf, stripe) at c.in_ok-fill.ensures.end) c.in_ok-fill.ensures.ok.1) tell.secret tell.written
 
 pub returns-in_err-put_all-clause-run : goal.returns-in_err-put_all-clause-run
@@ -52,16 +52,16 @@ returns-in_err-put_all-clause-run g c =
     let size = m.key_bytes.in_range in
     let count = m.stripes.in_range in
     let len = c.get-len.ensures in
-    let stripe : length c.take_stripes.new.stripe ≡ m.key_bytes.number =
+    let stripe : length c.take_stripes.new.stripe ≡ m.key_bytes.bytes =
     c.take_stripes.auto.stripe ∙ length-take-le c.get-len.result c.args.stripe_buf.now (omega arith) ∙ len in
-    let full : c.in_ok-fill.field-0 ≡ m.key_bytes.number = omega (arith, c.in_ok-fill.ensures.ok.0, c.fill.auto.buf) in
+    let full : c.in_ok-fill.field-0 ≡ m.key_bytes.bytes = omega (arith, c.in_ok-fill.ensures.ok.0, c.fill.auto.buf) in
     rw (p.1, p.2) (λ secret before tell.
     let taken = rw (stripe, c.get.ensures) at (c.in_ok-splitter.ensures.ok before.image tell.image) in
     let more = stripe_more before.image _ _ _ taken.1 _ c.fill.new.buf (c.fill.auto.buf ∙ stripe) (rw full at c.in_ok-fill.ensures.ok.1) in
-    let whole : m.stripes.number - 1 + 1 ≡ m.stripes.number = omega arith in
+    let whole : m.stripes.count - 1 + 1 ≡ m.stripes.count = omega arith in
     let all = rw whole at more.0 in
-    let is_key = key_merged m.hash m.stripes.number m.key_bytes.number before.image _ c.fill.new.buf c.last.new.out (omega arith) (omega arith) all.0 taken.0 more.1 c.last.ensures in
-    runs_without_key m.hash m.stripes.number m.key_bytes.number before _ _ _ _ c.last.new.out all tell.secret tell.written is_key _
+    let is_key = key_merged m.hash m.stripes.count m.key_bytes.bytes before.image _ c.fill.new.buf c.last.new.out (omega arith) (omega arith) all.0 taken.0 more.1 c.last.ensures in
+    runs_without_key m.hash m.stripes.count m.key_bytes.bytes before _ _ _ _ c.last.new.out all tell.secret tell.written is_key _
     c.in_err-put_all.ensures.err.0 c.in_err-put_all.ensures.err.1)
 
 pub returns-clause-run : goal.returns-clause-run
@@ -70,13 +70,13 @@ returns-clause-run g c secret before tell =
     let size = m.key_bytes.in_range in
     let count = m.stripes.in_range in
     let len = c.get-len.ensures in
-    let stripe : length c.take_stripes.new.stripe ≡ m.key_bytes.number =
+    let stripe : length c.take_stripes.new.stripe ≡ m.key_bytes.bytes =
     c.take_stripes.auto.stripe ∙ length-take-le c.get-len.result c.args.stripe_buf.now (omega arith) ∙ len in
-    let full : c.in_ok-fill.field-0 ≡ m.key_bytes.number = omega (arith, c.in_ok-fill.ensures.ok.0, c.fill.auto.buf) in
+    let full : c.in_ok-fill.field-0 ≡ m.key_bytes.bytes = omega (arith, c.in_ok-fill.ensures.ok.0, c.fill.auto.buf) in
     let taken = rw (stripe, c.get.ensures) at (c.in_ok-splitter.ensures.ok before.image tell.image) in
     let more = stripe_more before.image _ _ _ taken.1 _ c.fill.new.buf (c.fill.auto.buf ∙ stripe) (rw full at c.in_ok-fill.ensures.ok.1) in
-    let whole : m.stripes.number - 1 + 1 ≡ m.stripes.number = omega arith in
+    let whole : m.stripes.count - 1 + 1 ≡ m.stripes.count = omega arith in
     let all = rw whole at more.0 in
-    let is_key = key_merged m.hash m.stripes.number m.key_bytes.number before.image _ c.fill.new.buf c.last.new.out (omega arith) (omega arith) all.0 taken.0 more.1 c.last.ensures in
-    runs_to_end m.hash m.stripes.number m.key_bytes.number before _ _ _ _ c.last.new.out all tell.secret tell.written is_key
+    let is_key = key_merged m.hash m.stripes.count m.key_bytes.bytes before.image _ c.fill.new.buf c.last.new.out (omega arith) (omega arith) all.0 taken.0 more.1 c.last.ensures in
+    runs_to_end m.hash m.stripes.count m.key_bytes.bytes before _ _ _ _ c.last.new.out all tell.secret tell.written is_key
     c.in_ok-put_all.ensures.ok
