@@ -1,4 +1,5 @@
 pub mod GrammarLemmas
+pub mod HeaderRuns
 pub mod MergeLemmas
 pub mod NumberLemmas
 pub mod SplitLemmas

@@ -10,7 +10,7 @@ use Rattle.luks_kdf.specs.Bytes.{xor}
 use Rattle.luks_kdf.specs.Stripes.{Chain, chain_after, chain_of, merged, stripe_at}
 use Rattle.luks_kdf.proofs.StripesLemmas.{chain_of-append, merged_by_number, stripe_at-append}
 use Rattle.luks_cli.specs.declared.message.Message.{Message}
-use Rattle.luks_cli.specs.declared.message.Message.TheVariants.{Done, Usage, KeyLength, FewRandomBytes, FewStripes, OutOfMemory, ReadFailed, WriteFailed}
+use Rattle.luks_cli.specs.declared.message.Message.TheVariants.{Done, No, Usage, NotLuks, Cut, Json, KeyLength, FewRandomBytes, FewStripes, OutOfMemory, ReadFailed, WriteFailed}
 use Rattle.luks_cli.specs.Outcome.{Outcome, merge_outcome}
 use Rattle.luks_cli.specs.Run.{Bytes, Runs, Tell, BreaksOff, Completes, bytes_after, none_owed}
 use Rattle.luks_cli.specs.Stripe.{StopsTaking, Taken}
@@ -57,6 +57,10 @@ stops_before count len bytes s FewStripes stop = let fewer : (count - 1) * len â
 stops_before count len bytes s ReadFailed stop = let fewer : (count - 1) * len â‰¤ count * len = mul-le-mul_right len (omega arith) in (stop.0, omega (arith, stop.1), stop.2)
 stops_before count len bytes s Done stop = absurd stop
 stops_before count len bytes s Usage stop = absurd stop
+stops_before count len bytes s No stop = absurd stop
+stops_before count len bytes s NotLuks stop = absurd stop
+stops_before count len bytes s Cut stop = absurd stop
+stops_before count len bytes s Json stop = absurd stop
 stops_before count len bytes s KeyLength stop = absurd stop
 stops_before count len bytes s FewRandomBytes stop = absurd stop
 stops_before count len bytes s OutOfMemory stop = absurd stop
@@ -96,6 +100,10 @@ runs_without_stripes h count len before ReadFailed s r w stop is was = record {
 }
 runs_without_stripes h count len before Done s r w stop is was = absurd stop
 runs_without_stripes h count len before Usage s r w stop is was = absurd stop
+runs_without_stripes h count len before No s r w stop is was = absurd stop
+runs_without_stripes h count len before NotLuks s r w stop is was = absurd stop
+runs_without_stripes h count len before Cut s r w stop is was = absurd stop
+runs_without_stripes h count len before Json s r w stop is was = absurd stop
 runs_without_stripes h count len before KeyLength s r w stop is was = absurd stop
 runs_without_stripes h count len before FewRandomBytes s r w stop is was = absurd stop
 runs_without_stripes h count len before OutOfMemory s r w stop is was = absurd stop

@@ -13,7 +13,7 @@ use Rattle.luks_kdf.specs.Stripes.{Chain, chain_after, chain_of}
 use Rattle.luks_kdf.proofs.StripesLemmas.{chain_of-append}
 use Rattle.luks_io.specs.Bytes.{Adds}
 use Rattle.luks_cli.specs.declared.message.Message.{Message}
-use Rattle.luks_cli.specs.declared.message.Message.TheVariants.{Done, Usage, KeyLength, FewRandomBytes, FewStripes, OutOfMemory, ReadFailed, WriteFailed}
+use Rattle.luks_cli.specs.declared.message.Message.TheVariants.{Done, No, Usage, NotLuks, Cut, Json, KeyLength, FewRandomBytes, FewStripes, OutOfMemory, ReadFailed, WriteFailed}
 use Rattle.luks_cli.specs.Outcome.{Outcome, split_key_outcome, split_outcome, stripes_of}
 use Rattle.luks_cli.specs.Run.{Bytes, Runs, Tell, BreaksOff, Completes, bytes_after}
 use Rattle.luks_cli.specs.Stripe.{LosesUpTo, NoKeyRead, Passed, StopsPassing, split_promptly}
@@ -66,6 +66,10 @@ runs_without_key h count before ReadFailed k r w failed is was = record {
 }
 runs_without_key h count before Done k r w p is was = absurd p
 runs_without_key h count before Usage k r w p is was = absurd p
+runs_without_key h count before No k r w p is was = absurd p
+runs_without_key h count before NotLuks k r w p is was = absurd p
+runs_without_key h count before Cut k r w p is was = absurd p
+runs_without_key h count before Json k r w p is was = absurd p
 runs_without_key h count before FewRandomBytes k r w p is was = absurd p
 runs_without_key h count before FewStripes k r w p is was = absurd p
 runs_without_key h count before OutOfMemory k r w p is was = absurd p
@@ -151,6 +155,10 @@ module _ (h : Hash) (count : ℕ) (before : Bytes) (k r w : Option (List ℕ)) (
       (rw (div-eq_of_lt-le (length before.image) stop.3 stop.4) (omega arith)) stop.5
   runs_without_stripes Done stop = absurd stop
   runs_without_stripes Usage stop = absurd stop
+  runs_without_stripes No stop = absurd stop
+  runs_without_stripes NotLuks stop = absurd stop
+  runs_without_stripes Cut stop = absurd stop
+  runs_without_stripes Json stop = absurd stop
   runs_without_stripes KeyLength stop = absurd stop
   runs_without_stripes FewStripes stop = absurd stop
   runs_without_stripes OutOfMemory stop = absurd stop

@@ -1,5 +1,7 @@
 pub mod Command
+pub mod Dump
 pub mod Grammar
+pub mod Header
 pub mod Number
 pub mod Outcome
 pub mod Report

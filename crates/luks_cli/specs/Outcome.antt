@@ -1,7 +1,10 @@
 -- What a run of luksrd does: a function of the command and the bytes of both inputs.
 use Rattle.std.specs.Prelude.{ℕ, ◌+◌, ◌-◌, ◌*◌, ◌/◌, ◌&&◌, ◌++◌, List, [], length, take, min, nat_lt, nat_le, if◌then◌else◌}
 use Rattle.luks_kdf.specs.declared.hash.Hash.{Hash}
-use Rattle.luks_cli.specs.Command.{Request, af_split, af_merge}
+use Rattle.luks_cli.specs.Command.{Request, is_luks, luks_uuid, luks_dump, af_split, af_merge}
+use Rattle.luks_header.specs.Header.{cost_of, header_of}
+use Rattle.luks_header.specs.declared.header.Header.{Header}
+use Rattle.luks_cli.specs.Header.{answer_to_is_luks, dump_of, printed, told_of, uuid_of}
 use Rattle.luks_kdf.specs.Bytes.{xor}
 use Rattle.luks_kdf.specs.Stripes.{chain_of, merged}
 use Rattle.luks_cli.specs.declared.message.Message.{Message}
@@ -41,7 +44,23 @@ merge_outcome hash count key_bytes image =
     then record { output = merged hash key_bytes (take needed image); message = Done; image_taken = needed; secret_taken = 0 }
     else record { output = []; message = FewStripes; image_taken = length image; secret_taken = 0 }
 
+-- `isLuks`: nothing is written
+unfoldable pub is_luks_outcome : List ℕ → Outcome
+is_luks_outcome image = record { output = []; message = answer_to_is_luks (header_of image); image_taken = cost_of image; secret_taken = 0 }
+
+-- a command that prints a text of the header
+unfoldable pub print_outcome : (Header → List ℕ) → List ℕ → Outcome
+print_outcome text image = record {
+  output = printed text (header_of image);
+  message = told_of (header_of image);
+  image_taken = cost_of image;
+  secret_taken = 0;
+}
+
 -- what a command does with the bytes that its inputs give
 abbrev pub outcome_of : Request → List ℕ → List ℕ → Outcome
+outcome_of (is_luks _) image secret = is_luks_outcome image
+outcome_of (luks_uuid _) image secret = print_outcome uuid_of image
+outcome_of (luks_dump _) image secret = print_outcome dump_of image
 outcome_of (af_split s) image secret = split_outcome s.hash s.stripes image secret
 outcome_of (af_merge m) image secret = merge_outcome m.hash m.stripes m.key_bytes image

@@ -67,12 +67,13 @@ none_owed _ _ _ _ = Unit {0}
 -- what a command that is broken off owes beside
 abbrev pub prompt_of : Request → Bytes → Prompt
 prompt_of (af_split s) before = split_promptly (length before.image)
-prompt_of (af_merge m) before = none_owed
+prompt_of _ before = none_owed
 
 -- the command takes no memory
 abbrev pub TakesNoMemory : Request → Type 0
 TakesNoMemory (af_split s) = Unit {0}
 TakesNoMemory (af_merge m) = Unit {0}
+TakesNoMemory _ = ⊥
 
 -- how many reads of the image and of the secret and how many writes have failed
 pub record Failures : Type 0 where

@@ -13,6 +13,7 @@ use luks_io::sink::Sink;
 use luks_io::source::Source;
 use std::alloc::Global;
 
+mod headers;
 mod stripes;
 #[cfg(test)]
 mod tests;
@@ -23,7 +24,7 @@ mod tests;
 /// Where memory is refused or a read or a write fails, what was written is a beginning of that output, and no input was
 /// taken further than stated; a failed read or write is told exactly where one failed.
 pub fn execute<I: Source, K: Source, O: Sink>(
-    _alloc: Global,
+    alloc: Global,
     command: &Command<'_>,
     image: &mut I,
     secret: &mut K,
@@ -41,6 +42,9 @@ pub fn execute<I: Source, K: Source, O: Sink>(
         (record { image = I.failures image.new; secret = K.failures secret.new; written = O.failures out.new }) }
 {
     let done = match command {
+        Command::IsLuks { .. } => headers::is_luks(alloc, image),
+        Command::LuksUuid { .. } => headers::print_uuid(alloc, image, out),
+        Command::LuksDump { .. } => headers::print_dump(alloc, image, out),
         Command::AfSplit(splitting) => stripes::split(splitting, image, secret, out),
         Command::AfMerge(merging) => stripes::merge(merging, image, out),
     };

@@ -4,6 +4,7 @@
 pub use command::{Command, KeyBytes, Merging, PlanFault, Splitting, StripeCount, USAGE, plan};
 
 pub mod command;
+mod dump;
 pub mod execute;
 pub mod message;
 pub mod report;
