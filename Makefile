@@ -22,8 +22,9 @@ demo: all
 
 test: all
 	tests/stripes.sh $(PROGRAM)
+	interop/headers.sh $(PROGRAM)
 	rt ci
 
 bench: all
 	bench/pbkdf2
-	bench/xts
+	bench/xts/run

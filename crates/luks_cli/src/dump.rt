@@ -60,7 +60,13 @@ fn describe_slot(alloc: Global, slot: &KeySlot) -> Result<String, AllocError>
     match slot.state {
         SlotState::Enabled => {
             let salt = hex::encode(alloc, slot.salt.as_slice())?;
-            describe_enabled(alloc, slot.iterations, salt.as_str(), slot.offset, slot.stripes)
+            describe_enabled(
+                alloc,
+                slot.iterations,
+                salt.as_str(),
+                slot.offset,
+                slot.stripes,
+            )
         }
         SlotState::Disabled => String::from_str(alloc, "DISABLED"),
         SlotState::Damaged(number) => {

@@ -1,5 +1,7 @@
 //! Whole runs over memory: worked examples, and devices that fail.
 
+mod headers;
+
 use super::execute;
 use crate::command::{PlanFault, plan};
 use crate::message::Message;

@@ -1,0 +1,244 @@
+//! Whole runs of the commands on headers.
+
+ghost use Rattle.std.specs.Prelude.{◌≡◌, ◌+◌, ◌≤◌, length};
+
+use super::{check, check_failures, run};
+use crate::command::plan;
+use crate::execute::execute;
+use crate::message::Message;
+use crate::report::Report;
+use crate::tests::scarce::Scarcity;
+use luks_io::memory::{MemSink, MemSource};
+use std::test::Fail;
+
+// Puts bytes at a place of a header.
+fn put(header: &mut [u8], place: usize, bytes: &[u8])
+    requires { place + length bytes.now ≤ length header.old }
+{
+    header[place..place + bytes.len()].copy_from_slice(bytes);
+}
+
+// A header with the cipher aes-xts-plain64, SHA-256, payload offset 4096, 64 key bytes, the digest 00 to 13, a digest salt of
+// bytes aa, 1000 iterations, a UUID field with no zero byte, slot 0 in use, slot 2 with state 1 and the others disabled.
+fn make_header() -> [u8; 592] {
+    let mut header = [0; 592];
+    fill_volume(&mut header);
+    fill_slots(&mut header);
+    header
+}
+
+fn fill_volume(header: &mut [u8])
+    requires { length header.old ≡ 592 }
+{
+    put(header, 0, b"LUKS\xba\xbe\x00\x01");
+    put(header, 8, b"aes");
+    put(header, 40, b"xts-plain64");
+    put(header, 72, b"sha256");
+    put(header, 104, &[0, 0, 16, 0]);
+    put(header, 108, &[0, 0, 0, 64]);
+    for i in 0u8..20 {
+        header[112 + i as usize] = i;
+    }
+    put(header, 132, &[0xaa; 32]);
+    put(header, 164, &[0, 0, 3, 0xe8]);
+    put(header, 168, b"0123456789012345678901234567890123456789");
+}
+
+fn fill_slots(header: &mut [u8])
+    requires { length header.old ≡ 592 }
+{
+    for i in 0usize..8 {
+        put(header, 208 + 48 * i, &[0, 0, 0xde, 0xad]);
+    }
+    put(header, 208, &[0, 0xac, 0x71, 0xf3, 0, 0, 7, 0xd0]);
+    put(header, 216, &[1; 32]);
+    put(header, 248, &[0, 0, 0, 8, 0, 0, 15, 0xa0]);
+    put(header, 304, &[0, 0, 0, 1]);
+}
+
+const DUMP: &str = "\
+Version: 1
+UUID: 0123456789012345678901234567890123456789
+Cipher: aes-xts-plain64
+Hash: sha256
+Payload offset: 4096
+Key bytes: 64
+MK digest: 000102030405060708090a0b0c0d0e0f10111213
+MK salt: aaaaaaaaaaaaaaaaaaaaaaaaaaaaaaaaaaaaaaaaaaaaaaaaaaaaaaaaaaaaaaaa
+MK iterations: 1000
+Slot 0: ENABLED iterations=2000 salt=0101010101010101010101010101010101010101010101010101010101010101 offset=8 stripes=4000
+Slot 1: DISABLED
+Slot 2: DAMAGED state=00000001
+Slot 3: DISABLED
+Slot 4: DISABLED
+Slot 5: DISABLED
+Slot 6: DISABLED
+Slot 7: DISABLED
+";
+
+const UUID: &str = "0123456789012345678901234567890123456789\n";
+
+#[test]
+fn prints_headers(rt: HostRuntime) -> Result<(), Fail> {
+    let alloc = rt.alloc();
+    let header = make_header();
+    check(
+        &rt,
+        &run(alloc, "luksDump i", &header, &[])?,
+        DUMP.as_bytes(),
+        0,
+        "",
+    );
+    check(
+        &rt,
+        &run(alloc, "luksUUID i", &header, &[])?,
+        UUID.as_bytes(),
+        0,
+        "",
+    );
+    let mut image = header.to_vec(alloc)?;
+    image.push(7)?;
+    let ended = run(alloc, "isLuks i", image.as_slice(), b"secret")?;
+    check(&rt, &ended, &[], 0, "");
+    assert_eq!(rt; (ended.image_left, ended.secret_left), (1, 6));
+    Ok(())
+}
+
+#[test]
+fn escapes_texts(rt: HostRuntime) -> Result<(), Fail> {
+    let alloc = rt.alloc();
+    let mut header = make_header();
+    put(&mut header, 168, b"a\\b\x1f \x7e\x7f\x80\xff\n\x00z");
+    let uuid = "a\\x5cb\\x1f ~\\x7f\\x80\\xff\\x0a\n";
+    check(
+        &rt,
+        &run(alloc, "luksUUID i", &header, &[])?,
+        uuid.as_bytes(),
+        0,
+        "",
+    );
+    put(&mut header, 8, b"\x00");
+    put(&mut header, 40, b"c\xc3\x00");
+    put(&mut header, 72, b"\x00");
+    let ended = run(alloc, "luksDump i", &header, &[])?;
+    let expected: &[u8] = b"\nCipher: -c\\xc3\nHash: \nPayload offset: 4096\n";
+    assert!(rt;
+        ended
+            .output
+            .as_slice()
+            .windows(expected.len())
+            .any(|part| part == expected)
+    );
+    Ok(())
+}
+
+#[test]
+fn tells_what_is_no_header(rt: HostRuntime) -> Result<(), Fail> {
+    let alloc = rt.alloc();
+    let header = make_header();
+    let cut = "luksrd: image ends inside the header or a key area\n";
+    let none = "luksrd: not a LUKS image\n";
+    for (len, status, told) in [
+        (0, 1, ""),
+        (7, 1, ""),
+        (8, 4, cut),
+        (20, 4, cut),
+        (591, 4, cut),
+        (592, 0, ""),
+    ] {
+        let ended = run(alloc, "isLuks i", &header[..len], &[])?;
+        check(&rt, &ended, &[], status, told);
+        assert_eq!(rt; ended.image_left, 0);
+        let told = if told.is_empty() { none } else { told };
+        if len < 592 {
+            check(
+                &rt,
+                &run(alloc, "luksUUID i", &header[..len], &[])?,
+                &[],
+                4,
+                told,
+            );
+            check(
+                &rt,
+                &run(alloc, "luksDump i", &header[..len], &[])?,
+                &[],
+                4,
+                told,
+            );
+        }
+    }
+    for (place, byte) in [(0, b'l'), (5, 0xbf), (6, 1), (7, 0), (7, 3)] {
+        let mut other = make_header();
+        assert!(rt; place < other.len());
+        other[place] = byte;
+        check(&rt, &run(alloc, "isLuks i", &other, &[])?, &[], 1, "");
+        check(&rt, &run(alloc, "luksDump i", &other, &[])?, &[], 4, none);
+    }
+    let zeros = run(alloc, "isLuks i", &[0; 1000], &[])?;
+    check(&rt, &zeros, &[], 1, "");
+    assert_eq!(rt; zeros.image_left, 408);
+    Ok(())
+}
+
+#[test]
+fn tells_failed_devices(rt: HostRuntime) -> Result<(), Fail> {
+    let header = make_header();
+    check_failures(&rt, "isLuks i", &header, &[], &[])?;
+    check_failures(&rt, "luksUUID i", &header, &[], UUID.as_bytes())?;
+    check_failures(&rt, "luksDump i", &header, &[], DUMP.as_bytes())?;
+    let alloc = rt.alloc();
+    let words: Vec<&str> = "luksDump i".split(' ').collect(alloc)?;
+    let command = plan(alloc, words.as_slice()).ok().ok_or("a command")?;
+    let mut out = MemSink::new(alloc, 10)?;
+    let mut secret = MemSource::new(&[]);
+    let report = execute(
+        alloc,
+        &command,
+        &mut MemSource::new(&header),
+        &mut secret,
+        &mut out,
+    );
+    assert_eq!(rt; report, Report::of(Message::WriteFailed));
+    assert_eq!(rt; out.as_slice(), b"Version: 1".as_slice());
+    Ok(())
+}
+
+// Runs with less and less memory refused, until one meets no refusal. Each refused run answers want of memory, writes nothing
+// and takes no more of the image than the whole run.
+#[test]
+fn answers_memory_where_it_is_refused(rt: HostRuntime) -> Result<(), Fail> {
+    let alloc = rt.alloc();
+    let header = make_header();
+    for (line, whole) in [("isLuks i", ""), ("luksUUID i", UUID), ("luksDump i", DUMP)] {
+        let words: Vec<&str> = line.split(' ').collect(alloc)?;
+        let command = plan(alloc, words.as_slice()).ok().ok_or("a command")?;
+        let mut out = MemSink::new(alloc, 4096)?;
+        let mut reports = Vec::with_capacity(alloc, 400)?;
+        let mut scarcity = Scarcity::new(alloc, 400, 64)?;
+        for _ in 0..400 {
+            let mut image = MemSource::new(&header);
+            let report = execute(
+                alloc,
+                &command,
+                &mut image,
+                &mut MemSource::new(&[]),
+                &mut out,
+            );
+            let _ = reports.push((report, out.as_slice().len()));
+            if report.status == 0 {
+                break;
+            }
+            scarcity.relent();
+        }
+        drop(scarcity);
+        let last = reports.pop().ok_or("a run")?;
+        assert_eq!(rt; last.0, Report::of(Message::Done), "{line}");
+        assert_eq!(rt; out.as_slice(), whole.as_bytes(), "{line}");
+        assert!(rt; !reports.is_empty(), "{line}: no refusal");
+        for (report, written) in reports.iter() {
+            assert_eq!(rt; *report, Report::of(Message::OutOfMemory), "{line}");
+            assert_eq!(rt; *written, 0, "{line}");
+        }
+    }
+    Ok(())
+}
