@@ -1,6 +1,6 @@
 //! Anti-forensic stripes (LUKS1 On-Disk Format 1.2.3, "AF splitting").
 
-ghost use Rattle.std.specs.Prelude.{◌≡◌, ◌+◌, ◌*◌, ◌≤◌, ◌^◌, ◌<◌, ◌++◌, length, replicate, take};
+ghost use Rattle.std.specs.Prelude.{◌≡◌, ◌+◌, ◌*◌, ◌≤◌, ◌++◌, length, replicate, take};
 ghost use Rattle.std.specs.Int.{to_be_bytes, w32};
 ghost use Rattle.luks_kdf.specs.Bytes.{xor};
 ghost use Rattle.luks_kdf.specs.Hash.{hash_of, size_of};

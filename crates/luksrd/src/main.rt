@@ -12,7 +12,7 @@ use luks_cli::message::Message;
 use luks_cli::report::Report;
 use luks_io::adapters::{ReadSource, WriteSink};
 use std::env;
-use std::io::{BufWriter, ErrorKind};
+use std::io::{BufWriter, ErrorKind, Write};
 use std::process::ExitCode;
 
 /// How many bytes of a file are read, and of the output written, at once.
@@ -53,7 +53,7 @@ fn run(rt: &HostRuntime, command: &Command<'_>) -> ExitCode {
     let mut image = ReadSource::new(image);
     let mut secret = ReadSource::new(secret);
     let report = execute(rt.alloc(), command, &mut image, &mut secret, &mut out);
-    if out.flush().is_err() {
+    if out.into_inner().flush().is_err() {
         return tell(rt, Message::WriteFailed);
     }
     tell_report(rt, &report)

@@ -1,8 +1,6 @@
 //! Sinks over std's writers.
 
 ghost use Rattle.std.specs.Prelude.{◌≡◌};
-ghost use Rattle.std.specs.Io.KnownBytes.{Keeps};
-ghost use Rattle.luks_io.specs.Bytes.{CountsFailure};
 
 use super::{Answer, REPEATS, answer_of};
 use crate::DeviceFault;
@@ -28,20 +26,11 @@ impl<W: Write> WriteSink<W> {
         }
     }
 
-    /// Hands on what the writer keeps back in buffers of its own.
-    pub fn flush(&mut self) -> Result<(), DeviceFault>
-        ensures bytes { Keeps (⟦<WriteSink<W> as Sink>⟧.written self.old) (⟦<WriteSink<W> as Sink>⟧.written self.new) }
-        ensures counts { CountsFailure (⟦<WriteSink<W> as Sink>⟧.failures self.old)
-            (⟦<WriteSink<W> as Sink>⟧.failures self.new) result }
+    /// The writer, which has what was written so far.
+    pub fn into_inner(self) -> W
+        ensures { W.contents result ≡ ⟦<WriteSink<W> as Sink>⟧.written self }
     {
-        for _ in 0..=REPEATS {
-            match answer_of(self.writer.flush().map(|()| 0)) {
-                Answer::Moved(_) => return Ok(()),
-                Answer::Interrupted => {}
-                Answer::Failed => break,
-            }
-        }
-        Err(DeviceFault::counted(&mut self.failures))
+        self.writer
     }
 }
 
