@@ -1,7 +1,7 @@
 #!/usr/bin/env bash
 # Runs the built program's stripe commands on files and on pipes, as a user would, and compares output, message and status.
 set -u
-program=${1:?the built program}
+program=$(realpath "${1:?the built program}")
 work=$(mktemp -d)
 trap 'rm -rf "$work"' EXIT
 cd "$work" || exit 1

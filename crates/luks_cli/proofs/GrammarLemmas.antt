@@ -1,9 +1,8 @@
 -- What `clap` says of luksrd's command line.
 use Rattle.std.proofs.Common.{◌≡◌, ◌∙◌, Err, IsErrAnd, List, None, Ok, Option, Result, [], ◌∷◌, ap, inl, inr, refl, subst, sym, true}
-use Rattle.clap.specs.Words.{App, HasKind, HasMatchesOf, IsAmong, Kinds, Text, fault_of, is_simple, is_simple_and_free, kind_of, subcommand_of, subcommand_rows_of}
+use Rattle.clap.specs.Words.{App, HasKind, HasMatchesOf, Kinds, Text, fault_of, is_simple, is_simple_and_free, kind_of, subcommand_of, subcommand_rows_of}
 use Rattle.clap.specs.declared.Error.{Error}
 use Rattle.clap.specs.declared.ArgMatches.{ArgMatches}
-use Rattle.clap.specs.declared.error.ErrorKind.{ErrorKind}
 use Rattle.clap.proofs.OnLiterals.{clap_on_literals}
 use Rattle.luks_cli.specs.Command.{fault_for, subcommand_in, unless_faulty}
 use Rattle.luks_cli.specs.Grammar.{luksrd}

@@ -1,5 +1,5 @@
 -- Taking stripes one at a time, and how merging them ends.
-use Rattle.std.proofs.Common.{◌≡◌, ℕ, ◌+◌, ◌-◌, ◌*◌, ◌<◌, ◌≤◌, List, [], ◌++◌, true, false, suc, append-nil, length-take-le, Option, Some, ◌∙◌, ap, sym, refl, take, drop, length, take_all, length-drop, min, arith, zero-mul}
+use Rattle.std.proofs.Common.{◌≡◌, ℕ, ◌+◌, ◌-◌, ◌*◌, ◌<◌, ◌≤◌, List, [], ◌++◌, true, false, suc, append-nil, length-take-le, Option, Some, ◌∙◌, ap, sym, refl, take, drop, length, take_all, length-drop, arith, zero-mul}
 use Rattle.std.proofs.lemmas.List.{drop-drop, take-append-drop}
 use Rattle.luks_io.specs.Bytes.{Adds, GivesAll, TakesNext}
 use Rattle.std.proofs.lemmas.Bool.Decides.{nat_tests}
@@ -11,8 +11,8 @@ use Rattle.luks_kdf.specs.Stripes.{Chain, chain_after, chain_of, merged, stripe_
 use Rattle.luks_kdf.proofs.StripesLemmas.{chain_of-append, merged_by_number, stripe_at-append}
 use Rattle.luks_cli.specs.declared.message.Message.{Message}
 use Rattle.luks_cli.specs.declared.message.Message.TheVariants.{Done, No, Usage, NotLuks, Cut, Json, KeyLength, FewRandomBytes, FewStripes, OutOfMemory, ReadFailed, WriteFailed}
-use Rattle.luks_cli.specs.Outcome.{Outcome, merge_outcome}
-use Rattle.luks_cli.specs.Run.{Bytes, Runs, Tell, BreaksOff, Completes, bytes_after, none_owed}
+use Rattle.luks_cli.specs.Outcome.{merge_outcome}
+use Rattle.luks_cli.specs.Run.{Bytes, Runs, BreaksOff, Completes, none_owed}
 use Rattle.luks_cli.specs.Stripe.{StopsTaking, Taken}
 
 -- before any byte is taken

@@ -1,12 +1,12 @@
 -- How splitting a key ends.
-use Rattle.std.proofs.Common.{◌≡◌, ℕ, ◌+◌, ◌-◌, ◌*◌, ◌/◌, ◌<◌, ◌≤◌, ◌⊎◌, inl, inr, List, [], ◌++◌, Option, Some, ◌∙◌, ap, sym, subst, refl, take, drop, length, take-take, take_all, length-take-le, length-append, append-nil, append_assoc, min, arith, true, false}
+use Rattle.std.proofs.Common.{◌≡◌, ℕ, ◌+◌, ◌-◌, ◌*◌, ◌/◌, ◌<◌, ◌≤◌, ◌⊎◌, inl, inr, List, [], ◌++◌, Option, Some, ◌∙◌, ap, sym, refl, take, drop, length, take-take, length-take-le, length-append, append-nil, append_assoc, min, arith, true, false}
 use Rattle.std.proofs.lemmas.List.{take-append-drop, take-append-le, drop_all}
 use Rattle.std.proofs.Math.Seq.{take-append-add}
 use Rattle.std.proofs.lemmas.Bool.{cases_lt}
 use Rattle.std.proofs.lemmas.Bool.Decides.{nat_tests}
 use Rattle.std.proofs.Math.Nat.{div-eq_of_lt-le, div-mul-le_self, zero-div, zero-mul, mul-le-mul_right}
 use Rattle.std.proofs.lemmas.Nat.{le-div}
-use Rattle.std.specs.Prelude.{if◌then◌else◌, ◌&&◌, nat_lt, nat_le}
+use Rattle.std.specs.Prelude.{◌&&◌, nat_lt, nat_le}
 use Rattle.luks_kdf.specs.declared.hash.Hash.{Hash}
 use Rattle.luks_kdf.specs.Bytes.{xor}
 use Rattle.luks_kdf.specs.Stripes.{Chain, chain_after, chain_of}
@@ -15,8 +15,8 @@ use Rattle.luks_io.specs.Bytes.{Adds}
 use Rattle.luks_cli.specs.declared.message.Message.{Message}
 use Rattle.luks_cli.specs.declared.message.Message.TheVariants.{Done, No, Usage, NotLuks, Cut, Json, KeyLength, FewRandomBytes, FewStripes, OutOfMemory, ReadFailed, WriteFailed}
 use Rattle.luks_cli.specs.Outcome.{Outcome, split_key_outcome, split_outcome, stripes_of}
-use Rattle.luks_cli.specs.Run.{Bytes, Runs, Tell, BreaksOff, Completes, bytes_after}
-use Rattle.luks_cli.specs.Stripe.{LosesUpTo, NoKeyRead, Passed, StopsPassing, split_promptly}
+use Rattle.luks_cli.specs.Run.{Bytes, Runs, BreaksOff, Completes}
+use Rattle.luks_cli.specs.Stripe.{NoKeyRead, Passed, StopsPassing, split_promptly}
 
 module _ (h : Hash) (count : ℕ) (key random : List ℕ) where
   -- a key of a length that is allowed

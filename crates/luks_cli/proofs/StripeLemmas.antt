@@ -1,6 +1,6 @@
 -- Passing on random stripes one at a time.
-use Rattle.std.proofs.Common.{◌≡◌, ℕ, ◌+◌, ◌-◌, ◌*◌, ◌<◌, ◌≤◌, List, ◌++◌, Option, Some, ◌∙◌, ap, sym, subst, refl, take, drop, length, take-take, take_all, length-drop, length-take-le, append-nil, append_assoc, min, arith, zero-mul}
-use Rattle.std.proofs.lemmas.List.{drop-drop, drop_all}
+use Rattle.std.proofs.Common.{◌≡◌, ℕ, ◌+◌, ◌*◌, ◌<◌, ◌≤◌, List, ◌++◌, Option, Some, ◌∙◌, ap, sym, take, drop, length, take-take, take_all, length-drop, append-nil, append_assoc, arith, zero-mul}
+use Rattle.std.proofs.lemmas.List.{drop-drop}
 use Rattle.std.proofs.Math.Seq.{take-add}
 use Rattle.luks_kdf.specs.Stripes.{stripe_at}
 use Rattle.luks_io.specs.Bytes.{Adds, GivesAll, TakesNext}

@@ -1,6 +1,5 @@
 -- What the commands on headers do with an image.
 use Rattle.std.specs.Prelude.{ℕ, List, [], Result, Ok, Err}
-use Rattle.luks_header.specs.Header.{cost_of, header_of}
 use Rattle.luks_header.specs.declared.header.Header.{Header}
 use Rattle.luks_header.specs.declared.header.Header.TheVariants.{V1}
 use Rattle.luks_header.specs.declared.fault.HeaderFault.{HeaderFault}

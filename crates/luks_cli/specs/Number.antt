@@ -1,5 +1,5 @@
 -- The numbers of a command line.
-use Rattle.std.specs.Prelude.{◌&&◌, ◌≤◌, ℕ, Bool, List, length, nat_le, nat_lt, Option, Some, None, if◌then◌else◌, option_and_then}
+use Rattle.std.specs.Prelude.{◌&&◌, ℕ, Bool, List, length, nat_le, nat_lt, Option, Some, None, if◌then◌else◌, option_and_then}
 use Rattle.std.specs.Char.{is_ascii_digit}
 use Rattle.std.specs.List.{list_all}
 use Rattle.std.specs.Str.Parse.{digits_value}

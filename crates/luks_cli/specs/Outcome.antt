@@ -1,5 +1,5 @@
 -- What a run of luksrd does: a function of the command and the bytes of both inputs.
-use Rattle.std.specs.Prelude.{ℕ, ◌+◌, ◌-◌, ◌*◌, ◌/◌, ◌&&◌, ◌++◌, List, [], length, take, min, nat_lt, nat_le, if◌then◌else◌}
+use Rattle.std.specs.Prelude.{ℕ, ◌-◌, ◌*◌, ◌/◌, ◌&&◌, ◌++◌, List, [], length, take, min, nat_lt, nat_le, if◌then◌else◌}
 use Rattle.luks_kdf.specs.declared.hash.Hash.{Hash}
 use Rattle.luks_cli.specs.Command.{Request, is_luks, luks_uuid, luks_dump, af_split, af_merge}
 use Rattle.luks_header.specs.Header.{cost_of, header_of}

@@ -1,5 +1,5 @@
 -- What the parts of the stripe commands leave, where the devices tell their bytes.
-use Rattle.std.specs.Prelude.{◌≡◌, ℕ, ◌+◌, ◌*◌, ◌/◌, ◌<◌, ◌≤◌, ◌++◌, ◌⊎◌, List, [], drop, length, take, min, Option, Some}
+use Rattle.std.specs.Prelude.{◌≡◌, ℕ, ◌+◌, ◌*◌, ◌/◌, ◌<◌, ◌≤◌, ◌++◌, ◌⊎◌, List, drop, length, take, min, Option, Some}
 use Rattle.luks_cli.specs.declared.message.Message.{Message}
 use Rattle.luks_cli.specs.declared.message.Message.TheVariants.{KeyLength, FewRandomBytes, FewStripes, ReadFailed, WriteFailed}
 

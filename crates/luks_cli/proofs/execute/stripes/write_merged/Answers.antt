@@ -1,4 +1,4 @@
-use Rattle.std.proofs.Common.{◌≡◌, ◌≤◌, ◌<◌, ◌+◌, ◌*◌, ◌-◌, ◌∙◌, sym, ap, length, take, drop, length-take-le, refl, arith}
+use Rattle.std.proofs.Common.{◌≡◌, ◌≤◌, ◌<◌, ◌+◌, ◌-◌, ◌∙◌, length, length-take-le, arith}
 use Rattle.std.proofs.lemmas.Result.{err_from_is_err_and}
 use Rattle.std.proofs.Math.Nat.{mul-le-mul_right}
 use Rattle.luks_cli.proofs.MergeLemmas.{key_merged, runs_to_end, runs_without_key, runs_without_stripes, stops_before, stops_reading, stops_short, stripe_more}

@@ -1,4 +1,4 @@
-use Rattle.std.proofs.Common.{◌≡◌, ◌≤◌, ◌∙◌, sym, ap, length, take, drop, length-take-le, arith}
+use Rattle.std.proofs.Common.{◌≡◌, ◌∙◌, sym, ap, length, length-take-le, arith}
 use Rattle.std.proofs.lemmas.Result.{err_from_is_err_and}
 use Rattle.luks_cli.proofs.SplitLemmas.{last_stripe, runs_to_end, runs_without_key, runs_without_last, runs_without_stripes}
 use Rattle.luks_cli.proofs.execute.stripes.write_split.Goals as goal
