@@ -27,4 +27,4 @@ test: all
 
 bench: all
 	bench/pbkdf2
-	bench/xts/run
+	bench/xts

@@ -98,6 +98,19 @@ bytes "$zeros$last" | head -c 55 >stripes55
 run afMerge --hash sha256 --stripes 2 --key-bytes 28 stripes55
 expect 'too few stripes' 4 '' 'luksrd: stripes are too few'
 
+# pieces of 20, 20, 20 and 4 bytes; the last stripe by a script over Python's hashlib
+long_key=$(printf '%02x' $(seq 0 63))
+long_random=$(for i in $(seq 0 127); do printf '%02x' $(((i * 7 + 3) % 256)); done)
+long_last=cd644aa621f85f393736148e266a9cf06f90ab4902ef320028d925a089e0670c99aac1fafb836767fa39c85c017179f809aa2a3c0754ae9f4692ea80f48efa17
+bytes "$long_key" >long_key
+bytes "$long_random" >long_random
+run afSplit --hash sha1 --stripes 3 --random long_random long_key
+expect 'three stripes of 64 bytes' 0 "$long_random$long_last" ''
+cp out in
+run afMerge --hash sha1 --stripes 3 --key-bytes 64 -
+expect 'three stripes of 64 bytes merged' 0 "$long_key" ''
+: >in
+
 # what a run leaves of standard input is there for the next program
 (bytes "$zeros$last"; printf 'the rest') | (
     "$program" afMerge --hash sha256 --stripes 2 --key-bytes 28 - >out 2>err
@@ -135,6 +148,25 @@ expect 'a full device' 6 '' 'luksrd: write failed'
 "$program" afMerge --hash sha256 --stripes 9 --key-bytes 32 stripes >/dev/full 2>err
 echo $? >status
 expect 'no output to a full device' 4 '' 'luksrd: stripes are too few'
+
+# with less memory than the program's buffers need, it says so and writes nothing
+refused=0
+for kib in $(seq 2000 20 20000); do
+    (ulimit -v "$kib"; exec "$program" afMerge --hash sha256 --stripes 1 --key-bytes 32 stripes) >out 2>err
+    echo $? >status
+    case $(cat status) in
+    127) ;; # the loader found no memory for the program itself
+    3)
+        refused=$((refused + 1))
+        expect "$kib KiB of memory" 3 '' 'luksrd: out of memory'
+        ;;
+    *)
+        expect "$kib KiB of memory" 0 "$numbers" ''
+        break
+        ;;
+    esac
+done
+[ "$refused" -gt 0 ] || { failed=$((failed + 1)); echo 'FAILED: no run was refused memory'; }
 
 # a reader that goes away ends the program
 head -c 512 /dev/zero >key512

@@ -1,4 +1,4 @@
-/* AES-256-XTS decryption by tables, the yardstick of bench/xts/run.
+/* AES-256-XTS decryption by tables, the yardstick of bench/xts.
  *
  *     tables VARIANT BYTES COUNT
  *
