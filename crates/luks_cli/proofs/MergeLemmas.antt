@@ -95,6 +95,7 @@ runs_without_stripes h count len before ReadFailed s r w stop is was = record {
   image_within = taken_within h count len before.image stop.0 stop.1 stop.2.0;
   secret_within = omega arith;
   output_within = omega arith;
+  is_silent = tt;
   is_prompt = tt;
   left = record { image = stop.2.1; secret = is; written = was ∙ ap Some (sym (append-nil before.written)) };
 }
@@ -126,6 +127,7 @@ module _ (h : Hash) (count len : ℕ) (before : Bytes) (s r w w' : Option (List 
     image_within = omega arith;
     secret_within = omega arith;
     output_within = omega arith;
+    is_silent = tt;
     is_prompt = tt;
     left = record { image = p.1; secret = is; written = a before.written was };
   })
