@@ -1,0 +1,59 @@
+-- The command line of luksrd as `clap` reads it: one level of subcommands, each with options that
+-- take one text and with one input, and no rule between options.
+use Rattle.std.specs.Prelude.{◌≡◌, ◌∷◌, ◌++◌, [], Bool, true, false, List, Some, codes}
+use Rattle.clap.specs.Words.{App, Rule, Shape, Text, app_of, new_rule}
+use Rattle.clap.specs.Simple.{new_shape}
+use Rattle.clap.specs.declared.builder.Command.{Command}
+use Rattle.clap.specs.declared.builder.Command.TheViews.{out-Command}
+
+-- the option `--name`, which takes one text
+abbrev pub option : Text → Bool → Rule
+option name is_required = record (new_rule name) { long = Some name; required = is_required }
+
+-- the option may not be left out
+abbrev pub required : Text → Rule
+required name = option name true
+
+-- the option may be left out
+abbrev pub optional : Text → Rule
+optional name = option name false
+
+-- the input, which stands by itself and may not be left out
+abbrev pub input : Rule
+input = record (new_rule (codes "input")) { required = true }
+
+-- a command with these options and its input
+abbrev pub command : Text → List Rule → Shape
+command name options = record (new_shape name) { rules = options ++ input ∷ [] }
+
+-- `afSplit --hash HASH --stripes N --random FILE KEY`
+abbrev pub af_split : Shape
+af_split = command (codes "afSplit")
+    (required (codes "hash") ∷ required (codes "stripes") ∷ required (codes "random") ∷ [])
+
+-- `afMerge --hash HASH --stripes N --key-bytes N STRIPES`
+abbrev pub af_merge : Shape
+af_merge = command (codes "afMerge")
+    (required (codes "hash") ∷ required (codes "stripes") ∷ required (codes "key-bytes") ∷ [])
+
+-- luksrd with no command yet: the words are those after the program's name, and a word that asks
+-- for help is a word like others
+abbrev pub program : Shape
+program = record (new_shape (codes "luksrd")) {
+  no_binary_name = true;
+  disable_help_flag = true;
+  disable_help_subcommand = true;
+}
+
+-- luksrd with its commands
+unfoldable pub luksrd : App
+luksrd = record { top = record program { is_leaf = false }; subs = af_split ∷ af_merge ∷ [] }
+
+-- a command that stands by itself
+abbrev pub alone : Shape → App
+alone shape = record { top = shape; subs = [] }
+
+-- what `clap` reads of the command, of whose arguments none goes on to another command
+pub record Reads (command : Command) (as_read : App) : Type 0 where
+  pub app : app_of command ≡ as_read
+  pub local : (out-Command command).has_globals ≡ false

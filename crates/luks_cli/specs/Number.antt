@@ -1,0 +1,21 @@
+-- The numbers of a command line.
+use Rattle.std.specs.Prelude.{◌&&◌, ◌≤◌, ℕ, Bool, List, length, nat_le, nat_lt, Option, Some, None, if◌then◌else◌, option_and_then}
+use Rattle.std.specs.Char.{is_ascii_digit}
+use Rattle.std.specs.List.{list_all}
+use Rattle.std.specs.Str.Parse.{digits_value}
+
+-- the text is 1 to 10 ASCII digits
+abbrev pub is_number : List ℕ → Bool
+is_number text = nat_lt 0 (length text) && (nat_le (length text) 10 && list_all is_ascii_digit text)
+
+-- the number that the text writes
+abbrev pub number_of : List ℕ → Option ℕ
+number_of text = if is_number text then Some (digits_value 10 text) else None
+
+-- the number, where it is in the range
+abbrev pub within : ℕ → ℕ → ℕ → Option ℕ
+within least most n = if nat_le least n && nat_le n most then Some n else None
+
+-- the number of the range that the text writes
+abbrev pub number_within : ℕ → ℕ → List ℕ → Option ℕ
+number_within least most text = option_and_then (within least most) (number_of text)

@@ -1,0 +1,78 @@
+//! The commands of luksrd as `clap` reads them.
+
+ghost use Rattle.std.specs.Prelude.{◌≡◌, IfOk, false};
+ghost use Rattle.clap.specs.Words.{app_of, rule_of, with_subcommand};
+ghost use Rattle.luks_cli.specs.Grammar.{Reads, af_merge, af_split, alone, input, luksrd, option};
+ghost use Rattle.luks_cli.specs.Grammar.{program};
+
+use clap::{Arg, Command};
+use std::alloc::{AllocError, Global};
+
+// luksrd with all its commands.
+#[tactic(auto, unfolding(crate::specs::Grammar::luksrd))]
+pub(super) fn grammar<'a>(alloc: Global) -> Result<Command<'a>, AllocError>
+    ensures { IfOk result (λ command. app_of command ≡ luksrd) }
+{
+    with_stripe_commands(alloc, program(alloc))
+}
+
+// luksrd with no command yet, and with no word that asks for help.
+fn program<'a>(alloc: Global) -> Command<'a>
+    ensures { Reads result (alone program) }
+{
+    Command::new(alloc, "luksrd")
+        .no_binary_name(true)
+        .disable_help_flag(true)
+        .disable_help_subcommand(true)
+}
+
+// The program with the commands on stripes as well.
+fn with_stripe_commands<'a>(
+    alloc: Global,
+    program: Command<'a>,
+) -> Result<Command<'a>, AllocError>
+    ensures { IfOk result (λ command. app_of command
+        ≡ with_subcommand (with_subcommand (app_of program.entry) af_split) af_merge) }
+{
+    program
+        .subcommand(af_split(alloc)?)?
+        .subcommand(af_merge(alloc)?)
+}
+
+// `afSplit --hash HASH --stripes N --random FILE KEY`
+fn af_split<'a>(alloc: Global) -> Result<Command<'a>, AllocError>
+    ensures { IfOk result (λ command. Reads command (alone af_split)) }
+{
+    Command::new(alloc, "afSplit")
+        .arg(option(alloc, "hash", true))?
+        .arg(option(alloc, "stripes", true))?
+        .arg(option(alloc, "random", true))?
+        .arg(input(alloc))
+}
+
+// `afMerge --hash HASH --stripes N --key-bytes N STRIPES`
+fn af_merge<'a>(alloc: Global) -> Result<Command<'a>, AllocError>
+    ensures { IfOk result (λ command. Reads command (alone af_merge)) }
+{
+    Command::new(alloc, "afMerge")
+        .arg(option(alloc, "hash", true))?
+        .arg(option(alloc, "stripes", true))?
+        .arg(option(alloc, "key-bytes", true))?
+        .arg(input(alloc))
+}
+
+// The option `--name`, which takes one text.
+fn option<'a>(alloc: Global, name: &'a str, is_required: bool) -> Arg<'a>
+    ensures rule { rule_of result ≡ option name.entry.now is_required }
+    ensures local { result.global ≡ false }
+{
+    Arg::new(alloc, name).long(name).required(is_required)
+}
+
+// The input, which stands by itself and may not be left out.
+fn input<'a>(alloc: Global) -> Arg<'a>
+    ensures rule { rule_of result ≡ input }
+    ensures local { result.global ≡ false }
+{
+    Arg::new(alloc, "input").required(true)
+}

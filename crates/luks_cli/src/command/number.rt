@@ -1,0 +1,101 @@
+//! The numbers of a command line, each in its range.
+
+ghost use Rattle.std.specs.Prelude.{◌≡◌, ◌≤◌, option_map};
+ghost use Rattle.std.specs.Char.{is_ascii_digit};
+ghost use Rattle.std.specs.List.{list_all};
+ghost use Rattle.luks_cli.specs.Number.{is_number, number_of, number_within, within};
+
+/// A number of stripes: 1 to 4000.
+#[derive(Clone, Copy, PartialEq, Eq, Debug)]
+pub struct StripeCount {
+    /// The number.
+    pub number: usize,
+    ghost in_range: { (1 ≤ number) × (number ≤ 4000) },
+}
+
+impl StripeCount {
+    /// This number of stripes, or `None` where it is out of range.
+    pub fn new(number: u64) -> Option<StripeCount>
+        ensures { option_map (λ count. count.number) result ≡ within 1 4000 number }
+    {
+        if 1 <= number && number <= 4000 {
+            Some(StripeCount {
+                number: number as usize,
+            })
+        } else {
+            None
+        }
+    }
+
+    /// The number.
+    pub fn get(self) -> usize
+        ensures { result ≡ self.number }
+    {
+        self.number
+    }
+
+    // The number of stripes that the text writes.
+    pub(super) fn read(text: &str) -> Option<StripeCount>
+        ensures { option_map (λ count. count.number) result ≡ number_within 1 4000 text.now }
+    {
+        StripeCount::new(number(text)?)
+    }
+}
+
+/// The length of a key in bytes: 1 to 512.
+#[derive(Clone, Copy, PartialEq, Eq, Debug)]
+pub struct KeyBytes {
+    /// The number.
+    pub number: usize,
+    ghost in_range: { (1 ≤ number) × (number ≤ 512) },
+}
+
+impl KeyBytes {
+    /// This number of bytes, or `None` where it is out of range.
+    pub fn new(number: u64) -> Option<KeyBytes>
+        ensures { option_map (λ count. count.number) result ≡ within 1 512 number }
+    {
+        if 1 <= number && number <= 512 {
+            Some(KeyBytes {
+                number: number as usize,
+            })
+        } else {
+            None
+        }
+    }
+
+    /// The number.
+    pub fn get(self) -> usize
+        ensures { result ≡ self.number }
+    {
+        self.number
+    }
+
+    // The number of bytes that the text writes.
+    pub(super) fn read(text: &str) -> Option<KeyBytes>
+        ensures { option_map (λ count. count.number) result ≡ number_within 1 512 text.now }
+    {
+        KeyBytes::new(number(text)?)
+    }
+}
+
+// Whether each byte of the text is an ASCII digit.
+fn is_all_digits(text: &str) -> bool
+    ensures { result ≡ list_all is_ascii_digit text.now }
+{
+    text.bytes().all(|byte| byte.is_ascii_digit())
+}
+
+// Whether the text is 1 to 10 ASCII digits.
+fn is_number(text: &str) -> bool
+    ensures { result ≡ is_number text.now }
+{
+    0 < text.len() && text.len() <= 10 && is_all_digits(text)
+}
+
+// The number that the text writes in 1 to 10 ASCII digits, or `None` for any other text.
+fn number(text: &str) -> Option<u64>
+    ensures { result ≡ number_of text.now }
+{
+    if is_number(text) { text.parse().ok() } else { None }
+}

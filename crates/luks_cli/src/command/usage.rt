@@ -1,0 +1,13 @@
+//! The usage text.
+
+/// How luksrd is called, one line a command. It is what a command line that is none of these gets.
+pub const USAGE: &str = "\
+usage: luksrd isLuks IMAGE
+       luksrd luksUUID IMAGE
+       luksrd luksDump IMAGE
+       luksrd luksCheck IMAGE
+       luksrd testPassphrase --key-file FILE [--key-slot N] [--max-iterations N] IMAGE
+       luksrd luksCat --key-file FILE [--key-slot N] [--max-iterations N] IMAGE
+       luksrd afSplit --hash HASH --stripes N --random FILE KEY
+       luksrd afMerge --hash HASH --stripes N --key-bytes N STRIPES
+";
