@@ -127,7 +127,7 @@ command_of words = do
 abbrev pub splitting_request : Splitting → SplittingRequest
 splitting_request s = record {
   hash = s.hash;
-  stripes = s.stripes.number;
+  stripes = s.stripes.count;
   random = s.random.now;
   key = s.key.now;
 }
@@ -135,8 +135,8 @@ splitting_request s = record {
 abbrev pub merging_request : Merging → MergingRequest
 merging_request m = record {
   hash = m.hash;
-  stripes = m.stripes.number;
-  key_bytes = m.key_bytes.number;
+  stripes = m.stripes.count;
+  key_bytes = m.key_bytes.bytes;
   stripes_file = m.stripes_file.now;
 }
 

@@ -16,6 +16,8 @@ use std::convert::AsStr;
 
 mod grammar;
 mod number;
+#[cfg(test)]
+mod tests;
 mod usage;
 
 /// What luksrd is asked for. The texts are those of the command line; an input named `-` is
@@ -157,7 +159,7 @@ fn hash(options: &ArgMatches<'_>) -> Option<Hash>
 // The number of `--stripes`.
 #[tactic(auto, unfolding(crate::specs::Command::stripes_in))]
 fn stripes(options: &ArgMatches<'_>) -> Option<StripeCount>
-    ensures { option_map (λ count. count.number) result ≡ stripes_in (rows_of (found_of options.now)) }
+    ensures { option_map (λ stripes. stripes.count) result ≡ stripes_in (rows_of (found_of options.now)) }
 {
     StripeCount::read(text(options, "stripes")?)
 }
@@ -165,7 +167,7 @@ fn stripes(options: &ArgMatches<'_>) -> Option<StripeCount>
 // The number of `--key-bytes`.
 #[tactic(auto, unfolding(crate::specs::Command::key_bytes_in))]
 fn key_bytes(options: &ArgMatches<'_>) -> Option<KeyBytes>
-    ensures { option_map (λ count. count.number) result ≡ key_bytes_in (rows_of (found_of options.now)) }
+    ensures { option_map (λ key. key.bytes) result ≡ key_bytes_in (rows_of (found_of options.now)) }
 {
     KeyBytes::read(text(options, "key-bytes")?)
 }

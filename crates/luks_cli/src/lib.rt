@@ -5,3 +5,5 @@ pub use command::{Command, Merging, PlanFault, Splitting, USAGE, plan};
 pub use command::{KeyBytes, StripeCount};
 
 pub mod command;
+#[cfg(test)]
+mod tests;

@@ -8,35 +8,35 @@ ghost use Rattle.luks_cli.specs.Number.{is_number, number_of, number_within, wit
 /// A number of stripes: 1 to 4000.
 #[derive(Clone, Copy, PartialEq, Eq, Debug)]
 pub struct StripeCount {
-    /// The number.
-    pub number: usize,
-    ghost in_range: { (1 ≤ number) × (number ≤ 4000) },
+    /// How many there are.
+    pub count: usize,
+    ghost in_range: { (1 ≤ count) × (count ≤ 4000) },
 }
 
 impl StripeCount {
     /// This number of stripes, or `None` where it is out of range.
     pub fn new(number: u64) -> Option<StripeCount>
-        ensures { option_map (λ count. count.number) result ≡ within 1 4000 number }
+        ensures { option_map (λ stripes. stripes.count) result ≡ within 1 4000 number }
     {
         if 1 <= number && number <= 4000 {
             Some(StripeCount {
-                number: number as usize,
+                count: number as usize,
             })
         } else {
             None
         }
     }
 
-    /// The number.
+    /// How many there are.
     pub fn get(self) -> usize
-        ensures { result ≡ self.number }
+        ensures { result ≡ self.count }
     {
-        self.number
+        self.count
     }
 
     // The number of stripes that the text writes.
     pub(super) fn read(text: &str) -> Option<StripeCount>
-        ensures { option_map (λ count. count.number) result ≡ number_within 1 4000 text.now }
+        ensures { option_map (λ stripes. stripes.count) result ≡ number_within 1 4000 text.now }
     {
         StripeCount::new(number(text)?)
     }
@@ -45,35 +45,35 @@ impl StripeCount {
 /// The length of a key in bytes: 1 to 512.
 #[derive(Clone, Copy, PartialEq, Eq, Debug)]
 pub struct KeyBytes {
-    /// The number.
-    pub number: usize,
-    ghost in_range: { (1 ≤ number) × (number ≤ 512) },
+    /// How many there are.
+    pub bytes: usize,
+    ghost in_range: { (1 ≤ bytes) × (bytes ≤ 512) },
 }
 
 impl KeyBytes {
     /// This number of bytes, or `None` where it is out of range.
     pub fn new(number: u64) -> Option<KeyBytes>
-        ensures { option_map (λ count. count.number) result ≡ within 1 512 number }
+        ensures { option_map (λ key. key.bytes) result ≡ within 1 512 number }
     {
         if 1 <= number && number <= 512 {
             Some(KeyBytes {
-                number: number as usize,
+                bytes: number as usize,
             })
         } else {
             None
         }
     }
 
-    /// The number.
+    /// How many there are.
     pub fn get(self) -> usize
-        ensures { result ≡ self.number }
+        ensures { result ≡ self.bytes }
     {
-        self.number
+        self.bytes
     }
 
     // The number of bytes that the text writes.
     pub(super) fn read(text: &str) -> Option<KeyBytes>
-        ensures { option_map (λ count. count.number) result ≡ number_within 1 512 text.now }
+        ensures { option_map (λ key. key.bytes) result ≡ number_within 1 512 text.now }
     {
         KeyBytes::new(number(text)?)
     }
