@@ -6,13 +6,13 @@ ghost use Rattle.luks_cli.specs.Command.{command_of, fault_for, reads_standard_t
 ghost use Rattle.luks_cli.specs.Command.{hash_in, key_bytes_in, request_of, stripes_in};
 ghost use Rattle.luks_cli.specs.Command.{subcommand_in, text_in};
 
-pub use number::{KeyBytes, StripeCount};
-pub use usage::USAGE;
-
-use clap::{ArgMatches, error::ErrorKind};
+use clap::ArgMatches;
+use clap::error::ErrorKind;
 use luks_kdf::Hash;
+pub use number::{KeyBytes, StripeCount};
 use std::alloc::{AllocError, Global};
 use std::convert::AsStr;
+pub use usage::USAGE;
 
 mod grammar;
 mod number;

@@ -1,8 +1,7 @@
 //! The command line of luksrd and what its commands do.
 #![tactic(auto)]
 
-pub use command::{Command, Merging, PlanFault, Splitting, USAGE, plan};
-pub use command::{KeyBytes, StripeCount};
+pub use command::{Command, KeyBytes, Merging, PlanFault, Splitting, StripeCount, USAGE, plan};
 
 pub mod command;
 #[cfg(test)]

@@ -27,10 +27,7 @@ fn program<'a>(alloc: Global) -> Command<'a>
 }
 
 // The program with the commands on stripes as well.
-fn with_stripe_commands<'a>(
-    alloc: Global,
-    program: Command<'a>,
-) -> Result<Command<'a>, AllocError>
+fn with_stripe_commands<'a>(alloc: Global, program: Command<'a>) -> Result<Command<'a>, AllocError>
     ensures { IfOk result (λ command. app_of command
         ≡ with_subcommand (with_subcommand (app_of program.entry) af_split) af_merge) }
 {

@@ -97,5 +97,9 @@ fn is_number(text: &str) -> bool
 fn number(text: &str) -> Option<u64>
     ensures { result ≡ number_of text.now }
 {
-    if is_number(text) { text.parse().ok() } else { None }
+    if is_number(text) {
+        text.parse().ok()
+    } else {
+        None
+    }
 }

@@ -55,21 +55,24 @@ fn merges(rt: HostRuntime) -> Result<(), Fail> {
 
 #[test]
 fn folds_hash_names(rt: HostRuntime) -> Result<(), Fail> {
-    for (line, hash) in [
-        ("afMerge --hash sha1 --stripes 1 --key-bytes 1 s", Hash::Sha1),
-        ("afMerge --hash SHA224 --stripes 1 --key-bytes 1 s", Hash::Sha224),
-        ("afMerge --hash Sha256 --stripes 1 --key-bytes 1 s", Hash::Sha256),
-        ("afMerge --hash sHA384 --stripes 1 --key-bytes 1 s", Hash::Sha384),
-        ("afMerge --hash shA512 --stripes 1 --key-bytes 1 s", Hash::Sha512),
+    let alloc = rt.alloc();
+    for (name, hash) in [
+        ("sha1", Hash::Sha1),
+        ("SHA224", Hash::Sha224),
+        ("Sha256", Hash::Sha256),
+        ("sHA384", Hash::Sha384),
+        ("shA512", Hash::Sha512),
     ] {
-        let words = words_of(rt.alloc(), line)?;
+        let line = format!(in alloc; "afMerge --hash {name} --stripes 1 --key-bytes 1 s")?;
+        let words = words_of(alloc, line.as_str())?;
         let merging = Merging {
             hash,
             stripes: StripeCount::new(1).ok_or("a number of stripes")?,
             key_bytes: KeyBytes::new(1).ok_or("a length")?,
             stripes_file: "s",
         };
-        assert_eq!(rt; plan(rt.alloc(), words.as_slice()), Ok(Command::AfMerge(merging)), "{line}");
+        let command = Command::AfMerge(merging);
+        assert_eq!(rt; plan(alloc, words.as_slice()), Ok(command), "{line}");
     }
     Ok(())
 }
@@ -77,25 +80,28 @@ fn folds_hash_names(rt: HostRuntime) -> Result<(), Fail> {
 // Names of inputs that are unusual, and of standard input.
 #[test]
 fn takes_names_as_they_are(rt: HostRuntime) -> Result<(), Fail> {
-    for (line, random, key) in [
-        ("afSplit --hash sha1 --stripes 1 --random - k", "-", "k"),
-        ("afSplit --hash sha1 --stripes 1 --random=- k", "-", "k"),
-        ("afSplit --hash sha1 --stripes 1 --random r -", "r", "-"),
-        ("afSplit --hash sha1 --stripes 1 --random r -- -", "r", "-"),
-        ("afSplit --hash sha1 --stripes 1 --random r -- --help", "r", "--help"),
-        ("afSplit --hash sha1 --stripes 1 --random= k", "", "k"),
-        ("afSplit --hash sha1 --stripes 1 --random=a=b k", "a=b", "k"),
-        ("afSplit --hash sha1 --stripes 1 --random r ", "r", ""),
-        ("afSplit --hash sha1 --stripes 1 --random afMerge é", "afMerge", "é"),
+    let alloc = rt.alloc();
+    for (inputs, random, key) in [
+        ("--random - k", "-", "k"),
+        ("--random=- k", "-", "k"),
+        ("--random r -", "r", "-"),
+        ("--random r -- -", "r", "-"),
+        ("--random r -- --help", "r", "--help"),
+        ("--random= k", "", "k"),
+        ("--random=a=b k", "a=b", "k"),
+        ("--random r ", "r", ""),
+        ("--random afMerge é", "afMerge", "é"),
     ] {
-        let words = words_of(rt.alloc(), line)?;
+        let line = format!(in alloc; "afSplit --hash sha1 --stripes 1 {inputs}")?;
+        let words = words_of(alloc, line.as_str())?;
         let splitting = Splitting {
             hash: Hash::Sha1,
             stripes: StripeCount::new(1).ok_or("a number of stripes")?,
             random,
             key,
         };
-        assert_eq!(rt; plan(rt.alloc(), words.as_slice()), Ok(Command::AfSplit(splitting)), "{line}");
+        let command = Command::AfSplit(splitting);
+        assert_eq!(rt; plan(alloc, words.as_slice()), Ok(command), "{line}");
     }
     Ok(())
 }
@@ -112,22 +118,27 @@ fn takes_words_as_strings(rt: HostRuntime) -> Result<(), Fail> {
         key_bytes: KeyBytes::new(20).ok_or("a length")?,
         stripes_file: "s",
     };
-    assert_eq!(rt; plan(rt.alloc(), words.as_slice()), Ok(Command::AfMerge(merging)));
+    let command = Command::AfMerge(merging);
+    assert_eq!(rt; plan(rt.alloc(), words.as_slice()), Ok(command));
     Ok(())
 }
 
 #[test]
 fn numbers_have_ranges(rt: HostRuntime) -> Result<(), Fail> {
-    for (number, fits) in [(0, false), (1, true), (4000, true), (4001, false), (1 << 32, false)] {
-        assert_eq!(rt; StripeCount::new(number).is_some(), fits, "{number} stripes");
+    for number in [0, 4001, 1 << 32] {
+        assert_eq!(rt; StripeCount::new(number), None, "{number} stripes");
     }
-    for (number, fits) in [(0, false), (1, true), (512, true), (513, false), (1 << 32, false)] {
-        assert_eq!(rt; KeyBytes::new(number).is_some(), fits, "{number} key bytes");
+    for number in [0, 513, 1 << 32] {
+        assert_eq!(rt; KeyBytes::new(number), None, "{number} key bytes");
     }
-    let stripes = StripeCount::new(4000).ok_or("a number of stripes")?;
-    assert_eq!(rt; stripes.get(), 4000);
-    let key_bytes = KeyBytes::new(512).ok_or("a length")?;
-    assert_eq!(rt; key_bytes.get(), 512);
+    for number in [1, 4000] {
+        let stripes = StripeCount::new(number).ok_or("a number of stripes")?;
+        assert_eq!(rt; stripes.get() as u64, number);
+    }
+    for number in [1, 512] {
+        let key_bytes = KeyBytes::new(number).ok_or("a length")?;
+        assert_eq!(rt; key_bytes.get() as u64, number);
+    }
     Ok(())
 }
 
@@ -255,16 +266,19 @@ fn refuses_other_numbers(rt: HostRuntime) -> Result<(), Fail> {
 }
 
 #[test]
-fn usage_ends_with_a_newline(rt: HostRuntime) {
+fn usage_has_a_line_a_command(rt: HostRuntime) {
+    let mut lines = USAGE.lines();
+    assert_eq!(rt; lines.next(), Some("usage: luksrd isLuks IMAGE"));
+    assert_eq!(rt; lines.next(), Some("       luksrd luksUUID IMAGE"));
     assert_eq!(rt; USAGE.lines().count(), 8);
-    assert!(rt; USAGE.starts_with("usage: luksrd isLuks IMAGE\n       luksrd luksUUID IMAGE\n"));
-    assert!(rt; USAGE.ends_with("       luksrd afMerge --hash HASH --stripes N --key-bytes N STRIPES\n"));
+    assert!(rt; USAGE.ends_with(" --key-bytes N STRIPES\n"));
 }
 
 // ---- scarce memory
 
 // The pieces in which memory comes back.
 const PIECES: usize = 1000;
+
 const PIECE_SIZE: usize = 136;
 
 // What a run answered.

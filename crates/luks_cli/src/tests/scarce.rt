@@ -9,6 +9,7 @@ use std::alloc::{AllocError, Global};
 
 // From more than the address space has down to the smallest block.
 const LARGEST: usize = 1 << 47;
+
 const HALVINGS: u32 = 44;
 
 // Enough places for the blocks that fill the address space.
