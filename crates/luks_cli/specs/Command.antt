@@ -10,7 +10,8 @@ use Rattle.luks_kdf.specs.declared.Hash.{Hash}
 use Rattle.luks_cli.specs.Grammar.{luksrd}
 use Rattle.luks_cli.specs.Number.{number_within}
 use Rattle.luks_cli.specs.declared.command.Command.{Command}
-use Rattle.luks_cli.specs.declared.command.Command.TheVariants.{AfSplit, AfMerge}
+use Rattle.luks_cli.specs.declared.command.Command.TheVariants.{AfSplit, AfMerge, IsLuks, LuksDump}
+use Rattle.luks_cli.specs.declared.command.Command.TheVariants.{LuksUuid}
 use Rattle.luks_cli.specs.declared.command.PlanFault.{PlanFault}
 use Rattle.luks_cli.specs.declared.command.PlanFault.TheVariants.{Memory, Usage}
 use Rattle.luks_cli.specs.declared.command.Splitting.{Splitting}
@@ -31,18 +32,24 @@ pub record MergingRequest : Type 0 where
   pub stripes_file : Text
 
 pub data Request : Type 0 where
+  is_luks : Text → Request
+  luks_uuid : Text → Request
+  luks_dump : Text → Request
   af_split : SplittingRequest → Request
   af_merge : MergingRequest → Request
 
 -- the first input: IMAGE, KEY or STRIPES
 abbrev pub image_of : Request → Text
+image_of (is_luks image) = image
+image_of (luks_uuid image) = image
+image_of (luks_dump image) = image
 image_of (af_split s) = s.key
 image_of (af_merge m) = m.stripes_file
 
 -- the second input, where there is one: FILE of `--key-file` or `--random`
 abbrev pub secret_of : Request → Option Text
 secret_of (af_split s) = Some s.random
-secret_of (af_merge m) = None
+secret_of _ = None
 
 -- ---- what the words ask for
 
@@ -90,9 +97,12 @@ merging_in rows = do
 -- the command by its name, with its options
 abbrev pub request_in : Text × List Row → Option Request
 request_in (name, rows) =
-    if bytes_eq name (codes "afSplit") then option_map af_split (splitting_in rows)
+    if bytes_eq name (codes "isLuks") then option_map is_luks (text_in (codes "input") rows)
+    else (if bytes_eq name (codes "luksUUID") then option_map luks_uuid (text_in (codes "input") rows)
+    else (if bytes_eq name (codes "luksDump") then option_map luks_dump (text_in (codes "input") rows)
+    else (if bytes_eq name (codes "afSplit") then option_map af_split (splitting_in rows)
     else (if bytes_eq name (codes "afMerge") then option_map af_merge (merging_in rows)
-    else None)
+    else None))))
 
 -- the input is standard input
 abbrev pub is_standard : Text → Bool
@@ -141,6 +151,9 @@ merging_request m = record {
 }
 
 abbrev pub request_of : Command → Request
+request_of (IsLuks image) = is_luks image.now
+request_of (LuksUuid image) = luks_uuid image.now
+request_of (LuksDump image) = luks_dump image.now
 request_of (AfSplit s) = af_split (splitting_request s)
 request_of (AfMerge m) = af_merge (merging_request m)
 

@@ -26,6 +26,18 @@ input = record (new_rule (codes "input")) { required = true }
 abbrev pub command : Text → List Rule → Shape
 command name options = record (new_shape name) { rules = options ++ input ∷ [] }
 
+-- `isLuks IMAGE`
+abbrev pub is_luks : Shape
+is_luks = command (codes "isLuks") []
+
+-- `luksUUID IMAGE`
+abbrev pub luks_uuid : Shape
+luks_uuid = command (codes "luksUUID") []
+
+-- `luksDump IMAGE`
+abbrev pub luks_dump : Shape
+luks_dump = command (codes "luksDump") []
+
 -- `afSplit --hash HASH --stripes N --random FILE KEY`
 abbrev pub af_split : Shape
 af_split = command (codes "afSplit")
@@ -47,7 +59,10 @@ program = record (new_shape (codes "luksrd")) {
 
 -- luksrd with its commands
 unfoldable pub luksrd : App
-luksrd = record { top = record program { is_leaf = false }; subs = af_split ∷ af_merge ∷ [] }
+luksrd = record {
+  top = record program { is_leaf = false };
+  subs = is_luks ∷ luks_uuid ∷ luks_dump ∷ af_split ∷ af_merge ∷ [];
+}
 
 -- a command that stands by itself
 abbrev pub alone : Shape → App

@@ -24,6 +24,12 @@ mod usage;
 /// standard input.
 #[derive(Clone, Copy, PartialEq, Eq, Debug)]
 pub enum Command<'a> {
+    /// `isLuks`: tells whether the image has a LUKS header.
+    IsLuks { image: &'a str },
+    /// `luksUUID`: prints the UUID of the header.
+    LuksUuid { image: &'a str },
+    /// `luksDump`: prints the header.
+    LuksDump { image: &'a str },
     /// `afSplit`: writes a key as stripes.
     AfSplit(Splitting<'a>),
     /// `afMerge`: writes the key of stripes.
@@ -73,6 +79,9 @@ impl<'a> Command<'a> {
         ensures { result.now ≡ image_of (request_of self.now) }
     {
         match self {
+            Command::IsLuks { image } => image,
+            Command::LuksUuid { image } => image,
+            Command::LuksDump { image } => image,
             Command::AfSplit(splitting) => splitting.key,
             Command::AfMerge(merging) => merging.stripes_file,
         }
@@ -84,7 +93,7 @@ impl<'a> Command<'a> {
     {
         match self {
             Command::AfSplit(splitting) => Some(splitting.random),
-            Command::AfMerge(_) => None,
+            _ => None,
         }
     }
 
@@ -101,7 +110,16 @@ impl<'a> Command<'a> {
             ≡ option_and_then request_in (subcommand_rows_of matches.now) }
     {
         let (name, options) = matches.subcommand()?;
-        if name == "afSplit" {
+        if name == "isLuks" {
+            let image = text(options, "input")?;
+            Some(Command::IsLuks { image })
+        } else if name == "luksUUID" {
+            let image = text(options, "input")?;
+            Some(Command::LuksUuid { image })
+        } else if name == "luksDump" {
+            let image = text(options, "input")?;
+            Some(Command::LuksDump { image })
+        } else if name == "afSplit" {
             Some(Command::AfSplit(Splitting::read(options)?))
         } else if name == "afMerge" {
             Some(Command::AfMerge(Merging::read(options)?))

@@ -1,9 +1,9 @@
 //! The commands of luksrd as `clap` reads them.
 
-ghost use Rattle.std.specs.Prelude.{◌≡◌, IfOk, false};
+ghost use Rattle.std.specs.Prelude.{◌≡◌, [], IfOk, false};
 ghost use Rattle.clap.specs.Words.{app_of, rule_of, with_subcommand};
-ghost use Rattle.luks_cli.specs.Grammar.{Reads, af_merge, af_split, alone, input, luksrd, option};
-ghost use Rattle.luks_cli.specs.Grammar.{program};
+ghost use Rattle.luks_cli.specs.Grammar.{Reads, af_merge, af_split, alone, command, input, is_luks};
+ghost use Rattle.luks_cli.specs.Grammar.{luks_dump, luks_uuid, luksrd, option, program};
 
 use clap::{Arg, Command};
 use std::alloc::{AllocError, Global};
@@ -13,7 +13,8 @@ use std::alloc::{AllocError, Global};
 pub(super) fn grammar<'a>(alloc: Global) -> Result<Command<'a>, AllocError>
     ensures { IfOk result (λ command. app_of command ≡ luksrd) }
 {
-    with_stripe_commands(alloc, program(alloc))
+    let program = with_header_commands(alloc, program(alloc))?;
+    with_stripe_commands(alloc, program)
 }
 
 // luksrd with no command yet, and with no word that asks for help.
@@ -26,6 +27,17 @@ fn program<'a>(alloc: Global) -> Command<'a>
         .disable_help_subcommand(true)
 }
 
+// The program with the commands on headers as well.
+fn with_header_commands<'a>(alloc: Global, program: Command<'a>) -> Result<Command<'a>, AllocError>
+    ensures { IfOk result (λ command. app_of command ≡ with_subcommand (with_subcommand
+        (with_subcommand (app_of program.entry) is_luks) luks_uuid) luks_dump) }
+{
+    program
+        .subcommand(header_command(alloc, "isLuks")?)?
+        .subcommand(header_command(alloc, "luksUUID")?)?
+        .subcommand(header_command(alloc, "luksDump")?)
+}
+
 // The program with the commands on stripes as well.
 fn with_stripe_commands<'a>(alloc: Global, program: Command<'a>) -> Result<Command<'a>, AllocError>
     ensures { IfOk result (λ command. app_of command
@@ -34,6 +46,13 @@ fn with_stripe_commands<'a>(alloc: Global, program: Command<'a>) -> Result<Comma
     program
         .subcommand(af_split(alloc)?)?
         .subcommand(af_merge(alloc)?)
+}
+
+// `NAME IMAGE`
+fn header_command<'a>(alloc: Global, name: &'a str) -> Result<Command<'a>, AllocError>
+    ensures { IfOk result (λ made. Reads made (alone (command name.entry.now []))) }
+{
+    Command::new(alloc, name).arg(input(alloc))
 }
 
 // `afSplit --hash HASH --stripes N --random FILE KEY`

@@ -10,6 +10,24 @@ fn words_of(alloc: Global, line: &str) -> Result<Vec<&str>, AllocError> {
 }
 
 #[test]
+fn reads_headers(rt: HostRuntime) -> Result<(), Fail> {
+    for (line, command) in [
+        ("isLuks i", Command::IsLuks { image: "i" }),
+        ("isLuks -", Command::IsLuks { image: "-" }),
+        ("luksUUID i", Command::LuksUuid { image: "i" }),
+        ("luksUUID -- -", Command::LuksUuid { image: "-" }),
+        ("luksDump i", Command::LuksDump { image: "i" }),
+        ("luksDump -- -h", Command::LuksDump { image: "-h" }),
+    ] {
+        let words = words_of(rt.alloc(), line)?;
+        assert_eq!(rt; plan(rt.alloc(), words.as_slice()), Ok(command), "{line}");
+        assert!(rt; line.ends_with(command.image()), "{line}");
+        assert_eq!(rt; command.secret(), None, "{line}");
+    }
+    Ok(())
+}
+
+#[test]
 fn splits(rt: HostRuntime) -> Result<(), Fail> {
     let splitting = Splitting {
         hash: Hash::Sha256,
@@ -149,7 +167,7 @@ fn refuses_no_words(rt: HostRuntime) {
 }
 
 // Lines that are no command line of luksrd.
-static FAULTS: [&str; 54] = [
+static FAULTS: [&str; 62] = [
     // no command, or another one
     "",
     "-",
@@ -159,7 +177,10 @@ static FAULTS: [&str; 54] = [
     "afMerges --hash sha256 --stripes 1 --key-bytes 32 s",
     "--hash sha256 afMerge --stripes 1 --key-bytes 32 s",
     "-- afMerge --hash sha256 --stripes 1 --key-bytes 32 s",
-    "luksd",
+    "luksd i",
+    "isluks i",
+    "luksUuid i",
+    "luksDum i",
     "luksCheck i",
     "luksCat --key-file - -",
     // help and version are no commands and no options
@@ -174,6 +195,9 @@ static FAULTS: [&str; 54] = [
     "afMerge --version",
     "afMerge --hash sha256 --stripes 1 --key-bytes 32 s --help",
     // each option and the input missing
+    "isLuks",
+    "luksUUID",
+    "luksDump",
     "afMerge",
     "afMerge --stripes 1 --key-bytes 32 s",
     "afMerge --hash sha256 --key-bytes 32 s",
@@ -195,7 +219,9 @@ static FAULTS: [&str; 54] = [
     "afSplit --hash sha256 --stripes 2 --stripes 2 --random r k",
     "afSplit --hash sha256 --stripes 2 --random r --random r k",
     "afSplit --hash sha256 --stripes 2 --random r k k",
+    "isLuks i i",
     // options of others, short ones and prefixes
+    "luksDump --hash sha256 i",
     "afSplit --hash sha256 --stripes 2 --random r --key-bytes 32 k",
     "afMerge --hash sha256 --stripes 1 --key-bytes 32 --random r s",
     "afMerge --hash sha256 --stripe 1 --key-bytes 32 s",
@@ -324,6 +350,9 @@ fn scarce_answer<'a>(
 #[test]
 fn answers_memory_where_it_is_refused(rt: HostRuntime) -> Result<(), Fail> {
     for line in [
+        "isLuks i",
+        "luksUUID i",
+        "luksDump i",
         "afSplit --hash sha256 --stripes 2 --random r k",
         "afMerge --hash sha256 --stripes 1 --key-bytes 32 s",
     ] {
