@@ -1,21 +1,20 @@
 -- What `clap` says of luksrd's command line.
 use Rattle.std.proofs.Common.{◌≡◌, ◌∙◌, Err, IsErrAnd, List, None, Ok, Option, Result, [], ◌∷◌, ap, inl, inr, refl, subst, sym, true}
-use Rattle.clap.specs.Words.{App, HasKind, HasMatchesOf, IsAmong, Kinds, Text, fault_of, is_simple, is_simple_and_free, kind_of, subcommand_of, subcommand_rows_of}
+use Rattle.clap.specs.Words.{App, HasKind, HasMatchesOf, Kinds, Text, fault_of, is_simple, is_simple_and_free, kind_of, subcommand_of, subcommand_rows_of}
 use Rattle.clap.specs.declared.Error.{Error}
 use Rattle.clap.specs.declared.ArgMatches.{ArgMatches}
-use Rattle.clap.specs.declared.error.ErrorKind.{ErrorKind}
 use Rattle.clap.proofs.OnLiterals.{clap_on_literals}
 use Rattle.luks_cli.specs.Command.{fault_for, subcommand_in, unless_faulty}
-use Rattle.luks_cli.specs.Grammar.{luksrd}
+use Rattle.luks_cli.specs.Grammar.{luksrd, volume_command}
 use Rattle.luks_cli.specs.declared.command.PlanFault.{PlanFault}
 use Rattle.luks_cli.specs.declared.command.PlanFault.TheVariants.{Usage}
 
 luksrd-simple : is_simple luksrd ≡ true
-unfolding luksrd clap_on_literals
+unfolding luksrd volume_command clap_on_literals
 luksrd-simple = refl
 
 luksrd-free : is_simple_and_free luksrd ≡ true
-unfolding luksrd clap_on_literals
+unfolding luksrd volume_command clap_on_literals
 luksrd-free = refl
 
 pub free : (app : App) → app ≡ luksrd → is_simple_and_free app ≡ true

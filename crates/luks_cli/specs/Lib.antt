@@ -1,3 +1,4 @@
 pub mod Number
 pub mod Grammar
+pub mod Request
 pub mod Command

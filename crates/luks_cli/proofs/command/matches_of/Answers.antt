@@ -1,4 +1,4 @@
-use Rattle.std.proofs.Common.{rules, map, refl}
+use Rattle.std.proofs.Common.{map}
 use Rattle.clap.specs.Words.{app_of}
 use Rattle.luks_cli.proofs.GrammarLemmas.{fault_given, free, subcommand-ok, subcommand-usage}
 use Rattle.luks_cli.proofs.command.matches_of.Goals as goal
