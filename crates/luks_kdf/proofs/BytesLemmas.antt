@@ -1,6 +1,6 @@
 -- Lists of bytes xored, and pieces joined.
 use Rattle.std.proofs.Common.{◌≡◌, ◌∙◌, ℕ, zero, suc, ◌+◌, ◌-◌, ◌*◌, ◌<◌, ◌≤◌, List, [], ◌∷◌, ◌++◌, length, get_or, take, drop, min, bit_xor, refl, sym, ap, arith, inl, inr, add-one, append_assoc, length-append, length-drop}
-use Rattle.std.proofs.lemmas.List.{drop-drop, drop-append-le, take-append-le, take_all}
+use Rattle.std.proofs.lemmas.List.{drop-drop, take_all}
 use Rattle.std.proofs.lemmas.Bool.{cases_lt}
 use Rattle.std.proofs.Math.Seq.{take-append_seam, drop-append_seam}
 use Rattle.std.proofs.Math.ListN.{drop_of_length-le}

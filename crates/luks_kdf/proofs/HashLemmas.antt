@@ -1,13 +1,14 @@
 -- The lengths of digests and blocks.
-use Rattle.std.proofs.Common.{◌≡◌, ℕ, zero, suc, ◌+◌, ◌*◌, ◌<◌, ◌≤◌, List, length, refl, arith, length-append}
+use Rattle.std.proofs.Common.{◌≡◌, ◌∙◌, ℕ, zero, suc, ◌*◌, ◌≤◌, List, length, take, refl, arith, length-append, ap, Some}
 use Rattle.std.specs.Prelude.{slice_index}
+use Rattle.std.proofs.lemmas.List.{take_all}
 use Rattle.std.specs.Int.{to_be_bytes, w32}
 use Rattle.sha1.specs.Sha1.{digest_bytes, sha1}
 use Rattle.sha2.proofs.Facts256.{length-sha224, length-sha256}
 use Rattle.sha2.proofs.Facts512.{length-sha384, length-sha512}
 use Rattle.luks_kdf.specs.declared.hash.Hash.{Hash}
 use Rattle.luks_kdf.specs.declared.hash.Hash.TheVariants.{Sha1, Sha224, Sha256, Sha384, Sha512}
-use Rattle.luks_kdf.specs.Hash.{block_of, hash_of, size_of}
+use Rattle.luks_kdf.specs.Hash.{Names, block_of, hash_called, hash_named, hash_of, name_of, size_of}
 
 length-digest_bytes : (h : List ℕ) (n : ℕ) → length (digest_bytes h n) ≡ n * 4
 unfolding digest_bytes
@@ -40,3 +41,23 @@ sizes Sha224 = record { least = omega arith; greatest = omega arith; in_block = 
 sizes Sha256 = record { least = omega arith; greatest = omega arith; in_block = omega arith }
 sizes Sha384 = record { least = omega arith; greatest = omega arith; in_block = omega arith }
 sizes Sha512 = record { least = omega arith; greatest = omega arith; in_block = omega arith }
+
+-- as many of a digest's bytes as it has
+pub whole_digest : (h : Hash) (n : ℕ) (message : List ℕ) → n ≡ size_of h
+    → take n (hash_of h message) ≡ hash_of h message
+whole_digest h n message is_size = take_all n (hash_of h message) (omega (arith, length-hash_of h message))
+
+called_by_name : (h : Hash) → hash_called (name_of h) ≡ Some h
+called_by_name Sha1 = refl
+called_by_name Sha224 = refl
+called_by_name Sha256 = refl
+called_by_name Sha384 = refl
+called_by_name Sha512 = refl
+
+-- the hash function that a text names is the one that is found for it
+pub hash_named-Names : (text : List ℕ) (h : Hash) → Names text h → hash_named text ≡ Some h
+hash_named-Names text h named = ap hash_called named ∙ called_by_name h
+
+-- a text names one hash function at most
+pub Names-unique : (text : List ℕ) (h k : Hash) → Names text h → Names text k → h ≡ k
+Names-unique text h k one two = cc (hash_named-Names text h one, hash_named-Names text k two)

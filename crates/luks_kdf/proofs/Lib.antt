@@ -1,3 +1,5 @@
 pub mod BytesLemmas
 pub mod HashLemmas
+pub mod HmacLemmas
+pub mod Pbkdf2Lemmas
 pub mod StripesLemmas

@@ -1,7 +1,6 @@
 -- What stripes are made of, and that merging what was split gives the key.
-use Rattle.std.proofs.Common.{◌≡◌, ◌∙◌, ℕ, zero, suc, ◌+◌, ◌-◌, ◌*◌, ◌/◌, ◌<◌, ◌≤◌, List, [], ◌++◌, length, take, drop, min, replicate, refl, sym, ap, arith, inl, inr, add-one, append_assoc, length-append, length-drop}
+use Rattle.std.proofs.Common.{◌≡◌, ◌∙◌, ℕ, zero, suc, ◌+◌, ◌-◌, ◌*◌, ◌/◌, ◌<◌, ◌≤◌, List, [], ◌++◌, length, take, drop, min, replicate, refl, sym, ap, arith, add-one, length-append, length-drop}
 use Rattle.std.proofs.lemmas.List.{append-nil, drop-append-le, take-append-le, length-replicate, length-take, length-take-le, take_all}
-use Rattle.std.proofs.lemmas.Bool.{cases_lt}
 use Rattle.std.proofs.Math.ListN.{drop_of_length-le}
 use Rattle.std.proofs.Math.Nat.{min-eq_left, mul-le-mul_right, mul-div_cancel}
 use Rattle.std.proofs.lemmas.Grind.{div_ceil_times}
@@ -9,8 +8,8 @@ use Rattle.std.specs.Int.{div_ceil, to_be_bytes, w32}
 use Rattle.luks_kdf.specs.declared.hash.Hash.{Hash}
 use Rattle.luks_kdf.specs.Bytes.{joined, xor}
 use Rattle.luks_kdf.specs.Hash.{hash_of, size_of}
-use Rattle.luks_kdf.specs.Stripes.{Chain, IsSplit, chain_after, chain_of, diffused, diffused_piece, extended, merged, piece_of, stripe_at}
-use Rattle.luks_kdf.proofs.BytesLemmas.{cut_part, drop_front, joined_more, length-xor, take_front, xor-undone}
+use Rattle.luks_kdf.specs.Stripes.{AreStripes, Chain, IsSplit, chain_after, chain_of, diffused, diffused_piece, extended, merged, piece_of, stripe_at}
+use Rattle.luks_kdf.proofs.BytesLemmas.{cut_part, drop_front, joined_more, length-xor, xor-undone}
 use Rattle.luks_kdf.proofs.HashLemmas.{length-hash_of, sizes}
 
 -- a piece that is diffused keeps its length
@@ -148,6 +147,18 @@ merged_by_number h len stripes n some whole =
     let number : length stripes / len ≡ n = ap (λ m. m / len) whole ∙ mul-div_cancel n some in
     ap (λ m. xor (chain_of h len stripes (m - 1)) (stripe_at len stripes (m - 1))) number
 
+-- the key that stripes hold, by those before the last and the last
+pub merged_push : (h : Hash) (len : ℕ) (before last : List ℕ) (i : ℕ) → 0 < len
+    → length before ≡ i * len → length last ≡ len
+    → merged h len (before ++ last) ≡ xor (chain_of h len before i) last
+merged_push h len before last i some whole one =
+    let all : length (before ++ last) ≡ (i + 1) * len = omega (arith, length-append before last) in
+    let one_less : i + 1 - 1 ≡ i = omega arith in
+    merged_by_number h len (before ++ last) (i + 1) some all
+    ∙ (ap (λ m. xor (chain_of h len (before ++ last) m) (stripe_at len (before ++ last) m)) one_less
+    ∙ (ap (λ d. xor d (stripe_at len (before ++ last) i)) (chain_of-append h len before last i (omega arith))
+    ∙ ap (xor (chain_of h len before i)) (stripe_at-last len before last i whole one)))
+
 -- the stripe that comes last makes them merge to the key
 merged_last : (h : Hash) (len : ℕ) (random key : List ℕ) (before : ℕ) → 0 < len → length key ≡ len
     → length random ≡ before * len
@@ -156,14 +167,8 @@ merged_last h len random key before some is_len whole =
     let d = chain_of h len random before in
     let length_d : length d ≡ len = length-chain_of h len random before (omega arith) in
     let length_last : length (xor d key) ≡ len = length-xor d key (length_d ∙ sym is_len) ∙ length_d in
-    let all : length (random ++ xor d key) ≡ (before + 1) * len =
-    omega (arith, length-append random (xor d key)) in
-    let one_less : before + 1 - 1 ≡ before = omega arith in
-    merged_by_number h len (random ++ xor d key) (before + 1) some all
-    ∙ (ap (λ m. xor (chain_of h len (random ++ xor d key) m) (stripe_at len (random ++ xor d key) m)) one_less
-    ∙ (ap (λ e. xor e (stripe_at len (random ++ xor d key) before)) (chain_of-append h len random (xor d key) before (omega arith))
-    ∙ (ap (xor d) (stripe_at-last len random (xor d key) before whole length_last)
-    ∙ xor-undone d key (length_d ∙ sym is_len))))
+    merged_push h len random (xor d key) before some whole length_last
+    ∙ xor-undone d key (length_d ∙ sym is_len)
 
 -- what is split merges to the key
 pub merged_split : (h : Hash) (random key stripes : List ℕ) → 0 < length key
@@ -187,6 +192,16 @@ pub chain_start : (h : Hash) (len : ℕ) (stripes : List ℕ) (chain : Chain)
 unfolding chain_of
 chain_start h len stripes chain start = start
 
+-- the chain where one stripe more comes at the end of those before
+pub chain_push : (h : Hash) (len : ℕ) (before stripe : List ℕ) (i : ℕ) (chain : Chain)
+    → length before ≡ i * len → length stripe ≡ len → chain ≡ chain_after h len before i
+    → extended chain stripe ≡ chain_after h len (before ++ stripe) (i + 1)
+chain_push h len before stripe i chain whole one is_chain =
+    let with_block : List ℕ → Chain = λ block. record { hash = h; block = block } in
+    let longer = ap with_block (sym (chain_of-append h len before stripe i (omega arith))) in
+    chain_more h len (before ++ stripe) i chain stripe (is_chain ∙ longer)
+    (sym (stripe_at-last len before stripe i whole one))
+
 -- bytes that with one stripe more are n stripes are a whole number of stripes
 pub whole_stripes : (len bytes n : ℕ) → 0 < len → 1 ≤ n → bytes + len ≡ n * len
     → bytes ≡ bytes / len * len
@@ -206,3 +221,26 @@ one_left len bytes (suc m) some one all =
   where
     one_less : (m : ℕ) → suc m - 1 ≡ m
     one_less m = omega arith
+
+-- n stripes of one length, as callers know them
+pub are_stripes : (len n : ℕ) (stripes : List ℕ) → 1 ≤ n → n ≤ 4000 → length stripes ≡ n * len
+    → AreStripes len stripes
+are_stripes len n stripes one room whole = (n, one, room, whole)
+
+-- the stripes that were given one at a time, and what `last` wrote, are split
+pub split_last : (h : Hash) (random key d last : List ℕ) (before : ℕ)
+    → length random ≡ before * length key
+    → d ≡ chain_of h (length key) random before → last ≡ xor d key
+    → IsSplit h random key (random ++ last)
+split_last h random key d last before whole is_d is_last =
+    (before, whole, ap (λ (l : List ℕ). random ++ l) (is_last ∙ ap (λ (block : List ℕ). xor block key) is_d))
+
+-- a key and its random stripes have one split
+pub IsSplit-unique : (h : Hash) (random key stripes other : List ℕ) → 0 < length key
+    → IsSplit h random key stripes → IsSplit h random key other → stripes ≡ other
+IsSplit-unique h random key stripes other some one two =
+    let number : one.0 ≡ two.0 =
+    sym (mul-div_cancel one.0 some)
+    ∙ (ap (λ b. b / length key) (sym one.1 ∙ two.1) ∙ mul-div_cancel two.0 some) in
+    one.2
+    ∙ (ap (λ n. random ++ xor (chain_of h (length key) random n) key) number ∙ sym two.2)

@@ -4,7 +4,7 @@ ghost use Rattle.std.specs.Prelude.{◌≡◌, ℕ, ◌≤◌, List, [], ◌++�
 ghost use Rattle.sha1.specs.Sha1.{Holds};
 ghost use Rattle.sha2.specs.Hashers.{Holds224, Holds256, Holds384, Holds512};
 ghost use Rattle.luks_kdf.specs.declared.hash.Hash.{Hash};
-ghost use Rattle.luks_kdf.specs.declared.hash.Hash.TheVariants as Names;
+ghost use Rattle.luks_kdf.specs.declared.hash.Hash.TheVariants as Variants;
 ghost use Rattle.luks_kdf.specs.Hash.{hash_of, size_of};
 
 use crate::Hash;
@@ -53,7 +53,7 @@ fn copied<T: Clone>(value: &T) -> T
 }
 
 impl Engine for Sha1 {
-    ghost function = { Names.Sha1 };
+    ghost function = { Variants.Sha1 };
 
     ghost holds = { λ s m. Holds s m };
 
@@ -80,7 +80,7 @@ impl Engine for Sha1 {
 }
 
 impl Engine for Sha224 {
-    ghost function = { Names.Sha224 };
+    ghost function = { Variants.Sha224 };
 
     ghost holds = { λ s m. Holds224 s m };
 
@@ -107,7 +107,7 @@ impl Engine for Sha224 {
 }
 
 impl Engine for Sha256 {
-    ghost function = { Names.Sha256 };
+    ghost function = { Variants.Sha256 };
 
     ghost holds = { λ s m. Holds256 s m };
 
@@ -134,7 +134,7 @@ impl Engine for Sha256 {
 }
 
 impl Engine for Sha384 {
-    ghost function = { Names.Sha384 };
+    ghost function = { Variants.Sha384 };
 
     ghost holds = { λ s m. Holds384 s m };
 
@@ -161,7 +161,7 @@ impl Engine for Sha384 {
 }
 
 impl Engine for Sha512 {
-    ghost function = { Names.Sha512 };
+    ghost function = { Variants.Sha512 };
 
     ghost holds = { λ s m. Holds512 s m };
 

@@ -4,10 +4,16 @@
 //! Nothing here takes memory, so nothing returns an error.
 #![tactic(auto)]
 
+pub use derive::{Work, pbkdf2};
 pub use hash::Hash;
+pub use mac::{digest, hmac};
 pub use stripes::{AfSplitter, af_merge, af_split};
 
 mod bytes;
+mod derive;
 mod engine;
 mod hash;
+mod mac;
 mod stripes;
+#[cfg(test)]
+mod tests;

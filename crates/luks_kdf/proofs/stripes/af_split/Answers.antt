@@ -1,6 +1,6 @@
 use Rattle.std.proofs.Common.{◌≡◌, ◌∙◌, ◌++◌, ◌/◌, List, ℕ, ap, arith, length}
 use Rattle.luks_kdf.specs.Bytes.{xor}
-use Rattle.luks_kdf.specs.Stripes.{Chain, IsSplit, chain_of}
+use Rattle.luks_kdf.specs.Stripes.{Chain, chain_of}
 use Rattle.luks_kdf.proofs.StripesLemmas.{merged_split, whole_stripes}
 use Rattle.luks_kdf.proofs.stripes.af_split.Goals as goal
 

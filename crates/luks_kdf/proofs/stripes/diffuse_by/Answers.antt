@@ -1,4 +1,4 @@
-use Rattle.std.proofs.Common.{◌≡◌, ◌∙◌, ◌<◌, ◌≤◌, ◌*◌, ◌+◌, length, ap, arith}
+use Rattle.std.proofs.Common.{◌≡◌, ◌∙◌, length, ap, arith}
 use Rattle.luks_kdf.specs.Hash.{size_of}
 use Rattle.luks_kdf.proofs.HashLemmas.{sizes}
 use Rattle.luks_kdf.proofs.StripesLemmas.{diffuse_end, diffuse_start, diffuse_step, piece_begins}

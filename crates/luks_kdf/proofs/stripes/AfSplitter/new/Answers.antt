@@ -1,4 +1,4 @@
-use Rattle.std.proofs.Common.{◌≡◌, List, ℕ, ap}
+use Rattle.std.proofs.Common.{List, ℕ, ap}
 use Rattle.std.proofs.lemmas.List.{take-replicate}
 use Rattle.luks_kdf.specs.Stripes.{Chain}
 use Rattle.luks_kdf.proofs.stripes.AfSplitter.new.Goals as goal

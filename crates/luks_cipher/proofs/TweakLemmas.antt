@@ -1,0 +1,98 @@
+-- A tweak doubled, and the blocks of a data unit.
+use Rattle.std.proofs.Common.{◌≡◌, ℕ, ◌-◌, ◌*◌, ◌/◌, ◌%◌, ◌^◌, ◌<◌, ◌≤◌, true, false, ltb, List, ◌+◌, ◌++◌, length, take, drop, length-append, add-one, arith, refl, sym, ap, ◌∙◌}
+use Rattle.std.specs.Int.Bits.{bit_xor, xor_zero_r}
+use Rattle.std.proofs.lemmas.Bool.{lt-ltb, le-ltb}
+use Rattle.std.specs.Int.{w128, to_le_bytes}
+use Rattle.std.proofs.lemmas.List.{take_at, drop_at, take_all, drop-drop}
+use Rattle.std.proofs.lemmas.Slice.{take-put_mid, drop-put_mid}
+use borrow.Rule.Slice.PartMut.{put_mid}
+use Rattle.luks_cipher.specs.Aes.{encrypted, decrypted}
+use Rattle.luks_cipher.specs.Xts.{data_key, tweak_key, doubled_number, tweak_of, block_at, joined, block_sum, block_encrypted, block_decrypted, xts_encrypted, xts_decrypted}
+
+-- below 2^127 nothing is carried out
+pub doubled_low : (n : ℕ) → n < 2 ^ 127 → bit_xor (n * 2 % 2 ^ 128) 0 ≡ doubled_number n
+unfolding doubled_number
+doubled_low n low =
+    let test : ltb n (2 ^ 127) ≡ true = lt-ltb n (2 ^ 127) low in
+    let whole : n * 2 % 2 ^ 128 ≡ 2 * n = omega arith in
+    rw test (xor_zero_r (n * 2 % 2 ^ 128) ∙ whole)
+
+-- from there on 2^128 is
+pub doubled_high : (n : ℕ) → 2 ^ 127 ≤ n → n < 2 ^ 128 → bit_xor (n * 2 % 2 ^ 128) 0x87 ≡ doubled_number n
+unfolding doubled_number
+doubled_high n high fits =
+    let test : ltb n (2 ^ 127) ≡ false = le-ltb n (2 ^ 127) high in
+    let rest : n * 2 % 2 ^ 128 ≡ 2 * n - 2 ^ 128 = omega arith in
+    rw test (ap (λ k. bit_xor k 0x87) rest)
+
+-- ---- the two halves of a key
+pub halves : (a b key : List ℕ) → length a ≡ length b → a ++ b ≡ key → (data_key key ≡ a) × (tweak_key key ≡ b)
+halves a b key same whole =
+    let half : length key / 2 ≡ length a = rw (← whole, length-append a b) (omega arith) in
+    (rw (half, ← whole) (take_at a b (length a) refl), rw (half, ← whole) (drop_at a b (length a) refl))
+
+pub first_tweak_is : (a b key block : List ℕ) (number : ℕ) → length a ≡ length b → a ++ b ≡ key
+    → block ≡ to_le_bytes w128 number → encrypted b block ≡ tweak_of key number 0
+unfolding tweak_of
+first_tweak_is a b key block number same whole bytes = ap (encrypted b) bytes ∙ rw ((halves a b key same whole).1) refl
+
+pub piece_encrypted : (a b key tweak piece : List ℕ) → length a ≡ length b → a ++ b ≡ key
+    → block_sum (encrypted a (block_sum piece tweak)) tweak ≡ block_encrypted key tweak piece
+unfolding block_encrypted
+piece_encrypted a b key tweak piece same whole = rw ((halves a b key same whole).0) refl
+
+pub piece_decrypted : (a b key tweak piece : List ℕ) → length a ≡ length b → a ++ b ≡ key
+    → block_sum (decrypted a (block_sum piece tweak)) tweak ≡ block_decrypted key tweak piece
+unfolding block_decrypted
+piece_decrypted a b key tweak piece same whole = rw ((halves a b key same whole).0) refl
+
+-- ---- a data unit that is worked on block by block
+
+-- the first j blocks are done, and the others as they were
+pub record IsDoneBefore (f : ℕ → List ℕ) (old new : List ℕ) (j : ℕ) : Type 0 where
+  pub done : take (16 * j) new ≡ joined f j
+  pub left : drop (16 * j) new ≡ drop (16 * j) old
+
+pub done_none : (f : ℕ → List ℕ) (old : List ℕ) → IsDoneBefore f old old 0
+unfolding joined
+done_none f old = record { done = refl; left = refl }
+
+pub done_more : (f : ℕ → List ℕ) (old new piece : List ℕ) (j : ℕ) → IsDoneBefore f old new j → 16 * j + 16 ≤ length new
+    → length piece ≡ 16 → piece ≡ f j → IsDoneBefore f old (put_mid (16 * j) (16 * j + 16 - 16 * j) new piece) (j + 1)
+unfolding joined
+done_more f old new piece j before room size is =
+    let at = 16 * j in
+    let next = 16 * (j + 1) in
+    let split : next ≡ at + 16 = omega arith in
+    let put = put_mid at (at + 16 - at) new piece in
+    let rest : drop next new ≡ drop next old =
+    rw (split, ← drop-drop 16 at new, ← drop-drop 16 at old) (ap (drop 16) before.left) in
+    record {
+      done = take-put_mid at (at + 16 - at) new piece next (omega arith) (omega arith)
+          ∙ rw (add-one, before.done, is) refl;
+      left = drop-put_mid at (at + 16 - at) new piece next (omega arith) (omega arith) (omega arith) ∙ rest;
+    }
+
+done_all : (f : ℕ → List ℕ) (old new : List ℕ) (j n : ℕ) → IsDoneBefore f old new j → length new ≡ 16 * j → j ≡ n
+    → new ≡ joined f n
+done_all f old new j n before size at_end =
+    sym (take_all (16 * j) new (omega arith)) ∙ before.done ∙ ap (joined f) at_end
+
+-- the block that the code takes
+pub block_is : (old new : List ℕ) (j : ℕ) → drop (16 * j) new ≡ drop (16 * j) old
+    → take (16 * j + 16 - 16 * j) (drop (16 * j) new) ≡ block_at old j
+block_is old new j left =
+    let size : 16 * j + 16 - 16 * j ≡ 16 = omega arith in
+    rw (size, left) refl
+
+pub encrypted_unit : (key : List ℕ) (number : ℕ) (old new : List ℕ) (j : ℕ)
+    → IsDoneBefore (λ j. block_encrypted key (tweak_of key number j) (block_at old j)) old new j
+    → length new ≡ 16 * j → j ≡ length old / 16 → new ≡ xts_encrypted key number old
+unfolding xts_encrypted
+encrypted_unit key number old new j before size at_end = done_all _ old new j (length old / 16) before size at_end
+
+pub decrypted_unit : (key : List ℕ) (number : ℕ) (old new : List ℕ) (j : ℕ)
+    → IsDoneBefore (λ j. block_decrypted key (tweak_of key number j) (block_at old j)) old new j
+    → length new ≡ 16 * j → j ≡ length old / 16 → new ≡ xts_decrypted key number old
+unfolding xts_decrypted
+decrypted_unit key number old new j before size at_end = done_all _ old new j (length old / 16) before size at_end

@@ -1,0 +1,13 @@
+use Rattle.luks_cipher.proofs.TweakLemmas.{piece_encrypted}
+use Rattle.luks_cipher.proofs.xts.XtsKey.encrypt_piece.Goals as goal
+
+pub returns : goal.returns
+returns c =
+    let whole = piece_encrypted c.self.inside.data_key c.self.inside.tweak_key c.args.self.now c.args.tweak c.args.piece.now
+    c.self.invariant.same_length c.self.view_is in
+    let read = c.copy_from_slice.ensures.after in
+    let masked = c.block_sum-masked.ensures in
+    let ciphered = c.encrypt_block.ensures.value in
+    let summed = c.block_sum.ensures in
+    let written = c.copy_from_slice-2.ensures.after in
+    cc

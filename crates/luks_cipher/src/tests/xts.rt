@@ -1,0 +1,156 @@
+use super::bytes;
+use super::xts_vectors::{
+    KEY_256, KEY_512, LARGE_NUMBERS, NIST, SHORT, UNIT_00, UNIT_FD, UNIT_FF, WIDE_FF,
+    WIDE_FFFFFFFFFF,
+};
+use crate::{AesKey, XtsKey};
+use std::alloc::Global;
+use std::test::Fail;
+
+fn encrypt(key: &XtsKey, number: u64, unit: &mut [u8]) -> Result<(), Fail> {
+    let length = unit.len();
+    if length % 16 != 0 || length < 16 || length > 4096 {
+        return Err("no data unit".into());
+    }
+    key.encrypt_unit(number, unit);
+    Ok(())
+}
+
+fn decrypt(key: &XtsKey, number: u64, unit: &mut [u8]) -> Result<(), Fail> {
+    let length = unit.len();
+    if length % 16 != 0 || length < 16 || length > 4096 {
+        return Err("no data unit".into());
+    }
+    key.decrypt_unit(number, unit);
+    Ok(())
+}
+
+// The line's key takes its plain unit to its encrypted one, and back.
+fn holds(alloc: Global, line: &str) -> Result<bool, Fail> {
+    let mut words = line.split(' ');
+    let key = bytes(alloc, words.next().ok_or("no key")?)?;
+    let number = words.next().ok_or("no number")?.parse::<u64>()?;
+    let plain = bytes(alloc, words.next().ok_or("no unit")?)?;
+    let encrypted = bytes(alloc, words.next().ok_or("no answer")?)?;
+    let key = XtsKey::new(&key).ok_or("no length of a key")?;
+    let mut there = plain.clone()?;
+    encrypt(&key, number, &mut there)?;
+    let mut back = encrypted.clone()?;
+    decrypt(&key, number, &mut back)?;
+    Ok(there == encrypted && back == plain)
+}
+
+#[test]
+fn published_units(rt: HostRuntime) -> Result<(), Fail> {
+    for table in [NIST, SHORT, LARGE_NUMBERS] {
+        for line in table.lines() {
+            assert!(rt; holds(rt.alloc(), line)?, "{line}");
+        }
+    }
+    Ok(())
+}
+
+// The bytes 00 to ff, over and over.
+fn rising(alloc: Global, length: usize) -> Result<Vec<u8>, Fail> {
+    let mut unit = Vec::new(alloc);
+    for i in 0..length {
+        unit.push((i % 256) as u8)?;
+    }
+    Ok(unit)
+}
+
+#[test]
+fn units_of_512_bytes(rt: HostRuntime) -> Result<(), Fail> {
+    let alloc = rt.alloc();
+    let key = XtsKey::new(&bytes(alloc, KEY_256)?).ok_or("no length of a key")?;
+    let mut unit = rising(alloc, 512)?;
+    for number in 0..=255u64 {
+        encrypt(&key, number, &mut unit)?;
+        let published = match number {
+            0 => UNIT_00,
+            0xfd => UNIT_FD,
+            0xff => UNIT_FF,
+            _ => continue,
+        };
+        assert_eq!(rt; unit, bytes(alloc, published)?, "number {number}");
+    }
+    for number in (0..=255u64).rev() {
+        decrypt(&key, number, &mut unit)?;
+    }
+    assert_eq!(rt; unit, rising(alloc, 512)?);
+    Ok(())
+}
+
+#[test]
+fn units_of_512_bytes_under_long_keys(rt: HostRuntime) -> Result<(), Fail> {
+    let alloc = rt.alloc();
+    let key = XtsKey::new(&bytes(alloc, KEY_512)?).ok_or("no length of a key")?;
+    for (number, published) in [(0xff, WIDE_FF), (0xff_ffff_ffff, WIDE_FFFFFFFFFF)] {
+        let mut unit = rising(alloc, 512)?;
+        encrypt(&key, number, &mut unit)?;
+        assert_eq!(rt; unit, bytes(alloc, published)?, "number {number}");
+        decrypt(&key, number, &mut unit)?;
+        assert_eq!(rt; unit, rising(alloc, 512)?, "number {number}");
+    }
+    Ok(())
+}
+
+// The keys for the data and for the tweaks.
+fn halves(key: &[u8]) -> Option<(AesKey, AesKey)> {
+    let (data_key, tweak_key) = key.split_at(key.len() / 2);
+    Some((AesKey::new(data_key)?, AesKey::new(tweak_key)?))
+}
+
+// The tweak of block `j`, doubled byte by byte from the first one on.
+fn tweak_of(key: &AesKey, number: u64, j: usize) -> [u8; 16] {
+    let mut tweak = [0; 16];
+    let low = number.to_le_bytes();
+    for i in 0..8 {
+        tweak[i] = low[i];
+    }
+    key.encrypt_block(&mut tweak);
+    for _ in 0..j {
+        let mut carry = 0;
+        for i in 0..16 {
+            let next = tweak[i] >> 7;
+            tweak[i] = (tweak[i] << 1) | carry;
+            carry = next;
+        }
+        if carry == 1 {
+            tweak[0] ^= 0x87;
+        }
+    }
+    tweak
+}
+
+#[test]
+fn a_unit_of_4096_bytes(rt: HostRuntime) -> Result<(), Fail> {
+    let alloc = rt.alloc();
+    let key = bytes(alloc, KEY_512)?;
+    let (data_key, tweak_key) = halves(&key).ok_or("no length of a key")?;
+    let key = XtsKey::new(&key).ok_or("no length of a key")?;
+    let number = 0xfedc_ba98_7654_3210;
+    let plain = rising(alloc, 4096)?;
+    let mut unit = plain.clone()?;
+    encrypt(&key, number, &mut unit)?;
+    assert_eq!(rt; plain.len(), 4096);
+    assert_eq!(rt; unit.len(), 4096);
+    for j in 0..256usize {
+        let tweak = tweak_of(&tweak_key, number, j);
+        let mut block = [0; 16];
+        for i in 0..16usize {
+            block[i] = plain[16 * j + i] ^ tweak[i];
+        }
+        data_key.encrypt_block(&mut block);
+        for i in 0..16usize {
+            assert_eq!(rt;
+                unit[16 * j + i],
+                block[i] ^ tweak[i],
+                "block {j}, byte {i}"
+            );
+        }
+    }
+    decrypt(&key, number, &mut unit)?;
+    assert_eq!(rt; unit, plain);
+    Ok(())
+}

@@ -1,0 +1,134 @@
+// XTS-AES (IEEE 1619) over data units of whole blocks.
+
+ghost use Rattle.std.specs.Prelude.{◌≡◌, ◌+◌, ◌*◌, ◌%◌, ◌≤◌, List, ℕ, ◌++◌, length, Some, None, if◌then◌else◌};
+ghost use Rattle.luks_cipher.specs.Xts.{doubled, block_sum, tweak_of, block_encrypted, block_decrypted, xts_encrypted, xts_decrypted, is_xts_key_length};
+ghost use Rattle.luks_cipher.specs.Bytes.{IsBytes};
+ghost use Rattle.luks_cipher.specs.Schedule.{IsKeyPair};
+
+use crate::aes::AesKey;
+use std::marker::Model;
+
+// The tweak times the primitive element (5.2).
+fn doubled(tweak: [u8; 16]) -> [u8; 16]
+    ensures { result ≡ doubled tweak }
+{
+    let number = u128::from_le_bytes(tweak);
+    let reduction = if number >> 127 == 0 { 0 } else { 0x87 };
+    ((number << 1) ^ reduction).to_le_bytes()
+}
+
+// The sum of two blocks, byte by byte.
+fn block_sum(a: [u8; 16], b: [u8; 16]) -> [u8; 16]
+    ensures { result ≡ block_sum a b }
+{
+    let mut sum = [0; 16];
+    for i in 0..16 {
+        sum[i] = a[i] ^ b[i];
+    }
+    sum
+}
+
+/// A key of XTS-AES-128 or XTS-AES-256 (IEEE 1619). Contracts see it as its bytes, of which the first
+/// half is the key for the data and the second the key for the tweaks.
+#[derive(Drop)]
+pub struct XtsKey {
+    data_key: AesKey,
+    tweak_key: AesKey,
+}
+
+impl Model for XtsKey {
+    ghost Value = { List ℕ };
+
+    ghost view = { λ k. k.data_key ++ k.tweak_key };
+
+    ghost invariant = { λ k. IsKeyPair k.data_key k.tweak_key };
+}
+
+impl XtsKey {
+    /// The key of these bytes. There are 32 or 64 of them; at any other number it is `None`.
+    pub fn new(key: &[u8]) -> Option<XtsKey>
+        ensures { result ≡ (if is_xts_key_length (length key.now) then Some key.now else None) }
+    {
+        match key.len() {
+            32 | 64 => {
+                let (data_key, tweak_key) = key.split_at(key.len() / 2);
+                Some(XtsKey {
+                    data_key: AesKey::new(data_key)?,
+                    tweak_key: AesKey::new(tweak_key)?,
+                })
+            }
+            _ => None,
+        }
+    }
+
+    // The tweak of the first block of a data unit (5.3.1).
+    fn first_tweak(&self, number: u64) -> [u8; 16]
+        ensures value { result ≡ tweak_of self.now number 0 }
+        ensures key_bytes { IsBytes self.now }
+    {
+        let mut tweak = u128::from(number).to_le_bytes();
+        self.tweak_key.encrypt_block(&mut tweak);
+        tweak
+    }
+
+    // Encrypts one block under its tweak (5.3.1).
+    fn encrypt_piece(&self, tweak: [u8; 16], piece: &mut [u8])
+        requires { length piece.old ≡ 16 }
+        ensures { piece.new ≡ block_encrypted self.now tweak piece.old }
+    {
+        let mut block = [0; 16];
+        block.copy_from_slice(piece);
+        let mut masked = block_sum(block, tweak);
+        self.data_key.encrypt_block(&mut masked);
+        piece.copy_from_slice(&block_sum(masked, tweak));
+    }
+
+    // Decrypts one block under its tweak (5.4.1).
+    fn decrypt_piece(&self, tweak: [u8; 16], piece: &mut [u8])
+        requires { length piece.old ≡ 16 }
+        ensures { piece.new ≡ block_decrypted self.now tweak piece.old }
+    {
+        let mut block = [0; 16];
+        block.copy_from_slice(piece);
+        let mut masked = block_sum(block, tweak);
+        self.data_key.decrypt_block(&mut masked);
+        piece.copy_from_slice(&block_sum(masked, tweak));
+    }
+
+    /// Encrypts the data unit of this number (IEEE 1619, 5.3.2). Its length is a multiple of 16 bytes, from
+    /// 16 to 4096.
+    pub fn encrypt_unit(&self, number: u64, unit: &mut [u8])
+        requires whole_blocks { length unit.old % 16 ≡ 0 }
+        requires shortest { 16 ≤ length unit.old }
+        requires longest { length unit.old ≤ 4096 }
+        ensures value { unit.new ≡ xts_encrypted self.now number unit.old }
+        ensures undone { xts_decrypted self.now number unit.new ≡ unit.old }
+    {
+        let mut tweak = self.first_tweak(number);
+        for j in 0..unit.len() / 16 {
+            self.encrypt_piece(tweak, &mut unit[16 * j..16 * j + 16]);
+            let next = doubled(tweak);
+            tweak = next;
+        }
+    }
+
+    /// Decrypts the data unit of this number (IEEE 1619, 5.4.2). Its length is a multiple of 16 bytes, from
+    /// 16 to 4096.
+    pub fn decrypt_unit(&self, number: u64, unit: &mut [u8])
+        requires whole_blocks { length unit.old % 16 ≡ 0 }
+        requires shortest { 16 ≤ length unit.old }
+        requires longest { length unit.old ≤ 4096 }
+        ensures value { unit.new ≡ xts_decrypted self.now number unit.old }
+
+        // A unit that is some plain one encrypted becomes that one.
+        ensures undoes { (plain : List ℕ) → IsBytes plain → length plain ≡ length unit.old
+            → unit.old ≡ xts_encrypted self.now number plain → unit.new ≡ plain }
+    {
+        let mut tweak = self.first_tweak(number);
+        for j in 0..unit.len() / 16 {
+            self.decrypt_piece(tweak, &mut unit[16 * j..16 * j + 16]);
+            let next = doubled(tweak);
+            tweak = next;
+        }
+    }
+}
