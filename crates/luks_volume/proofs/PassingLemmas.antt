@@ -1,5 +1,5 @@
 -- Taking bytes from a source in pieces.
-use Rattle.std.proofs.Common.{◌≡◌, ℕ, ◌+◌, ◌-◌, ◌<◌, ◌≤◌, List, [], Option, Some, ◌∙◌, ap, sym, take, drop, length, length-drop, take_all, min, arith}
+use Rattle.std.proofs.Common.{◌≡◌, ℕ, ◌+◌, ◌<◌, ◌≤◌, List, [], Option, Some, ◌∙◌, ap, sym, take, drop, length, length-drop, take_all, arith}
 use Rattle.std.proofs.lemmas.List.{drop-drop, drop_all}
 use Rattle.luks_io.specs.Bytes.{GivesAll, TakesNext}
 use Rattle.luks_cipher.specs.Xts.{xts_decrypted}

@@ -1,14 +1,12 @@
 -- What a step does, from what its parts do.
-use Rattle.std.proofs.Common.{◌≡◌, ℕ, ◌+◌, ◌-◌, ◌*◌, ◌/◌, ◌%◌, ◌^◌, ◌<◌, ◌≤◌, ◌⊎◌, inl, inr, List, [], Option, None, Some, Result, Ok, Err, Bool, true, false, ◌∙◌, ap, sym, subst, refl, take, drop, length, length-drop, min, arith, zero-mul, add-zero}
+use Rattle.std.proofs.Common.{◌≡◌, ℕ, ◌+◌, ◌-◌, ◌*◌, ◌^◌, ◌<◌, ◌≤◌, ◌⊎◌, inl, inr, List, Option, Some, Result, Ok, Err, true, false, ◌∙◌, ap, sym, subst, refl, drop, length, length-drop, min, arith}
 use Rattle.std.specs.Prelude.{nat_lt, OnOk, IfErr}
 use Rattle.std.proofs.lemmas.Bool.{le-ltb, lt-ltb}
 use Rattle.std.proofs.lemmas.List.{drop-drop, drop_all}
-use Rattle.luks_io.specs.Bytes.{Adds}
-use Rattle.luks_header.specs.SectorSize.{bytes_of}
 use Rattle.luks_header.specs.declared.segment.Segment.{Segment}
 use Rattle.luks_volume.specs.Passing.{StopsDiscarding, StopsPassing, count_writes, limit_of}
-use Rattle.luks_volume.specs.Plain.{ending_of, ending_within, payload_end_of, payload_len, sector_len, sector_of, sector_start, sectors_of, unit_number, within_size, end_within}
-use Rattle.luks_volume.specs.Pumped.{Ends, FailsBetween, Pumped, Skips, SkipsAgain, StandsIn, Steps, TakesSector, is_running, place_in, position}
+use Rattle.luks_volume.specs.Plain.{ending_within, payload_end_of, payload_len, sector_len, sector_start, unit_number, end_within}
+use Rattle.luks_volume.specs.Pumped.{Ends, Pumped, Skips, SkipsAgain, StandsIn, Steps, TakesSector, is_running, place_in, position}
 use Rattle.luks_volume.specs.declared.state.State.{State}
 use Rattle.luks_volume.specs.declared.state.State.TheVariants.{BeforePayload, InPayload, Ended, Faulted}
 use Rattle.luks_volume.specs.declared.fault.VolumeFault.{VolumeFault}
@@ -212,13 +210,14 @@ module _ (s : Segment) (key : List ℕ) (consumed count : ℕ) (image : List ℕ
       absurd (cc)
 
   -- the same, where the pump that it goes on with is told by its parts
-  pub steps_resumed : (now : Pumped) (state state' : State) (T : Type 0) → now ≡ pumped s key consumed count state'
+  pub steps_resumed : (now skipped : Pumped) (state state' : State) (T : Type 0) → now ≡ skipped → skipped ≡ pumped s key consumed count state'
       → StandsIn image (pumped s key consumed count state) r → now.consumed ≤ now.segment.offset → SkipsAgain state (Ok tt) T → (T → r' ≡ r)
       → (state ≡ BeforePayload → count ≡ 0) → (state ≡ BeforePayload → Skips (pumped s key consumed count state) image (Ok tt) r')
       → (sector_start now.segment now.count ≤ length image → r' ≡ Some (drop (sector_start now.segment now.count) image)
       → Steps now.segment now.key now.count (sector_start now.segment now.count) image answer r'' before after)
       → Steps s key count (position (pumped s key consumed count state)) image answer r'' before after
-  steps_resumed now state state' T is stands early again same none skipped steps =
-      steps_skipped state T stands (subst (λ (p : Pumped). p.consumed ≤ p.segment.offset) is early) again same none skipped
+  steps_resumed now skipped state state' T closed moved stands early again same none skips steps =
+      let is : now ≡ pumped s key consumed count state' = closed ∙ moved in
+      steps_skipped state T stands (subst (λ (p : Pumped). p.consumed ≤ p.segment.offset) is early) again same none skips
       (subst (λ (p : Pumped). sector_start p.segment p.count ≤ length image → r' ≡ Some (drop (sector_start p.segment p.count) image)
       → Steps p.segment p.key p.count (sector_start p.segment p.count) image answer r'' before after) is steps)

@@ -8,3 +8,5 @@ mod passing;
 pub mod pump;
 mod sector;
 pub mod state;
+#[cfg(test)]
+mod tests;

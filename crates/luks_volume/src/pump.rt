@@ -93,7 +93,12 @@ impl Pump {
     pub fn new(segment: Segment, key: XtsKey, consumed: u64) -> Pump
         requires { consumed ≤ segment.offset }
         ensures { result ≡ record {
-            segment = segment; key = key; consumed = consumed; count = 0; state = State.BeforePayload } }
+          segment = segment;
+          key = key;
+          consumed = consumed;
+          count = 0;
+          state = State.BeforePayload;
+        } }
     {
         Pump {
             segment,

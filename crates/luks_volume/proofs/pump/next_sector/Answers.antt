@@ -1,6 +1,5 @@
-use Rattle.std.proofs.Common.{◌≡◌, ◌<◌, ◌≤◌, ◌∙◌, take, length, length-take-le, arith}
+use Rattle.std.proofs.Common.{◌≡◌, ◌<◌, ◌∙◌, take, length, length-take-le, arith}
 use Rattle.std.proofs.lemmas.Result.{err_from_is_err_and}
-use Rattle.luks_header.specs.SectorSize.{bytes_of}
 use Rattle.luks_volume.specs.Passing.{limit_of}
 use Rattle.luks_volume.specs.Plain.{sector_len}
 use Rattle.luks_volume.proofs.SectorLemmas.{at_most_4096}

@@ -1,4 +1,3 @@
-use Rattle.std.proofs.Common.{◌≡◌, ◌≤◌, length, drop}
 use Rattle.luks_volume.proofs.StepLemmas.{skips}
 use Rattle.luks_volume.proofs.pump.Pump.skip.Goals as goal
 use Rattle.luks_volume.proofs.pump.Pump.skip.Goals.{in-Ok, in-Err}

@@ -1,4 +1,4 @@
-use Rattle.std.proofs.Common.{◌≡◌, ◌≤◌, ◌∙◌, ap, length, drop}
+use Rattle.std.proofs.Common.{ap}
 use Rattle.std.proofs.lemmas.Result.{err_from_is_err_and}
 use Rattle.luks_volume.proofs.StepLemmas.{steps_resumed, steps_unskipped, unwritten}
 use Rattle.luks_volume.proofs.pump.Pump.step.Goals as goal
@@ -19,6 +19,6 @@ returns-in_err-skip-clause-writes g c =
 pub returns-clause-run : goal.returns-clause-run
 returns-clause-run g c image few stands =
     let was = c.args.self.now in
-    steps_resumed was.segment was.key was.consumed was.count image _ _ _ _ _ _ _ was.state _ _ (c.self.view_is ∙ c.in_ok-skip.ensures.pump) stands c.self.invariant.0
+    steps_resumed was.segment was.key was.consumed was.count image _ _ _ _ _ _ _ _ was.state _ _ c.self.view_is c.in_ok-skip.ensures.pump stands c.self.invariant.0
     c.in_ok-skip.ensures.again (λ same. ap g.S.Source.to_come same) c.in_ok-skip.ensures.fresh (λ first. c.in_ok-skip.ensures.run image first stands)
     (λ there left. c.next_sector-answer.ensures.run image few there left)
