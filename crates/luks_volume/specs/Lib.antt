@@ -1,3 +1,4 @@
 pub mod Passing
 pub mod Plain
 pub mod Pumped
+pub mod Sealed

@@ -6,6 +6,7 @@
 pub mod fault;
 mod passing;
 pub mod pump;
+pub mod seal;
 mod sector;
 pub mod state;
 #[cfg(test)]
