@@ -4,3 +4,4 @@
 mod device;
 mod fixture;
 mod payload;
+mod sealed;

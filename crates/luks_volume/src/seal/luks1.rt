@@ -49,10 +49,7 @@ fn image_of(alloc: Global, seal: &Seal1<'_>) -> Result<Vec<u8>, AllocError>
 
 /// Adds zeros until there are so many bytes.
 fn fill_to(image: &mut Vec<u8>, len: usize) -> Result<(), AllocError> {
-    for _ in image.len()..len {
-        image.push(0)?;
-    }
-    Ok(())
+    image.resize(len.max(image.len()), 0)
 }
 
 /// Adds a text and the zeros behind it.

@@ -31,9 +31,7 @@ pub(super) fn fits_counts(seal: &Seal1<'_>) -> bool
         return false;
     }
     let start = 8 + 8 * area_of(seal.key.len(), seal.stripes);
-    seal.digest_iterations >= 1
-        && start <= seal.payload_sectors
-        && seal.payload_sectors <= 65536
+    seal.digest_iterations >= 1 && start <= seal.payload_sectors && seal.payload_sectors <= 65536
 }
 
 /// A text of at most so many bytes, none of them zero.
