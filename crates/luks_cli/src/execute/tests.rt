@@ -108,7 +108,7 @@ fn merges(rt: HostRuntime) -> Result<(), Fail> {
     check(&rt, &merged, &[0xff; 28], 0, "");
     assert_eq!(rt; merged.image_left, 1);
 
-    let few = run(alloc, line, &two.as_slice()[..55], &[])?;
+    let few = run(alloc, line, &[0; 55], &[])?;
     check(&rt, &few, &[], 4, "luksrd: stripes are too few\n");
     assert_eq!(rt; few.image_left, 0);
 
@@ -247,7 +247,7 @@ fn check_failures(
             let mut out = Leaky::new(alloc, 3, at(2))?;
             let report = execute(alloc, &command, &mut key, &mut random, &mut out);
             assert!(rt; whole.starts_with(out.as_slice()), "{line}");
-            if key.failures + random.failures + out.failures() == 0 {
+            if key.failures == 0 && random.failures == 0 && out.failures() == 0 {
                 assert_eq!(rt; report.status, 0);
                 assert_eq!(rt; out.as_slice(), whole);
                 break;
