@@ -1,0 +1,28 @@
+-- Which header an image has, and how many of its bytes are read for it.
+use Rattle.std.specs.Prelude.{◌≡◌, ℕ, ◌≤◌, List, Option, Some, Result, Ok, Err, drop, length, min, nat_lt, if◌then◌else◌}
+use Rattle.luks_header.specs.Field.{at}
+use Rattle.luks_header.specs.Luks1.{header1_len, header1_of, is_luks1}
+use Rattle.luks_header.specs.declared.header.Header.{Header}
+use Rattle.luks_header.specs.declared.header.Header.TheVariants.{V1}
+use Rattle.luks_header.specs.declared.fault.HeaderFault.{HeaderFault}
+use Rattle.luks_header.specs.declared.fault.HeaderFault.TheVariants.{NotLuks, Cut, Read, Memory}
+
+-- the header of an image, or why there is none
+unfoldable pub header_of : List ℕ → Result Header HeaderFault
+header_of image =
+    if is_luks1 image then (if nat_lt (length image) header1_len then Err Cut else Ok (V1 (header1_of (at 0 header1_len image))))
+    else Err NotLuks
+
+-- how many bytes of the image are read to learn which header it has
+unfoldable pub cost_of : List ℕ → ℕ
+cost_of image = min header1_len (length image)
+
+-- an image is left with all but some of its first bytes, of which at most so many are gone
+abbrev pub LosesUpTo : List ℕ → Option (List ℕ) → ℕ → Type 0
+LosesUpTo image left most = (count : ℕ) × (count ≤ most) × (left ≡ Some (drop count image))
+
+-- reading the header ended without one
+abbrev pub StopsReading : List ℕ → Option (List ℕ) → HeaderFault → Type 0
+StopsReading image left Read = LosesUpTo image left (cost_of image)
+StopsReading image left Memory = LosesUpTo image left (cost_of image)
+StopsReading image left fault = (header_of image ≡ Err fault) × (left ≡ Some (drop (cost_of image) image))
