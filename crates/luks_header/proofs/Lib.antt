@@ -1,3 +1,5 @@
 pub mod AreaLemmas
 pub mod FieldLemmas
 pub mod HeaderLemmas
+pub mod NameLemmas
+pub mod SlotLemmas

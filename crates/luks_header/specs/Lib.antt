@@ -3,3 +3,8 @@ pub mod Field
 pub mod Header
 pub mod Luks1
 pub mod SectorSize
+pub mod Segment
+pub mod SegmentFault
+pub mod SkipReason
+pub mod Slot
+pub mod Table

@@ -3,8 +3,11 @@
 ghost use Rattle.std.specs.Prelude.{◌≡◌, length};
 ghost use Rattle.luks_header.specs.Luks1.{header1_of, is_luks1, key_slot_of, key_slots_of, state_of};
 
+mod judging;
+
 use crate::field::{bytes_at, number_at, text_at};
 use crate::text::Text;
+pub(crate) use judging::{segment, verdicts};
 
 /// What an image of LUKS1 begins with: the magic bytes and the version 1.
 const MAGIC_AND_VERSION: [u8; 8] = [0x4c, 0x55, 0x4b, 0x53, 0xba, 0xbe, 0x00, 0x01];

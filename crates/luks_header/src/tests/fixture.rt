@@ -166,13 +166,25 @@ pub fn header_bytes() -> [u8; 592] {
     bytes
 }
 
-/// The header with these bytes from a place on.
-pub fn patched(place: usize, patch: &[u8]) -> [u8; 592] {
-    let mut bytes = header_bytes();
-    for (i, byte) in patch.iter().enumerate() {
-        if place + i < 592 {
-            bytes[place + i] = *byte;
+/// Puts bytes into a header, from a place on.
+pub fn patch(bytes: &mut [u8; 592], place: usize, with: &[u8]) {
+    for (i, byte) in with.iter().enumerate() {
+        let at = place.saturating_add(i);
+        if at < 592 {
+            bytes[at] = *byte;
         }
+    }
+}
+
+/// A header whose slot 0 alone is in use: 1000 iterations, 4000 stripes of 64 bytes from sector 8 on, a digest with 1000
+/// iterations, the payload from sector 4096 on.
+pub fn volume_header() -> [u8; 592] {
+    let mut bytes = header_bytes();
+    patch(&mut bytes, 104, &4096u32.to_be_bytes());
+    patch(&mut bytes, 164, &1000u32.to_be_bytes());
+    patch(&mut bytes, 212, &1000u32.to_be_bytes());
+    for slot in 1..8 {
+        patch(&mut bytes, 208 + 48 * slot, &[0, 0, 0xde, 0xad]);
     }
     bytes
 }

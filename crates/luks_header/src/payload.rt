@@ -1,0 +1,19 @@
+//! Where a volume's payload lies.
+
+ghost use Rattle.std.specs.Prelude.{◌≡◌};
+ghost use Rattle.luks_header.specs.Segment.{segment_of};
+
+use crate::header::Header;
+use crate::luks1;
+use crate::refusal::SegmentFault;
+use crate::segment::Segment;
+
+/// The segment that holds a volume's payload, or why it cannot be read. This takes no memory.
+#[tactic(auto, unfolding(crate::specs::Segment::segment_of))]
+pub fn segment(header: &Header) -> Result<Segment, SegmentFault>
+    ensures { result ≡ segment_of header.now }
+{
+    match header {
+        Header::V1(header) => luks1::segment(header),
+    }
+}
