@@ -171,44 +171,50 @@ fn a_usable_slot_has_its_numbers(rt: HostRuntime) -> Result<(), Fail> {
     Ok(())
 }
 
-// The fault of the volume with these texts put into its header.
-fn fault(
-    alloc: Global,
-    changes: &[(usize, u32)],
-    texts: &[(usize, &[u8])],
-) -> Result<&'static str, Fail> {
-    let mut bytes = changed(changes);
-    for (place, text) in texts {
-        patch(&mut bytes, *place, text);
-    }
-    Ok(match segment(&parse(alloc, &bytes)?) {
+const NAME: usize = 8;
+
+const MODE: usize = 40;
+
+const HASH: usize = 72;
+
+// The fault of a header's segment.
+fn fault(alloc: Global, bytes: &[u8; 592]) -> Result<&'static str, Fail> {
+    Ok(match segment(&parse(alloc, bytes)?) {
         Ok(_) => "none",
         Err(fault) => fault.text(),
     })
 }
 
+fn check_text(
+    rt: &(impl Abort + AllocGlobal),
+    place: usize,
+    text: &[u8],
+    want: &str,
+) -> Result<(), Fail> {
+    let mut bytes = volume_header();
+    patch(&mut bytes, place, text);
+    assert_eq!(rt; fault(rt.alloc(), &bytes)?, want, "{text:?}");
+    Ok(())
+}
+
 #[test]
-fn each_fault_of_a_segment(rt: HostRuntime) -> Result<(), Fail> {
-    let name = 8;
-    let mode = 40;
-    let hash = 72;
-    let texts: [(&'static str, &[(usize, &[u8])]); 9] = [
-        ("none", &[]),
-        ("none", &[(hash, b"SHA512\0")]),
-        ("encryption", &[(name, b"AES\0")]),
-        (
-            "encryption",
-            &[(name, b"serpent\0"), (hash, b"ripemd160\0")],
-        ),
-        ("encryption", &[(mode, b"xts-plain\0")]),
-        ("encryption", &[(mode, b"xts-plain64x\0")]),
-        ("hash", &[(hash, b"ripemd160\0")]),
-        ("hash", &[(hash, b"sha256\xff\0")]),
-        ("hash", &[(hash, b"\0")]),
-    ];
-    for (want, texts) in texts {
-        assert_eq!(rt; fault(rt.alloc(), &[], texts)?, want);
-    }
+fn each_text_of_a_segment(rt: HostRuntime) -> Result<(), Fail> {
+    check_text(&rt, HASH, b"SHA512\0", "none")?;
+    check_text(&rt, NAME, b"AES\0", "encryption")?;
+    check_text(&rt, MODE, b"xts-plain\0", "encryption")?;
+    check_text(&rt, MODE, b"xts-plain64x\0", "encryption")?;
+    check_text(&rt, HASH, b"ripemd160\0", "hash")?;
+    check_text(&rt, HASH, b"sha256\xff\0", "hash")?;
+    check_text(&rt, HASH, b"\0", "hash")?;
+    let mut both = volume_header();
+    patch(&mut both, NAME, b"serpent\0");
+    patch(&mut both, HASH, b"ripemd160\0");
+    assert_eq!(rt; fault(rt.alloc(), &both)?, "encryption");
+    Ok(())
+}
+
+#[test]
+fn each_number_of_a_segment(rt: HostRuntime) -> Result<(), Fail> {
     let numbers = [
         (KEY_BYTES, 32, "none"),
         (KEY_BYTES, 48, "key bytes"),
@@ -219,15 +225,13 @@ fn each_fault_of_a_segment(rt: HostRuntime) -> Result<(), Fail> {
         (PAYLOAD_OFFSET, 2, "none"),
     ];
     for (place, number, want) in numbers {
-        assert_eq!(rt;
-            fault(rt.alloc(), &[(place, number)], &[])?,
-            want,
-            "{number} at {place}"
-        );
+        let bytes = changed(&[(place, number)]);
+        assert_eq!(rt; fault(rt.alloc(), &bytes)?, want, "{number} at {place}");
     }
-    let both = [(KEY_BYTES, 48), (PAYLOAD_OFFSET, 1)];
-    assert_eq!(rt; fault(rt.alloc(), &both, &[])?, "key bytes");
-    assert_eq!(rt; fault(rt.alloc(), &both, &[(hash, b"md5\0")])?, "hash");
+    let mut both = changed(&[(KEY_BYTES, 48), (PAYLOAD_OFFSET, 1)]);
+    assert_eq!(rt; fault(rt.alloc(), &both)?, "key bytes");
+    patch(&mut both, HASH, b"md5\0");
+    assert_eq!(rt; fault(rt.alloc(), &both)?, "hash");
     Ok(())
 }
 
