@@ -1,7 +1,6 @@
 -- Fields: numbers as byteorder reads them, and texts.
-use Rattle.std.proofs.Common.{◌≡◌, ℕ, ◌==◌, ◌<◌, ◌≤◌, ◌∙◌, ap, sym, Bool, true, false, cond, List, length, take, take_all, refl, arith}
-use Rattle.std.specs.Prelude.{nat_lt, position}
-use Rattle.std.specs.List.{position_or_len}
+use Rattle.std.proofs.Common.{◌≡◌, ℕ, ◌==◌, List, length, take, arith}
+use Rattle.std.specs.Prelude.{position}
 use Rattle.std.specs.Option.{unwrap_or}
 use Rattle.std.proofs.lemmas.List.Sums.{prefix_len-le-length}
 use Rattle.byteorder.specs.Endian.{big_number}

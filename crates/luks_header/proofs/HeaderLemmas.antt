@@ -1,5 +1,5 @@
 -- Reading a header.
-use Rattle.std.proofs.Common.{◌≡◌, ℕ, ◌+◌, ◌-◌, ◌<◌, ◌≤◌, List, [], Option, Some, Ok, Err, Bool, true, false, ◌∙◌, ap, sym, subst, refl, inl, inr, lit≤, take, drop, length, min, take_all, arith}
+use Rattle.std.proofs.Common.{◌≡◌, ℕ, ◌-◌, ◌<◌, ◌≤◌, List, [], Option, Some, Ok, Err, Bool, true, false, ◌∙◌, ap, sym, subst, refl, inl, inr, lit≤, take, drop, length, min, take_all, arith}
 use Rattle.std.specs.Prelude.{nat_lt, IsTrue, ◌↔◌}
 use Rattle.std.proofs.lemmas.Bool.{cases_lt, le-ltb, lt-ltb}
 use Rattle.std.proofs.lemmas.List.{length-take, take-take, take_min}

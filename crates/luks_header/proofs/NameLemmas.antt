@@ -1,5 +1,5 @@
 -- Names of hash functions are ASCII, so that bytes which are no text name none.
-use Rattle.std.proofs.Common.{◌≡◌, ℕ, ◌<◌, ◌∙◌, ap, sym, subst, refl, List, Bool, true, false, get_or, arith}
+use Rattle.std.proofs.Common.{◌≡◌, ℕ, ◌<◌, ◌∙◌, ap, sym, subst, refl, List, true, false, get_or, arith}
 use Rattle.std.specs.Prelude.{bytes_eq, codes, nat_lt, None}
 use Rattle.std.specs.Char.{to_ascii_lowercase}
 use Rattle.std.specs.List.{list_all}

@@ -1,5 +1,5 @@
 -- The front of an image: how an area that holds it takes further bytes.
-use Rattle.std.specs.Prelude.{◌≡◌, ℕ, ◌<◌, ◌≤◌, ◌++◌, List, Option, Some, Result, Ok, Err, drop, length, take}
+use Rattle.std.specs.Prelude.{◌≡◌, ℕ, ◌<◌, ◌≤◌, ◌++◌, List, Option, Some, Result, Err, drop, length, take}
 use Rattle.luks_io.specs.Bytes.{raised}
 use Rattle.luks_header.specs.declared.fault.HeaderFault.{HeaderFault}
 use Rattle.luks_header.specs.declared.fault.HeaderFault.TheVariants.{Read, Memory}

@@ -1,5 +1,5 @@
 -- Where the payload of a volume lies, or why it cannot be read.
-use Rattle.std.specs.Prelude.{◌≡◌, ℕ, ◌*◌, ◌==◌, ◌&&◌, ◌||◌, not, nat_lt, Bool, List, [], ◌∷◌, Option, Some, None, Result, Ok, Err, bytes_eq, codes, is_none}
+use Rattle.std.specs.Prelude.{◌*◌, ◌==◌, ◌&&◌, ◌||◌, not, nat_lt, Bool, [], ◌∷◌, Option, Some, None, Result, Ok, Err, bytes_eq, codes, is_none}
 use Rattle.std.proofs.lemmas.Option.{none-some}
 use Rattle.luks_header.specs.Luks1.{header1_len}
 use Rattle.luks_header.specs.Slot.{hash1_of}

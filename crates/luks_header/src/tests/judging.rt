@@ -164,6 +164,10 @@ fn a_usable_slot_has_its_numbers(rt: HostRuntime) -> Result<(), Fail> {
     // 3999 stripes of 64 bytes are 499 sectors and seven eighths of one.
     let fewer = changed(&[(STRIPES, 3999)]);
     let verdicts = slots(rt.alloc(), &parse(rt.alloc(), &fewer)?, None)?;
+    assert_eq!(rt;
+        verdicts.first().map(|first| word(&first.1)),
+        Some("usable")
+    );
     if let Some((_, Verdict::Usable(slot))) = verdicts.first() {
         assert_eq!(rt; slot.need(), 256_000);
         assert_eq!(rt; slot.area_size, 256_000);
@@ -239,6 +243,7 @@ fn each_number_of_a_segment(rt: HostRuntime) -> Result<(), Fail> {
 fn a_segment_goes_to_the_images_end(rt: HostRuntime) -> Result<(), Fail> {
     let far = changed(&[(PAYLOAD_OFFSET, 0xffff_ffff)]);
     for (bytes, offset) in [(volume_header(), 2_097_152), (far, 2_199_023_255_040)] {
+        assert_eq!(rt; fault(rt.alloc(), &bytes)?, "none");
         if let Ok(segment) = segment(&parse(rt.alloc(), &bytes)?) {
             assert_eq!(rt; segment.offset, offset);
             assert_eq!(rt; segment.size, None);
