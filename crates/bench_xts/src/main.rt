@@ -1,6 +1,6 @@
 //! Times AES-256-XTS: `bench_xts BYTES COUNT` decrypts COUNT data units of BYTES bytes under the numbers
 //! from 0, and writes to standard error how many bytes that were, how many nanoseconds it took, and the
-//! first byte that is left. With no arguments it does nothing. `bench/xts/run` runs it beside others.
+//! first byte that is left. With no arguments it does nothing. `bench/xts` runs it beside others.
 #![tactic(auto)]
 
 use luks_cipher::XtsKey;

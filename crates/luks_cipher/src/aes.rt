@@ -1,4 +1,4 @@
-// A key of AES and its schedule.
+//! A key of AES and its schedule.
 
 ghost use Rattle.std.specs.Prelude.{◌≡◌, ◌+◌, ◌*◌, List, ℕ, take, length, Some, None, if◌then◌else◌};
 ghost use Rattle.luks_cipher.specs.Aes.{encrypted, decrypted, is_aes_key_length};

@@ -1,4 +1,4 @@
-// The cipher and the inverse cipher (FIPS 197, 5.1 and 5.3).
+//! The cipher and the inverse cipher (FIPS 197, 5.1 and 5.3).
 
 ghost use Rattle.std.specs.Prelude.{◌≡◌, ◌+◌, ◌*◌, ◌<◌, ◌≤◌, length};
 ghost use Rattle.luks_cipher.specs.Aes.{cipher, inv_cipher};

@@ -1,4 +1,4 @@
-// The field of 256 elements in which AES computes (FIPS 197, section 4).
+//! The field of 256 elements in which AES computes (FIPS 197, section 4).
 
 ghost use Rattle.std.specs.Prelude.{◌≡◌};
 ghost use Rattle.luks_cipher.specs.Field.{◌•◌, times_x, power_of_x};

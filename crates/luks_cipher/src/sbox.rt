@@ -1,4 +1,4 @@
-// The S-box of AES and its inverse (FIPS 197, 5.1.1 and 5.3.2), as tables.
+//! The S-box of AES and its inverse (FIPS 197, 5.1.1 and 5.3.2), as tables.
 
 ghost use Rattle.std.specs.Prelude.{◌≡◌, ℕ, ◌<◌, slice_index};
 ghost use Rattle.luks_cipher.specs.Aes.{sbox, inv_sbox};

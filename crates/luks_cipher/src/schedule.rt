@@ -1,4 +1,4 @@
-// The key schedule (FIPS 197, 5.2): a list of words of 4 bytes, of which the first are the key's.
+//! The key schedule (FIPS 197, 5.2): a list of words of 4 bytes, of which the first are the key's.
 
 ghost use Rattle.std.specs.Prelude.{◌≡◌, ◌+◌, ◌*◌, ◌/◌, ◌<◌, ◌≤◌, take, length, IsTrue};
 ghost use Rattle.luks_cipher.specs.Aes.{word_at, word_sum, rot_word, sub_word, round_constant, next_word, with_next_word, rounds_of, key_expansion, is_aes_key_length};

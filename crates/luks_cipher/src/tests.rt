@@ -1,4 +1,4 @@
-// Published vectors. Each is a line of words, and bytes are written as hexadecimal digits.
+//! Published vectors. Each is a line of words, and bytes are written as hexadecimal digits.
 
 mod aes;
 mod known_answers;

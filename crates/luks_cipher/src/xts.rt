@@ -1,4 +1,4 @@
-// XTS-AES (IEEE 1619) over data units of whole blocks.
+//! XTS-AES (IEEE 1619) over data units of whole blocks.
 
 ghost use Rattle.std.specs.Prelude.{◌≡◌, ◌+◌, ◌*◌, ◌%◌, ◌≤◌, List, ℕ, ◌++◌, length, Some, None, if◌then◌else◌};
 ghost use Rattle.luks_cipher.specs.Xts.{doubled, block_sum, tweak_of, block_encrypted, block_decrypted, xts_encrypted, xts_decrypted, is_xts_key_length};

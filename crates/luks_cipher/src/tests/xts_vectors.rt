@@ -1,4 +1,4 @@
-// Data units of XTS-AES. A line is a key, the unit's number, the unit and the unit encrypted.
+//! Data units of XTS-AES. A line is a key, the unit's number, the unit and the unit encrypted.
 
 // NIST's vectors with data unit numbers (the CAVP's XTSGenAES128 and XTSGenAES256, the first 8 of each
 // length that is a multiple of 128 bits), as Debian's package python3-cryptography-vectors has them.

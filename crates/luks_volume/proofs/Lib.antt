@@ -1,0 +1,3 @@
+mod PassingLemmas
+mod SectorLemmas
+mod StepLemmas

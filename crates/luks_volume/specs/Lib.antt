@@ -1,0 +1,4 @@
+pub mod Passing
+pub mod Plain
+pub mod Pumped
+pub mod Sealed

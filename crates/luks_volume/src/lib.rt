@@ -1,0 +1,13 @@
+//! The payload of a volume: the sectors that it stores, one after the other, as their plain text.
+//!
+//! A [`Pump`](pump::Pump) takes an image once and forwards, and writes each sector's plain bytes as it comes.
+#![tactic(auto)]
+
+pub mod fault;
+mod passing;
+pub mod pump;
+pub mod seal;
+mod sector;
+pub mod state;
+#[cfg(test)]
+mod tests;

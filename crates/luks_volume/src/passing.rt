@@ -1,0 +1,71 @@
+//! Bytes on their way from a source: those before the payload, and those of one sector.
+
+ghost use Rattle.std.specs.Prelude.{◌≡◌, ◌%◌, ◌<◌, ◌≤◌, ◌⊎◌, List, ℕ, Some, IfOk, IfErr, OnOk, length, take, drop, min};
+ghost use Rattle.luks_io.specs.Bytes.{Adds};
+ghost use Rattle.luks_volume.specs.Passing.{StopsDiscarding, StopsPassing, count_reads, count_writes};
+ghost use Rattle.luks_volume.specs.Plain.{unit_plain};
+
+use crate::fault::VolumeFault;
+use luks_cipher::XtsKey;
+use luks_io::sink::{Sink, put_all};
+use luks_io::source::{Source, fill};
+
+/// Takes so many bytes and lets them go. The piece is room for some of them at a time.
+pub(crate) fn discard<S: Source>(
+    source: &mut S,
+    count: u64,
+    piece: &mut [u8],
+) -> Result<(), VolumeFault>
+    requires { 0 < length piece.old }
+    ensures ok { OnOk result ((bytes : List ℕ) → S.to_come source.old ≡ Some bytes
+        → (count ≤ length bytes) × (S.to_come source.new ≡ Some (drop count bytes))) }
+    ensures err { IfErr result (λ fault. (bytes : List ℕ) → S.to_come source.old ≡ Some bytes
+        → StopsDiscarding count bytes (S.to_come source.new) fault) }
+    ensures only { IfErr result (λ fault. (fault ≡ VolumeFault.CutBeforePayload) ⊎ (fault ≡ VolumeFault.Read)) }
+    ensures reads { S.failures source.new ≡ count_reads result (S.failures source.old) }
+{
+    let mut left = count;
+    'pieces: while left > 0 {
+        let size = left.min(piece.len() as u64);
+        if fill(source, &mut piece[..size as usize])? < size as usize {
+            return Err(VolumeFault::CutBeforePayload);
+        }
+        left -= size;
+    }
+    Ok(())
+}
+
+/// Takes the sector of this unit number, and writes its plain bytes where it is whole. Answers how many bytes there were.
+pub(crate) fn pass_sector<S: Source, O: Sink>(
+    key: &XtsKey,
+    number: u64,
+    sector: &mut [u8],
+    source: &mut S,
+    sink: &mut O,
+) -> Result<usize, VolumeFault>
+    requires whole_blocks { length sector.old % 16 ≡ 0 }
+    requires shortest { 16 ≤ length sector.old }
+    requires longest { length sector.old ≤ 4096 }
+    ensures most { IfOk result (λ got. got ≤ length sector.old) }
+    ensures taken { IfOk result (λ got. (bytes : List ℕ) → S.to_come source.old ≡ Some bytes
+        → (got ≡ min (length sector.old) (length bytes)) × (S.to_come source.new ≡ Some (drop got bytes))) }
+    ensures written { IfOk result (λ got. got ≡ length sector.old
+        → (bytes : List ℕ) → S.to_come source.old ≡ Some bytes
+        → Adds (O.written sink.old) (O.written sink.new) (unit_plain key.now number (take got bytes))) }
+    ensures torn { IfOk result (λ got. got < length sector.old → sink.new ≡ sink.old) }
+    ensures err { IfErr result (λ fault. (bytes : List ℕ) → S.to_come source.old ≡ Some bytes
+        → StopsPassing key.now number (length sector.old) bytes
+        (S.to_come source.new) (O.written sink.old) (O.written sink.new) fault) }
+    ensures unread { IfErr result (λ fault. fault ≡ VolumeFault.Read → sink.new ≡ sink.old) }
+    ensures only { IfErr result (λ fault. (fault ≡ VolumeFault.Read) ⊎ (fault ≡ VolumeFault.Write)) }
+    ensures reads { S.failures source.new ≡ count_reads result (S.failures source.old) }
+    ensures writes { O.failures sink.new ≡ count_writes result (O.failures sink.old) }
+{
+    let got = fill(source, sector)?;
+    if got < sector.len() {
+        return Ok(got);
+    }
+    key.decrypt_unit(number, sector);
+    put_all(sink, sector)?;
+    Ok(got)
+}

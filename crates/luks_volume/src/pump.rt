@@ -1,0 +1,194 @@
+//! The sector stream: an image's payload in, its plain text out, one sector at a time.
+
+ghost use Rattle.std.specs.Prelude.{◌≡◌, ◌+◌, ◌^◌, ◌<◌, ◌≤◌, ◌⊎◌, List, ℕ, Some, Ok, IfErr, true, length, drop};
+ghost use Rattle.luks_volume.specs.Passing.{count_reads, count_writes, limit_of};
+ghost use Rattle.luks_volume.specs.Plain.{sector_start};
+ghost use Rattle.luks_volume.specs.Pumped.{SkipsAgain, Skips, StandsIn, Steps, StepsAgain, WritesSectors};
+ghost use Rattle.luks_volume.specs.Pumped.{after_step, is_running, position, state_after_skip};
+
+use crate::fault::VolumeFault;
+use crate::passing::{discard, pass_sector};
+use crate::sector::{ending, limit, number};
+use crate::state::{State, Step};
+use luks_cipher::XtsKey;
+use luks_header::segment::Segment;
+use luks_io::sink::Sink;
+use luks_io::source::Source;
+use std::marker::Model;
+
+/// Room for the longest sector.
+const ROOM: usize = 4096;
+
+/// Passes a payload on, sector by sector. It holds one sector and takes no memory.
+///
+/// A clause sees its segment, its key, how many bytes of the image were consumed before it was made, how many sectors it has
+/// passed on, and where it stands.
+#[derive(Drop)]
+pub struct Pump {
+    segment: Segment,
+    key: XtsKey,
+    consumed: u64,
+    count: u64,
+    state: State,
+    buffer: [u8; ROOM],
+}
+
+impl Model for Pump {
+    ghost use Rattle.std.specs.Prelude.{◌≡◌, ◌≤◌};
+    ghost use Rattle.luks_volume.specs.Passing.{limit_of};
+    ghost use Rattle.luks_volume.specs.Pumped.{Pumped};
+    ghost use Rattle.luks_volume.specs.declared.state.State.TheVariants.{BeforePayload};
+
+    ghost Value = { Pumped };
+
+    ghost view = { λ p. record { segment = p.segment; key = p.key; consumed = p.consumed; count = p.count; state = p.state } };
+
+    ghost invariant = { λ p. (p.consumed ≤ p.segment.offset) × (p.count ≤ limit_of p.segment)
+        × (p.state ≡ BeforePayload → p.count ≡ 0) };
+}
+
+/// Passes on the sector of this number, or says how the payload ends before it. The buffer has room for it.
+fn next_sector<S: Source, O: Sink>(
+    segment: &Segment,
+    key: &XtsKey,
+    count: u64,
+    buffer: &mut [u8],
+    source: &mut S,
+    sink: &mut O,
+) -> Result<Step, VolumeFault>
+    requires room { length buffer.old ≡ 4096 }
+    requires within { count ≤ limit_of segment.now }
+    ensures limit { count ≡ limit_of segment.now
+        → (result ≡ Ok Step.End) × (source.new ≡ source.old) × (sink.new ≡ sink.old) }
+    ensures below { result ≡ Ok Step.Sector → count < limit_of segment.now }
+    ensures run { (image : List ℕ) → length image < 2 ^ 64
+        → sector_start segment.now count ≤ length image
+        → S.to_come source.old ≡ Some (drop (sector_start segment.now count) image)
+        → Steps segment.now key.now count (sector_start segment.now count) image result
+        (S.to_come source.new) (O.written sink.old) (O.written sink.new) }
+    ensures writes_sectors { WritesSectors result (sink.new ≡ sink.old) }
+    ensures reads { S.failures source.new ≡ count_reads result (S.failures source.old) }
+    ensures writes { O.failures sink.new ≡ count_writes result (O.failures sink.old) }
+{
+    if count == limit(segment) {
+        return Ok(Step::End);
+    }
+    let size = segment.sector_size.bytes();
+    let got = pass_sector(
+        key,
+        number(segment, count),
+        &mut buffer[..size],
+        source,
+        sink,
+    )?;
+    if got < size {
+        return ending(segment, count, got);
+    }
+    Ok(Step::Sector)
+}
+
+impl Pump {
+    /// A pump of this payload under this key, for an image of which so many bytes are consumed already, none of them the
+    /// payload's.
+    pub fn new(segment: Segment, key: XtsKey, consumed: u64) -> Pump
+        requires { consumed ≤ segment.offset }
+        ensures { result ≡ record {
+          segment = segment;
+          key = key;
+          consumed = consumed;
+          count = 0;
+          state = State.BeforePayload;
+        } }
+    {
+        Pump {
+            segment,
+            key,
+            consumed,
+            count: 0,
+            state: State::BeforePayload,
+            buffer: [0; ROOM],
+        }
+    }
+
+    /// Takes the image's bytes up to the payload's start and no more. Once that is done, it touches nothing.
+    ///
+    /// [`CutBeforePayload`](VolumeFault::CutBeforePayload) says that the image ends before, [`Read`](VolumeFault::Read)
+    /// that a read failed. A pump that has failed repeats its fault.
+    pub fn skip<S: Source>(&mut self, source: &mut S) -> Result<(), VolumeFault>
+        ensures pump { self.new ≡ record self.old { state = state_after_skip self.old.state result } }
+        ensures again { SkipsAgain self.old.state result (source.new ≡ source.old) }
+        ensures run { (image : List ℕ) → self.old.state ≡ State.BeforePayload
+            → StandsIn image self.old (S.to_come source.old)
+            → Skips self.old image result (S.to_come source.new) }
+        ensures only { self.old.state ≡ State.BeforePayload → IfErr result (λ fault.
+            (fault ≡ VolumeFault.CutBeforePayload) ⊎ (fault ≡ VolumeFault.Read)) }
+        ensures fresh { self.old.state ≡ State.BeforePayload → self.old.count ≡ 0 }
+        ensures reads { is_running self.old.state ≡ true
+            → S.failures source.new ≡ count_reads result (S.failures source.old) }
+    {
+        match self.state {
+            State::BeforePayload => {
+                let count = self.segment.offset - self.consumed;
+                let answer = discard(source, count, &mut self.buffer);
+                self.state = match answer {
+                    Ok(()) => State::InPayload,
+                    Err(fault) => State::Faulted(fault),
+                };
+                answer
+            }
+            State::InPayload | State::Ended => Ok(()),
+            State::Faulted(fault) => Err(fault),
+        }
+    }
+
+    /// Remembers what a step in the payload answered.
+    fn remember(&mut self, answer: Result<Step, VolumeFault>)
+        requires running { self.old.state ≡ State.InPayload }
+        requires below { answer ≡ Ok Step.Sector → self.old.count < limit_of self.old.segment }
+        ensures { self.new ≡ after_step self.old answer }
+    {
+        match answer {
+            Ok(Step::Sector) => self.count += 1,
+            Ok(Step::End) => self.state = State::Ended,
+            Err(fault) => self.state = State::Faulted(fault),
+        }
+    }
+
+    /// Passes the next sector on, or ends. The first step skips to the payload if no skip came before.
+    ///
+    /// A sector that is torn is not written. A pump that has ended or failed gives its last answer again, and touches
+    /// nothing.
+    pub fn step<S: Source, O: Sink>(
+        &mut self,
+        source: &mut S,
+        sink: &mut O,
+    ) -> Result<Step, VolumeFault>
+        ensures pump { self.new ≡ after_step self.old result }
+        ensures again { StepsAgain self.old.state result ((source.new ≡ source.old) × (sink.new ≡ sink.old)) }
+        ensures limit { self.old.state ≡ State.InPayload → self.old.count ≡ limit_of self.old.segment
+            → (result ≡ Ok Step.End) × (source.new ≡ source.old) × (sink.new ≡ sink.old) }
+        ensures run { (image : List ℕ) → length image < 2 ^ 64 → StandsIn image self.old (S.to_come source.old)
+            → Steps self.old.segment self.old.key self.old.count (position self.old) image result
+            (S.to_come source.new) (O.written sink.old) (O.written sink.new) }
+        ensures writes_sectors { WritesSectors result (sink.new ≡ sink.old) }
+        ensures reads { is_running self.old.state ≡ true
+            → S.failures source.new ≡ count_reads result (S.failures source.old) }
+        ensures writes { is_running self.old.state ≡ true
+            → O.failures sink.new ≡ count_writes result (O.failures sink.old) }
+    {
+        self.skip(source)?;
+        if self.state == State::Ended {
+            return Ok(Step::End);
+        }
+        let answer = next_sector(
+            &self.segment,
+            &self.key,
+            self.count,
+            &mut self.buffer,
+            source,
+            sink,
+        );
+        self.remember(answer);
+        answer
+    }
+}
