@@ -3,5 +3,6 @@
 
 mod device;
 mod fixture;
+mod layout;
 mod payload;
 mod sealed;

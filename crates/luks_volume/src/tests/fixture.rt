@@ -64,6 +64,15 @@ pub fn make_volume(
     Ok(Volume { image, plain })
 }
 
+/// So many bytes, each one more than the one before, and zero behind 250.
+pub fn counted(alloc: Global, len: usize) -> Result<Vec<u8>, Fail> {
+    let mut bytes = Vec::new(alloc);
+    for i in 0..len {
+        bytes.push((i % 251) as u8)?;
+    }
+    Ok(bytes)
+}
+
 /// A segment without a fixed size.
 pub fn dynamic(offset: u64, sector_size: SectorSize, iv_tweak: u64) -> Segment
     ensures { result.offset ≡ offset }

@@ -3,7 +3,7 @@
 ghost use Rattle.std.specs.Prelude.{◌≡◌, length};
 
 use super::device::Giver;
-use super::fixture::{NEVER, Run, dynamic, run_pump, taker};
+use super::fixture::{NEVER, Run, counted, dynamic, run_pump, taker};
 use crate::pump::Pump;
 use crate::seal::luks1::seal1;
 use crate::seal::parameters::{Seal1, SealFault, Slot1};
@@ -33,7 +33,7 @@ const SIXTH_SALT: [u8; 32] = [0x66; 32];
 const RANDOM: &[u8] =
     b"ninety-six bytes that nobody drew: they are only written down, once, and serve as random stripes";
 
-fn slot(number: u32, salt: [u8; 32], passphrase: &'static [u8]) -> Slot1<'static> {
+pub fn slot(number: u32, salt: [u8; 32], passphrase: &'static [u8]) -> Slot1<'static> {
     Slot1 {
         number,
         iterations: 2,
@@ -43,7 +43,7 @@ fn slot(number: u32, salt: [u8; 32], passphrase: &'static [u8]) -> Slot1<'static
     }
 }
 
-fn parameters<'a>(slots: &'a [Slot1<'a>], plain: &'a [u8]) -> Seal1<'a> {
+pub fn parameters<'a>(slots: &'a [Slot1<'a>], plain: &'a [u8]) -> Seal1<'a> {
     Seal1 {
         hash: Hash::Sha256,
         key: KEY,
@@ -57,16 +57,8 @@ fn parameters<'a>(slots: &'a [Slot1<'a>], plain: &'a [u8]) -> Seal1<'a> {
     }
 }
 
-fn plain_of(alloc: Global, len: usize) -> Result<Vec<u8>, Fail> {
-    let mut plain = Vec::new(alloc);
-    for i in 0..len {
-        plain.push((i % 251) as u8)?;
-    }
-    Ok(plain)
-}
-
 // So many bytes from this place on.
-fn at(image: &[u8], place: usize, len: usize) -> &[u8] {
+pub fn at(image: &[u8], place: usize, len: usize) -> &[u8] {
     let place = place.min(image.len());
     let rest = &image[place..];
     &rest[..len.min(rest.len())]
@@ -171,7 +163,7 @@ fn check_header(rt: &(impl Abort + AllocGlobal), image: &[u8]) {
 
 fn check_sealed(rt: &(impl Abort + AllocGlobal)) -> Result<(), Fail> {
     let alloc = rt.alloc();
-    let plain = plain_of(alloc, 1024)?;
+    let plain = counted(alloc, 1024)?;
     let slots = [slot(5, SIXTH_SALT, b"sixth"), slot(0, FIRST_SALT, b"first")];
     let Ok(image) = seal1(alloc, &parameters(&slots, &plain)) else {
         return Err("not sealed".into());
@@ -252,12 +244,13 @@ fn check_numbers(rt: &(impl Abort + AllocGlobal)) {
 
 fn check_lengths(rt: &(impl Abort + AllocGlobal)) -> Result<(), Fail> {
     let base = parameters(&[], &[]);
-    let bytes = plain_of(rt.alloc(), 1025)?;
+    let bytes = counted(rt.alloc(), 1025)?;
     for (len, fits) in [
         (0, false),
         (31, false),
         (32, true),
         (33, false),
+        (48, false),
         (63, false),
         (64, true),
         (65, false),
@@ -267,6 +260,14 @@ fn check_lengths(rt: &(impl Abort + AllocGlobal)) -> Result<(), Fail> {
     }
     for (place, len, fits) in [(1, 0, true), (1, 40, true), (1, 41, false), (0, 1, false)] {
         let uuid = at(&bytes, place, len);
+        check(rt, Seal1 { uuid, ..base }, fits);
+    }
+    for (uuid, fits) in [
+        (b"\x00a-uuid", false),
+        (b"a-\x00uuid", false),
+        (b"a-uuid\x00", false),
+        (b"a-uuid\xff", true),
+    ] {
         check(rt, Seal1 { uuid, ..base }, fits);
     }
     for (len, fits) in [
@@ -279,12 +280,12 @@ fn check_lengths(rt: &(impl Abort + AllocGlobal)) -> Result<(), Fail> {
         let plain = at(&bytes, 0, len);
         check(rt, Seal1 { plain, ..base }, fits);
     }
-    let long = plain_of(rt.alloc(), 8_389_120)?;
+    let long = counted(rt.alloc(), 8_389_120)?;
     check(rt, parameters(&[], &long), false);
     Ok(())
 }
 
-fn check_slots(rt: &(impl Abort + AllocGlobal)) {
+fn check_slots(rt: &(impl Abort + AllocGlobal)) -> Result<(), Fail> {
     let good = slot(7, SALT, b"");
     check(rt, parameters(&[good], &[]), true);
     check(rt, parameters(&[Slot1 { number: 8, ..good }], &[]), false);
@@ -293,9 +294,22 @@ fn check_slots(rt: &(impl Abort + AllocGlobal)) {
         ..good
     };
     check(rt, parameters(&[idle], &[]), false);
-    for (len, fits) in [(95, false), (96, true)] {
-        let random = at(RANDOM, 0, len);
-        check(rt, parameters(&[Slot1 { random, ..good }], &[]), fits);
+    let bytes = counted(rt.alloc(), 97)?;
+    for (stripes, len, fits) in [
+        (4, 95, false),
+        (4, 96, true),
+        (4, 97, false),
+        (1, 0, true),
+        (1, 1, false),
+        (1, 32, false),
+    ] {
+        let random = at(&bytes, 0, len);
+        let slots = [Slot1 { random, ..good }];
+        let seal = Seal1 {
+            stripes,
+            ..parameters(&slots, &[])
+        };
+        check(rt, seal, fits);
     }
     check(rt, parameters(&[good, slot(6, SALT, b"")], &[]), true);
     check(
@@ -303,12 +317,12 @@ fn check_slots(rt: &(impl Abort + AllocGlobal)) {
         parameters(&[good, slot(6, SALT, b""), good], &[]),
         false,
     );
+    Ok(())
 }
 
 #[test]
 fn each_range_has_its_bounds(rt: HostRuntime) -> Result<(), Fail> {
     check_numbers(&rt);
     check_lengths(&rt)?;
-    check_slots(&rt);
-    Ok(())
+    check_slots(&rt)
 }
