@@ -119,6 +119,7 @@ impl Sink for MemSink {
         ensures count { IfOk result (λ n. n ≡ min (length buf.now) self.old.room) }
         ensures room { IfOk result (λ n. self.new.room ≡ self.old.room - n) }
         ensures full { IsErr result ↔ ((self.old.room ≡ 0) × (0 < length buf.now)) }
+        ensures kept { IsErr result → self.new.room ≡ self.old.room }
     {
         let fitting = buf.len().min(self.bytes.len() - self.len);
         if fitting == 0 && !buf.is_empty() {

@@ -109,6 +109,65 @@ fn a_write_of_nothing_is_a_failure(rt: HostRuntime) {
     assert_eq!(rt; WriteSink::new(make_device(0, 0, 0)).write(b""), Ok(0));
 }
 
+/// A reader and a writer that moves one byte a call, but for its first call, which this answers.
+#[derive(Drop)]
+struct Stumbling {
+    first: Option<io::Result<usize>>,
+}
+
+impl Stumbling {
+    fn answer(&mut self, room: usize) -> io::Result<usize>
+        ensures { IfOk result (λ n. n ≤ room) }
+    {
+        match self.first.take() {
+            Some(Ok(_)) => Ok(0),
+            Some(Err(e)) => Err(e),
+            None => Ok(room.min(1)),
+        }
+    }
+}
+
+impl Read for Stumbling {
+    fn read(&mut self, buf: &mut [u8]) -> io::Result<usize> {
+        self.answer(buf.len())
+    }
+}
+
+impl Write for Stumbling {
+    fn write(&mut self, buf: &[u8]) -> io::Result<usize> {
+        self.answer(buf.len())
+    }
+
+    fn flush(&mut self) -> io::Result<()> {
+        Ok(())
+    }
+}
+
+fn failing_once() -> Stumbling {
+    Stumbling {
+        first: Some(Err(io::Error::from(ErrorKind::Other))),
+    }
+}
+
+fn moving_nothing_once() -> Stumbling {
+    Stumbling { first: Some(Ok(0)) }
+}
+
+#[test]
+fn a_failure_is_told_at_once_and_the_next_call_goes_on(rt: HostRuntime) {
+    let mut buf = [0u8; 4];
+    let mut source = ReadSource::new(failing_once());
+    assert_eq!(rt; source.read(&mut buf), Err(DeviceFault));
+    assert_eq!(rt; source.read(&mut buf), Ok(1));
+    let mut source = ReadSource::new(moving_nothing_once());
+    assert_eq!(rt; source.read(&mut buf), Ok(0));
+    for device in [failing_once(), moving_nothing_once()] {
+        let mut sink = WriteSink::new(device);
+        assert_eq!(rt; sink.write(b"abcd"), Err(DeviceFault));
+        assert_eq!(rt; sink.write(b"abcd"), Ok(1));
+    }
+}
+
 #[test]
 fn a_fault_tells_how_far_it_came(rt: HostRuntime) {
     let mut buf = [0u8; 8];
