@@ -26,8 +26,12 @@ pub record IsUsable (digest : KeyDigest) : Type 0 where
   pub some_bytes : 1 ≤ length digest.value
   pub few_bytes : length digest.value ≤ 64
 
+-- this holds of a key slot that can be tried
+abbrev pub IfUsable : (Slot → Type 0) → ℕ × Verdict → Type 0
+IfUsable P (number, Usable slot) = P slot
+IfUsable P (number, Disabled) = Unit {0}
+IfUsable P (number, Skipped reason) = Unit {0}
+
 -- key material that can be used ends within what can be held of an image
 abbrev pub IsWithin : ℕ × Verdict → Type 0
-IsWithin (number, Usable slot) = end_of slot ≤ 33554432
-IsWithin (number, Disabled) = Unit {0}
-IsWithin (number, Skipped reason) = Unit {0}
+IsWithin verdict = IfUsable (λ slot. end_of slot ≤ 33554432) verdict

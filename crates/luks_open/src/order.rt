@@ -15,8 +15,8 @@ use std::alloc::{AllocError, Global};
 /// The key slots that are tried, by their priority, and those that are skipped.
 #[derive(Drop)]
 struct ByPriority {
-    first: Vec<(u8, Slot)>,
-    then: Vec<(u8, Slot)>,
+    preferred: Vec<(u8, Slot)>,
+    normal: Vec<(u8, Slot)>,
     skipped: SkippedSlots,
 }
 
@@ -25,14 +25,14 @@ impl ByPriority {
     fn push(&mut self, number: u8, verdict: Verdict) -> Result<(), AllocError>
         requires { length self.old.skipped < 32 }
         ensures { OnOk result (
-            (self.new.first.items ≡ self.old.first.items ++ cons_option (usable_at 2 (number, verdict)) [])
-            × (self.new.then.items ≡ self.old.then.items ++ cons_option (usable_at 1 (number, verdict)) [])
+            (self.new.preferred.items ≡ self.old.preferred.items ++ cons_option (usable_at 2 (number, verdict)) [])
+            × (self.new.normal.items ≡ self.old.normal.items ++ cons_option (usable_at 1 (number, verdict)) [])
             × (self.new.skipped ≡ self.old.skipped ++ cons_option (skipped_at (number, verdict)) [])) }
     {
         match verdict {
             Verdict::Usable(slot) => match slot.priority {
-                2 => self.first.push((number, slot))?,
-                1 => self.then.push((number, slot))?,
+                2 => self.preferred.push((number, slot))?,
+                1 => self.normal.push((number, slot))?,
                 _ => {}
             },
             Verdict::Disabled => {}
@@ -45,13 +45,13 @@ impl ByPriority {
 // The key slots of a header by their priorities.
 fn sorted(alloc: Global, verdicts: Vec<(u8, Verdict)>) -> Result<ByPriority, AllocError>
     requires { vec_len verdicts ≤ 32 }
-    ensures first { IfOk result (λ sorted. sorted.first.items ≡ filter_map (usable_at 2) verdicts.items) }
-    ensures then { IfOk result (λ sorted. sorted.then.items ≡ filter_map (usable_at 1) verdicts.items) }
+    ensures preferred { IfOk result (λ sorted. sorted.preferred.items ≡ filter_map (usable_at 2) verdicts.items) }
+    ensures normal { IfOk result (λ sorted. sorted.normal.items ≡ filter_map (usable_at 1) verdicts.items) }
     ensures skipped { IfOk result (λ sorted. sorted.skipped ≡ filter_map skipped_at verdicts.items) }
 {
     let mut sorted = ByPriority {
-        first: Vec::new(alloc),
-        then: Vec::new(alloc),
+        preferred: Vec::new(alloc),
+        normal: Vec::new(alloc),
         skipped: SkippedSlots::new(),
     };
     for (number, verdict) in verdicts {
@@ -68,11 +68,11 @@ fn order_all(alloc: Global, verdicts: Vec<(u8, Verdict)>) -> Result<Order, OpenF
     ensures err { IfErr result (λ fault. (fault ≡ OpenFault.Memory) ⊎ (tries_of_all verdicts.items ≡ Err fault)) }
 {
     let ByPriority {
-        first: mut slots,
-        mut then,
+        preferred: mut slots,
+        mut normal,
         skipped,
     } = sorted(alloc, verdicts)?;
-    slots.append(&mut then)?;
+    slots.append(&mut normal)?;
     if slots.is_empty() {
         return Err(OpenFault::NothingTried(skipped));
     }
