@@ -1,5 +1,5 @@
 -- Key material that is decrypted a sector at a time, and merged a stripe at a time.
-use Rattle.std.proofs.Common.{◌≡◌, ◌∙◌, ℕ, zero, suc, ◌+◌, ◌-◌, ◌*◌, ◌/◌, ◌%◌, ◌<◌, ◌≤◌, ◌⊎◌, inl, inr, true, List, [], ◌++◌, length, take, drop, refl, sym, ap, subst, append_assoc, arith, length-append, length-drop, add-one}
+use Rattle.std.proofs.Common.{◌≡◌, ◌∙◌, ℕ, zero, suc, ◌+◌, ◌-◌, ◌*◌, ◌/◌, ◌%◌, ◌<◌, ◌≤◌, ◌⊎◌, inl, inr, true, List, [], ◌++◌, length, replicate, take, drop, refl, sym, ap, subst, append_assoc, mul_assoc, arith, length-append, length-drop, add-one}
 use Rattle.std.specs.Prelude.{◌==◌, ◌||◌}
 use Rattle.std.proofs.Math.Seq.{take-add, take-append-add}
 use Rattle.std.proofs.lemmas.Bool.Decides.{nat_tests}
@@ -8,7 +8,7 @@ use Rattle.luks_cipher.specs.Xts.{is_xts_key_length, joined}
 use Rattle.luks_kdf.specs.declared.hash.Hash.{Hash}
 use Rattle.luks_kdf.specs.Bytes.{xor}
 use Rattle.luks_kdf.specs.Stripes.{Chain, chain_after, chain_of, extended, merged}
-use Rattle.luks_kdf.proofs.StripesLemmas.{chain_push, merged_push}
+use Rattle.luks_kdf.proofs.StripesLemmas.{chain_push, chain_start, merged_push}
 use Rattle.luks_header.specs.Slot.{need_of}
 use Rattle.luks_open.specs.Candidate.{material_of, material_sector, unlocked}
 
@@ -98,6 +98,21 @@ pub length-joined_more : (f : ℕ → List ℕ) (i : ℕ) (sector : List ℕ) �
 unfolding joined
 length-joined_more f i sector before is whole =
     rw add-one (let one = ap length is in omega (arith, length-append (joined f i) (f i)))
+
+pub length-joined_none : (f : ℕ → List ℕ) → length (joined f 0) ≡ 0
+unfolding joined
+length-joined_none f = refl
+
+-- whole sectors have whole stripes
+pub whole_sectors : (number in_sector len : ℕ) → in_sector * len ≡ 512 → number * 512 ≡ number * in_sector * len
+whole_sectors number in_sector len fits = ap (λ n. number * n) (sym fits) ∙ sym (mul_assoc number in_sector len)
+
+-- the chain before any sector
+pub sectors_none : (h : Hash) (len in_sector : ℕ) (f : ℕ → List ℕ) (chain : Chain) → chain ≡ record { hash = h; block = replicate len 0 }
+    → chain ≡ chain_after h len (joined f 0) (0 * in_sector)
+sectors_none h len in_sector f chain start =
+    let nothing : 0 * in_sector ≡ 0 = omega arith in
+    rw nothing (chain_start h len (joined f 0) chain start)
 
 -- the chain one sector further
 pub sector_more : (h : Hash) (len in_sector : ℕ) (f : ℕ → List ℕ) (i : ℕ) (sector : List ℕ) (chain : Chain) → in_sector * len ≡ 512 → sector ≡ f i → length sector ≡ 512

@@ -124,3 +124,7 @@ pub held_of-drop : (slots : List (ℕ × Slot)) (i : ℕ) (entry : ℕ × Slot) 
 unfolding held_of
 held_of-drop slots i entry there is =
     ap held_of (drop_more slots i entry there) ∙ ap (λ (e : ℕ × Slot). held_of (e ∷ drop (i + 1) slots)) (sym is)
+
+pub held_of-nil : held_of [] ≡ 0
+unfolding held_of
+held_of-nil = refl

@@ -1,6 +1,6 @@
 //! Keys.
 
-ghost use Rattle.std.specs.Prelude.{◌≡◌, ◌+◌, ◌*◌, ◌≤◌, List, ℕ, true, length, replicate, take};
+ghost use Rattle.std.specs.Prelude.{◌≡◌, ◌+◌, ◌*◌, ◌≤◌, List, ℕ, true, length, take};
 ghost use Rattle.std.specs.Int.{div_ceil};
 ghost use Rattle.luks_cipher.specs.Xts.{is_xts_key_length};
 ghost use Rattle.luks_kdf.specs.Hash.{size_of};
@@ -32,15 +32,41 @@ impl Model for Key {
 }
 
 impl Key {
-    // A key of so many zero bytes.
-    fn zeros(len: usize) -> Key
+    // A key of so many bytes, which are still to be written.
+    fn blank(len: usize) -> Key
         requires { len ≤ 64 }
-        ensures { result ≡ replicate len 0 }
+        ensures { length result ≡ len }
     {
         Key {
             bytes: [0; LONGEST],
             len,
         }
+    }
+
+    // Writes the key that PBKDF2 derives from a secret.
+    fn derive(&mut self, hash: Hash, secret: &[u8], salt: &[u8], iterations: u32, work: &mut Work)
+        requires turns { 1 ≤ iterations }
+        requires some { 1 ≤ length self.old }
+        ensures key { self.new ≡ derived_key hash secret.now salt.now iterations (length self.old) }
+        ensures work { work.new ≡ capped (work.old + iterations * div_ceil (length self.old) (size_of hash)) }
+    {
+        let len = self.len;
+        let bytes = &mut self.bytes[..len];
+        pbkdf2(hash, secret, salt, iterations, bytes, work);
+    }
+
+    // Writes the volume key that the key material from `offset` on holds.
+    fn unlock(&mut self, af: Hash, key: &XtsKey, image: &[u8], offset: usize, stripes: usize)
+        requires key_bytes { is_xts_key_length (length self.old) ≡ true }
+        requires some { 1 ≤ stripes }
+        requires few { stripes ≤ 4000 }
+        requires there { offset + need_of (length self.old) stripes ≤ length image.now }
+        ensures key { self.new ≡ unlocked af key.now image.now offset (length self.old) stripes }
+        ensures len { length self.new ≡ length self.old }
+    {
+        let len = self.len;
+        let bytes = &mut self.bytes[..len];
+        material::unlock(af, key, image, offset, stripes, bytes);
     }
 
     /// The key of `len` bytes that PBKDF2 derives from a passphrase or another secret.
@@ -58,8 +84,8 @@ impl Key {
         ensures key { result ≡ derived_key hash secret.now salt.now iterations len }
         ensures work { work.new ≡ capped (work.old + iterations * div_ceil len (size_of hash)) }
     {
-        let mut key = Key::zeros(len);
-        pbkdf2(hash, secret, salt, iterations, &mut key.bytes[..len], work);
+        let mut key = Key::blank(len);
+        key.derive(hash, secret, salt, iterations, work);
         key
     }
 
@@ -79,15 +105,8 @@ impl Key {
         ensures key { result ≡ unlocked af key.now image.now offset len stripes }
         ensures len { length result ≡ len }
     {
-        let mut volume_key = Key::zeros(len);
-        material::unlock(
-            af,
-            key,
-            image,
-            offset,
-            stripes,
-            &mut volume_key.bytes[..len],
-        );
+        let mut volume_key = Key::blank(len);
+        volume_key.unlock(af, key, image, offset, stripes);
         volume_key
     }
 

@@ -2,6 +2,7 @@
 
 ghost use Rattle.std.specs.Prelude.{◌≡◌, ◌+◌, ◌*◌, ◌≤◌, ◌++◌, List, ℕ, true, length, take};
 ghost use Rattle.luks_cipher.specs.Xts.{is_xts_key_length};
+ghost use Rattle.luks_kdf.specs.declared.hash.Hash.{Hash as AnyHash};
 ghost use Rattle.luks_kdf.specs.Stripes.{chain_after};
 ghost use Rattle.luks_header.specs.Slot.{need_of};
 ghost use Rattle.luks_open.specs.Candidate.{material_sector, unlocked};
@@ -27,11 +28,10 @@ fn decrypt_sector(key: &XtsKey, image: &[u8], offset: usize, number: usize, sect
 fn take_in(splitter: &mut AfSplitter, stripes: &[u8], len: usize, count: usize)
     requires len { length splitter.old.block ≡ len }
     requires there { count * len ≤ length stripes.now }
-    ensures taken { (before : List ℕ) (number : ℕ) → length before ≡ number * len
-        → splitter.old ≡ chain_after splitter.old.hash len before number
-        → splitter.new ≡ chain_after splitter.old.hash len (before ++ take (count * len) stripes.now) (number + count) }
+    ensures taken { (hash : AnyHash) (before : List ℕ) (number : ℕ) → length before ≡ number * len
+        → splitter.old ≡ chain_after hash len before number
+        → splitter.new ≡ chain_after hash len (before ++ take (count * len) stripes.now) (number + count) }
     ensures len { length splitter.new.block ≡ len }
-    ensures hash { splitter.new.hash ≡ splitter.old.hash }
 {
     'stripes: for i in 0..count {
         splitter.stripe(&stripes[i * len..i * len + len]);

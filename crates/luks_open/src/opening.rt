@@ -1,6 +1,6 @@
 //! Opening a volume by a passphrase.
 
-ghost use Rattle.std.specs.Prelude.{◌≡◌, ◌+◌, ◌≤◌, ℕ, Option, Ok, All, IfOk, IfSome, true, length, sum_by};
+ghost use Rattle.std.specs.Prelude.{◌≡◌, ◌+◌, ◌≤◌, ℕ, Option, Ok, All, IfOk, IfSome, IsSome, true, length, sum_by};
 ghost use Rattle.luks_cipher.specs.Xts.{is_xts_key_length};
 ghost use Rattle.luks_kdf.specs.Pbkdf2.{capped};
 ghost use Rattle.luks_header.specs.Segment.{segment_of};
@@ -34,6 +34,7 @@ pub struct Opened {
 fn candidate(slot: &Slot, image: &[u8], pass: &[u8], work: &mut Work) -> Option<Key>
     requires { IsTriable (length image.now) slot.now }
     ensures value { result ≡ candidate_of slot.now image.now pass.now }
+    ensures some { IsSome result }
     ensures work { work.new ≡ capped (work.old + evaluations slot.now.kdf_hash slot.now.iterations slot.now.area_key_bytes) }
     ensures len { IfSome result (λ key. is_xts_key_length (length key) ≡ true) }
 {
@@ -95,6 +96,8 @@ fn first_opening(
     ensures work { work.new ≡ capped (work.old + sum_by (evaluations_of digest.now) (tried_of digest.now slots.now image.now pass.now)) }
     ensures len { IfSome result (λ opened. is_xts_key_length (length opened.key) ≡ true) }
 {
+    // A count is at most its greatest value, also where there are no key slots.
+    let _before = work.count();
     'slots: for entry in slots {
         if let Some(key) = key(digest, entry, image, pass, work) {
             return Some(Opened { slot: entry.0, key });

@@ -1,6 +1,6 @@
 //! In which order key slots are tried.
 
-ghost use Rattle.std.specs.Prelude.{◌≡◌, ◌==◌, ◌<◌, ◌≤◌, ◌⊎◌, ◌++◌, [], ◌∷◌, Some, Ok, Err, All, IfOk, IfErr, OnOk, find, length, vec_len};
+ghost use Rattle.std.specs.Prelude.{◌≡◌, ◌==◌, ◌<◌, ◌≤◌, ◌⊎◌, ◌++◌, [], ◌∷◌, Some, Ok, Err, All, IfOk, IfErr, IfSome, OnOk, find, length, vec_len};
 ghost use Rattle.std.specs.List.{cons_option, filter_map};
 ghost use Rattle.luks_open.specs.Order.{end_of, order_of, skipped_at, tries_of_all, tries_of_named, usable_at};
 ghost use Rattle.luks_open.specs.Trial.{IsWithin};
@@ -61,6 +61,7 @@ fn sorted(alloc: Global, verdicts: Vec<(u8, Verdict)>) -> Result<ByPriority, All
 }
 
 // No key slot is named.
+#[tactic(auto, unfolding(crate::specs::Order::tries_of_all))]
 fn order_all(alloc: Global, verdicts: Vec<(u8, Verdict)>) -> Result<Order, OpenFault>
     requires few { vec_len verdicts ≤ 32 }
     requires within { All IsWithin verdicts.items }
@@ -88,15 +89,27 @@ fn order_one(alloc: Global, number: u8, slot: Slot) -> Result<Order, AllocError>
     Ok(Order::new(slots, SkippedSlots::new()))
 }
 
-// The key slot of this number is named.
-fn order_named(alloc: Global, named: u8, verdicts: Vec<(u8, Verdict)>) -> Result<Order, OpenFault>
-    requires within { All IsWithin verdicts.items }
-    ensures ok { IfOk result (λ order. tries_of_named named (find (λ verdict. verdict.0 == named) verdicts.items) ≡ Ok order) }
-    ensures err { IfErr result (λ fault. (fault ≡ OpenFault.Memory)
-        ⊎ (tries_of_named named (find (λ verdict. verdict.0 == named) verdicts.items) ≡ Err fault)) }
+// What became of the key slot of this number.
+fn verdict_at(number: u8, verdicts: Vec<(u8, Verdict)>) -> Option<(u8, Verdict)>
+    ensures { result ≡ find (λ verdict. verdict.0 == number) verdicts.items }
 {
-    let found = verdicts.into_iter().find(|verdict| verdict.0 == named);
-    match found {
+    verdicts
+        .into_iter()
+        .find(|verdict| verdict.0 == number)
+}
+
+// The key slot of this number is named, of which this became.
+#[tactic(auto, unfolding(crate::specs::Order::tries_of_named))]
+fn order_named(
+    alloc: Global,
+    named: u8,
+    verdict: Option<(u8, Verdict)>,
+) -> Result<Order, OpenFault>
+    requires within { IfSome verdict IsWithin }
+    ensures ok { IfOk result (λ order. tries_of_named named verdict ≡ Ok order) }
+    ensures err { IfErr result (λ fault. (fault ≡ OpenFault.Memory) ⊎ (tries_of_named named verdict ≡ Err fault)) }
+{
+    match verdict {
         None => Err(OpenFault::NoSuchSlot),
         Some((_, Verdict::Disabled)) => Err(OpenFault::Disabled),
         Some((_, Verdict::Skipped(reason))) => Err(OpenFault::NamedSkipped(reason)),
@@ -110,6 +123,7 @@ fn order_named(alloc: Global, named: u8, verdicts: Vec<(u8, Verdict)>) -> Result
 ///
 /// [`OpenFault::NoSuchSlot`], [`OpenFault::Disabled`] and [`OpenFault::NamedSkipped`] are for a key slot that is named,
 /// [`OpenFault::NothingTried`] is for a header of which no key slot is tried where none is named.
+#[tactic(auto, unfolding(crate::specs::Order::order_of))]
 pub fn order(
     alloc: Global,
     header: &Header,
@@ -122,6 +136,6 @@ pub fn order(
     let verdicts = slots(alloc, header, limit)?;
     match named {
         None => order_all(alloc, verdicts),
-        Some(named) => order_named(alloc, named, verdicts),
+        Some(named) => order_named(alloc, named, verdict_at(named, verdicts)),
     }
 }
