@@ -1,5 +1,5 @@
 -- What holds of the key slots that are tried, and where the last of their key material ends.
-use Rattle.std.proofs.Common.{◌≡◌, ◌∙◌, ℕ, ◌+◌, ◌==◌, ◌<◌, ◌≤◌, max, Bool, true, false, List, [], ◌∷◌, ◌++◌, length, map, drop, get_or, find, Option, Some, None, Result, Ok, Err, refl, sym, ap, subst, arith}
+use Rattle.std.proofs.Common.{◌≡◌, ◌∙◌, ℕ, ◌+◌, ◌==◌, ◌<◌, ◌≤◌, max, Bool, true, false, List, [], ◌∷◌, ◌++◌, length, map, drop, get_or, find, Option, Some, None, Result, Ok, Err, IfSome, refl, sym, ap, subst, append_assoc, arith, length-append}
 use Rattle.std.specs.Prelude.{if◌then◌else◌}
 use Rattle.std.specs.List.{All, AllByRecursion, cons_option, enumerate_from, filter_map}
 use Rattle.std.proofs.lemmas.List.Elements.{All-append, All-from_recursion, recursion_from_All}
@@ -72,6 +72,28 @@ All-tries P header (Some number) limit tries all is =
         let same : record { slots = (number, slot) ∷ []; skipped = [] } ≡ tries = cc in
         subst (λ (t : Tries). AllByRecursion (λ (entry : ℕ × Slot). P entry.1) t.slots) same (holds, tt)
 
+-- some key slot is tried
+pub some_tries : (header : Header) (named limit : Option ℕ) (tries : Tries) → order_of header named limit ≡ Ok tries → 1 ≤ length tries.slots
+unfolding order_of tries_of_all tries_of_named
+some_tries header None limit tries is = of_slots _ is
+  where
+    of_slots : (slots : List (ℕ × Slot)) → unless_none slots (filter_map skipped_at (verdicts_of header limit)) ≡ Ok tries → 1 ≤ length tries.slots
+    of_slots [] h = absurd cc
+    of_slots (slot ∷ slots) h =
+        let same : record { slots = slot ∷ slots; skipped = filter_map skipped_at (verdicts_of header limit) } ≡ tries = cc in
+        let count = ap (λ (t : Tries). length t.slots) same in
+        omega (arith, count)
+some_tries header (Some number) limit tries is = of_found (find (λ (verdict : ℕ × Verdict). verdict.0 == number) (verdicts_of header limit)) is
+  where
+    of_found : (found : Option (ℕ × Verdict)) → tries_of_named number found ≡ Ok tries → 1 ≤ length tries.slots
+    of_found None h = absurd cc
+    of_found (Some (other, Disabled)) h = absurd cc
+    of_found (Some (other, Skipped reason)) h = absurd cc
+    of_found (Some (other, Usable slot)) h =
+        let same : record { slots = (number, slot) ∷ []; skipped = [] } ≡ tries = cc in
+        let count = ap (λ (t : Tries). length t.slots) same in
+        omega (arith, count)
+
 -- LUKS1: what holds of each key slot in range holds of the usable ones
 pub All-verdicts1 : (P : Slot → Type 0) (header : Header1) (limit : Option ℕ) → ((slot : Slot) → InRange header slot → P slot)
     → AllByRecursion (IfUsable P) (verdicts_of (V1 header) limit)
@@ -113,10 +135,18 @@ held_of-usable_at first second verdicts all =
     (All-usable_at (λ slot. end_of slot ≤ 33554432) second verdicts each))
 
 -- and so does the one that is named
-pub end_of-find : (test : ℕ × Verdict → Bool) (verdicts : List (ℕ × Verdict)) (number : ℕ) (slot : Slot) → All IsWithin verdicts
-    → find test verdicts ≡ Some (number, Usable slot) → end_of slot ≤ 33554432
-end_of-find test verdicts number slot all is =
-    IfUsable-find (λ slot. end_of slot ≤ 33554432) test verdicts (number, Usable slot) (recursion_from_All IsWithin verdicts all) is
+pub IfSome-find : (header : Header) (limit : Option ℕ) (named : ℕ)
+    → IfSome (find (λ (verdict : ℕ × Verdict). verdict.0 == named) (verdicts_of header limit)) IsWithin
+IfSome-find header limit named = of_found (find test (verdicts_of header limit)) refl
+  where
+    test : ℕ × Verdict → Bool
+    test verdict = verdict.0 == named
+
+    of_found : (found : Option (ℕ × Verdict)) → find test (verdicts_of header limit) ≡ found → IfSome found IsWithin
+    of_found None is = tt
+    of_found (Some verdict) is =
+        IfUsable-find (λ slot. end_of slot ≤ 33554432) test (verdicts_of header limit) verdict
+        (recursion_from_All IsWithin (verdicts_of header limit) (All-IsWithin header limit)) is
 
 -- one key slot after the other
 pub held_of-drop : (slots : List (ℕ × Slot)) (i : ℕ) (entry : ℕ × Slot) → i < length slots → entry ≡ get_or slots i entry
@@ -128,3 +158,21 @@ held_of-drop slots i entry there is =
 pub held_of-nil : held_of [] ≡ 0
 unfolding held_of
 held_of-nil = refl
+
+-- one verdict further: what was made of those before is longer by what is made of it
+pub sorted_more : {X : Type 0} (f : ℕ × Verdict → Option X) (now new : List X) (entry : ℕ × Verdict) (rest left all : List (ℕ × Verdict))
+    → now ++ filter_map f rest ≡ filter_map f all → rest ≡ entry ∷ left → new ≡ now ++ cons_option (f entry) []
+    → new ++ filter_map f left ≡ filter_map f all
+sorted_more {X = X} f now new entry rest left all before is_rest is_new =
+    ap (λ (l : List X). l ++ filter_map f left) is_new
+    ∙ (append_assoc now (cons_option (f entry) []) (filter_map f left)
+    ∙ (ap (λ (l : List X). now ++ l) (one (f entry) (filter_map f left)) ∙ (sym (ap (λ (l : List (ℕ × Verdict)). now ++ filter_map f l) is_rest) ∙ before)))
+  where
+    one : (o : Option X) (xs : List X) → cons_option o [] ++ xs ≡ cons_option o xs
+    one None xs = refl
+    one (Some x) xs = refl
+
+-- and it is longer by one at most
+pub length_more : {X : Type 0} (now new : List X) (o : Option X) → new ≡ now ++ cons_option o [] → length new ≤ length now + 1
+length_more now new None is = omega (arith, ap length is, length-append now [])
+length_more now new (Some x) is = omega (arith, ap length is, length-append now (x ∷ []))

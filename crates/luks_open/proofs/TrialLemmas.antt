@@ -16,7 +16,7 @@ use Rattle.luks_header.proofs.SlotLemmas.{InRange}
 use Rattle.luks_open.specs.Candidate.{digest_of}
 use Rattle.luks_open.specs.Order.{Tries, end_of, held_of, order_of}
 use Rattle.luks_open.specs.Trial.{IsTriable, IsUsable}
-use Rattle.luks_open.proofs.OrderLemmas.{All-held_of, All-tries, All-verdicts1}
+use Rattle.luks_open.proofs.OrderLemmas.{All-held_of, All-tries, All-verdicts1, some_tries}
 
 -- a length of keys, by the two that there are
 is_one_of_two : (n : ℕ) → (n ≡ 32) ⊎ (n ≡ 64) → is_xts_key_length n ≡ true
@@ -53,3 +53,19 @@ All-IsTriable (V1 header) segment named limit tries held is_segment is_order the
     of_slots [] ranges ends = tt
     of_slots ((number, slot) ∷ slots) ranges ends =
         (IsTriable1 header slot held (IsReadable-ok header segment is_segment).1 ranges.0 ends.0, of_slots slots ranges.1 ends.1)
+
+-- the digest of a header that can be read has a known hash function
+pub digest_known : (header : Header) (segment : Segment) → segment_of header ≡ Ok segment → (hash : Hash) × ((digest_of header).hash ≡ Some hash)
+unfolding digest_of
+digest_known (V1 header) segment is_segment = (IsReadable-ok header segment is_segment).1.hash
+
+-- and some iterations, where a key slot is tried against it
+pub digest_iterations : (header : Header) (named limit : Option ℕ) (tries : Tries) → order_of header named limit ≡ Ok tries → 1 ≤ (digest_of header).iterations
+unfolding digest_of
+digest_iterations (V1 header) named limit tries is_order =
+    of_slots tries.slots (some_tries (V1 header) named limit tries is_order)
+    (All-tries (InRange header) (V1 header) named limit tries (All-verdicts1 (InRange header) header limit (λ slot range. range)) is_order)
+  where
+    of_slots : (slots : List (ℕ × Slot)) → 1 ≤ length slots → AllByRecursion (λ (entry : ℕ × Slot). InRange header entry.1) slots → 1 ≤ header.digest_iterations
+    of_slots [] some ranges = absurd (omega arith)
+    of_slots ((number, slot) ∷ slots) some ranges = ranges.0.some_digest_iterations

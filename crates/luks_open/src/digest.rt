@@ -1,6 +1,6 @@
 //! Digests, by which a volume key is known.
 
-ghost use Rattle.std.specs.Prelude.{◌≡◌, ◌+◌, length};
+ghost use Rattle.std.specs.Prelude.{◌≡◌, ◌+◌, ◌≤◌, length};
 ghost use Rattle.luks_kdf.specs.Pbkdf2.{capped};
 ghost use Rattle.luks_open.specs.Candidate.{digest_of, meets};
 ghost use Rattle.luks_open.specs.Opening.{evaluations};
@@ -37,7 +37,9 @@ impl<'a> KeyDigest<'a> {
     /// The digest of a header.
     #[tactic(auto, unfolding(crate::specs::Candidate::digest_of))]
     pub(crate) fn of(header: &'a Header) -> KeyDigest<'a>
-        ensures { result ≡ digest_of header.now }
+        ensures value { result ≡ digest_of header.now }
+        ensures some { 1 ≤ length result.value }
+        ensures few { length result.value ≤ 64 }
     {
         match header {
             Header::V1(header) => KeyDigest {
