@@ -1,13 +1,12 @@
 -- Key material that is decrypted a sector at a time, and merged a stripe at a time.
 use Rattle.std.proofs.Common.{◌≡◌, ◌∙◌, ℕ, zero, suc, ◌+◌, ◌-◌, ◌*◌, ◌/◌, ◌%◌, ◌<◌, ◌≤◌, ◌⊎◌, inl, inr, true, List, [], ◌++◌, length, replicate, take, drop, refl, sym, ap, subst, append_assoc, mul_assoc, arith, length-append, length-drop, add-one}
-use Rattle.std.specs.Prelude.{◌==◌, ◌||◌}
 use Rattle.std.proofs.Math.Seq.{take-add, take-append-add}
 use Rattle.std.proofs.lemmas.Bool.Decides.{nat_tests}
 use Rattle.std.proofs.lemmas.List.{append-nil, length-take-le, take-append-le, take_all}
 use Rattle.luks_cipher.specs.Xts.{is_xts_key_length, joined}
 use Rattle.luks_kdf.specs.declared.hash.Hash.{Hash}
 use Rattle.luks_kdf.specs.Bytes.{xor}
-use Rattle.luks_kdf.specs.Stripes.{Chain, chain_after, chain_of, extended, merged}
+use Rattle.luks_kdf.specs.Stripes.{Chain, chain_after, extended, merged}
 use Rattle.luks_kdf.proofs.StripesLemmas.{chain_push, chain_start, merged_push}
 use Rattle.luks_header.specs.Slot.{need_of}
 use Rattle.luks_open.specs.Candidate.{material_of, material_sector, unlocked}

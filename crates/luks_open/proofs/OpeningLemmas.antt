@@ -1,5 +1,5 @@
 -- Key slots that are tried one after the other.
-use Rattle.std.proofs.Common.{◌≡◌, ◌∙◌, ℕ, ◌+◌, ◌-◌, ◌^◌, ◌<◌, ◌≤◌, min, true, false, List, [], ◌∷◌, length, drop, get_or, Option, Some, None, refl, sym, ap, arith}
+use Rattle.std.proofs.Common.{◌≡◌, ◌∙◌, ℕ, ◌+◌, ◌^◌, ◌<◌, ◌≤◌, List, [], ◌∷◌, length, drop, get_or, Option, Some, None, refl, sym, ap, arith}
 use Rattle.std.specs.Prelude.{if◌then◌else◌, is_some, sum_by}
 use Rattle.std.proofs.lemmas.List.{drop_all, drop_more}
 use Rattle.std.proofs.lemmas.List.Sums.{sum_by-cons}
@@ -7,7 +7,6 @@ use Rattle.luks_kdf.specs.Pbkdf2.{capped}
 use Rattle.luks_header.specs.declared.slot.Slot.{Slot}
 use Rattle.luks_open.specs.Candidate.{KeyDigest}
 use Rattle.luks_open.specs.Opening.{evaluations_of, first_opening, key_of, opened_or, tried_of}
-use Rattle.luks_open.specs.declared.opening.Opened.{Opened}
 
 -- a count that was raised twice
 pub capped-capped : (a b : ℕ) → capped (capped a + b) ≡ capped (a + b)

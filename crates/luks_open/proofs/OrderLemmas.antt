@@ -1,8 +1,8 @@
 -- What holds of the key slots that are tried, and where the last of their key material ends.
-use Rattle.std.proofs.Common.{◌≡◌, ◌∙◌, ℕ, ◌+◌, ◌==◌, ◌<◌, ◌≤◌, max, Bool, true, false, List, [], ◌∷◌, ◌++◌, length, map, drop, get_or, find, Option, Some, None, Result, Ok, Err, IfSome, refl, sym, ap, subst, append_assoc, arith, length-append}
+use Rattle.std.proofs.Common.{◌≡◌, ◌∙◌, ℕ, ◌+◌, ◌==◌, ◌<◌, ◌≤◌, max, Bool, true, false, List, [], ◌∷◌, ◌++◌, length, map, drop, get_or, find, Option, Some, None, Ok, IfSome, refl, sym, ap, subst, append_assoc, arith, length-append}
 use Rattle.std.specs.Prelude.{if◌then◌else◌}
 use Rattle.std.specs.List.{All, AllByRecursion, cons_option, enumerate_from, filter_map}
-use Rattle.std.proofs.lemmas.List.Elements.{All-append, All-from_recursion, recursion_from_All}
+use Rattle.std.proofs.lemmas.List.Elements.{All-from_recursion, recursion_from_All}
 use Rattle.std.proofs.lemmas.List.{drop_more}
 use Rattle.luks_header.specs.Slot.{verdict1_of, verdicts_of}
 use Rattle.luks_header.specs.declared.header.Header.{Header}

@@ -1,11 +1,10 @@
 -- The key slots that are tried of a header whose segment is not refused.
-use Rattle.std.proofs.Common.{◌≡◌, ◌∙◌, ℕ, ◌*◌, ◌≤◌, ◌⊎◌, inl, inr, true, List, [], ◌∷◌, length, Option, Some, Ok, refl, sym, subst, arith}
+use Rattle.std.proofs.Common.{◌≡◌, ◌∙◌, ℕ, ◌≤◌, ◌⊎◌, inl, inr, true, List, [], ◌∷◌, length, Option, Some, Ok, refl, sym, subst, arith}
 use Rattle.std.specs.List.{All, AllByRecursion}
 use Rattle.std.proofs.lemmas.List.Elements.{All-from_recursion}
 use Rattle.luks_cipher.specs.Xts.{is_xts_key_length}
 use Rattle.luks_kdf.specs.declared.hash.Hash.{Hash}
 use Rattle.luks_header.specs.Segment.{segment_of}
-use Rattle.luks_header.specs.Slot.{hash1_of}
 use Rattle.luks_header.specs.declared.header.Header.{Header}
 use Rattle.luks_header.specs.declared.header.Header.TheVariants.{V1}
 use Rattle.luks_header.specs.declared.luks1.Header1.{Header1}
@@ -15,7 +14,7 @@ use Rattle.luks_header.proofs.SegmentLemmas.{IsReadable, IsReadable-ok}
 use Rattle.luks_header.proofs.SlotLemmas.{InRange}
 use Rattle.luks_open.specs.Candidate.{digest_of}
 use Rattle.luks_open.specs.Order.{Tries, end_of, held_of, order_of}
-use Rattle.luks_open.specs.Trial.{IsTriable, IsUsable}
+use Rattle.luks_open.specs.Trial.{IsTriable}
 use Rattle.luks_open.proofs.OrderLemmas.{All-held_of, All-tries, All-verdicts1, some_tries}
 
 -- a length of keys, by the two that there are

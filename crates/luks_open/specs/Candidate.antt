@@ -1,6 +1,6 @@
 -- What key a passphrase gives by a key slot, and whether it is the volume's.
-use Rattle.std.specs.Prelude.{◌≡◌, ℕ, ◌+◌, ◌*◌, ◌/◌, ◌≤◌, Bool, true, false, bytes_eq, List, Option, Some, None, length, take}
-use Rattle.luks_cipher.specs.Xts.{is_xts_key_length, joined, xts_decrypted}
+use Rattle.std.specs.Prelude.{ℕ, ◌+◌, ◌*◌, ◌/◌, Bool, false, bytes_eq, List, Option, Some, None, length, take}
+use Rattle.luks_cipher.specs.Xts.{joined, xts_decrypted}
 use Rattle.luks_kdf.specs.Pbkdf2.{derived_key}
 use Rattle.luks_kdf.specs.Stripes.{merged}
 use Rattle.luks_kdf.specs.declared.hash.Hash.{Hash}

@@ -33,13 +33,13 @@ first_opening digest ((number, slot) ∷ slots) image pass =
     opened_or number (key_of digest slot image pass) (first_opening digest slots image pass)
 
 -- what is opened, where something is
-abbrev pub unless_none : Option Opened → List (ℕ × SkipReason) → Result Opened OpenFault
-unless_none (Some opened) skipped = Ok opened
-unless_none None skipped = Err (NoKey skipped)
+abbrev pub answer_of : Option Opened → List (ℕ × SkipReason) → Result Opened OpenFault
+answer_of (Some opened) skipped = Ok opened
+answer_of None skipped = Err (NoKey skipped)
 
 -- what a passphrase opens: the first of the key slots that are tried
 unfoldable pub opening_of : Header → Tries → List ℕ → List ℕ → Result Opened OpenFault
-opening_of header tries image pass = unless_none (first_opening (digest_of header) tries.slots image pass) tries.skipped
+opening_of header tries image pass = answer_of (first_opening (digest_of header) tries.slots image pass) tries.skipped
 
 -- the evaluations of HMAC by which PBKDF2 gives so many bytes
 abbrev pub evaluations : Option Hash → ℕ → ℕ → ℕ

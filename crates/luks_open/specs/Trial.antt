@@ -1,5 +1,5 @@
 -- What is known of key slots that are tried, and of the digest that they are tried against.
-use Rattle.std.specs.Prelude.{◌≡◌, ℕ, ◌≤◌, Bool, true, List, Option, Some, length}
+use Rattle.std.specs.Prelude.{◌≡◌, ℕ, ◌≤◌, true, Some, length}
 use Rattle.luks_cipher.specs.Xts.{is_xts_key_length}
 use Rattle.luks_kdf.specs.declared.hash.Hash.{Hash}
 use Rattle.luks_header.specs.declared.slot.Slot.{Slot}

@@ -1,6 +1,6 @@
-use Rattle.std.proofs.Common.{◌≡◌, ◌∙◌, ◌+◌, ◌-◌, ◌*◌, ◌≤◌, ℕ, List, ap, arith, drop, length, take}
+use Rattle.std.proofs.Common.{◌≡◌, ◌∙◌, ◌+◌, ◌-◌, ◌*◌, ◌≤◌, ap, arith, drop, length, take}
 use Rattle.std.proofs.Math.Nat.{mul-le-mul_right}
-use Rattle.luks_open.proofs.MaterialLemmas.{taken_more, taken_none}
+use Rattle.luks_open.proofs.MaterialLemmas.{taken_more}
 use Rattle.luks_open.proofs.material.take_in.Goals as goal
 
 pub stripes-preserved : goal.stripes-preserved

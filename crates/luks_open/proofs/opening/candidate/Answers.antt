@@ -1,5 +1,4 @@
-use Rattle.std.proofs.Common.{◌≡◌, ◌∙◌, Some, None, true, length, ap, sym}
-use Rattle.std.specs.Prelude.{if◌then◌else◌}
+use Rattle.std.proofs.Common.{◌≡◌, ◌∙◌, Some, None, true, length, ap}
 use Rattle.luks_cipher.specs.Xts.{is_xts_key_length}
 use Rattle.luks_kdf.proofs.Pbkdf2Lemmas.{length-derived_key}
 use Rattle.luks_open.proofs.opening.candidate.Goals as goal

@@ -1,4 +1,4 @@
-use Rattle.std.proofs.Common.{◌≡◌, ◌∙◌, None, Some, ap, sym, arith}
+use Rattle.std.proofs.Common.{◌≡◌, ◌∙◌, None, Some, sym}
 use Rattle.luks_open.specs.Opening.{key_of}
 use Rattle.luks_open.proofs.OpeningLemmas.{go_last, go_on, go_out}
 use Rattle.luks_open.proofs.opening.first_opening.Goals as goal

@@ -1,6 +1,5 @@
-use Rattle.std.proofs.Common.{◌≡◌, ◌∙◌, ◌≤◌, ap, sym, length, arith}
+use Rattle.std.proofs.Common.{◌∙◌, ap, length, arith}
 use Rattle.luks_open.specs.Candidate.{KeyDigest}
-use Rattle.luks_open.specs.Order.{held_of}
 use Rattle.luks_open.proofs.TrialLemmas.{All-IsTriable, digest_iterations, digest_known}
 use Rattle.luks_open.proofs.opening.open.Goals as goal
 

@@ -1,6 +1,4 @@
-use Rattle.std.proofs.Common.{◌≡◌, ◌∙◌, ◌≤◌, ap, sym, arith}
 use Rattle.luks_open.specs.Order.{order_of}
-use Rattle.luks_open.specs.Trial.{IsWithin}
 use Rattle.luks_open.proofs.OrderLemmas.{All-IsWithin, IfSome-find}
 use Rattle.luks_open.proofs.order.order.Goals as goal
 

@@ -1,5 +1,3 @@
-use Rattle.std.proofs.Common.{◌≡◌, ◌∙◌, ◌≤◌, ◌++◌, ap, subst, sym, arith}
-use Rattle.luks_open.specs.Order.{held_of}
 use Rattle.luks_open.proofs.OrderLemmas.{held_of-usable_at}
 use Rattle.luks_open.proofs.order.order_all.Goals as goal
 

@@ -1,4 +1,4 @@
-use Rattle.std.proofs.Common.{[], ap, arith}
+use Rattle.std.proofs.Common.{ap, arith}
 use Rattle.luks_open.specs.Order.{held_of}
 use Rattle.luks_open.proofs.order.order_one.Goals as goal
 

@@ -1,5 +1,4 @@
-use Rattle.std.proofs.Common.{◌≡◌, ◌∙◌, ◌<◌, ◌++◌, ℕ, [], ◌∷◌, ap, sym, length, arith}
-use Rattle.std.specs.List.{filter_map}
+use Rattle.std.proofs.Common.{ℕ, arith}
 use Rattle.luks_header.specs.declared.slot.Verdict.{Verdict}
 use Rattle.luks_open.specs.Order.{skipped_at, usable_at}
 use Rattle.luks_open.proofs.OrderLemmas.{length_more, sorted_more}

@@ -1,6 +1,6 @@
-use Rattle.std.proofs.Common.{◌≡◌, ◌∙◌, ◌≤◌, ◌+◌, max, drop, ap, length, arith}
+use Rattle.std.proofs.Common.{ap, arith}
 use Rattle.std.proofs.lemmas.List.{drop_all}
-use Rattle.luks_open.specs.Order.{end_of, held_of}
+use Rattle.luks_open.specs.Order.{held_of}
 use Rattle.luks_open.proofs.OrderLemmas.{held_of-drop, held_of-nil}
 use Rattle.luks_open.proofs.tries.held_end.Goals as goal
 

@@ -1,4 +1,4 @@
-use Rattle.std.proofs.Common.{◌≡◌, ◌<◌, length, ap, arith}
+use Rattle.std.proofs.Common.{◌<◌, length, ap, arith}
 use Rattle.luks_open.proofs.SkippedLemmas.{filled_more}
 use Rattle.luks_open.proofs.skipped.SkippedSlots.push.Goals as goal
 
