@@ -25,7 +25,7 @@ tried_past digest slots image pass entry none =
     let rest = tried_of digest slots image pass in (
       ap (λ (key : Option (List ℕ)). opened_or entry.0 key (first_opening digest slots image pass)) none,
       ap (λ (key : Option (List ℕ)). sum_by (evaluations_of digest) (entry ∷ (if is_some key then [] else rest))) none
-        ∙ sum_by-cons (evaluations_of digest) entry rest,
+          ∙ sum_by-cons (evaluations_of digest) entry rest,
     )
 
 -- or it did
@@ -37,7 +37,7 @@ tried_last digest slots image pass entry key some =
     let rest = tried_of digest slots image pass in (
       ap (λ (key : Option (List ℕ)). opened_or entry.0 key (first_opening digest slots image pass)) some,
       ap (λ (key : Option (List ℕ)). sum_by (evaluations_of digest) (entry ∷ (if is_some key then [] else rest))) some
-        ∙ (sum_by-cons (evaluations_of digest) entry [] ∙ omega arith),
+          ∙ (sum_by-cons (evaluations_of digest) entry [] ∙ omega arith),
     )
 
 -- none of the first i key slots opened, and the count of work went from `start` to `now`

@@ -11,4 +11,6 @@ mod material;
 pub mod opening;
 pub mod order;
 pub mod skipped;
+#[cfg(test)]
+mod tests;
 pub mod tries;

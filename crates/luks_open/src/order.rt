@@ -12,6 +12,9 @@ use luks_header::header::Header;
 use luks_header::slot::{Slot, Verdict, slots};
 use std::alloc::{AllocError, Global};
 
+#[cfg(test)]
+mod tests;
+
 /// The key slots that are tried, by their priority, and those that are skipped.
 #[derive(Drop)]
 struct ByPriority {
@@ -93,18 +96,12 @@ fn order_one(alloc: Global, number: u8, slot: Slot) -> Result<Order, AllocError>
 fn verdict_at(number: u8, verdicts: Vec<(u8, Verdict)>) -> Option<(u8, Verdict)>
     ensures { result ≡ find (λ verdict. verdict.0 == number) verdicts.items }
 {
-    verdicts
-        .into_iter()
-        .find(|verdict| verdict.0 == number)
+    verdicts.into_iter().find(|verdict| verdict.0 == number)
 }
 
 // The key slot of this number is named, of which this became.
 #[tactic(auto, unfolding(crate::specs::Order::tries_of_named))]
-fn order_named(
-    alloc: Global,
-    named: u8,
-    verdict: Option<(u8, Verdict)>,
-) -> Result<Order, OpenFault>
+fn order_named(alloc: Global, named: u8, verdict: Option<(u8, Verdict)>) -> Result<Order, OpenFault>
     requires within { IfSome verdict IsWithin }
     ensures ok { IfOk result (λ order. tries_of_named named verdict ≡ Ok order) }
     ensures err { IfErr result (λ fault. (fault ≡ OpenFault.Memory) ⊎ (tries_of_named named verdict ≡ Err fault)) }

@@ -14,6 +14,6 @@ stripes-preserved c =
     record {
       len = c.stripe.ensures.len ∙ c.stripes.invariant.len;
       taken = λ hash before number whole start.
-      c.stripe.ensures.next
-      ∙ taken_more hash len before stripes _ number i c.stripes.splitter there whole is_stripe (c.stripes.invariant.taken hash before number whole start);
+          c.stripe.ensures.next
+          ∙ taken_more hash len before stripes _ number i c.stripes.splitter there whole is_stripe (c.stripes.invariant.taken hash before number whole start);
     }

@@ -37,7 +37,7 @@ sectors-preserved c =
       len = c.take_in.ensures.len;
       before = length-joined_more f number c.decrypt_sector.new.sector c.sectors.invariant.before c.decrypt_sector.ensures full;
       taken = sector_more c.args.af len (512 / len) f number c.decrypt_sector.new.sector c.take_in.new.splitter place.fits c.decrypt_sector.ensures full
-        (c.take_in.ensures.taken c.args.af (joined f number) (number * (512 / len)) before c.sectors.invariant.taken);
+          (c.take_in.ensures.taken c.args.af (joined f number) (number * (512 / len)) before c.sectors.invariant.taken);
     }
 
 pub returns : goal.returns
