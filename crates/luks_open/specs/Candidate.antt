@@ -1,4 +1,5 @@
--- What key a passphrase gives by a key slot, and whether it is the volume's.
+-- What key a passphrase gives by a key slot, and whether it is the volume's (LUKS1 On-Disk Format Specification 1.2.3, "Master key recovery").
+-- Stripes are those of the same standard, PBKDF2 is that of RFC 8018 and XTS that of IEEE 1619.
 use Rattle.std.specs.Prelude.{ℕ, ◌+◌, ◌*◌, ◌/◌, Bool, false, bytes_eq, List, Option, Some, None, length, take}
 use Rattle.luks_cipher.specs.Xts.{joined, xts_decrypted}
 use Rattle.luks_kdf.specs.Pbkdf2.{derived_key}

@@ -96,7 +96,7 @@ fn first_opening(
     ensures work { work.new ≡ capped (work.old + sum_by (evaluations_of digest.now) (tried_of digest.now slots.now image.now pass.now)) }
     ensures len { IfSome result (λ opened. is_xts_key_length (length opened.key) ≡ true) }
 {
-    // A count is at most its greatest value, also where there are no key slots.
+    // Where there are no key slots, the count stays as it is: within its range.
     let _before = work.count();
     'slots: for entry in slots {
         if let Some(key) = key(digest, entry, image, pass, work) {
@@ -106,7 +106,8 @@ fn first_opening(
     None
 }
 
-/// Tries the key slots of an order under a passphrase, and answers the first that opens with its volume key.
+/// Tries the key slots of an order under a passphrase, and answers the first that opens with its volume key (LUKS1 On-Disk
+/// Format Specification 1.2.3, "Master key recovery").
 ///
 /// A key slot opens where PBKDF2 of the key that its material holds equals the whole digest of the header. Where none does, it is
 /// [`OpenFault::NoKey`]; there is no other fault. This takes no memory. The count of work is raised by the evaluations of HMAC

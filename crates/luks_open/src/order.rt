@@ -15,7 +15,7 @@ use std::alloc::{AllocError, Global};
 #[cfg(test)]
 mod tests;
 
-/// The key slots that are tried, by their priority, and those that are skipped.
+// The key slots that are tried, by their priority, and those that are skipped.
 #[derive(Drop)]
 struct ByPriority {
     preferred: Vec<(u8, Slot)>,
@@ -27,10 +27,9 @@ impl ByPriority {
     // Puts a key slot to the others of its kind.
     fn push(&mut self, number: u8, verdict: Verdict) -> Result<(), AllocError>
         requires { length self.old.skipped < 32 }
-        ensures { OnOk result (
-            (self.new.preferred.items ≡ self.old.preferred.items ++ cons_option (usable_at 2 (number, verdict)) [])
-            × (self.new.normal.items ≡ self.old.normal.items ++ cons_option (usable_at 1 (number, verdict)) [])
-            × (self.new.skipped ≡ self.old.skipped ++ cons_option (skipped_at (number, verdict)) [])) }
+        ensures preferred { OnOk result (self.new.preferred.items ≡ self.old.preferred.items ++ cons_option (usable_at 2 (number, verdict)) []) }
+        ensures normal { OnOk result (self.new.normal.items ≡ self.old.normal.items ++ cons_option (usable_at 1 (number, verdict)) []) }
+        ensures skipped { OnOk result (self.new.skipped ≡ self.old.skipped ++ cons_option (skipped_at (number, verdict)) []) }
     {
         match verdict {
             Verdict::Usable(slot) => match slot.priority {

@@ -15,10 +15,10 @@ loop-number-preserved c =
     let all = c.args.verdicts.items in
     record {
       iterator = (tt, tt);
-      room = omega (arith, before.room, next.1, length_more c.loop-number.sorted.skipped c.push.new.self.skipped (skipped_at entry) pushed.2);
+      room = omega (arith, before.room, next.1, length_more c.loop-number.sorted.skipped c.push.new.self.skipped (skipped_at entry) pushed.skipped);
       preferred = sorted_more (usable_at 2) c.loop-number.sorted.preferred.items c.push.new.self.preferred.items entry rest.items left.items all before.preferred
-          next.0 pushed.0;
+          next.0 pushed.preferred;
       normal = sorted_more (usable_at 1) c.loop-number.sorted.normal.items c.push.new.self.normal.items entry rest.items left.items all before.normal next.0
-          pushed.1;
-      skipped = sorted_more skipped_at c.loop-number.sorted.skipped c.push.new.self.skipped entry rest.items left.items all before.skipped next.0 pushed.2;
+          pushed.normal;
+      skipped = sorted_more skipped_at c.loop-number.sorted.skipped c.push.new.self.skipped entry rest.items left.items all before.skipped next.0 pushed.skipped;
     }
