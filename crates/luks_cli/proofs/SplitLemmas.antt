@@ -13,6 +13,7 @@ use Rattle.luks_kdf.specs.Stripes.{Chain, chain_after, chain_of}
 use Rattle.luks_kdf.proofs.StripesLemmas.{chain_of-append}
 use Rattle.luks_io.specs.Bytes.{Adds}
 use Rattle.luks_cli.specs.declared.message.Message.{Message}
+use Rattle.luks_cli.specs.declared.message.Message.TheVariants.{SegmentRefused, NoSuchSlot, SlotDisabled, SlotSkipped, NothingTried, KeyFileLength, NoKey, CutBeforePayload, Tail, Short}
 use Rattle.luks_cli.specs.declared.message.Message.TheVariants.{Done, No, Usage, NotLuks, Cut, Json, KeyLength, FewRandomBytes, FewStripes, OutOfMemory, ReadFailed, WriteFailed}
 use Rattle.luks_cli.specs.Outcome.{Outcome, split_key_outcome, split_outcome, stripes_of}
 use Rattle.luks_cli.specs.Run.{IsSilent, Bytes, Runs, BreaksOff, Completes}
@@ -69,6 +70,16 @@ runs_without_key h count before Done k r w p is was = absurd p
 runs_without_key h count before Usage k r w p is was = absurd p
 runs_without_key h count before No k r w p is was = absurd p
 runs_without_key h count before NotLuks k r w p is was = absurd p
+runs_without_key h count before (SegmentRefused _) k r w p is was = absurd p
+runs_without_key h count before (NoSuchSlot _) k r w p is was = absurd p
+runs_without_key h count before (SlotDisabled _) k r w p is was = absurd p
+runs_without_key h count before (SlotSkipped _ _) k r w p is was = absurd p
+runs_without_key h count before (NothingTried _) k r w p is was = absurd p
+runs_without_key h count before KeyFileLength k r w p is was = absurd p
+runs_without_key h count before (NoKey _) k r w p is was = absurd p
+runs_without_key h count before CutBeforePayload k r w p is was = absurd p
+runs_without_key h count before (Tail _) k r w p is was = absurd p
+runs_without_key h count before (Short _) k r w p is was = absurd p
 runs_without_key h count before Cut k r w p is was = absurd p
 runs_without_key h count before Json k r w p is was = absurd p
 runs_without_key h count before FewRandomBytes k r w p is was = absurd p
@@ -159,6 +170,16 @@ module _ (h : Hash) (count : ℕ) (before : Bytes) (k r w : Option (List ℕ)) (
   runs_without_stripes Usage stop = absurd stop
   runs_without_stripes No stop = absurd stop
   runs_without_stripes NotLuks stop = absurd stop
+  runs_without_stripes (SegmentRefused _) stop = absurd stop
+  runs_without_stripes (NoSuchSlot _) stop = absurd stop
+  runs_without_stripes (SlotDisabled _) stop = absurd stop
+  runs_without_stripes (SlotSkipped _ _) stop = absurd stop
+  runs_without_stripes (NothingTried _) stop = absurd stop
+  runs_without_stripes KeyFileLength stop = absurd stop
+  runs_without_stripes (NoKey _) stop = absurd stop
+  runs_without_stripes CutBeforePayload stop = absurd stop
+  runs_without_stripes (Tail _) stop = absurd stop
+  runs_without_stripes (Short _) stop = absurd stop
   runs_without_stripes Cut stop = absurd stop
   runs_without_stripes Json stop = absurd stop
   runs_without_stripes KeyLength stop = absurd stop

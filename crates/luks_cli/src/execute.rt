@@ -1,10 +1,10 @@
 //! What the commands do.
 
 ghost use Rattle.std.specs.Prelude.{◌≡◌, ◌≢◌};
-ghost use Rattle.luks_cli.specs.Command.{request_of};
 ghost use Rattle.luks_cli.specs.Outcome.{outcome_of};
 ghost use Rattle.luks_cli.specs.Report.{report_of};
-ghost use Rattle.luks_cli.specs.Run.{Bytes, Counts, Runs, TakesNoMemory, Tell, prompt_of};
+ghost use Rattle.luks_cli.specs.Request.{request_of};
+ghost use Rattle.luks_cli.specs.Run.{Bytes, Counts, IsCounted, Runs, TakesNoMemory, Tell, prompt_of};
 
 use crate::command::Command;
 use crate::message::Message;
@@ -14,6 +14,8 @@ use luks_io::source::Source;
 use std::alloc::Global;
 
 mod headers;
+mod payload;
+mod secret;
 mod stripes;
 #[cfg(test)]
 mod tests;
@@ -45,6 +47,7 @@ pub fn execute<I: Source, K: Source, O: Sink>(
         Command::IsLuks { .. } => headers::is_luks(alloc, image),
         Command::LuksUuid { .. } => headers::print_uuid(alloc, image, out),
         Command::LuksDump { .. } => headers::print_dump(alloc, image, out),
+        Command::TestPassphrase(_) | Command::LuksCat(_) => Err(Message::Cut),
         Command::AfSplit(splitting) => stripes::split(splitting, image, secret, out),
         Command::AfMerge(merging) => stripes::merge(merging, image, out),
     };
