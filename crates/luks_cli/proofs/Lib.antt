@@ -6,3 +6,5 @@ pub mod PayloadLemmas
 pub mod SecretLemmas
 pub mod SplitLemmas
 pub mod StripeLemmas
+pub mod VolumeLemmas
+pub mod VolumeRuns

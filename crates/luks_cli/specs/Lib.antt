@@ -11,4 +11,5 @@ pub mod Run
 pub mod Secret
 pub mod Stripe
 pub mod Texts
+pub mod Unlocking
 pub mod Volume

@@ -1,7 +1,7 @@
 -- What an image's header says of its volume, before any key slot is tried.
-use Rattle.std.specs.Prelude.{◌≡◌, ℕ, ◌++◌, ◌∷◌, [], List, Option, Some, None, Result, Ok, Err, codes, max}
+use Rattle.std.specs.Prelude.{◌≡◌, ℕ, ◌++◌, ◌∷◌, [], List, drop, max, Option, Some, None, Result, Ok, Err, codes}
 use Rattle.std.specs.Fmt.{decimal}
-use Rattle.luks_header.specs.Header.{cost_of, header_of}
+use Rattle.luks_header.specs.Header.{LosesUpTo, cost_of, header_of}
 use Rattle.luks_header.specs.Segment.{segment_of}
 use Rattle.luks_header.specs.declared.header.Header.{Header}
 use Rattle.luks_header.specs.declared.fault.HeaderFault.{HeaderFault}
@@ -13,7 +13,7 @@ use Rattle.luks_open.specs.declared.fault.OpenFault.TheVariants.{NoSuchSlot as N
 use Rattle.luks_cli.specs.Header.{message_for_header}
 use Rattle.luks_cli.specs.Request.{OpeningRequest}
 use Rattle.luks_cli.specs.declared.message.Message.{Message}
-use Rattle.luks_cli.specs.declared.message.Message.TheVariants.{SegmentRefused, NoSuchSlot, SlotDisabled, SlotSkipped, NothingTried, NoKey, OutOfMemory}
+use Rattle.luks_cli.specs.declared.message.Message.TheVariants.{SegmentRefused, NoSuchSlot, SlotDisabled, SlotSkipped, NothingTried, NoKey, OutOfMemory, ReadFailed}
 
 -- a volume: its header, where its payload lies, and which key slots are tried
 pub record Volume : Type 0 where
@@ -66,3 +66,9 @@ HasSegment image segment = (header : Header) × (header_of image ≡ Ok header) 
 -- what `testPassphrase` prints of the key slot that opens
 unfoldable pub slot_line : ℕ → List ℕ
 slot_line number = codes "Key slot " ++ decimal number ++ codes " opens the volume." ++ 10 ∷ []
+
+-- finding the volume of an image ended without one
+abbrev pub StopsFinding : OpeningRequest → List ℕ → Option (List ℕ) → Message → Type 0
+StopsFinding o image left ReadFailed = LosesUpTo image left (cost_of image)
+StopsFinding o image left OutOfMemory = LosesUpTo image left (cost_of image)
+StopsFinding o image left message = (volume_of o image ≡ Err message) × (left ≡ Some (drop (cost_of image) image))

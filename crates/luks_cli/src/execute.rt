@@ -19,6 +19,7 @@ mod secret;
 mod stripes;
 #[cfg(test)]
 mod tests;
+mod volumes;
 
 /// Runs a command over its first input, its second one and the output.
 ///
@@ -35,7 +36,8 @@ pub fn execute<I: Source, K: Source, O: Sink>(
     ensures run { (before : Bytes)
         → Tell (I.to_come image.old) (K.to_come secret.old) (O.written out.old) before
         → let request = request_of command.now in
-        Runs (prompt_of request before) (outcome_of request before.image before.secret) before
+        IsCounted request before.image
+        → Runs (prompt_of request before) (outcome_of request before.image before.secret) before
         result.message (I.to_come image.new) (K.to_come secret.new) (O.written out.new) }
     ensures status { result ≡ report_of result.message }
     ensures memory { TakesNoMemory (request_of command.now) → result.message ≢ Message.OutOfMemory }
@@ -47,7 +49,10 @@ pub fn execute<I: Source, K: Source, O: Sink>(
         Command::IsLuks { .. } => headers::is_luks(alloc, image),
         Command::LuksUuid { .. } => headers::print_uuid(alloc, image, out),
         Command::LuksDump { .. } => headers::print_dump(alloc, image, out),
-        Command::TestPassphrase(_) | Command::LuksCat(_) => Err(Message::Cut),
+        Command::TestPassphrase(opening) => {
+            volumes::test_passphrase(alloc, opening, image, secret, out)
+        }
+        Command::LuksCat(opening) => volumes::cat(alloc, opening, image, secret, out),
         Command::AfSplit(splitting) => stripes::split(splitting, image, secret, out),
         Command::AfMerge(merging) => stripes::merge(merging, image, out),
     };
