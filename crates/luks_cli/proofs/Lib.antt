@@ -2,6 +2,7 @@ pub mod GrammarLemmas
 pub mod HeaderRuns
 pub mod MergeLemmas
 pub mod NumberLemmas
+pub mod OpenedRuns
 pub mod PayloadLemmas
 pub mod SecretLemmas
 pub mod SplitLemmas

@@ -51,7 +51,7 @@ behind_header (V1 header) segment is =
     let start : segment.offset ≡ 512 * header.payload_offset = ap (λ (s : Segment). s.offset) readable.0 in
     omega (arith, readable.1.behind_header)
 
-same_segment : (image : List ℕ) (s t : Segment) → HasSegment image s → HasSegment image t → t ≡ s
+pub same_segment : (image : List ℕ) (s t : Segment) → HasSegment image s → HasSegment image t → t ≡ s
 same_segment image s t one other =
     let first : header_of image ≡ Ok one.0 = one.1 in
     let second : header_of image ≡ Ok other.0 = other.1 in

@@ -165,7 +165,9 @@ fn unlock<I: Source, K: Source>(
 fn slot_page(alloc: Global, slot: u8) -> Result<String, AllocError>
     ensures { IfOk result (λ page. string_bytes page ≡ slot_line slot) }
 {
-    format!(in alloc; "Key slot {slot} opens the volume.\n")
+    let mut page = format!(in alloc; "Key slot {slot}")?;
+    page.push_str(" opens the volume.\n")?;
+    Ok(page)
 }
 
 /// `testPassphrase`.
@@ -209,13 +211,9 @@ pub(super) fn cat<I: Source, K: Source, O: Sink>(
         (record { image = I.failures image.old; secret = K.failures secret.old; written = O.failures out.old })
         (record { image = I.failures image.new; secret = K.failures secret.new; written = O.failures out.new }) }
 {
-    let Unlocked {
-        segment,
-        opened,
-        held,
-    } = unlock(alloc, opening, image, secret)?;
-    let Some(key) = XtsKey::new(opened.key.as_slice()) else {
+    let unlocked = unlock(alloc, opening, image, secret)?;
+    let Some(key) = XtsKey::new(unlocked.opened.key.as_slice()) else {
         unreachable!()
     };
-    write_payload(segment, key, held, image, out)
+    write_payload(unlocked.segment, key, unlocked.held, image, out)
 }
