@@ -1,6 +1,6 @@
 //! Key slots and what becomes of them.
 
-ghost use Rattle.std.specs.Prelude.{◌≡◌, IfOk};
+ghost use Rattle.std.specs.Prelude.{◌≡◌, ◌≤◌, IfOk, vec_len};
 ghost use Rattle.luks_header.specs.Slot.{need_of, verdicts_of};
 
 use crate::header::Header;
@@ -64,14 +64,16 @@ pub enum Verdict {
     Skipped(SkipReason),
 }
 
-/// The key slots of a header by rising number, and what becomes of each. No more iterations than the limit are made.
+/// The key slots of a header by rising number, and what becomes of each: at most 32 slots. No more iterations than the limit
+/// are made.
 #[tactic(auto, unfolding(crate::specs::Slot::verdicts_of))]
 pub fn slots(
     alloc: Global,
     header: &Header,
     limit: Option<u32>,
 ) -> Result<Vec<(u8, Verdict)>, AllocError>
-    ensures { IfOk result (λ verdicts. verdicts.items ≡ verdicts_of header.now limit) }
+    ensures value { IfOk result (λ verdicts. verdicts.items ≡ verdicts_of header.now limit) }
+    ensures few { IfOk result (λ verdicts. vec_len verdicts ≤ 32) }
 {
     match header {
         Header::V1(header) => luks1::verdicts(alloc, header, limit),

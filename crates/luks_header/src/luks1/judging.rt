@@ -1,6 +1,6 @@
 //! What becomes of the key slots and the segment of a LUKS1 header.
 
-ghost use Rattle.std.specs.Prelude.{◌≡◌, ◌*◌, ◌≤◌, map, IfOk};
+ghost use Rattle.std.specs.Prelude.{◌≡◌, ◌*◌, ◌≤◌, map, IfOk, vec_len};
 ghost use Rattle.std.specs.List.{enumerate_from};
 ghost use Rattle.luks_kdf.specs.Hash.{hash_named};
 ghost use Rattle.luks_header.specs.Segment.{fault1_of, is_aes_xts1, segment1_of, unless_fault};
@@ -36,12 +36,14 @@ fn hash_of(name: &[u8]) -> Option<Hash>
     }
 }
 
-// The hash function of the slots, the stripes and the digest.
-#[tactic(auto, unfolding(crate::specs::Slot::hash1_of))]
-fn hash(header: &Header1) -> Option<Hash>
-    ensures { result ≡ hash1_of header.now }
-{
-    hash_of(header.hash_spec.as_bytes())
+impl Header1 {
+    /// The hash function of the slots, the stripes and the digest, where its name is known.
+    #[tactic(auto, unfolding(crate::specs::Slot::hash1_of))]
+    pub fn hash(&self) -> Option<Hash>
+        ensures { result ≡ hash1_of self.now }
+    {
+        hash_of(self.hash_spec.as_bytes())
+    }
 }
 
 // So many iterations are not made.
@@ -105,10 +107,10 @@ fn usable(alloc: Global, header: &Header1, slot: &KeySlot) -> Result<Slot, Alloc
 {
     Ok(Slot {
         priority: 1,
-        kdf_hash: hash(header),
+        kdf_hash: header.hash(),
         iterations: slot.iterations,
         salt: Salt::new(alloc, &slot.salt)?,
-        af_hash: hash(header),
+        af_hash: header.hash(),
         stripes: slot.stripes,
         key_bytes: header.key_bytes,
         area_key_bytes: header.key_bytes,
@@ -142,7 +144,8 @@ pub(crate) fn verdicts(
     header: &Header1,
     limit: Option<u32>,
 ) -> Result<Vec<(u8, Verdict)>, AllocError>
-    ensures { IfOk result (λ verdicts. verdicts.items ≡ enumerate_from 0 (map (verdict1_of header.now limit) header.now.slots)) }
+    ensures value { IfOk result (λ verdicts. verdicts.items ≡ enumerate_from 0 (map (verdict1_of header.now limit) header.now.slots)) }
+    ensures few { IfOk result (λ verdicts. vec_len verdicts ≡ 8) }
 {
     let mut verdicts = Vec::with_capacity(alloc, 8)?;
     for number in 0..8u8 {
@@ -168,7 +171,7 @@ fn fault(header: &Header1) -> Option<SegmentFault>
 {
     if !aes_xts(header) {
         Some(SegmentFault::Encryption)
-    } else if hash(header).is_none() {
+    } else if header.hash().is_none() {
         Some(SegmentFault::Hash)
     } else if header.key_bytes != 32 && header.key_bytes != 64 {
         Some(SegmentFault::KeyBytes)

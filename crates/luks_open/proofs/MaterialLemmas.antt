@@ -1,0 +1,151 @@
+-- Key material that is decrypted a sector at a time, and merged a stripe at a time.
+use Rattle.std.proofs.Common.{◌≡◌, ◌∙◌, ℕ, zero, suc, ◌+◌, ◌-◌, ◌*◌, ◌/◌, ◌%◌, ◌<◌, ◌≤◌, ◌⊎◌, inl, inr, true, List, [], ◌++◌, length, replicate, take, drop, refl, sym, ap, subst, append_assoc, mul_assoc, arith, length-append, length-drop, add-one}
+use Rattle.std.proofs.Math.Seq.{take-add, take-append-add}
+use Rattle.std.proofs.lemmas.Bool.Decides.{nat_tests}
+use Rattle.std.proofs.lemmas.List.{append-nil, length-take-le, take-append-le, take_all}
+use Rattle.luks_cipher.specs.Xts.{is_xts_key_length, joined}
+use Rattle.luks_kdf.specs.declared.hash.Hash.{Hash}
+use Rattle.luks_kdf.specs.Bytes.{xor}
+use Rattle.luks_kdf.specs.Stripes.{Chain, chain_after, extended, merged}
+use Rattle.luks_kdf.proofs.StripesLemmas.{chain_push, chain_start, merged_push}
+use Rattle.luks_header.specs.Slot.{need_of}
+use Rattle.luks_open.specs.Candidate.{material_of, material_sector, unlocked}
+
+-- a length of keys is one of two
+pub one_of_two : (len : ℕ) → is_xts_key_length len ≡ true → (len ≡ 32) ⊎ (len ≡ 64)
+one_of_two len is = grind (arith, nat_tests)
+
+-- how stripes stand in sectors: those before the last fill so many whole sectors, and the rest stand in the next one
+pub record AreInSectors (len stripes whole rest : ℕ) : Type 0 where
+  -- a sector has whole stripes
+  pub fits : 512 / len * len ≡ 512
+  pub some : 1 ≤ len
+  -- the next sector is there, and has the last stripe
+  pub there : 512 * whole + 512 ≤ need_of len stripes
+  pub within : rest * len + len ≤ 512
+  pub before : (whole * (512 / len) + rest) * len ≡ whole * 512 + rest * len
+  pub all : len * stripes ≡ whole * 512 + (rest * len + len)
+
+pub in_sectors : (len stripes whole rest : ℕ) → is_xts_key_length len ≡ true → 1 ≤ stripes → whole ≡ (stripes - 1) / (512 / len)
+    → rest ≡ (stripes - 1) % (512 / len) → AreInSectors len stripes whole rest
+unfolding need_of
+in_sectors len stripes whole rest is some is_whole is_rest = of_len (one_of_two len is)
+  where
+    of_32 : whole ≡ (stripes - 1) / 16 → rest ≡ (stripes - 1) % 16 → AreInSectors 32 stripes whole rest
+    of_32 w r = record { fits = refl; some = omega arith; there = omega arith; within = omega arith; before = omega arith; all = omega arith }
+
+    of_64 : whole ≡ (stripes - 1) / 8 → rest ≡ (stripes - 1) % 8 → AreInSectors 64 stripes whole rest
+    of_64 w r = record { fits = refl; some = omega arith; there = omega arith; within = omega arith; before = omega arith; all = omega arith }
+
+    of_len : (len ≡ 32) ⊎ (len ≡ 64) → AreInSectors len stripes whole rest
+    of_len (inl h) = subst (λ n. AreInSectors n stripes whole rest) (sym h) (of_32 (rw h at is_whole) (rw h at is_rest))
+    of_len (inr h) = subst (λ n. AreInSectors n stripes whole rest) (sym h) (of_64 (rw h at is_whole) (rw h at is_rest))
+
+-- the chain before any stripe of these
+pub taken_none : (h : Hash) (len : ℕ) (before stripes : List ℕ) (number : ℕ) (chain : Chain) → chain ≡ chain_after h len before number
+    → chain ≡ chain_after h len (before ++ take (0 * len) stripes) (number + 0)
+taken_none h len before stripes number chain is =
+    let nothing : 0 * len ≡ 0 = omega arith in
+    let same : number + 0 ≡ number = omega arith in
+    rw (nothing, same) (is ∙ ap (λ all. chain_after h len all number) (sym (append-nil before)))
+
+-- the chain one stripe further
+pub taken_more : (h : Hash) (len : ℕ) (before stripes stripe : List ℕ) (number i : ℕ) (chain : Chain) → (i + 1) * len ≤ length stripes
+    → length before ≡ number * len → stripe ≡ take len (drop (i * len) stripes)
+    → chain ≡ chain_after h len (before ++ take (i * len) stripes) (number + i)
+    → extended chain stripe ≡ chain_after h len (before ++ take ((i + 1) * len) stripes) (number + (i + 1))
+taken_more h len before stripes stripe number i chain there whole is_stripe is =
+    let front = take (i * len) stripes in
+    let one : length stripe ≡ len = ap length is_stripe ∙ length-take-le len (drop (i * len) stripes) (omega (arith, length-drop (i * len) stripes)) in
+    let all : length (before ++ front) ≡ (number + i) * len =
+    omega (arith, length-append before front, length-take-le (i * len) stripes (omega arith)) in
+    let further : (before ++ front) ++ stripe ≡ before ++ take ((i + 1) * len) stripes =
+    append_assoc before front stripe
+    ∙ ap (λ s. before ++ s) (ap (λ s. front ++ s) is_stripe ∙ (sym (take-add (i * len) len stripes) ∙ ap (λ n. take n stripes) (next i len))) in
+    let count : number + i + 1 ≡ number + (i + 1) = omega arith in
+    chain_push h len (before ++ front) stripe (number + i) chain all one is
+    ∙ (ap (λ s. chain_after h len s (number + i + 1)) further ∙ ap (λ n. chain_after h len (before ++ take ((i + 1) * len) stripes) n) count)
+  where
+    next : (i len : ℕ) → i * len + len ≡ (i + 1) * len
+    next i len = omega arith
+
+-- the first of some pieces
+joined_front : (f : ℕ → List ℕ) (q m : ℕ) → (tail : List ℕ) × (joined f (q + m) ≡ joined f q ++ tail)
+unfolding joined
+joined_front f q zero = let same : q + 0 ≡ q = omega arith in ([], ap (joined f) same ∙ sym (append-nil (joined f q)))
+joined_front f q (suc m) =
+    let before = joined_front f q m in
+    let same : q + suc m ≡ suc (q + m) = omega arith in
+    (before.0 ++ f (q + m), ap (joined f) same ∙ (ap (λ s. s ++ f (q + m)) before.1 ∙ append_assoc (joined f q) before.0 (f (q + m))))
+
+-- the first bytes of pieces of 512 bytes: q pieces, and a part of the next
+front_of_joined : (f : ℕ → List ℕ) (q n part : ℕ) → q < n → length (joined f q) ≡ q * 512 → part ≤ length (f q)
+    → take (q * 512 + part) (joined f n) ≡ joined f q ++ take part (f q)
+unfolding joined
+front_of_joined f q n part below whole short =
+    let further = joined_front f (suc q) (n - suc q) in
+    let count : suc q + (n - suc q) ≡ n = omega arith in
+    let all : joined f n ≡ joined f q ++ (f q ++ further.0) =
+    ap (joined f) (sym count) ∙ (further.1 ∙ append_assoc (joined f q) (f q) further.0) in
+    ap (take (q * 512 + part)) all
+    ∙ (ap (λ n. take (n + part) (joined f q ++ (f q ++ further.0))) (sym whole)
+    ∙ (take-append-add (joined f q) (f q ++ further.0) part ∙ ap (λ s. joined f q ++ s) (take-append-le part (f q) further.0 short)))
+
+-- the length of one sector more
+pub length-joined_more : (f : ℕ → List ℕ) (i : ℕ) (sector : List ℕ) → length (joined f i) ≡ i * 512 → sector ≡ f i → length sector ≡ 512
+    → length (joined f (i + 1)) ≡ (i + 1) * 512
+unfolding joined
+length-joined_more f i sector before is whole =
+    rw add-one (let one = ap length is in omega (arith, length-append (joined f i) (f i)))
+
+pub length-joined_none : (f : ℕ → List ℕ) → length (joined f 0) ≡ 0
+unfolding joined
+length-joined_none f = refl
+
+-- whole sectors have whole stripes
+pub whole_sectors : (number in_sector len : ℕ) → in_sector * len ≡ 512 → number * 512 ≡ number * in_sector * len
+whole_sectors number in_sector len fits = ap (λ n. number * n) (sym fits) ∙ sym (mul_assoc number in_sector len)
+
+-- the chain before any sector
+pub sectors_none : (h : Hash) (len in_sector : ℕ) (f : ℕ → List ℕ) (chain : Chain) → chain ≡ record { hash = h; block = replicate len 0 }
+    → chain ≡ chain_after h len (joined f 0) (0 * in_sector)
+sectors_none h len in_sector f chain start =
+    let nothing : 0 * in_sector ≡ 0 = omega arith in
+    rw nothing (chain_start h len (joined f 0) chain start)
+
+-- the chain one sector further
+pub sector_more : (h : Hash) (len in_sector : ℕ) (f : ℕ → List ℕ) (i : ℕ) (sector : List ℕ) (chain : Chain) → in_sector * len ≡ 512 → sector ≡ f i → length sector ≡ 512
+    → chain ≡ chain_after h len (joined f i ++ take (in_sector * len) sector) (i * in_sector + in_sector)
+    → chain ≡ chain_after h len (joined f (i + 1)) ((i + 1) * in_sector)
+unfolding joined
+sector_more h len in_sector f i sector chain fits is whole h_is =
+    let all : take (in_sector * len) sector ≡ f i = ap (λ n. take n sector) fits ∙ (take_all 512 sector (omega arith) ∙ is) in
+    let count : i * in_sector + in_sector ≡ suc i * in_sector = omega arith in
+    rw add-one (h_is ∙ (ap (λ s. chain_after h len (joined f i ++ s) (i * in_sector + in_sector)) all ∙ ap (λ n. chain_after h len (joined f i ++ f i) n) count))
+
+-- the key that key material holds, by the chain before the last stripe
+pub unlocked_by_last : (h : Hash) (key image : List ℕ) (offset len stripes whole rest : ℕ) (sector last : List ℕ) (chain : Chain)
+    → AreInSectors len stripes whole rest
+    → length (joined (material_sector key image offset) whole) ≡ whole * 512 → sector ≡ material_sector key image offset whole → length sector ≡ 512
+    → last ≡ take len (drop (rest * len) sector)
+    → chain ≡ chain_after h len (joined (material_sector key image offset) whole ++ take (rest * len) sector) (whole * (512 / len) + rest)
+    → xor chain.block last ≡ unlocked h key image offset len stripes
+unfolding unlocked material_of
+unlocked_by_last h key image offset len stripes whole rest sector last chain place before is_sector full is_last is_chain =
+    let f = material_sector key image offset in
+    let front = joined f whole ++ take (rest * len) sector in
+    let count = need_of len stripes / 512 in
+    let long : rest * len + len ≤ length (f whole) = omega (arith, ap length is_sector, place.within) in
+    let below : whole < count = omega (arith, place.there) in
+    let stripes_are : take (len * stripes) (joined f count) ≡ front ++ last =
+    ap (λ n. take n (joined f count)) place.all
+    ∙ (front_of_joined f whole count (rest * len + len) below before long
+    ∙ (ap (λ s. joined f whole ++ take (rest * len + len) s) (sym is_sector)
+    ∙ (ap (λ s. joined f whole ++ s) (take-add (rest * len) len sector ∙ ap (λ s. take (rest * len) sector ++ s) (sym is_last))
+    ∙ sym (append_assoc (joined f whole) (take (rest * len) sector) last)))) in
+    let one : length last ≡ len =
+    ap length is_last ∙ length-take-le len (drop (rest * len) sector) (omega (arith, length-drop (rest * len) sector, place.within)) in
+    let number : length front ≡ (whole * (512 / len) + rest) * len =
+    omega (arith, length-append (joined f whole) (take (rest * len) sector), length-take-le (rest * len) sector (omega (arith, place.within)), place.before) in
+    ap (λ (c : Chain). xor c.block last) is_chain
+    ∙ (sym (merged_push h len front last (whole * (512 / len) + rest) place.some number one) ∙ ap (merged h len) (sym stripes_are))

@@ -1,0 +1,61 @@
+-- What key a passphrase gives by a key slot, and whether it is the volume's (LUKS1 On-Disk Format Specification 1.2.3, "Master key recovery").
+-- Stripes are those of the same standard, PBKDF2 is that of RFC 8018 and XTS that of IEEE 1619.
+use Rattle.std.specs.Prelude.{ℕ, ◌+◌, ◌*◌, ◌/◌, Bool, false, bytes_eq, List, Option, Some, None, length, take}
+use Rattle.luks_cipher.specs.Xts.{joined, xts_decrypted}
+use Rattle.luks_kdf.specs.Pbkdf2.{derived_key}
+use Rattle.luks_kdf.specs.Stripes.{merged}
+use Rattle.luks_kdf.specs.declared.hash.Hash.{Hash}
+use Rattle.luks_header.specs.Field.{at}
+use Rattle.luks_header.specs.Slot.{hash1_of, need_of}
+use Rattle.luks_header.specs.declared.header.Header.{Header}
+use Rattle.luks_header.specs.declared.header.Header.TheVariants.{V1}
+use Rattle.luks_header.specs.declared.slot.Slot.{Slot}
+
+-- sector i of key material from `offset` on, decrypted: the sectors have 512 bytes and are numbered from the material's start
+abbrev pub material_sector : List ℕ → List ℕ → ℕ → ℕ → List ℕ
+material_sector key image offset i = xts_decrypted key i (at (offset + 512 * i) 512 image)
+
+-- the first `need` bytes of key material from `offset` on, decrypted. They are whole sectors
+unfoldable pub material_of : List ℕ → List ℕ → ℕ → ℕ → List ℕ
+material_of key image offset need = joined (material_sector key image offset) (need / 512)
+
+-- the key that key material holds: its first stripes, of `key_bytes` bytes each, merged
+unfoldable pub unlocked : Hash → List ℕ → List ℕ → ℕ → ℕ → ℕ → List ℕ
+unlocked af key image offset key_bytes stripes =
+    merged af key_bytes (take (key_bytes * stripes) (material_of key image offset (need_of key_bytes stripes)))
+
+-- the key that a key slot's material holds under a passphrase, by these hash functions
+abbrev pub candidate_by : Option Hash → Option Hash → Slot → List ℕ → List ℕ → Option (List ℕ)
+candidate_by (Some kdf) (Some af) slot image pass =
+    Some (unlocked af (derived_key kdf pass slot.salt slot.iterations slot.area_key_bytes) image slot.area_offset slot.key_bytes slot.stripes)
+candidate_by (Some kdf) None slot image pass = None
+candidate_by None af slot image pass = None
+
+-- the key that a key slot's material holds under a passphrase. There is none where a hash function's name is not known
+unfoldable pub candidate_of : Slot → List ℕ → List ℕ → Option (List ℕ)
+candidate_of slot image pass = candidate_by slot.kdf_hash slot.af_hash slot image pass
+
+-- by what a volume key is known: PBKDF2 of it gives this value
+pub record KeyDigest : Type 0 where
+  pub hash : Option Hash
+  pub salt : List ℕ
+  pub iterations : ℕ
+  pub value : List ℕ
+
+-- the digest of a header. In LUKS1 there is one for all key slots
+unfoldable pub digest_of : Header → KeyDigest
+digest_of (V1 header) = record {
+  hash = hash1_of header;
+  salt = header.digest_salt;
+  iterations = header.digest_iterations;
+  value = header.digest;
+}
+
+-- by this hash function PBKDF2 of the key gives the whole value
+abbrev pub meets_by : Option Hash → KeyDigest → List ℕ → Bool
+meets_by (Some hash) digest key = bytes_eq (derived_key hash key digest.salt digest.iterations (length digest.value)) digest.value
+meets_by None digest key = false
+
+-- the key meets the digest
+unfoldable pub meets : KeyDigest → List ℕ → Bool
+meets digest key = meets_by digest.hash digest key

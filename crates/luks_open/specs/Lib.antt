@@ -1,0 +1,5 @@
+pub mod Candidate
+pub mod Opening
+pub mod Order
+pub mod Skipped
+pub mod Trial

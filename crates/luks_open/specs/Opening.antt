@@ -1,0 +1,62 @@
+-- Which key slot opens a volume, and how many evaluations of HMAC it takes.
+use Rattle.std.specs.Prelude.{ℕ, ◌+◌, ◌*◌, sum_by, if◌then◌else◌, List, [], ◌∷◌, Option, Some, None, Result, Ok, Err, length, is_some}
+use Rattle.std.specs.Int.{div_ceil}
+use Rattle.luks_kdf.specs.Hash.{size_of}
+use Rattle.luks_kdf.specs.declared.hash.Hash.{Hash}
+use Rattle.luks_header.specs.declared.header.Header.{Header}
+use Rattle.luks_header.specs.declared.refusal.SkipReason.{SkipReason}
+use Rattle.luks_header.specs.declared.slot.Slot.{Slot}
+use Rattle.luks_open.specs.Candidate.{KeyDigest, candidate_of, digest_of, meets}
+use Rattle.luks_open.specs.Order.{Tries}
+use Rattle.luks_open.specs.declared.fault.OpenFault.{OpenFault}
+use Rattle.luks_open.specs.declared.fault.OpenFault.TheVariants.{NoKey}
+use Rattle.luks_open.specs.declared.opening.Opened.{Opened}
+
+-- a candidate that meets the digest is the volume key
+abbrev pub if_meets : KeyDigest → Option (List ℕ) → Option (List ℕ)
+if_meets digest None = None
+if_meets digest (Some key) = if meets digest key then Some key else None
+
+-- the volume key that a key slot gives under a passphrase, where it opens
+unfoldable pub key_of : KeyDigest → Slot → List ℕ → List ℕ → Option (List ℕ)
+key_of digest slot image pass = if_meets digest (candidate_of slot image pass)
+
+-- a key slot that opens, or else what is found further on
+abbrev pub opened_or : ℕ → Option (List ℕ) → Option Opened → Option Opened
+opened_or number (Some key) further = Some record { slot = number; key = key }
+opened_or number None further = further
+
+-- the first of these key slots that opens, and the volume key that it gives
+unfoldable pub first_opening : KeyDigest → List (ℕ × Slot) → List ℕ → List ℕ → Option Opened
+first_opening digest [] image pass = None
+first_opening digest ((number, slot) ∷ slots) image pass =
+    opened_or number (key_of digest slot image pass) (first_opening digest slots image pass)
+
+-- what is opened, where something is
+abbrev pub answer_of : Option Opened → List (ℕ × SkipReason) → Result Opened OpenFault
+answer_of (Some opened) skipped = Ok opened
+answer_of None skipped = Err (NoKey skipped)
+
+-- what a passphrase opens: the first of the key slots that are tried
+unfoldable pub opening_of : Header → Tries → List ℕ → List ℕ → Result Opened OpenFault
+opening_of header tries image pass = answer_of (first_opening (digest_of header) tries.slots image pass) tries.skipped
+
+-- the evaluations of HMAC by which PBKDF2 gives so many bytes
+abbrev pub evaluations : Option Hash → ℕ → ℕ → ℕ
+evaluations (Some hash) iterations bytes = iterations * div_ceil bytes (size_of hash)
+evaluations None iterations bytes = 0
+
+-- those that a trial of a key slot takes: for the key of its key material, and for the digest of the candidate
+unfoldable pub evaluations_of : KeyDigest → ℕ × Slot → ℕ
+evaluations_of digest (number, slot) =
+    evaluations slot.kdf_hash slot.iterations slot.area_key_bytes + evaluations digest.hash digest.iterations (length digest.value)
+
+-- the key slots that are tried: up to the first that opens, or all
+unfoldable pub tried_of : KeyDigest → List (ℕ × Slot) → List ℕ → List ℕ → List (ℕ × Slot)
+tried_of digest [] image pass = []
+tried_of digest ((number, slot) ∷ slots) image pass =
+    (number, slot) ∷ (if is_some (key_of digest slot image pass) then [] else tried_of digest slots image pass)
+
+-- the evaluations of HMAC that opening takes: those of all key slots that are tried
+unfoldable pub work_of : Header → Tries → List ℕ → List ℕ → ℕ
+work_of header tries image pass = sum_by (evaluations_of (digest_of header)) (tried_of (digest_of header) tries.slots image pass)

@@ -1,0 +1,119 @@
+//! Keys.
+
+ghost use Rattle.std.specs.Prelude.{◌≡◌, ◌+◌, ◌*◌, ◌≤◌, List, ℕ, true, length, take};
+ghost use Rattle.std.specs.Int.{div_ceil};
+ghost use Rattle.luks_cipher.specs.Xts.{is_xts_key_length};
+ghost use Rattle.luks_kdf.specs.Hash.{size_of};
+ghost use Rattle.luks_kdf.specs.Pbkdf2.{capped, derived_key};
+ghost use Rattle.luks_header.specs.Slot.{need_of};
+ghost use Rattle.luks_open.specs.Candidate.{unlocked};
+
+use crate::material;
+use luks_cipher::XtsKey;
+use luks_kdf::{Hash, Work, pbkdf2};
+use std::marker::Model;
+
+/// The longest key in bytes.
+const LONGEST: usize = 64;
+
+/// A key of at most 64 bytes. A clause sees its bytes.
+#[derive(Drop)]
+pub struct Key {
+    bytes: [u8; LONGEST],
+    len: usize,
+}
+
+impl Model for Key {
+    ghost Value = { List ℕ };
+
+    ghost view = { λ key. take key.len key.bytes };
+
+    ghost invariant = { λ key. key.len ≤ 64 };
+}
+
+impl Key {
+    // A key of so many bytes, which are still to be written.
+    fn blank(len: usize) -> Key
+        requires { len ≤ 64 }
+        ensures { length result ≡ len }
+    {
+        Key {
+            bytes: [0; LONGEST],
+            len,
+        }
+    }
+
+    // Writes the key that PBKDF2 derives from a secret.
+    fn derive(&mut self, hash: Hash, secret: &[u8], salt: &[u8], iterations: u32, work: &mut Work)
+        requires turns { 1 ≤ iterations }
+        requires some { 1 ≤ length self.old }
+        ensures key { self.new ≡ derived_key hash secret.now salt.now iterations (length self.old) }
+        ensures work { work.new ≡ capped (work.old + iterations * div_ceil (length self.old) (size_of hash)) }
+    {
+        let len = self.len;
+        let bytes = &mut self.bytes[..len];
+        pbkdf2(hash, secret, salt, iterations, bytes, work);
+    }
+
+    // Writes the volume key that the key material from `offset` on holds.
+    fn unlock(&mut self, af: Hash, key: &XtsKey, image: &[u8], offset: usize, stripes: usize)
+        requires key_bytes { is_xts_key_length (length self.old) ≡ true }
+        requires some { 1 ≤ stripes }
+        requires few { stripes ≤ 4000 }
+        requires there { offset + need_of (length self.old) stripes ≤ length image.now }
+        ensures key { self.new ≡ unlocked af key.now image.now offset (length self.old) stripes }
+        ensures len { length self.new ≡ length self.old }
+    {
+        let len = self.len;
+        let bytes = &mut self.bytes[..len];
+        material::unlock(af, key, image, offset, stripes, bytes);
+    }
+
+    /// The key of `len` bytes that PBKDF2 derives from a passphrase or another secret.
+    pub(crate) fn derived(
+        hash: Hash,
+        secret: &[u8],
+        salt: &[u8],
+        iterations: u32,
+        len: usize,
+        work: &mut Work,
+    ) -> Key
+        requires turns { 1 ≤ iterations }
+        requires some { 1 ≤ len }
+        requires room { len ≤ 64 }
+        ensures key { result ≡ derived_key hash secret.now salt.now iterations len }
+        ensures work { work.new ≡ capped (work.old + iterations * div_ceil len (size_of hash)) }
+    {
+        let mut key = Key::blank(len);
+        key.derive(hash, secret, salt, iterations, work);
+        key
+    }
+
+    /// The volume key of `len` bytes that the key material from `offset` on holds.
+    pub(crate) fn unlocked(
+        af: Hash,
+        key: &XtsKey,
+        image: &[u8],
+        offset: usize,
+        len: usize,
+        stripes: usize,
+    ) -> Key
+        requires key_bytes { is_xts_key_length len ≡ true }
+        requires some { 1 ≤ stripes }
+        requires few { stripes ≤ 4000 }
+        requires there { offset + need_of len stripes ≤ length image.now }
+        ensures key { result ≡ unlocked af key.now image.now offset len stripes }
+        ensures len { length result ≡ len }
+    {
+        let mut volume_key = Key::blank(len);
+        volume_key.unlock(af, key, image, offset, stripes);
+        volume_key
+    }
+
+    /// The bytes.
+    pub fn as_slice(&self) -> &[u8]
+        ensures { result.now ≡ self.now }
+    {
+        &self.bytes[..self.len]
+    }
+}

@@ -1,0 +1,16 @@
+//! Opening a volume: which key slots are tried, in which order, and what key a passphrase gives.
+//!
+//! [`order`](order::order) says which key slots of a header are tried, [`held_end`](tries::held_end) how much of the image has to
+//! be held for that, and [`open`](opening::open) tries them.
+#![tactic(auto)]
+
+mod digest;
+pub mod fault;
+pub mod key;
+mod material;
+pub mod opening;
+pub mod order;
+pub mod skipped;
+#[cfg(test)]
+mod tests;
+pub mod tries;

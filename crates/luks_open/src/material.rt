@@ -1,0 +1,90 @@
+//! Key material: the stripes of a volume key, encrypted in sectors of 512 bytes that are numbered from the material's start.
+
+ghost use Rattle.std.specs.Prelude.{◌≡◌, ◌+◌, ◌*◌, ◌≤◌, ◌++◌, List, ℕ, true, length, take};
+ghost use Rattle.luks_cipher.specs.Xts.{is_xts_key_length};
+ghost use Rattle.luks_kdf.specs.declared.hash.Hash.{Hash as AnyHash};
+ghost use Rattle.luks_kdf.specs.Stripes.{chain_after};
+ghost use Rattle.luks_header.specs.Slot.{need_of};
+ghost use Rattle.luks_open.specs.Candidate.{material_sector, unlocked};
+
+use luks_cipher::XtsKey;
+use luks_kdf::{AfSplitter, Hash};
+
+/// The length of a sector of key material.
+const SECTOR: usize = 512;
+
+// Decrypts the sector of this number of the key material from `offset` on.
+fn decrypt_sector(key: &XtsKey, image: &[u8], offset: usize, number: usize, sector: &mut [u8])
+    requires room { length sector.old ≡ 512 }
+    requires there { offset + 512 * number + 512 ≤ length image.now }
+    ensures { sector.new ≡ material_sector key.now image.now offset number }
+{
+    let start = offset + SECTOR * number;
+    sector.copy_from_slice(&image[start..start + SECTOR]);
+    key.decrypt_unit(number as u64, sector);
+}
+
+// Takes in so many stripes of `len` bytes, none of them the last.
+fn take_in(splitter: &mut AfSplitter, stripes: &[u8], len: usize, count: usize)
+    requires len { length splitter.old.block ≡ len }
+    requires there { count * len ≤ length stripes.now }
+    ensures taken { (hash : AnyHash) (before : List ℕ) (number : ℕ) → length before ≡ number * len
+        → splitter.old ≡ chain_after hash len before number
+        → splitter.new ≡ chain_after hash len (before ++ take (count * len) stripes.now) (number + count) }
+    ensures len { length splitter.new.block ≡ len }
+{
+    'stripes: for i in 0..count {
+        splitter.stripe(&stripes[i * len..i * len + len]);
+    }
+}
+
+// The same, with a sector to work in.
+fn unlock_by(
+    af: Hash,
+    key: &XtsKey,
+    image: &[u8],
+    offset: usize,
+    stripes: usize,
+    sector: &mut [u8],
+    out: &mut [u8],
+)
+    requires room { length sector.old ≡ 512 }
+    requires key_bytes { is_xts_key_length (length out.old) ≡ true }
+    requires some { 1 ≤ stripes }
+    requires few { stripes ≤ 4000 }
+    requires there { offset + need_of (length out.old) stripes ≤ length image.now }
+    ensures { out.new ≡ unlocked af key.now image.now offset (length out.old) stripes }
+{
+    let len = out.len();
+    let in_sector = SECTOR / len;
+    let before_last = stripes - 1;
+    let whole = before_last / in_sector;
+    let rest = before_last % in_sector;
+    let mut splitter = AfSplitter::new(af, len);
+    'sectors: for number in 0..whole {
+        decrypt_sector(key, image, offset, number, sector);
+        take_in(&mut splitter, sector, len, in_sector);
+    }
+    decrypt_sector(key, image, offset, whole, sector);
+    take_in(&mut splitter, sector, len, rest);
+    splitter.last(&sector[rest * len..rest * len + len], out);
+}
+
+/// Decrypts the key material from `offset` on, and writes the key that its stripes hold. They are as long as `out`.
+pub(crate) fn unlock(
+    af: Hash,
+    key: &XtsKey,
+    image: &[u8],
+    offset: usize,
+    stripes: usize,
+    out: &mut [u8],
+)
+    requires key_bytes { is_xts_key_length (length out.old) ≡ true }
+    requires some { 1 ≤ stripes }
+    requires few { stripes ≤ 4000 }
+    requires there { offset + need_of (length out.old) stripes ≤ length image.now }
+    ensures { out.new ≡ unlocked af key.now image.now offset (length out.old) stripes }
+{
+    let mut sector = [0; SECTOR];
+    unlock_by(af, key, image, offset, stripes, &mut sector, out);
+}

@@ -1,0 +1,64 @@
+//! Key slots that were skipped.
+
+ghost use Rattle.std.specs.Prelude.{◌≡◌, ◌+◌, ◌<◌, ◌≤◌, List, [], ◌∷◌, ◌++◌, ℕ, length};
+
+use luks_header::refusal::SkipReason;
+use std::marker::Model;
+
+/// The most key slots that a header has.
+const MOST: usize = 32;
+
+/// What stands in the places that are left.
+const NOTHING: (u8, SkipReason) = (0, SkipReason::State);
+
+/// Key slots that were skipped, by rising number, and why: at most 32. A clause sees them as a list.
+#[derive(Clone, Copy, PartialEq, Eq, Debug)]
+pub struct SkippedSlots {
+    places: [(u8, SkipReason); MOST],
+    taken: usize,
+}
+
+impl Model for SkippedSlots {
+    ghost use Rattle.std.specs.Prelude.{List, ℕ, take, length};
+    ghost use Rattle.luks_header.specs.declared.refusal.SkipReason.{SkipReason};
+    ghost use Rattle.luks_open.specs.Skipped.{IsFilled, filled_up, filled_up_again};
+
+    ghost Value = { List (ℕ × SkipReason) };
+
+    ghost view = { λ s. take s.taken s.places };
+
+    ghost invariant = { λ s. IsFilled s.places s.taken };
+
+    ghost inverse = { λ slots. record { places = filled_up slots; taken = length slots } };
+
+    ghost inverse_ok = { λ s filled. filled_up_again (λ places taken. record { places = places; taken = taken }) s.places s.taken filled };
+}
+
+impl SkippedSlots {
+    /// No key slots.
+    pub(crate) fn new() -> SkippedSlots
+        ensures { result ≡ [] }
+    {
+        SkippedSlots {
+            places: [NOTHING; MOST],
+            taken: 0,
+        }
+    }
+
+    /// Puts a key slot behind the others.
+    pub(crate) fn push(&mut self, number: u8, reason: SkipReason)
+        requires { length self.old < 32 }
+        ensures { self.new ≡ self.old ++ (number, reason) ∷ [] }
+    {
+        self.places[self.taken] = (number, reason);
+        self.taken += 1;
+    }
+
+    /// The numbers of the key slots, each with the reason.
+    pub fn as_slice(&self) -> &[(u8, SkipReason)]
+        ensures value { result.now ≡ self.now }
+        ensures few { length self.now ≤ 32 }
+    {
+        &self.places[..self.taken]
+    }
+}

@@ -1,0 +1,60 @@
+//! Scarce memory, for tests of what is answered where memory is refused.
+//!
+//! The allocator is the system's and cannot be told to fail. So a test takes the whole address
+//! space away and gives it back in small pieces: with each piece a run gets a little further, until
+//! one meets no refusal. Nothing else can be allocated meanwhile: make what a test needs before, and
+//! assert after. Under `rt try`, whose allocator is another, nothing is refused.
+
+use std::alloc::{AllocError, Global};
+
+// From more than the address space has down to the smallest block.
+const LARGEST: usize = 1 << 47;
+
+const HALVINGS: u32 = 44;
+
+// Enough places for the blocks that fill the address space.
+const BLOCKS: usize = 1 << 18;
+
+/// Memory that is taken, so that there is none for others.
+#[derive(Drop)]
+pub(crate) struct Scarcity {
+    pieces: Vec<Vec<u8>>,
+    blocks: Vec<Vec<u8>>,
+}
+
+impl Scarcity {
+    /// Takes all memory, `count` pieces of `size` bytes of it to be given back one by one. Pieces of
+    /// less than 129 bytes serve only requests of their own size, and so do the first seven of less
+    /// than 1,033.
+    pub(crate) fn new(alloc: Global, count: usize, size: usize) -> Result<Scarcity, AllocError> {
+        let mut pieces = Vec::with_capacity(alloc, count)?;
+        let mut blocks = Vec::with_capacity(alloc, BLOCKS)?;
+        for _ in 0..count {
+            pieces.push(Vec::with_capacity(alloc, size)?)?;
+        }
+        let mut block_size = LARGEST;
+        for _ in 0..HALVINGS {
+            take(alloc, &mut blocks, block_size);
+            block_size /= 2;
+        }
+        Ok(Scarcity { pieces, blocks })
+    }
+
+    /// Gives a piece back.
+    pub(crate) fn relent(&mut self) {
+        self.pieces.pop();
+    }
+}
+
+// Takes blocks of this size until one is refused.
+fn take(alloc: Global, blocks: &mut Vec<Vec<u8>>, size: usize) {
+    for _ in 0..BLOCKS {
+        if blocks.len() == blocks.capacity() {
+            return;
+        }
+        let Ok(block) = Vec::with_capacity(alloc, size) else {
+            return;
+        };
+        let _ = blocks.push(block);
+    }
+}
