@@ -10,7 +10,7 @@ use Rattle.luks_kdf.specs.Bytes.{xor}
 use Rattle.luks_kdf.specs.Stripes.{Chain, chain_after, chain_of, merged, stripe_at}
 use Rattle.luks_kdf.proofs.StripesLemmas.{chain_of-append, merged_by_number, stripe_at-append}
 use Rattle.luks_cli.specs.declared.message.Message.{Message}
-use Rattle.luks_cli.specs.declared.message.Message.TheVariants.{Done, No, Usage, NotLuks, Cut, Json, KeyLength, FewRandomBytes, FewStripes, OutOfMemory, ReadFailed, WriteFailed}
+use Rattle.luks_cli.specs.declared.message.Message.TheVariants.{Done, FewStripes, ReadFailed, WriteFailed}
 use Rattle.luks_cli.specs.Outcome.{merge_outcome}
 use Rattle.luks_cli.specs.Run.{Bytes, Runs, BreaksOff, Completes, none_owed}
 use Rattle.luks_cli.specs.Stripe.{StopsTaking, Taken}

@@ -1,14 +1,13 @@
 -- How the commands on volumes end once their volume is opened.
-use Rattle.std.proofs.Common.{◌≡◌, ◌≢◌, inl, ℕ, ◌+◌, ◌-◌, ◌*◌, ◌/◌, ◌<◌, ◌≤◌, List, [], ◌++◌, Option, None, Some, Result, Ok, Err, IfErr, Bool, true, false, ◌∙◌, ap, sym, refl, take, drop, length, append-nil, max, arith}
+use Rattle.std.proofs.Common.{◌≡◌, ◌≢◌, inl, ℕ, ◌+◌, ◌*◌, ◌/◌, ◌<◌, ◌≤◌, List, [], ◌++◌, Option, None, Some, Result, Ok, Err, IfErr, Bool, true, false, ◌∙◌, ap, sym, refl, take, drop, length, append-nil, max, arith}
 use Rattle.std.proofs.lemmas.List.{drop_all}
 use Rattle.std.proofs.Math.Nat.{div-eq_of_lt-le, mul-le-mul_right}
 use Rattle.std.specs.Prelude.{MatchBool, if◌then◌else◌}
 use Rattle.luks_cipher.specs.Xts.{is_xts_key_length}
-use Rattle.luks_header.specs.Header.{cost_of}
 use Rattle.luks_header.specs.declared.segment.Segment.{Segment}
 use Rattle.luks_io.specs.Bytes.{Adds, raised}
 use Rattle.luks_open.specs.declared.opening.Opened.{Opened}
-use Rattle.luks_volume.specs.Plain.{end_within, payload_end_of, plain_of, sector_len, sector_start, sectors_of}
+use Rattle.luks_volume.specs.Plain.{end_within, payload_end_of, sector_len, sector_start, sectors_of}
 use Rattle.luks_cli.proofs.PayloadLemmas.{plain_len}
 use Rattle.luks_cli.proofs.VolumeRuns.{same_segment}
 use Rattle.luks_cli.specs.Outcome.{Outcome, payload_written, slot_told, volume_outcome}

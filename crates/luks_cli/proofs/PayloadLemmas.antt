@@ -1,22 +1,20 @@
 -- Passing on a payload sector by sector.
-use Rattle.std.proofs.Common.{◌≡◌, ◌≢◌, ℕ, zero, suc, ◌+◌, ◌-◌, ◌*◌, ◌/◌, ◌%◌, ◌^◌, ◌<◌, ◌≤◌, ◌⊎◌, inl, inr, List, [], ◌++◌, Option, None, Some, Result, Ok, Err, ◌∙◌, ap, sym, refl, take, drop, length, take_all, length-take-le, length-drop, length-append, append-nil, append_assoc, add-one, min, arith, true}
-use Rattle.std.specs.Prelude.{IsTrue}
+use Rattle.std.proofs.Common.{◌≡◌, ◌≢◌, ℕ, zero, suc, ◌+◌, ◌-◌, ◌*◌, ◌/◌, ◌%◌, ◌^◌, ◌<◌, ◌≤◌, ◌⊎◌, inl, inr, List, ◌++◌, Option, None, Some, Result, Ok, Err, ◌∙◌, ap, sym, refl, take, drop, length, take_all, length-take-le, length-drop, length-append, append-nil, append_assoc, add-one, arith}
 use Rattle.std.proofs.lemmas.Bool.{cases_lt}
 use Rattle.std.proofs.lemmas.List.{take-append-le}
-use Rattle.std.proofs.Math.Nat.{div-eq_of_lt-le, div-mul-le_self, mul-le-mul_left, mul-le-mul_right, zero-mul}
+use Rattle.std.proofs.Math.Nat.{div-eq_of_lt-le, div-mul-le_self, mul-le-mul_left, mul-le-mul_right}
 use Rattle.std.proofs.Math.Seq.{take-append-add}
 use Rattle.luks_cipher.specs.Xts.{block_at, block_decrypted, block_sum, joined, tweak_of, xts_decrypted}
 use Rattle.luks_header.specs.SectorSize.{bytes_of}
 use Rattle.luks_header.specs.declared.sector_size.SectorSize.{SectorSize}
 use Rattle.luks_header.specs.declared.sector_size.SectorSize.TheVariants.{B512, B1024, B2048, B4096}
 use Rattle.luks_header.specs.declared.segment.Segment.{Segment}
-use Rattle.luks_io.specs.Bytes.{Adds}
 use Rattle.luks_volume.specs.Passing.{count_reads as volume_reads, count_writes as volume_writes}
 use Rattle.luks_volume.specs.Plain.{end_within, ending_of, payload_end_of, plain_of, sector_len, sector_of, sector_start, sectors_of, unit_plain, within_size}
 use Rattle.luks_volume.specs.Pumped.{Ends, Pumped, StandsIn, Steps, WritesSectors, after_step, position}
 use Rattle.luks_volume.specs.declared.fault.VolumeFault.{VolumeFault}
 use Rattle.luks_volume.specs.declared.fault.VolumeFault.TheVariants.{CutBeforePayload as IsCutBefore, Tail as HasTail, Short as IsShort, Read, Write}
-use Rattle.luks_volume.specs.declared.state.State.TheVariants.{BeforePayload, InPayload, Ended, Faulted}
+use Rattle.luks_volume.specs.declared.state.State.TheVariants.{BeforePayload, InPayload}
 use Rattle.luks_volume.specs.declared.state.Step.{Step}
 use Rattle.luks_volume.specs.declared.state.Step.TheVariants.{Sector, End}
 use Rattle.luks_cli.specs.Payload.{PassesPayload, message_at_end, message_for_payload}
@@ -176,8 +174,7 @@ module _ (p : Pumped) (image before : List ℕ) (l w l' w' : Option (List ℕ)) 
         | inl none ↦ rw none (omega arith)
         | inr is ↦ let from : sector_start p.segment p.count ≤ place = rw is at step.1 in omega arith
       ] in
-      let row : (place - p.segment.offset) / sector_len p.segment ≡ p.count = div-eq_of_lt-le (sector_len p.segment) (omega arith) (omega (arith, step.2, z.long)) in
-      (
+      let row : (place - p.segment.offset) / sector_len p.segment ≡ p.count = div-eq_of_lt-le (sector_len p.segment) (omega arith) (omega (arith, step.2, z.long)) in (
         place,
         p.count,
         sym row,
@@ -185,7 +182,7 @@ module _ (p : Pumped) (image before : List ℕ) (l w l' w' : Option (List ℕ)) 
         step.3,
         step.4,
         same ∙ so_far.wrote
-        ∙ ap (λ bytes. Some (before ++ bytes)) (sym (take_whole (sector_of p.segment p.key image) (sector_len p.segment) (sectors_of p.segment image) p.count (sector_size p.segment image p.key) so_far.few)),
+            ∙ ap (λ bytes. Some (before ++ bytes)) (sym (take_whole (sector_of p.segment p.key image) (sector_len p.segment) (sectors_of p.segment image) p.count (sector_size p.segment image p.key) so_far.few)),
       )
 
   -- a write failed within it
@@ -194,8 +191,7 @@ module _ (p : Pumped) (image before : List ℕ) (l w l' w' : Option (List ℕ)) 
       let taken = step.0 in
       let written = step.1 in
       let few = written.1 in
-      let added = written.2 (before ++ joined (sector_of p.segment p.key image) p.count) so_far.wrote in
-      (
+      let added = written.2 (before ++ joined (sector_of p.segment p.key image) p.count) so_far.wrote in (
         p.count,
         written.0,
         taken.is_one,
@@ -203,8 +199,8 @@ module _ (p : Pumped) (image before : List ℕ) (l w l' w' : Option (List ℕ)) 
         sector_before_end p.segment image p.count taken.is_one,
         taken.left,
         added ∙ ap Some (append_assoc before _ (take written.0 (sector_of p.segment p.key image p.count)))
-        ∙ ap (λ bytes. Some (before ++ bytes))
-        (sym (take_joined (sector_of p.segment p.key image) (sector_len p.segment) (sectors_of p.segment image) p.count written.0 (sector_size p.segment image p.key) taken.is_one (omega arith))),
+            ∙ ap (λ bytes. Some (before ++ bytes))
+            (sym (take_joined (sector_of p.segment p.key image) (sector_len p.segment) (sectors_of p.segment image) p.count written.0 (sector_size p.segment image p.key) taken.is_one (omega arith))),
       )
 
   -- a step was not made

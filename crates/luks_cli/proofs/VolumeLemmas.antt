@@ -1,5 +1,5 @@
 -- Finding the volume of an image.
-use Rattle.std.proofs.Common.{◌≡◌, ℕ, ◌≤◌, ◌⊎◌, inl, inr, List, Option, Some, Result, Ok, Err, refl, drop, arith}
+use Rattle.std.proofs.Common.{◌≡◌, ℕ, ◌⊎◌, inl, inr, List, Option, Some, Ok, Err, refl, drop, arith}
 use Rattle.luks_header.specs.Header.{StopsReading, cost_of, header_of}
 use Rattle.luks_header.specs.Segment.{segment_of}
 use Rattle.luks_header.specs.declared.header.Header.{Header}
@@ -12,7 +12,7 @@ use Rattle.luks_open.specs.declared.fault.OpenFault.{OpenFault}
 use Rattle.luks_open.specs.declared.fault.OpenFault.TheVariants.{NoSuchSlot as NotThere, Disabled, NamedSkipped, NothingTried as NoneTried, NoKey as NoneOpens, Memory}
 use Rattle.luks_cli.specs.Header.{message_for_header}
 use Rattle.luks_cli.specs.Request.{OpeningRequest}
-use Rattle.luks_cli.specs.Volume.{StopsFinding, Volume, message_for_opening, volume_of}
+use Rattle.luks_cli.specs.Volume.{StopsFinding, message_for_opening, volume_of}
 use Rattle.luks_cli.specs.declared.message.Message.TheVariants.{SegmentRefused}
 
 module _ (o : OpeningRequest) (image : List ℕ) (left : Option (List ℕ)) where

@@ -1,5 +1,5 @@
 -- How the commands on volumes end before their volume is opened.
-use Rattle.std.proofs.Common.{◌≡◌, ℕ, ◌+◌, ◌-◌, ◌*◌, ◌/◌, ◌<◌, ◌≤◌, inl, inr, List, [], ◌++◌, Option, Some, Result, Ok, Err, ◌∙◌, ap, sym, refl, take, drop, length, length-drop, length-take-le, append-nil, max, min, arith, true, false}
+use Rattle.std.proofs.Common.{◌≡◌, ℕ, ◌+◌, ◌-◌, ◌*◌, ◌<◌, ◌≤◌, inl, inr, List, [], ◌++◌, Option, Some, Result, Ok, Err, ◌∙◌, ap, sym, refl, take, drop, length, length-drop, length-take-le, append-nil, max, min, arith, true, false}
 use Rattle.std.proofs.lemmas.Bool.{cases_lt}
 use Rattle.std.proofs.lemmas.Bool.Decides.{nat_tests}
 use Rattle.std.proofs.lemmas.List.{drop-drop, drop_all}
@@ -20,7 +20,7 @@ use Rattle.luks_open.specs.Opening.{opening_of}
 use Rattle.luks_open.specs.Order.{Tries, held_of, order_of}
 use Rattle.luks_open.specs.declared.fault.OpenFault.{OpenFault}
 use Rattle.luks_open.specs.declared.opening.Opened.{Opened}
-use Rattle.luks_volume.specs.Plain.{sector_len, sector_start}
+use Rattle.luks_volume.specs.Plain.{sector_len}
 use Rattle.luks_cli.proofs.VolumeLemmas.{volume_is}
 use Rattle.luks_cli.specs.Header.{message_for_header}
 use Rattle.luks_cli.specs.Outcome.{Deed, Outcome, found_outcome, opened_outcome, outcome_after, unwritten, volume_outcome}

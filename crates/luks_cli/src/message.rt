@@ -118,10 +118,16 @@ impl fmt::Display for Message {
             Message::Json => f.write_str("luksrd: LUKS2 JSON area is not readable\n"),
             Message::CutBeforePayload => f.write_str("luksrd: image ends before the payload\n"),
             Message::Tail(bytes) => {
-                write!(f, "luksrd: image ends inside a sector: {bytes} bytes left over\n")
+                write!(
+                    f,
+                    "luksrd: image ends inside a sector: {bytes} bytes left over\n"
+                )
             }
             Message::Short(bytes) => {
-                write!(f, "luksrd: image ends {bytes} bytes before the segment does\n")
+                write!(
+                    f,
+                    "luksrd: image ends {bytes} bytes before the segment does\n"
+                )
             }
             Message::KeyLength => f.write_str("luksrd: key must be 1 to 512 bytes\n"),
             Message::FewRandomBytes => f.write_str("luksrd: random bytes are too few\n"),

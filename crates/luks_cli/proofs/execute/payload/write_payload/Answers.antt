@@ -1,6 +1,5 @@
-use Rattle.std.proofs.Common.{◌≡◌, ◌+◌, ◌<◌, ◌∙◌, Ok, Err, ap, sym, refl, arith}
+use Rattle.std.proofs.Common.{◌+◌, ◌∙◌, ap, refl, arith}
 use Rattle.std.proofs.lemmas.Result.{err_from_is_err_and}
-use Rattle.luks_volume.specs.Pumped.{after_step}
 use Rattle.luks_cli.proofs.PayloadLemmas.{few_sectors, never_memory, passing_breaks, passing_ends, passing_more, passing_start, reads_are, writes_are}
 use Rattle.luks_cli.specs.Payload.{message_for_payload}
 use Rattle.luks_cli.specs.Run.{count_reads, count_writes}

@@ -1,4 +1,4 @@
-use Rattle.std.proofs.Common.{◌≡◌, ◌≤◌, ◌∙◌, length, length-take-le, vec_len, arith}
+use Rattle.std.proofs.Common.{◌≡◌, ◌∙◌, length-take-le, vec_len, arith}
 use Rattle.std.proofs.lemmas.Result.{err_from_is_err_and}
 use Rattle.luks_cli.proofs.SecretLemmas.{piece_last, piece_lost, piece_more}
 use Rattle.luks_cli.proofs.execute.secret.gather.Goals as goal

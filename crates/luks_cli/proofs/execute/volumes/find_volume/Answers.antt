@@ -1,5 +1,5 @@
 use Rattle.std.proofs.lemmas.Result.{err_from_is_err_and}
-use Rattle.std.proofs.Common.{◌∙◌, sym}
+use Rattle.std.proofs.Common.{sym}
 use Rattle.luks_cli.specs.Request.{opening_request}
 use Rattle.luks_cli.proofs.VolumeLemmas.{stops_without_header, stops_without_order, stops_without_segment}
 use Rattle.luks_cli.proofs.execute.volumes.find_volume.Goals as goal
