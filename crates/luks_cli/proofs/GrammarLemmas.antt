@@ -5,16 +5,16 @@ use Rattle.clap.specs.declared.Error.{Error}
 use Rattle.clap.specs.declared.ArgMatches.{ArgMatches}
 use Rattle.clap.proofs.OnLiterals.{clap_on_literals}
 use Rattle.luks_cli.specs.Command.{fault_for, subcommand_in, unless_faulty}
-use Rattle.luks_cli.specs.Grammar.{luksrd}
+use Rattle.luks_cli.specs.Grammar.{luksrd, volume_command}
 use Rattle.luks_cli.specs.declared.command.PlanFault.{PlanFault}
 use Rattle.luks_cli.specs.declared.command.PlanFault.TheVariants.{Usage}
 
 luksrd-simple : is_simple luksrd ≡ true
-unfolding luksrd clap_on_literals
+unfolding luksrd volume_command clap_on_literals
 luksrd-simple = refl
 
 luksrd-free : is_simple_and_free luksrd ≡ true
-unfolding luksrd clap_on_literals
+unfolding luksrd volume_command clap_on_literals
 luksrd-free = refl
 
 pub free : (app : App) → app ≡ luksrd → is_simple_and_free app ≡ true

@@ -2,5 +2,10 @@ pub mod GrammarLemmas
 pub mod HeaderRuns
 pub mod MergeLemmas
 pub mod NumberLemmas
+pub mod OpenedRuns
+pub mod PayloadLemmas
+pub mod SecretLemmas
 pub mod SplitLemmas
 pub mod StripeLemmas
+pub mod VolumeLemmas
+pub mod VolumeRuns

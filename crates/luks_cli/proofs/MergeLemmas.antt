@@ -10,7 +10,7 @@ use Rattle.luks_kdf.specs.Bytes.{xor}
 use Rattle.luks_kdf.specs.Stripes.{Chain, chain_after, chain_of, merged, stripe_at}
 use Rattle.luks_kdf.proofs.StripesLemmas.{chain_of-append, merged_by_number, stripe_at-append}
 use Rattle.luks_cli.specs.declared.message.Message.{Message}
-use Rattle.luks_cli.specs.declared.message.Message.TheVariants.{Done, No, Usage, NotLuks, Cut, Json, KeyLength, FewRandomBytes, FewStripes, OutOfMemory, ReadFailed, WriteFailed}
+use Rattle.luks_cli.specs.declared.message.Message.TheVariants.{Done, FewStripes, ReadFailed, WriteFailed}
 use Rattle.luks_cli.specs.Outcome.{merge_outcome}
 use Rattle.luks_cli.specs.Run.{Bytes, Runs, BreaksOff, Completes, none_owed}
 use Rattle.luks_cli.specs.Stripe.{StopsTaking, Taken}
@@ -55,16 +55,7 @@ pub stops_before : (count len : ℕ) (bytes : List ℕ) (s : Option (List ℕ)) 
     → StopsTaking count len bytes s message
 stops_before count len bytes s FewStripes stop = let fewer : (count - 1) * len ≤ count * len = mul-le-mul_right len (omega arith) in (omega (arith, stop.0), stop.1)
 stops_before count len bytes s ReadFailed stop = let fewer : (count - 1) * len ≤ count * len = mul-le-mul_right len (omega arith) in (stop.0, omega (arith, stop.1), stop.2)
-stops_before count len bytes s Done stop = absurd stop
-stops_before count len bytes s Usage stop = absurd stop
-stops_before count len bytes s No stop = absurd stop
-stops_before count len bytes s NotLuks stop = absurd stop
-stops_before count len bytes s Cut stop = absurd stop
-stops_before count len bytes s Json stop = absurd stop
-stops_before count len bytes s KeyLength stop = absurd stop
-stops_before count len bytes s FewRandomBytes stop = absurd stop
-stops_before count len bytes s OutOfMemory stop = absurd stop
-stops_before count len bytes s WriteFailed stop = absurd stop
+stops_before count len bytes s _ stop = absurd stop
 
 module _ (h : Hash) (count len : ℕ) (bytes : List ℕ) where
   stripes_enough : count * len ≤ length bytes
@@ -99,16 +90,7 @@ runs_without_stripes h count len before ReadFailed s r w stop is was = record {
   is_prompt = tt;
   left = record { image = stop.2.1; secret = is; written = was ∙ ap Some (sym (append-nil before.written)) };
 }
-runs_without_stripes h count len before Done s r w stop is was = absurd stop
-runs_without_stripes h count len before Usage s r w stop is was = absurd stop
-runs_without_stripes h count len before No s r w stop is was = absurd stop
-runs_without_stripes h count len before NotLuks s r w stop is was = absurd stop
-runs_without_stripes h count len before Cut s r w stop is was = absurd stop
-runs_without_stripes h count len before Json s r w stop is was = absurd stop
-runs_without_stripes h count len before KeyLength s r w stop is was = absurd stop
-runs_without_stripes h count len before FewRandomBytes s r w stop is was = absurd stop
-runs_without_stripes h count len before OutOfMemory s r w stop is was = absurd stop
-runs_without_stripes h count len before WriteFailed s r w stop is was = absurd stop
+runs_without_stripes h count len before _ s r w stop is was = absurd stop
 
 module _ (h : Hash) (count len : ℕ) (before : Bytes) (s r w w' : Option (List ℕ)) (key : List ℕ) (p : Taken before.image s (count * len)) (is : r ≡ Some before.secret) (was : w ≡ Some before.written)
     (key_is : key ≡ merged h len (take (count * len) before.image)) where

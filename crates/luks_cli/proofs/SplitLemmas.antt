@@ -13,7 +13,7 @@ use Rattle.luks_kdf.specs.Stripes.{Chain, chain_after, chain_of}
 use Rattle.luks_kdf.proofs.StripesLemmas.{chain_of-append}
 use Rattle.luks_io.specs.Bytes.{Adds}
 use Rattle.luks_cli.specs.declared.message.Message.{Message}
-use Rattle.luks_cli.specs.declared.message.Message.TheVariants.{Done, No, Usage, NotLuks, Cut, Json, KeyLength, FewRandomBytes, FewStripes, OutOfMemory, ReadFailed, WriteFailed}
+use Rattle.luks_cli.specs.declared.message.Message.TheVariants.{Done, KeyLength, FewRandomBytes, ReadFailed, WriteFailed}
 use Rattle.luks_cli.specs.Outcome.{Outcome, split_key_outcome, split_outcome, stripes_of}
 use Rattle.luks_cli.specs.Run.{IsSilent, Bytes, Runs, BreaksOff, Completes}
 use Rattle.luks_cli.specs.Stripe.{NoKeyRead, Passed, StopsPassing, split_promptly}
@@ -65,16 +65,7 @@ runs_without_key h count before ReadFailed k r w failed is was = record {
   is_prompt = simp (zero-div, zero-mul);
   left = record { image = failed.2; secret = is; written = was ∙ ap Some (sym (append-nil before.written)) };
 }
-runs_without_key h count before Done k r w p is was = absurd p
-runs_without_key h count before Usage k r w p is was = absurd p
-runs_without_key h count before No k r w p is was = absurd p
-runs_without_key h count before NotLuks k r w p is was = absurd p
-runs_without_key h count before Cut k r w p is was = absurd p
-runs_without_key h count before Json k r w p is was = absurd p
-runs_without_key h count before FewRandomBytes k r w p is was = absurd p
-runs_without_key h count before FewStripes k r w p is was = absurd p
-runs_without_key h count before OutOfMemory k r w p is was = absurd p
-runs_without_key h count before WriteFailed k r w p is was = absurd p
+runs_without_key h count before _ k r w p is was = absurd p
 
 -- the stated output begins with the whole random stripes that there are, and they may be taken
 record MayPass (o : Outcome) (random : List ℕ) (taken written : ℕ) : Type 0 where
@@ -155,15 +146,7 @@ module _ (h : Hash) (count : ℕ) (before : Bytes) (k r w : Option (List ℕ)) (
       broken WriteFailed ((stop.0 + 1) * length before.image) stop.1 tt
       (may_pass h count before.image before.secret (stop.0 + 1) ((stop.0 + 1) * length before.image) stop.1 some span stop.5.there (omega arith) stop.5.there (omega arith))
       (rw (div-eq_of_lt-le (length before.image) stop.3 stop.4) (omega arith)) stop.5
-  runs_without_stripes Done stop = absurd stop
-  runs_without_stripes Usage stop = absurd stop
-  runs_without_stripes No stop = absurd stop
-  runs_without_stripes NotLuks stop = absurd stop
-  runs_without_stripes Cut stop = absurd stop
-  runs_without_stripes Json stop = absurd stop
-  runs_without_stripes KeyLength stop = absurd stop
-  runs_without_stripes FewStripes stop = absurd stop
-  runs_without_stripes OutOfMemory stop = absurd stop
+  runs_without_stripes _ stop = absurd stop
 
   -- all random stripes were passed on, and the last stripe is this one
   module _ (last : List ℕ) (p : Passed before.secret before.written r w ((count - 1) * length before.image) ((count - 1) * length before.image))

@@ -1,6 +1,6 @@
 -- What a command line asks for.
-use Rattle.std.specs.Prelude.{◌&&◌, ◌∷◌, [], ℕ, Bool, false, List, Option, Some, None, bytes_eq, codes}
-use Rattle.std.specs.Prelude.{if◌then◌else◌, option_and_then, option_map}
+use Rattle.std.specs.Prelude.{◌&&◌, ◌∷◌, [], ℕ, Bool, false, List, Option, Some, None, bytes_eq}
+use Rattle.std.specs.Prelude.{codes, if◌then◌else◌, option_and_then, option_map}
 use Rattle.std.specs.Option.{option_map_or}
 use Rattle.clap.specs.Words.{Kinds, Row, Text, fault_of, first_of, subcommand_of}
 use Rattle.clap.specs.declared.error.ErrorKind.{ErrorKind}
@@ -8,50 +8,12 @@ use Rattle.clap.specs.declared.error.ErrorKind.TheVariants.{OutOfMemory}
 use Rattle.luks_kdf.specs.Hash.{hash_named}
 use Rattle.luks_kdf.specs.declared.Hash.{Hash}
 use Rattle.luks_cli.specs.Grammar.{luksrd}
-use Rattle.luks_cli.specs.Number.{number_within}
-use Rattle.luks_cli.specs.declared.command.Command.{Command}
-use Rattle.luks_cli.specs.declared.command.Command.TheVariants.{AfSplit, AfMerge, IsLuks, LuksDump}
-use Rattle.luks_cli.specs.declared.command.Command.TheVariants.{LuksUuid}
+use Rattle.luks_cli.specs.Number.{number_within, optional_within}
+use Rattle.luks_cli.specs.Request.{MergingRequest, OpeningRequest, Request, SplittingRequest}
+use Rattle.luks_cli.specs.Request.{af_merge, af_split, image_of, is_luks, luks_cat, luks_dump}
+use Rattle.luks_cli.specs.Request.{luks_uuid, secret_of, test_passphrase}
 use Rattle.luks_cli.specs.declared.command.PlanFault.{PlanFault}
 use Rattle.luks_cli.specs.declared.command.PlanFault.TheVariants.{Memory, Usage}
-use Rattle.luks_cli.specs.declared.command.Splitting.{Splitting}
-use Rattle.luks_cli.specs.declared.command.Merging.{Merging}
-
--- ---- requests: a command with its options, each text by its bytes
-
-pub record SplittingRequest : Type 0 where
-  pub hash : Hash
-  pub stripes : ℕ
-  pub random : Text
-  pub key : Text
-
-pub record MergingRequest : Type 0 where
-  pub hash : Hash
-  pub stripes : ℕ
-  pub key_bytes : ℕ
-  pub stripes_file : Text
-
-pub data Request : Type 0 where
-  is_luks : Text → Request
-  luks_uuid : Text → Request
-  luks_dump : Text → Request
-  af_split : SplittingRequest → Request
-  af_merge : MergingRequest → Request
-
--- the first input: IMAGE, KEY or STRIPES
-abbrev pub image_of : Request → Text
-image_of (is_luks image) = image
-image_of (luks_uuid image) = image
-image_of (luks_dump image) = image
-image_of (af_split s) = s.key
-image_of (af_merge m) = m.stripes_file
-
--- the second input, where there is one: FILE of `--key-file` or `--random`
-abbrev pub secret_of : Request → Option Text
-secret_of (af_split s) = Some s.random
-secret_of _ = None
-
--- ---- what the words ask for
 
 infixl 10 ◌>>=◌
 abbrev pub ◌>>=◌ : {A B : Type 0} → Option A → (A → Option B) → Option B
@@ -60,6 +22,10 @@ o >>= f = option_and_then f o
 -- the text of the option or input
 unfoldable pub text_in : Text → List Row → Option Text
 text_in name rows = first_of name rows
+
+-- the name of the input that stands by itself
+abbrev pub input_in : List Row → Option Text
+input_in rows = text_in (codes "input") rows
 
 -- the hash function that `--hash` names
 unfoldable pub hash_in : List Row → Option Hash
@@ -73,12 +39,33 @@ stripes_in rows = text_in (codes "stripes") rows >>= number_within 1 4000
 unfoldable pub key_bytes_in : List Row → Option ℕ
 key_bytes_in rows = text_in (codes "key-bytes") rows >>= number_within 1 512
 
+-- the number of `--key-slot`, where it is given
+unfoldable pub key_slot_in : List Row → Option (Option ℕ)
+key_slot_in rows = optional_within 0 31 (text_in (codes "key-slot") rows)
+
+-- the number of `--max-iterations`, where it is given
+unfoldable pub max_iterations_in : List Row → Option (Option ℕ)
+max_iterations_in rows = optional_within 1 4294967295 (text_in (codes "max-iterations") rows)
+
+abbrev pub opening_in : List Row → Option OpeningRequest
+opening_in rows = do
+  key_file ← text_in (codes "key-file") rows
+  key_slot ← key_slot_in rows
+  max_iterations ← max_iterations_in rows
+  image ← input_in rows
+  Some (record {
+    image = image;
+    key_file = key_file;
+    key_slot = key_slot;
+    max_iterations = max_iterations;
+  })
+
 abbrev pub splitting_in : List Row → Option SplittingRequest
 splitting_in rows = do
   hash ← hash_in rows
   stripes ← stripes_in rows
   random ← text_in (codes "random") rows
-  key ← text_in (codes "input") rows
+  key ← input_in rows
   Some (record { hash = hash; stripes = stripes; random = random; key = key })
 
 abbrev pub merging_in : List Row → Option MergingRequest
@@ -86,7 +73,7 @@ merging_in rows = do
   hash ← hash_in rows
   stripes ← stripes_in rows
   key_bytes ← key_bytes_in rows
-  stripes_file ← text_in (codes "input") rows
+  stripes_file ← input_in rows
   Some (record {
     hash = hash;
     stripes = stripes;
@@ -97,12 +84,14 @@ merging_in rows = do
 -- the command by its name, with its options
 abbrev pub request_in : Text × List Row → Option Request
 request_in (name, rows) =
-    if bytes_eq name (codes "isLuks") then option_map is_luks (text_in (codes "input") rows)
-    else (if bytes_eq name (codes "luksUUID") then option_map luks_uuid (text_in (codes "input") rows)
-    else (if bytes_eq name (codes "luksDump") then option_map luks_dump (text_in (codes "input") rows)
+    if bytes_eq name (codes "isLuks") then option_map is_luks (input_in rows)
+    else (if bytes_eq name (codes "luksUUID") then option_map luks_uuid (input_in rows)
+    else (if bytes_eq name (codes "luksDump") then option_map luks_dump (input_in rows)
+    else (if bytes_eq name (codes "testPassphrase") then option_map test_passphrase (opening_in rows)
+    else (if bytes_eq name (codes "luksCat") then option_map luks_cat (opening_in rows)
     else (if bytes_eq name (codes "afSplit") then option_map af_split (splitting_in rows)
     else (if bytes_eq name (codes "afMerge") then option_map af_merge (merging_in rows)
-    else None))))
+    else None))))))
 
 -- the input is standard input
 abbrev pub is_standard : Text → Bool
@@ -131,31 +120,6 @@ command_of words = do
   found ← subcommand_in words
   request ← request_in found
   with_distinct_inputs request
-
--- ---- a `Command` as a request
-
-abbrev pub splitting_request : Splitting → SplittingRequest
-splitting_request s = record {
-  hash = s.hash;
-  stripes = s.stripes.count;
-  random = s.random.now;
-  key = s.key.now;
-}
-
-abbrev pub merging_request : Merging → MergingRequest
-merging_request m = record {
-  hash = m.hash;
-  stripes = m.stripes.count;
-  key_bytes = m.key_bytes.bytes;
-  stripes_file = m.stripes_file.now;
-}
-
-abbrev pub request_of : Command → Request
-request_of (IsLuks image) = is_luks image.now
-request_of (LuksUuid image) = luks_uuid image.now
-request_of (LuksDump image) = luks_dump image.now
-request_of (AfSplit s) = af_split (splitting_request s)
-request_of (AfMerge m) = af_merge (merging_request m)
 
 -- want of memory is the one error of `clap` that is no fault of the words
 abbrev pub fault_for : ErrorKind → PlanFault

@@ -38,6 +38,17 @@ luks_uuid = command (codes "luksUUID") []
 abbrev pub luks_dump : Shape
 luks_dump = command (codes "luksDump") []
 
+-- `NAME --key-file FILE [--key-slot N] [--max-iterations N] IMAGE`
+unfoldable pub volume_command : Text → Shape
+volume_command name = command name (required (codes "key-file") ∷ optional (codes "key-slot")
+    ∷ optional (codes "max-iterations") ∷ [])
+
+abbrev pub test_passphrase : Shape
+test_passphrase = volume_command (codes "testPassphrase")
+
+abbrev pub luks_cat : Shape
+luks_cat = volume_command (codes "luksCat")
+
 -- `afSplit --hash HASH --stripes N --random FILE KEY`
 abbrev pub af_split : Shape
 af_split = command (codes "afSplit")
@@ -61,7 +72,7 @@ program = record (new_shape (codes "luksrd")) {
 unfoldable pub luksrd : App
 luksrd = record {
   top = record program { is_leaf = false };
-  subs = is_luks ∷ luks_uuid ∷ luks_dump ∷ af_split ∷ af_merge ∷ [];
+  subs = is_luks ∷ luks_uuid ∷ luks_dump ∷ test_passphrase ∷ luks_cat ∷ af_split ∷ af_merge ∷ [];
 }
 
 -- a command that stands by itself

@@ -4,7 +4,12 @@ pub mod Grammar
 pub mod Header
 pub mod Number
 pub mod Outcome
+pub mod Payload
 pub mod Report
+pub mod Request
 pub mod Run
+pub mod Secret
 pub mod Stripe
 pub mod Texts
+pub mod Unlocking
+pub mod Volume

@@ -1,5 +1,6 @@
 -- The numbers of a command line.
-use Rattle.std.specs.Prelude.{◌&&◌, ℕ, Bool, List, length, nat_le, nat_lt, Option, Some, None, if◌then◌else◌, option_and_then}
+use Rattle.std.specs.Prelude.{◌&&◌, ℕ, Bool, List, Option, Some, None, length, nat_le, nat_lt}
+use Rattle.std.specs.Prelude.{if◌then◌else◌, option_and_then, option_map}
 use Rattle.std.specs.Char.{is_ascii_digit}
 use Rattle.std.specs.List.{list_all}
 use Rattle.std.specs.Str.Parse.{digits_value}
@@ -19,3 +20,8 @@ within least most n = if nat_le least n && nat_le n most then Some n else None
 -- the number of the range that the text writes
 abbrev pub number_within : ℕ → ℕ → List ℕ → Option ℕ
 number_within least most text = option_and_then (within least most) (number_of text)
+
+-- the same of a text that may be left out, where the number may be left out too
+abbrev pub optional_within : ℕ → ℕ → Option (List ℕ) → Option (Option ℕ)
+optional_within least most None = Some None
+optional_within least most (Some text) = option_map (λ n. Some n) (number_within least most text)

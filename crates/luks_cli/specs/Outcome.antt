@@ -1,14 +1,22 @@
 -- What a run of luksrd does: a function of the command and the bytes of both inputs.
-use Rattle.std.specs.Prelude.{ℕ, ◌-◌, ◌*◌, ◌/◌, ◌&&◌, ◌++◌, List, [], length, take, min, nat_lt, nat_le, if◌then◌else◌}
+use Rattle.std.specs.Prelude.{ℕ, ◌+◌, ◌-◌, ◌*◌, ◌/◌, ◌&&◌, ◌++◌, List, [], length, take, max, min, nat_lt, nat_le, if◌then◌else◌, Option, Result, Ok, Err}
 use Rattle.luks_kdf.specs.declared.hash.Hash.{Hash}
-use Rattle.luks_cli.specs.Command.{Request, is_luks, luks_uuid, luks_dump, af_split, af_merge}
+use Rattle.luks_cli.specs.Request.{OpeningRequest, Request, is_luks, luks_uuid, luks_dump, test_passphrase, luks_cat, af_split, af_merge}
 use Rattle.luks_header.specs.Header.{cost_of, header_of}
 use Rattle.luks_header.specs.declared.header.Header.{Header}
 use Rattle.luks_cli.specs.Header.{answer_to_is_luks, dump_of, printed, told_of, uuid_of}
 use Rattle.luks_kdf.specs.Bytes.{xor}
 use Rattle.luks_kdf.specs.Stripes.{chain_of, merged}
+use Rattle.luks_header.specs.declared.segment.Segment.{Segment}
+use Rattle.luks_open.specs.Opening.{opening_of}
+use Rattle.luks_open.specs.Order.{held_of}
+use Rattle.luks_open.specs.declared.fault.OpenFault.{OpenFault}
+use Rattle.luks_open.specs.declared.opening.Opened.{Opened}
+use Rattle.luks_volume.specs.Plain.{ending_of, payload_end_of, plain_of}
+use Rattle.luks_cli.specs.Payload.{message_at_end}
+use Rattle.luks_cli.specs.Volume.{Volume, held_for, message_for_opening, slot_line, volume_of}
 use Rattle.luks_cli.specs.declared.message.Message.{Message}
-use Rattle.luks_cli.specs.declared.message.Message.TheVariants.{Done, KeyLength, FewRandomBytes, FewStripes}
+use Rattle.luks_cli.specs.declared.message.Message.TheVariants.{Done, Cut, KeyFileLength, KeyLength, FewRandomBytes, FewStripes}
 
 -- what is written, what is told, and how many bytes of both inputs are taken
 pub record Outcome : Type 0 where
@@ -57,10 +65,58 @@ print_outcome text image = record {
   secret_taken = 0;
 }
 
+-- nothing is written
+abbrev pub unwritten : Message → ℕ → ℕ → Outcome
+unwritten message image_taken secret_taken = record { output = []; message = message; image_taken = image_taken; secret_taken = secret_taken }
+
+-- what is done with a volume whose segment and key are known, and of whose image so many bytes were taken so far
+abbrev pub Deed : Type 0
+Deed = Segment → Opened → ℕ → Outcome
+
+-- `testPassphrase`: the key slot that opens is told
+abbrev pub slot_told : List ℕ → Deed
+slot_told secret segment opened held = record { output = slot_line opened.slot; message = Done; image_taken = held; secret_taken = length secret }
+
+-- `luksCat`: the payload is written as plain text
+abbrev pub payload_written : List ℕ → List ℕ → Deed
+payload_written image secret segment opened held = record {
+  output = plain_of segment opened.key image;
+  message = message_at_end (ending_of segment image);
+  image_taken = max held (payload_end_of segment image);
+  secret_taken = length secret;
+}
+
+-- the key slots were tried
+abbrev pub opened_outcome : Deed → Option ℕ → Volume → List ℕ → List ℕ → Result Opened OpenFault → Outcome
+opened_outcome deed named volume image secret (Ok opened) = deed volume.segment opened (held_for image volume)
+opened_outcome deed named volume image secret (Err fault) = unwritten (message_for_opening named fault) (held_for image volume) (length secret)
+
+-- the longest key file
+abbrev pub longest_key_file : ℕ
+longest_key_file = 8388608
+
+-- a volume was found: the key file is read whole, then the image up to the end of the key areas, and the key slots are tried
+unfoldable pub found_outcome : Deed → Option ℕ → Volume → List ℕ → List ℕ → Outcome
+found_outcome deed named volume image secret =
+    if nat_lt longest_key_file (length secret) then unwritten KeyFileLength (cost_of image) (longest_key_file + 1)
+    else (if nat_lt (length image) (held_of volume.tries.slots) then unwritten Cut (length image) (length secret)
+    else opened_outcome deed named volume image secret (opening_of volume.header volume.tries image secret))
+
+-- there is a volume or not
+abbrev pub outcome_after : Deed → Option ℕ → List ℕ → List ℕ → Result Volume Message → Outcome
+outcome_after deed named image secret (Ok volume) = found_outcome deed named volume image secret
+outcome_after deed named image secret (Err message) = unwritten message (cost_of image) 0
+
+-- a command that opens a volume
+unfoldable pub volume_outcome : Deed → OpeningRequest → List ℕ → List ℕ → Outcome
+volume_outcome deed o image secret = outcome_after deed o.key_slot image secret (volume_of o image)
+
 -- what a command does with the bytes that its inputs give
 abbrev pub outcome_of : Request → List ℕ → List ℕ → Outcome
 outcome_of (is_luks _) image secret = is_luks_outcome image
 outcome_of (luks_uuid _) image secret = print_outcome uuid_of image
 outcome_of (luks_dump _) image secret = print_outcome dump_of image
+outcome_of (test_passphrase o) image secret = volume_outcome (slot_told secret) o image secret
+outcome_of (luks_cat o) image secret = volume_outcome (payload_written image secret) o image secret
 outcome_of (af_split s) image secret = split_outcome s.hash s.stripes image secret
 outcome_of (af_merge m) image secret = merge_outcome m.hash m.stripes m.key_bytes image

@@ -1,7 +1,8 @@
 -- What a run leaves in its devices: the image, the secret and the output.
-use Rattle.std.specs.Prelude.{◌≡◌, ℕ, ◌≤◌, ◌++◌, List, drop, length, take, Option, Some, Bool, true, false, MatchBool, ◌⊎◌, Result, Ok, Err}
+use Rattle.std.specs.Prelude.{◌≡◌, ℕ, ◌<◌, ◌≤◌, ◌^◌, ◌++◌, List, drop, length, take, Option, Some, Bool, true, false, MatchBool, ◌⊎◌, Result, Ok, Err}
 use Rattle.luks_io.specs.Bytes.{raised}
-use Rattle.luks_cli.specs.Command.{Request, af_split, af_merge}
+use Rattle.luks_cli.specs.Payload.{cat_promptly}
+use Rattle.luks_cli.specs.Request.{Request, luks_cat, af_split, af_merge}
 use Rattle.luks_cli.specs.Outcome.{Outcome}
 use Rattle.luks_cli.specs.Stripe.{split_promptly}
 use Rattle.luks_cli.specs.declared.message.Message.{Message}
@@ -72,8 +73,14 @@ none_owed _ _ _ _ = Unit {0}
 
 -- what a command that is broken off owes beside
 abbrev pub prompt_of : Request → Bytes → Prompt
+prompt_of (luks_cat o) before = cat_promptly before.image
 prompt_of (af_split s) before = split_promptly (length before.image)
 prompt_of _ before = none_owed
+
+-- the image is not longer than the command can count: `luksCat` counts its bytes in 64 bits
+abbrev pub IsCounted : Request → List ℕ → Type 0
+IsCounted (luks_cat o) image = length image < 2 ^ 64
+IsCounted _ image = Unit {0}
 
 -- the command takes no memory
 abbrev pub TakesNoMemory : Request → Type 0

@@ -3,19 +3,21 @@
 ghost use Rattle.std.specs.Prelude.{◌≡◌, IfOk, None, Some, map, option_map, option_and_then};
 ghost use Rattle.clap.specs.Words.{found_of, kind_of, rows_of, subcommand_rows_of};
 ghost use Rattle.luks_cli.specs.Command.{command_of, fault_for, reads_standard_twice, request_in};
-ghost use Rattle.luks_cli.specs.Command.{hash_in, key_bytes_in, request_of, stripes_in};
-ghost use Rattle.luks_cli.specs.Command.{subcommand_in, text_in};
+ghost use Rattle.luks_cli.specs.Command.{subcommand_in};
+ghost use Rattle.luks_cli.specs.Request.{request_of};
 
 use clap::ArgMatches;
 use clap::error::ErrorKind;
 use luks_kdf::Hash;
-pub use number::{KeyBytes, StripeCount};
+pub use number::{IterationLimit, KeyBytes, SlotNumber, StripeCount};
+use options::{hash, key_bytes, key_slot, max_iterations, stripes, text};
 use std::alloc::{AllocError, Global};
 use std::convert::AsStr;
 pub use usage::USAGE;
 
 mod grammar;
 mod number;
+mod options;
 #[cfg(test)]
 mod tests;
 mod usage;
@@ -30,10 +32,27 @@ pub enum Command<'a> {
     LuksUuid { image: &'a str },
     /// `luksDump`: prints the header.
     LuksDump { image: &'a str },
+    /// `testPassphrase`: prints the key slot that the passphrase opens.
+    TestPassphrase(Opening<'a>),
+    /// `luksCat`: writes the plain sectors.
+    LuksCat(Opening<'a>),
     /// `afSplit`: writes a key as stripes.
     AfSplit(Splitting<'a>),
     /// `afMerge`: writes the key of stripes.
     AfMerge(Merging<'a>),
+}
+
+/// A volume to be opened.
+#[derive(Clone, Copy, PartialEq, Eq, Debug)]
+pub struct Opening<'a> {
+    /// The name of the input with the volume.
+    pub image: &'a str,
+    /// The name of the input with the passphrase.
+    pub key_file: &'a str,
+    /// The one key slot to try. Without it all are tried that can be.
+    pub key_slot: Option<SlotNumber>,
+    /// The most iterations that a key slot or a digest may ask for.
+    pub max_iterations: Option<IterationLimit>,
 }
 
 /// A key to be split into stripes.
@@ -72,7 +91,7 @@ pub enum PlanFault {
 }
 
 impl<'a> Command<'a> {
-    ghost use Rattle.luks_cli.specs.Command.{image_of, request_of, secret_of};
+    ghost use Rattle.luks_cli.specs.Request.{image_of, request_of, secret_of};
 
     /// The name of the first input: IMAGE, KEY or STRIPES.
     pub fn image(&self) -> &'a str
@@ -82,6 +101,8 @@ impl<'a> Command<'a> {
             Command::IsLuks { image } => image,
             Command::LuksUuid { image } => image,
             Command::LuksDump { image } => image,
+            Command::TestPassphrase(opening) => opening.image,
+            Command::LuksCat(opening) => opening.image,
             Command::AfSplit(splitting) => splitting.key,
             Command::AfMerge(merging) => merging.stripes_file,
         }
@@ -92,6 +113,8 @@ impl<'a> Command<'a> {
         ensures { option_map (λ input. input.now) result ≡ secret_of (request_of self.now) }
     {
         match self {
+            Command::TestPassphrase(opening) => Some(opening.key_file),
+            Command::LuksCat(opening) => Some(opening.key_file),
             Command::AfSplit(splitting) => Some(splitting.random),
             _ => None,
         }
@@ -119,6 +142,10 @@ impl<'a> Command<'a> {
         } else if name == "luksDump" {
             let image = text(options, "input")?;
             Some(Command::LuksDump { image })
+        } else if name == "testPassphrase" {
+            Some(Command::TestPassphrase(Opening::read(options)?))
+        } else if name == "luksCat" {
+            Some(Command::LuksCat(Opening::read(options)?))
         } else if name == "afSplit" {
             Some(Command::AfSplit(Splitting::read(options)?))
         } else if name == "afMerge" {
@@ -129,8 +156,29 @@ impl<'a> Command<'a> {
     }
 }
 
+impl<'a> Opening<'a> {
+    ghost use Rattle.luks_cli.specs.Command.{opening_in};
+    ghost use Rattle.luks_cli.specs.Request.{opening_request};
+
+    fn read(options: &ArgMatches<'a>) -> Option<Opening<'a>>
+        ensures { option_map opening_request result ≡ opening_in (rows_of (found_of options.now)) }
+    {
+        let key_file = text(options, "key-file")?;
+        let key_slot = key_slot(options)?;
+        let max_iterations = max_iterations(options)?;
+        let image = text(options, "input")?;
+        Some(Opening {
+            image,
+            key_file,
+            key_slot,
+            max_iterations,
+        })
+    }
+}
+
 impl<'a> Splitting<'a> {
-    ghost use Rattle.luks_cli.specs.Command.{splitting_in, splitting_request};
+    ghost use Rattle.luks_cli.specs.Command.{splitting_in};
+    ghost use Rattle.luks_cli.specs.Request.{splitting_request};
 
     fn read(options: &ArgMatches<'a>) -> Option<Splitting<'a>>
         ensures { option_map splitting_request result ≡ splitting_in (rows_of (found_of options.now)) }
@@ -145,7 +193,8 @@ impl<'a> Splitting<'a> {
 }
 
 impl<'a> Merging<'a> {
-    ghost use Rattle.luks_cli.specs.Command.{merging_in, merging_request};
+    ghost use Rattle.luks_cli.specs.Command.{merging_in};
+    ghost use Rattle.luks_cli.specs.Request.{merging_request};
 
     fn read(options: &ArgMatches<'a>) -> Option<Merging<'a>>
         ensures { option_map merging_request result ≡ merging_in (rows_of (found_of options.now)) }
@@ -157,37 +206,6 @@ impl<'a> Merging<'a> {
             stripes_file: text(options, "input")?,
         })
     }
-}
-
-// The text of the option or input.
-fn text<'a>(options: &ArgMatches<'a>, name: &str) -> Option<&'a str>
-    ensures { option_map (λ text. text.now) result ≡ text_in name.now (rows_of (found_of options.now)) }
-{
-    options.get_str(name)
-}
-
-// The hash function that `--hash` names.
-#[tactic(auto, unfolding(crate::specs::Command::hash_in))]
-fn hash(options: &ArgMatches<'_>) -> Option<Hash>
-    ensures { result ≡ hash_in (rows_of (found_of options.now)) }
-{
-    Hash::from_name(text(options, "hash")?)
-}
-
-// The number of `--stripes`.
-#[tactic(auto, unfolding(crate::specs::Command::stripes_in))]
-fn stripes(options: &ArgMatches<'_>) -> Option<StripeCount>
-    ensures { option_map (λ stripes. stripes.count) result ≡ stripes_in (rows_of (found_of options.now)) }
-{
-    StripeCount::read(text(options, "stripes")?)
-}
-
-// The number of `--key-bytes`.
-#[tactic(auto, unfolding(crate::specs::Command::key_bytes_in))]
-fn key_bytes(options: &ArgMatches<'_>) -> Option<KeyBytes>
-    ensures { option_map (λ key. key.bytes) result ≡ key_bytes_in (rows_of (found_of options.now)) }
-{
-    KeyBytes::read(text(options, "key-bytes")?)
 }
 
 impl From<AllocError> for PlanFault {

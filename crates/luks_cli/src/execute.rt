@@ -1,10 +1,10 @@
 //! What the commands do.
 
-ghost use Rattle.std.specs.Prelude.{◌≡◌, ◌≢◌};
-ghost use Rattle.luks_cli.specs.Command.{request_of};
+ghost use Rattle.std.specs.Prelude.{◌≡◌, ◌≢◌, IfErr};
 ghost use Rattle.luks_cli.specs.Outcome.{outcome_of};
 ghost use Rattle.luks_cli.specs.Report.{report_of};
-ghost use Rattle.luks_cli.specs.Run.{Bytes, Counts, Runs, TakesNoMemory, Tell, prompt_of};
+ghost use Rattle.luks_cli.specs.Request.{request_of};
+ghost use Rattle.luks_cli.specs.Run.{Bytes, Counts, IsCounted, Runs, TakesNoMemory, Tell, ending_of, prompt_of};
 
 use crate::command::Command;
 use crate::message::Message;
@@ -14,9 +14,12 @@ use luks_io::source::Source;
 use std::alloc::Global;
 
 mod headers;
+mod payload;
+mod secret;
 mod stripes;
 #[cfg(test)]
 mod tests;
+mod volumes;
 
 /// Runs a command over its first input, its second one and the output.
 ///
@@ -33,7 +36,8 @@ pub fn execute<I: Source, K: Source, O: Sink>(
     ensures run { (before : Bytes)
         → Tell (I.to_come image.old) (K.to_come secret.old) (O.written out.old) before
         → let request = request_of command.now in
-        Runs (prompt_of request before) (outcome_of request before.image before.secret) before
+        IsCounted request before.image
+        → Runs (prompt_of request before) (outcome_of request before.image before.secret) before
         result.message (I.to_come image.new) (K.to_come secret.new) (O.written out.new) }
     ensures status { result ≡ report_of result.message }
     ensures memory { TakesNoMemory (request_of command.now) → result.message ≢ Message.OutOfMemory }
@@ -41,15 +45,41 @@ pub fn execute<I: Source, K: Source, O: Sink>(
         (record { image = I.failures image.old; secret = K.failures secret.old; written = O.failures out.old })
         (record { image = I.failures image.new; secret = K.failures secret.new; written = O.failures out.new }) }
 {
-    let done = match command {
+    match perform(alloc, command, image, secret, out) {
+        Ok(()) => Report::of(Message::Done),
+        Err(message) => Report::of(message),
+    }
+}
+
+/// Does what a command asks for. What is told of a run that does not end well is its error.
+fn perform<I: Source, K: Source, O: Sink>(
+    alloc: Global,
+    command: &Command<'_>,
+    image: &mut I,
+    secret: &mut K,
+    out: &mut O,
+) -> Result<(), Message>
+    ensures run { (before : Bytes)
+        → Tell (I.to_come image.old) (K.to_come secret.old) (O.written out.old) before
+        → let request = request_of command.now in
+        IsCounted request before.image
+        → Runs (prompt_of request before) (outcome_of request before.image before.secret) before
+        (ending_of result) (I.to_come image.new) (K.to_come secret.new) (O.written out.new) }
+    ensures memory { TakesNoMemory (request_of command.now)
+        → IfErr result (λ message. message ≢ Message.OutOfMemory) }
+    ensures counts { Counts (ending_of result)
+        (record { image = I.failures image.old; secret = K.failures secret.old; written = O.failures out.old })
+        (record { image = I.failures image.new; secret = K.failures secret.new; written = O.failures out.new }) }
+{
+    match command {
         Command::IsLuks { .. } => headers::is_luks(alloc, image),
         Command::LuksUuid { .. } => headers::print_uuid(alloc, image, out),
         Command::LuksDump { .. } => headers::print_dump(alloc, image, out),
+        Command::TestPassphrase(opening) => {
+            volumes::test_passphrase(alloc, opening, image, secret, out)
+        }
+        Command::LuksCat(opening) => volumes::cat(alloc, opening, image, secret, out),
         Command::AfSplit(splitting) => stripes::split(splitting, image, secret, out),
         Command::AfMerge(merging) => stripes::merge(merging, image, out),
-    };
-    match done {
-        Ok(()) => Report::of(Message::Done),
-        Err(message) => Report::of(message),
     }
 }

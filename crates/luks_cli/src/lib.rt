@@ -1,7 +1,10 @@
 //! The command line of luksrd and what its commands do.
 #![tactic(auto)]
 
-pub use command::{Command, KeyBytes, Merging, PlanFault, Splitting, StripeCount, USAGE, plan};
+pub use command::{
+    Command, IterationLimit, KeyBytes, Merging, Opening, PlanFault, SlotNumber, Splitting,
+    StripeCount, USAGE, plan,
+};
 
 pub mod command;
 mod dump;

@@ -5,8 +5,11 @@ ghost use Rattle.luks_cli.specs.Texts.{line_of, status_of};
 
 use crate::command::USAGE;
 use luks_header::fault::HeaderFault;
+use luks_header::refusal::{SegmentFault, SkipReason};
 use luks_io::sink::WriteFault;
 use luks_io::source::ReadFault;
+use luks_open::skipped::SkippedSlots;
+use luks_volume::fault::VolumeFault;
 use std::alloc::AllocError;
 use std::fmt;
 
@@ -19,12 +22,32 @@ pub enum Message {
     No,
     /// The words are no command line of luksrd. The usage text is told.
     Usage,
+    /// The payload cannot be read.
+    SegmentRefused(SegmentFault),
+    /// The key slot that was named is not there.
+    NoSuchSlot(u8),
+    /// The key slot that was named is not in use.
+    SlotDisabled(u8),
+    /// The key slot that was named cannot be tried.
+    SlotSkipped(u8, SkipReason),
+    /// There is no key slot to try. These were skipped.
+    NothingTried(SkippedSlots),
+    /// The key file is longer than 8,388,608 bytes.
+    KeyFileLength,
+    /// No key slot that was tried opens the volume. These were skipped.
+    NoKey(SkippedSlots),
     /// The image has no LUKS header.
     NotLuks,
     /// The image ends inside the header or a key area.
     Cut,
     /// The JSON area of a LUKS2 header is not readable.
     Json,
+    /// The image ends before its payload begins.
+    CutBeforePayload,
+    /// The image ends inside a sector, of which it has so many bytes.
+    Tail(u64),
+    /// The image ends so many bytes before the end of a payload of fixed size.
+    Short(u64),
     /// A key to be split is empty or longer than 512 bytes.
     KeyLength,
     /// The random bytes ended before there was one stripe of them for each stripe but the last.
@@ -43,14 +66,18 @@ impl Message {
     ghost use Rattle.luks_cli.specs.Texts.{status_of};
 
     /// The exit status of a run that ended so.
-    pub fn status(self) -> u8
-        ensures { result ≡ status_of self }
+    pub fn status(&self) -> u8
+        ensures { result ≡ status_of self.now }
     {
         match self {
             Message::Done => 0,
             Message::No | Message::Usage => 1,
+            Message::SegmentRefused(_) | Message::NothingTried(_) | Message::KeyFileLength => 1,
+            Message::NoSuchSlot(_) | Message::SlotDisabled(_) | Message::SlotSkipped(..) => 1,
+            Message::NoKey(_) => 2,
             Message::OutOfMemory => 3,
             Message::NotLuks | Message::Cut | Message::Json => 4,
+            Message::CutBeforePayload | Message::Tail(_) | Message::Short(_) => 4,
             Message::KeyLength | Message::FewRandomBytes | Message::FewStripes => 4,
             Message::ReadFailed | Message::WriteFailed => 6,
         }
@@ -67,9 +94,41 @@ impl fmt::Display for Message {
         match self {
             Message::Done | Message::No => Ok(()),
             Message::Usage => f.write_str(USAGE),
+            Message::SegmentRefused(fault) => {
+                write!(f, "luksrd: segment refused: {}\n", fault.text())
+            }
+            Message::NoSuchSlot(slot) => write!(f, "luksrd: key slot {slot} is not there\n"),
+            Message::SlotDisabled(slot) => write!(f, "luksrd: key slot {slot} is disabled\n"),
+            Message::SlotSkipped(slot, reason) => {
+                write!(f, "luksrd: key slot {slot} is skipped: {}\n", reason.text())
+            }
+            Message::NothingTried(skipped) => {
+                let skips = Skips(skipped.as_slice());
+                write!(f, "luksrd: no key slot can be tried{skips}\n")
+            }
+            Message::KeyFileLength => {
+                f.write_str("luksrd: key file is longer than 8388608 bytes\n")
+            }
+            Message::NoKey(skipped) => {
+                let skips = Skips(skipped.as_slice());
+                write!(f, "luksrd: no key opens the volume{skips}\n")
+            }
             Message::NotLuks => f.write_str("luksrd: not a LUKS image\n"),
             Message::Cut => f.write_str("luksrd: image ends inside the header or a key area\n"),
             Message::Json => f.write_str("luksrd: LUKS2 JSON area is not readable\n"),
+            Message::CutBeforePayload => f.write_str("luksrd: image ends before the payload\n"),
+            Message::Tail(bytes) => {
+                write!(
+                    f,
+                    "luksrd: image ends inside a sector: {bytes} bytes left over\n"
+                )
+            }
+            Message::Short(bytes) => {
+                write!(
+                    f,
+                    "luksrd: image ends {bytes} bytes before the segment does\n"
+                )
+            }
             Message::KeyLength => f.write_str("luksrd: key must be 1 to 512 bytes\n"),
             Message::FewRandomBytes => f.write_str("luksrd: random bytes are too few\n"),
             Message::FewStripes => f.write_str("luksrd: stripes are too few\n"),
@@ -77,6 +136,61 @@ impl fmt::Display for Message {
             Message::ReadFailed => f.write_str("luksrd: read failed\n"),
             Message::WriteFailed => f.write_str("luksrd: write failed\n"),
         }
+    }
+}
+
+/// A key slot that was skipped, and the reason.
+#[derive(Clone, Copy)]
+struct Skip((u8, SkipReason));
+
+impl fmt::Display for Skip {
+    ghost use Rattle.std.specs.Prelude.{Some};
+    ghost use Rattle.luks_cli.specs.Texts.{skip_text};
+
+    ghost output = { λ skip. Some (skip_text skip.0) };
+
+    fn fmt<W: fmt::Write>(&self, f: &mut fmt::Formatter<W>) -> fmt::Result {
+        let (number, reason) = self.0;
+        write!(f, "{number} ({})", reason.text())
+    }
+}
+
+/// What is said of the key slots that were skipped, at the end of a line.
+#[derive(Clone, Copy)]
+struct Skips<'a>(&'a [(u8, SkipReason)]);
+
+impl fmt::Display for Skips<'_> {
+    ghost use Rattle.std.specs.Prelude.{Some};
+    ghost use Rattle.luks_cli.specs.Texts.{skips_text};
+
+    ghost output = { λ skips. Some (skips_text skips.0.now) };
+
+    fn fmt<W: fmt::Write>(&self, f: &mut fmt::Formatter<W>) -> fmt::Result {
+        if let [first, rest @ ..] = self.0 {
+            let first = Skip(*first);
+            let more = MoreSkips(rest);
+            write!(f, "; skipped: {first}{more}")
+        } else {
+            Ok(())
+        }
+    }
+}
+
+/// Key slots that were skipped behind another.
+#[derive(Clone, Copy)]
+struct MoreSkips<'a>(&'a [(u8, SkipReason)]);
+
+impl fmt::Display for MoreSkips<'_> {
+    ghost use Rattle.std.specs.Prelude.{Some};
+    ghost use Rattle.luks_cli.specs.Texts.{more_skips_text};
+
+    ghost output = { λ skips. Some (more_skips_text skips.0.now) };
+
+    fn fmt<W: fmt::Write>(&self, f: &mut fmt::Formatter<W>) -> fmt::Result {
+        for skip in self.0 {
+            write!(f, ", {}", Skip(*skip))?;
+        }
+        Ok(())
     }
 }
 
@@ -102,6 +216,32 @@ impl From<HeaderFault> for Message {
             HeaderFault::Json => Message::Json,
             HeaderFault::Read => Message::ReadFailed,
             HeaderFault::Memory => Message::OutOfMemory,
+        }
+    }
+}
+
+impl From<SegmentFault> for Message {
+    ghost use Rattle.luks_cli.specs.declared.message.Message.{Message};
+
+    ghost from_gives = { λ fault message. message ≡ Message.SegmentRefused fault };
+
+    fn from(fault: SegmentFault) -> Message {
+        Message::SegmentRefused(fault)
+    }
+}
+
+impl From<VolumeFault> for Message {
+    ghost use Rattle.luks_cli.specs.Payload.{message_for_payload};
+
+    ghost from_gives = { λ fault message. message ≡ message_for_payload fault };
+
+    fn from(fault: VolumeFault) -> Message {
+        match fault {
+            VolumeFault::CutBeforePayload => Message::CutBeforePayload,
+            VolumeFault::Tail(bytes) => Message::Tail(bytes),
+            VolumeFault::Short(bytes) => Message::Short(bytes),
+            VolumeFault::Read => Message::ReadFailed,
+            VolumeFault::Write => Message::WriteFailed,
         }
     }
 }

@@ -6,7 +6,7 @@ use crate::message::Message;
 /// The exit status of a run and what is told of it.
 #[derive(Clone, Copy, Debug, PartialEq, Eq)]
 pub struct Report {
-    /// 0: all was done; 1: refused; 2: no key; 3: no memory; 4: the input is not as it has to be; 6: a read or a write failed.
+    /// 0: all was done; 1: refused; 2: no key opens the volume; 3: no memory; 4: the input is not as it has to be; 6: a read or a write failed.
     pub status: u8,
     /// What is printed on standard error.
     pub message: Message,
@@ -20,10 +20,8 @@ impl Report {
     pub fn of(message: Message) -> Report
         ensures { result ≡ report_of message }
     {
-        Report {
-            status: message.status(),
-            message,
-        }
+        let status = message.status();
+        Report { status, message }
     }
 
     /// The report of a run that had no command.

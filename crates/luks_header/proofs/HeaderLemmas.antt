@@ -75,3 +75,8 @@ one_read area image left header is one = (sym (header_of-take image) ∙ ap head
 -- an area that is not whole is short
 pub short_from_not_whole : (whole : Bool) (end len : ℕ) → (IsTrue whole ↔ (end ≤ len)) → whole ≡ false → len < end
 short_from_not_whole whole end len iff is = elim (cases_lt len end) [ inl short ↦ short | inr all ↦ (let yes : whole ≡ true = iff.1 all in cc) ]
+
+-- of an area that is no longer than the header, nothing costs more
+pub all_cost : (area : List ℕ) → length area ≤ 592 → length area ≡ cost_of area
+unfolding cost_of
+all_cost area few = omega arith

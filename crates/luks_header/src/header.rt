@@ -1,6 +1,6 @@
 //! Which header an image has.
 
-ghost use Rattle.std.specs.Prelude.{◌≡◌, List, ℕ, Some, Ok, IfOk, IfErr, drop, take};
+ghost use Rattle.std.specs.Prelude.{◌≡◌, List, ℕ, Some, Ok, IfOk, IfErr, drop, length, take};
 ghost use Rattle.luks_header.specs.Area.{failures_after};
 ghost use Rattle.luks_header.specs.Header.{StopsReading, cost_of, header_of};
 
@@ -31,6 +31,7 @@ pub fn read_header<S: Source>(
     ensures err { IfErr result (λ fault. (image : List ℕ) → S.to_come source.old ≡ Some image →
         StopsReading image (S.to_come source.new) fault) }
     ensures held { IfOk result (λ read. header_of read.1 ≡ Ok read.0) }
+    ensures only { IfOk result (λ read. length read.1 ≡ cost_of read.1) }
     ensures reads { S.failures source.new ≡ failures_after result (S.failures source.old) }
 {
     let mut area = HeaderArea::new(alloc);

@@ -3,7 +3,8 @@
 ghost use Rattle.std.specs.Prelude.{◌≡◌, [], IfOk, false};
 ghost use Rattle.clap.specs.Words.{app_of, rule_of, with_subcommand};
 ghost use Rattle.luks_cli.specs.Grammar.{Reads, af_merge, af_split, alone, command, input, is_luks};
-ghost use Rattle.luks_cli.specs.Grammar.{luks_dump, luks_uuid, luksrd, option, program};
+ghost use Rattle.luks_cli.specs.Grammar.{luks_cat, luks_dump, luks_uuid, luksrd, option, program};
+ghost use Rattle.luks_cli.specs.Grammar.{test_passphrase, volume_command};
 
 use clap::{Arg, Command};
 use std::alloc::{AllocError, Global};
@@ -14,6 +15,7 @@ pub(super) fn grammar<'a>(alloc: Global) -> Result<Command<'a>, AllocError>
     ensures { IfOk result (λ command. app_of command ≡ luksrd) }
 {
     let program = with_header_commands(alloc, program(alloc))?;
+    let program = with_volume_commands(alloc, program)?;
     with_stripe_commands(alloc, program)
 }
 
@@ -38,6 +40,16 @@ fn with_header_commands<'a>(alloc: Global, program: Command<'a>) -> Result<Comma
         .subcommand(header_command(alloc, "luksDump")?)
 }
 
+// The program with the commands on volumes as well.
+fn with_volume_commands<'a>(alloc: Global, program: Command<'a>) -> Result<Command<'a>, AllocError>
+    ensures { IfOk result (λ command. app_of command
+        ≡ with_subcommand (with_subcommand (app_of program.entry) test_passphrase) luks_cat) }
+{
+    program
+        .subcommand(volume_command(alloc, "testPassphrase")?)?
+        .subcommand(volume_command(alloc, "luksCat")?)
+}
+
 // The program with the commands on stripes as well.
 fn with_stripe_commands<'a>(alloc: Global, program: Command<'a>) -> Result<Command<'a>, AllocError>
     ensures { IfOk result (λ command. app_of command
@@ -53,6 +65,18 @@ fn header_command<'a>(alloc: Global, name: &'a str) -> Result<Command<'a>, Alloc
     ensures { IfOk result (λ made. Reads made (alone (command name.entry.now []))) }
 {
     Command::new(alloc, name).arg(input(alloc))
+}
+
+// `NAME --key-file FILE [--key-slot N] [--max-iterations N] IMAGE`
+#[tactic(auto, unfolding(crate::specs::Grammar::volume_command))]
+fn volume_command<'a>(alloc: Global, name: &'a str) -> Result<Command<'a>, AllocError>
+    ensures { IfOk result (λ made. Reads made (alone (volume_command name.entry.now))) }
+{
+    Command::new(alloc, name)
+        .arg(option(alloc, "key-file", true))?
+        .arg(option(alloc, "key-slot", false))?
+        .arg(option(alloc, "max-iterations", false))?
+        .arg(input(alloc))
 }
 
 // `afSplit --hash HASH --stripes N --random FILE KEY`

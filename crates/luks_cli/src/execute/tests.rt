@@ -1,6 +1,9 @@
 //! Whole runs over memory: worked examples, and devices that fail.
 
 mod headers;
+mod hostile;
+mod volume_devices;
+mod volumes;
 
 use super::execute;
 use crate::command::{PlanFault, plan};

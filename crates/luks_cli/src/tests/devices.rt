@@ -117,3 +117,47 @@ impl Sink for Leaky {
         }
     }
 }
+
+/// A source that gives so many bytes, and whose further reads fail.
+#[derive(Drop)]
+pub(crate) struct Broken<'a> {
+    left: &'a [u8],
+    given: usize,
+    pub(crate) failures: u64,
+}
+
+impl<'a> Broken<'a> {
+    pub(crate) fn new(bytes: &'a [u8], given: usize) -> Broken<'a> {
+        Broken {
+            left: bytes,
+            given,
+            failures: 0,
+        }
+    }
+
+    /// How many bytes are left.
+    pub(crate) fn left(&self) -> usize {
+        self.left.len()
+    }
+}
+
+impl<'a> Source for Broken<'a> {
+    ghost use Rattle.std.specs.Prelude.{Some};
+
+    ghost to_come = { λ s. Some s.left.now };
+
+    ghost failures = { λ s. s.failures };
+
+    fn read(&mut self, buf: &mut [u8]) -> Result<usize, DeviceFault> {
+        if self.given == 0 {
+            self.failures = self.failures.saturating_add(1);
+            return Err(DeviceFault);
+        }
+        let count = buf.len().min(self.left.len()).min(self.given);
+        self.given -= count;
+        let (now, later) = self.left.split_at(count);
+        buf[..count].copy_from_slice(now);
+        self.left = later;
+        Ok(count)
+    }
+}

@@ -4,7 +4,7 @@ use Rattle.luks_header.specs.Header.{header_of}
 use Rattle.luks_header.specs.Luks1.{header1_of, is_luks1}
 use Rattle.luks_header.specs.declared.header.Header.TheVariants.{V1}
 use Rattle.luks_header.specs.declared.fault.HeaderFault.TheVariants.{NotLuks, Cut}
-use Rattle.luks_header.proofs.HeaderLemmas.{area_is, header_of-cut, header_of-other, header_of-whole, none_read, one_read, short_from_not_whole, stops_reading}
+use Rattle.luks_header.proofs.HeaderLemmas.{all_cost, area_is, header_of-cut, header_of-other, header_of-whole, none_read, one_read, short_from_not_whole, stops_reading}
 use Rattle.luks_header.proofs.header.read_header.Goals as goal
 
 pub returns-in_err-whole-clause-err : goal.returns-in_err-whole-clause-err
@@ -40,3 +40,8 @@ returns-clause-ok g c =
     λ image tells.
     one_read c.extend_to.new.self image _ (V1 c.from_bytes-header.result)
     (area_is c.new-area.result c.extend_to.new.self image _ c.new-area.ensures (c.in_ok-whole.ensures.ok image tells)) (returns-clause-held g c)
+
+pub returns-clause-only : goal.returns-clause-only
+returns-clause-only g c =
+    let none : length c.new-area.result ≡ 0 = ap length c.new-area.ensures in
+    all_cost c.extend_to.new.self (omega (arith, c.in_ok-whole.ensures.within))

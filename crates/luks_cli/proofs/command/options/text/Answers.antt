@@ -2,7 +2,7 @@ use Rattle.std.proofs.Common.{◌∙◌}
 use Rattle.clap.proofs.WalkLemmas.{first_value-rows}
 use Rattle.clap.specs.Words.{found_of}
 use Rattle.luks_cli.specs.Command.{text_in}
-use Rattle.luks_cli.proofs.command.text.Goals as goal
+use Rattle.luks_cli.proofs.command.options.text.Goals as goal
 
 pub returns : goal.returns
 unfolding text_in

@@ -1,0 +1,236 @@
+-- Passing on a payload sector by sector.
+use Rattle.std.proofs.Common.{◌≡◌, ◌≢◌, ℕ, zero, suc, ◌+◌, ◌-◌, ◌*◌, ◌/◌, ◌%◌, ◌^◌, ◌<◌, ◌≤◌, ◌⊎◌, inl, inr, List, ◌++◌, Option, None, Some, Result, Ok, Err, ◌∙◌, ap, sym, refl, take, drop, length, take_all, length-take-le, length-drop, length-append, append-nil, append_assoc, add-one, arith}
+use Rattle.std.proofs.lemmas.Bool.{cases_lt}
+use Rattle.std.proofs.lemmas.List.{take-append-le}
+use Rattle.std.proofs.Math.Nat.{div-eq_of_lt-le, div-mul-le_self, mul-le-mul_left, mul-le-mul_right}
+use Rattle.std.proofs.Math.Seq.{take-append-add}
+use Rattle.luks_cipher.specs.Xts.{block_at, block_decrypted, block_sum, joined, tweak_of, xts_decrypted}
+use Rattle.luks_header.specs.SectorSize.{bytes_of}
+use Rattle.luks_header.specs.declared.sector_size.SectorSize.{SectorSize}
+use Rattle.luks_header.specs.declared.sector_size.SectorSize.TheVariants.{B512, B1024, B2048, B4096}
+use Rattle.luks_header.specs.declared.segment.Segment.{Segment}
+use Rattle.luks_volume.specs.Passing.{count_reads as volume_reads, count_writes as volume_writes}
+use Rattle.luks_volume.specs.Plain.{end_within, ending_of, payload_end_of, plain_of, sector_len, sector_of, sector_start, sectors_of, unit_plain, within_size}
+use Rattle.luks_volume.specs.Pumped.{Ends, Pumped, StandsIn, Steps, WritesSectors, after_step, position}
+use Rattle.luks_volume.specs.declared.fault.VolumeFault.{VolumeFault}
+use Rattle.luks_volume.specs.declared.fault.VolumeFault.TheVariants.{CutBeforePayload as IsCutBefore, Tail as HasTail, Short as IsShort, Read, Write}
+use Rattle.luks_volume.specs.declared.state.State.TheVariants.{BeforePayload, InPayload}
+use Rattle.luks_volume.specs.declared.state.Step.{Step}
+use Rattle.luks_volume.specs.declared.state.Step.TheVariants.{Sector, End}
+use Rattle.luks_cli.specs.Payload.{PassesPayload, message_at_end, message_for_payload}
+use Rattle.luks_cli.specs.Run.{count_reads, count_writes}
+use Rattle.luks_cli.specs.declared.message.Message.TheVariants.{Done, OutOfMemory}
+
+-- ---- lengths
+
+-- a sector is whole blocks of the cipher
+record IsSectorLen (z : ℕ) : Type 0 where
+  long : 512 ≤ z
+  blocks : z % 16 ≡ 0
+
+sector_blocks : (size : SectorSize) → IsSectorLen (bytes_of size)
+sector_blocks B512 = record { long = omega arith; blocks = refl }
+sector_blocks B1024 = record { long = omega arith; blocks = refl }
+sector_blocks B2048 = record { long = omega arith; blocks = refl }
+sector_blocks B4096 = record { long = omega arith; blocks = refl }
+
+joined_length : (f : ℕ → List ℕ) (z n : ℕ) → ((j : ℕ) → j < n → length (f j) ≡ z) → length (joined f n) ≡ n * z
+unfolding joined
+joined_length f z zero sizes = omega arith
+joined_length f z (suc n) sizes =
+    let before = joined_length f z n (λ j low. sizes j (omega arith)) in
+    rw (length-append (joined f n) (f n), before, sizes n (omega arith)) (omega arith)
+
+-- a beginning of what is joined that ends within piece k
+take_joined : (f : ℕ → List ℕ) (z n k m : ℕ) → ((j : ℕ) → j < n → length (f j) ≡ z) → k < n → m ≤ z → take (k * z + m) (joined f n) ≡ joined f k ++ take m (f k)
+unfolding joined
+take_joined f z zero k m sizes below few = absurd (omega arith)
+take_joined f z (suc n) k m sizes below few =
+    let smaller : (j : ℕ) → j < n → length (f j) ≡ z = λ j low. sizes j (omega arith) in
+    let long = joined_length f z n smaller in
+    elim (cases_lt k n) [
+      | inl inside ↦
+          let more : (k + 1) * z ≤ n * z = mul-le-mul_right z (omega arith) in
+          take-append-le (k * z + m) (joined f n) (f n) (omega arith) ∙ take_joined f z n k m smaller inside few
+      | inr last ↦
+          let e : k ≡ n = omega arith in
+          rw (e, ← long) (take-append-add (joined f n) (f n) m)
+    ]
+
+-- a beginning of what is joined that ends with a piece
+take_whole : (f : ℕ → List ℕ) (z n k : ℕ) → ((j : ℕ) → j < n → length (f j) ≡ z) → k ≤ n → take (k * z) (joined f n) ≡ joined f k
+take_whole f z n k sizes below = elim (cases_lt k n) [
+  | inl inside ↦ let same : k * z ≡ k * z + 0 = omega arith in rw same (take_joined f z n k 0 sizes inside (omega arith) ∙ append-nil (joined f k))
+  | inr all ↦
+      let e : k ≡ n = omega arith in
+      rw e (take_all (n * z) (joined f n) (omega (arith, joined_length f z n sizes)))
+]
+
+block_len : (key tweak block : List ℕ) → length (block_decrypted key tweak block) ≡ 16
+unfolding block_decrypted block_sum
+block_len key tweak block = refl
+
+unit_len : (key : List ℕ) (number : ℕ) (unit : List ℕ) → length unit % 16 ≡ 0 → length (unit_plain key number unit) ≡ length unit
+unfolding unit_plain xts_decrypted
+unit_len key number unit whole =
+    joined_length _ 16 (length unit / 16) (λ j low. block_len key (tweak_of key number j) (block_at unit j)) ∙ omega arith
+
+within_len : (size : Option ℕ) (len : ℕ) → within_size size len ≤ len
+within_len None len = omega arith
+within_len (Some size) len = omega arith
+
+-- so many bytes of a payload end with it or before
+within_end : (size : Option ℕ) (offset len n : ℕ) → 0 < n → n ≤ within_size size (len - offset) → offset + n ≤ end_within size offset len
+within_end None offset len n some few = omega arith
+within_end (Some size) offset len n some few = omega arith
+
+end_there : (size : Option ℕ) (offset len : ℕ) → end_within size offset len ≤ len
+end_there None offset len = omega arith
+end_there (Some size) offset len = omega arith
+
+module _ (s : Segment) (image : List ℕ) where
+  -- a sector of the payload ends before the payload does
+  sector_before_end : (i : ℕ) → i < sectors_of s image → sector_start s (i + 1) ≤ payload_end_of s image
+  sector_before_end i below =
+      let z = sector_blocks s.sector_size in
+      let whole = div-mul-le_self (within_size s.size (length image - s.offset)) (sector_len s) in
+      let more : (i + 1) * sector_len s ≤ sectors_of s image * sector_len s = mul-le-mul_right (sector_len s) (omega arith) in
+      let some : 1 * sector_len s ≤ (i + 1) * sector_len s = mul-le-mul_right (sector_len s) (omega arith) in
+      within_end s.size s.offset (length image) ((i + 1) * sector_len s) (omega (arith, z.long)) (omega arith)
+
+  -- and is there
+  sector_there : (i : ℕ) → i < sectors_of s image → sector_start s (i + 1) ≤ length image
+  sector_there i below = omega (arith, sector_before_end i below, end_there s.size s.offset (length image))
+
+  -- of an image that can be there are fewer sectors than can be counted
+  pub few_sectors : length image < 2 ^ 64 → sectors_of s image < 2 ^ 64 - 1
+  few_sectors counted =
+      let z = sector_blocks s.sector_size in
+      let all = within_len s.size (length image - s.offset) in
+      let whole = div-mul-le_self (within_size s.size (length image - s.offset)) (sector_len s) in
+      let many : sectors_of s image * 512 ≤ sectors_of s image * sector_len s = mul-le-mul_left (sectors_of s image) z.long in
+      omega arith
+
+  sector_size : (key : List ℕ) (i : ℕ) → i < sectors_of s image → length (sector_of s key image i) ≡ sector_len s
+  sector_size key i below =
+      let z = sector_blocks s.sector_size in
+      let there = sector_there i below in
+      let more : (i + 1) * sector_len s ≡ i * sector_len s + sector_len s = omega arith in
+      let unit = length-take-le (sector_len s) (drop (sector_start s i) image) (omega (arith, length-drop (sector_start s i) image)) in
+      unit_len key _ _ (ap (λ n. n % 16) unit ∙ z.blocks) ∙ unit
+
+  pub plain_len : (key : List ℕ) → length (plain_of s key image) ≡ sectors_of s image * sector_len s
+  plain_len key = joined_length (sector_of s key image) (sector_len s) (sectors_of s image) (sector_size key)
+
+-- ---- a pump on its way
+
+-- a pump stands in an image, and the sectors that it has passed on are written
+pub record Passing (p : Pumped) (image before : List ℕ) (left written : Option (List ℕ)) : Type 0 where
+  pub stands : StandsIn image p left
+  pub at_sector : (p.count ≡ 0) ⊎ (p.state ≡ InPayload)
+  pub few : p.count ≤ sectors_of p.segment image
+  pub wrote : written ≡ Some (before ++ joined (sector_of p.segment p.key image) p.count)
+
+pub passing_start : (p : Pumped) (image before : List ℕ) (left written : Option (List ℕ)) → p.count ≡ 0 → p.state ≡ BeforePayload → p.consumed ≤ length image
+    → left ≡ Some (drop p.consumed image) → written ≡ Some before → Passing p image before left written
+unfolding joined
+passing_start p image before left written none is there rest was = record {
+  stands = record { running = rw is refl; there = rw is there; left = rw is rest };
+  at_sector = inl none;
+  few = omega arith;
+  wrote = rw none (was ∙ ap Some (sym (append-nil before)));
+}
+
+module _ (p : Pumped) (image before : List ℕ) (l w l' w' : Option (List ℕ)) (so_far : Passing p image before l w) where
+  pub passing_more : Steps p.segment p.key p.count (position p) image (Ok Sector) l' w w' → Passing (after_step p (Ok Sector)) image before l' w'
+  unfolding joined
+  passing_more step =
+      let taken = step.0 in
+      let added = step.1 (before ++ joined (sector_of p.segment p.key image) p.count) so_far.wrote in
+      record {
+        stands = record { running = refl; there = taken.there; left = taken.left };
+        at_sector = inr refl;
+        few = omega (arith, taken.is_one);
+        wrote = rw add-one (added ∙ ap Some (append_assoc before _ (sector_of p.segment p.key image p.count)));
+      }
+
+  -- the payload came to its stated end
+  ended : (answer : Result Step VolumeFault) → Ends image p.segment p.count answer l' → w' ≡ w
+      → (message_at_end answer ≡ message_at_end (ending_of p.segment image))
+      × (l' ≡ Some (drop (payload_end_of p.segment image) image)) × (w' ≡ Some (before ++ plain_of p.segment p.key image))
+  ended answer end same =
+      (ap message_at_end end.as_stated, end.left, same ∙ so_far.wrote ∙ ap (λ n. Some (before ++ joined (sector_of p.segment p.key image) n)) end.all)
+
+  pub passing_ends : Steps p.segment p.key p.count (position p) image (Ok End) l' w w' → w' ≡ w → PassesPayload p.segment p.key image before l' w' Done
+  passing_ends step same = ended (Ok End) step same
+
+  -- a read failed within the next sector
+  lost : Steps p.segment p.key p.count (position p) image (Err Read) l' w w' → w' ≡ w → PassesPayload p.segment p.key image before l' w' (message_for_payload Read)
+  lost step same =
+      let z = sector_blocks p.segment.sector_size in
+      let place = step.0 in
+      let more : (p.count + 1) * sector_len p.segment ≡ p.count * sector_len p.segment + sector_len p.segment = omega arith in
+      let first : p.count * sector_len p.segment ≤ place - p.segment.offset = elim so_far.at_sector [
+        | inl none ↦ rw none (omega arith)
+        | inr is ↦ let from : sector_start p.segment p.count ≤ place = rw is at step.1 in omega arith
+      ] in
+      let row : (place - p.segment.offset) / sector_len p.segment ≡ p.count = div-eq_of_lt-le (sector_len p.segment) (omega arith) (omega (arith, step.2, z.long)) in (
+        place,
+        p.count,
+        sym row,
+        so_far.few,
+        step.3,
+        step.4,
+        same ∙ so_far.wrote
+            ∙ ap (λ bytes. Some (before ++ bytes)) (sym (take_whole (sector_of p.segment p.key image) (sector_len p.segment) (sectors_of p.segment image) p.count (sector_size p.segment image p.key) so_far.few)),
+      )
+
+  -- a write failed within it
+  unwritten : Steps p.segment p.key p.count (position p) image (Err Write) l' w w' → PassesPayload p.segment p.key image before l' w' (message_for_payload Write)
+  unwritten step =
+      let taken = step.0 in
+      let written = step.1 in
+      let few = written.1 in
+      let added = written.2 (before ++ joined (sector_of p.segment p.key image) p.count) so_far.wrote in (
+        p.count,
+        written.0,
+        taken.is_one,
+        few,
+        sector_before_end p.segment image p.count taken.is_one,
+        taken.left,
+        added ∙ ap Some (append_assoc before _ (take written.0 (sector_of p.segment p.key image p.count)))
+            ∙ ap (λ bytes. Some (before ++ bytes))
+            (sym (take_joined (sector_of p.segment p.key image) (sector_len p.segment) (sectors_of p.segment image) p.count written.0 (sector_size p.segment image p.key) taken.is_one (omega arith))),
+      )
+
+  -- a step was not made
+  pub passing_breaks : (fault : VolumeFault) (Same : Type 0) → (Same → w' ≡ w) → WritesSectors (Err fault) Same
+      → Steps p.segment p.key p.count (position p) image (Err fault) l' w w' → PassesPayload p.segment p.key image before l' w' (message_for_payload fault)
+  passing_breaks IsCutBefore Same same is step = ended (Err IsCutBefore) step (same is)
+  passing_breaks (HasTail bytes) Same same is step = ended (Err (HasTail bytes)) step (same is)
+  passing_breaks (IsShort bytes) Same same is step = ended (Err (IsShort bytes)) step (same is)
+  passing_breaks Read Same same is step = lost step (same is)
+  passing_breaks Write Same same is step = unwritten step
+
+-- ---- counts of failures
+
+pub reads_are : (fault : VolumeFault) (n : ℕ) → volume_reads {T = Step} (Err fault) n ≡ count_reads (message_for_payload fault) n
+reads_are IsCutBefore n = refl
+reads_are (HasTail bytes) n = refl
+reads_are (IsShort bytes) n = refl
+reads_are Read n = refl
+reads_are Write n = refl
+
+pub writes_are : (fault : VolumeFault) (n : ℕ) → volume_writes {T = Step} (Err fault) n ≡ count_writes (message_for_payload fault) n
+writes_are IsCutBefore n = refl
+writes_are (HasTail bytes) n = refl
+writes_are (IsShort bytes) n = refl
+writes_are Read n = refl
+writes_are Write n = refl
+
+pub never_memory : (fault : VolumeFault) → message_for_payload fault ≢ OutOfMemory
+never_memory IsCutBefore e = cc
+never_memory (HasTail bytes) e = cc
+never_memory (IsShort bytes) e = cc
+never_memory Read e = cc
+never_memory Write e = cc

@@ -1,0 +1,57 @@
+-- Finding the volume of an image.
+use Rattle.std.proofs.Common.{◌≡◌, ℕ, ◌⊎◌, inl, inr, List, Option, Some, Ok, Err, refl, drop, arith}
+use Rattle.luks_header.specs.Header.{StopsReading, cost_of, header_of}
+use Rattle.luks_header.specs.Segment.{segment_of}
+use Rattle.luks_header.specs.declared.header.Header.{Header}
+use Rattle.luks_header.specs.declared.fault.HeaderFault.{HeaderFault}
+use Rattle.luks_header.specs.declared.fault.HeaderFault.TheVariants.{NotLuks as NoLuks, Cut as IsCut, Json as NoJson, Read as LostRead, Memory as NoMemory}
+use Rattle.luks_header.specs.declared.refusal.SegmentFault.{SegmentFault}
+use Rattle.luks_header.specs.declared.segment.Segment.{Segment}
+use Rattle.luks_open.specs.Order.{Tries, order_of}
+use Rattle.luks_open.specs.declared.fault.OpenFault.{OpenFault}
+use Rattle.luks_open.specs.declared.fault.OpenFault.TheVariants.{NoSuchSlot as NotThere, Disabled, NamedSkipped, NothingTried as NoneTried, NoKey as NoneOpens, Memory}
+use Rattle.luks_cli.specs.Header.{message_for_header}
+use Rattle.luks_cli.specs.Request.{OpeningRequest}
+use Rattle.luks_cli.specs.Volume.{StopsFinding, message_for_opening, volume_of}
+use Rattle.luks_cli.specs.declared.message.Message.TheVariants.{SegmentRefused}
+
+module _ (o : OpeningRequest) (image : List ℕ) (left : Option (List ℕ)) where
+  no_header : (fault : HeaderFault) → header_of image ≡ Err fault → volume_of o image ≡ Err (message_for_header fault)
+  unfolding volume_of
+  no_header fault none = rw none refl
+
+  pub stops_without_header : (fault : HeaderFault) → StopsReading image left fault → StopsFinding o image left (message_for_header fault)
+  stops_without_header NoLuks stop = (no_header NoLuks stop.0, stop.1)
+  stops_without_header IsCut stop = (no_header IsCut stop.0, stop.1)
+  stops_without_header NoJson stop = (no_header NoJson stop.0, stop.1)
+  stops_without_header LostRead stop = stop
+  stops_without_header NoMemory stop = stop
+
+  module _ (header : Header) (found : header_of image ≡ Ok header) where
+    no_segment : (fault : SegmentFault) → segment_of header ≡ Err fault → volume_of o image ≡ Err (SegmentRefused fault)
+    unfolding volume_of
+    no_segment fault none = rw (found, none) refl
+
+    no_order : (segment : Segment) (fault : OpenFault) → segment_of header ≡ Ok segment → order_of header o.key_slot o.max_iterations ≡ Err fault
+        → volume_of o image ≡ Err (message_for_opening o.key_slot fault)
+    unfolding volume_of
+    no_order segment fault is none = rw (found, is, none) refl
+
+    pub volume_is : (segment : Segment) (tries : Tries) → segment_of header ≡ Ok segment → order_of header o.key_slot o.max_iterations ≡ Ok tries
+        → volume_of o image ≡ Ok (record { header = header; segment = segment; tries = tries })
+    unfolding volume_of
+    volume_is segment tries is ordered = rw (found, is, ordered) refl
+
+    module _ (rest : left ≡ Some (drop (cost_of image) image)) where
+      pub stops_without_segment : (fault : SegmentFault) → segment_of header ≡ Err fault → StopsFinding o image left (SegmentRefused fault)
+      stops_without_segment fault none = (no_segment fault none, rest)
+
+      pub stops_without_order : (segment : Segment) (fault : OpenFault) → segment_of header ≡ Ok segment
+          → (fault ≡ Memory) ⊎ (order_of header o.key_slot o.max_iterations ≡ Err fault) → StopsFinding o image left (message_for_opening o.key_slot fault)
+      stops_without_order segment Memory is why = (cost_of image, omega arith, rest)
+      stops_without_order segment NotThere is (inr why) = (no_order segment NotThere is why, rest)
+      stops_without_order segment Disabled is (inr why) = (no_order segment Disabled is why, rest)
+      stops_without_order segment (NamedSkipped reason) is (inr why) = (no_order segment (NamedSkipped reason) is why, rest)
+      stops_without_order segment (NoneTried skipped) is (inr why) = (no_order segment (NoneTried skipped) is why, rest)
+      stops_without_order segment (NoneOpens skipped) is (inr why) = (no_order segment (NoneOpens skipped) is why, rest)
+      stops_without_order segment _ is (inl memory) = cc

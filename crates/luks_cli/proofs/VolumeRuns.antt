@@ -1,0 +1,336 @@
+-- How the commands on volumes end before their volume is opened.
+use Rattle.std.proofs.Common.{◌≡◌, ℕ, ◌+◌, ◌-◌, ◌*◌, ◌<◌, ◌≤◌, inl, inr, List, [], ◌++◌, Option, Some, Result, Ok, Err, ◌∙◌, ap, sym, refl, take, drop, length, length-drop, length-take-le, append-nil, max, min, arith, true, false}
+use Rattle.std.proofs.lemmas.Bool.{cases_lt}
+use Rattle.std.proofs.lemmas.Bool.Decides.{nat_tests}
+use Rattle.std.proofs.lemmas.List.{drop-drop, drop_all}
+use Rattle.std.proofs.Math.Nat.{zero-div}
+use Rattle.std.proofs.Math.Seq.{take-add}
+use Rattle.std.specs.Prelude.{nat_lt}
+use Rattle.luks_header.proofs.SegmentLemmas.{IsReadable-ok}
+use Rattle.luks_header.specs.Area.{Grows, StopsGrowing}
+use Rattle.luks_header.specs.Header.{cost_of, header_of}
+use Rattle.luks_header.specs.Segment.{segment1_of, segment_of}
+use Rattle.luks_header.specs.declared.header.Header.{Header}
+use Rattle.luks_header.specs.declared.header.Header.TheVariants.{V1}
+use Rattle.luks_header.specs.declared.fault.HeaderFault.{HeaderFault}
+use Rattle.luks_header.specs.declared.fault.HeaderFault.TheVariants.{Read as LostRead, Memory as NoMemory}
+use Rattle.luks_header.specs.declared.segment.Segment.{Segment}
+use Rattle.luks_open.proofs.CallerLemmas.{held_before_payload, opening_beginning}
+use Rattle.luks_open.specs.Opening.{opening_of}
+use Rattle.luks_open.specs.Order.{Tries, held_of, order_of}
+use Rattle.luks_open.specs.declared.fault.OpenFault.{OpenFault}
+use Rattle.luks_open.specs.declared.opening.Opened.{Opened}
+use Rattle.luks_volume.specs.Plain.{sector_len}
+use Rattle.luks_cli.proofs.VolumeLemmas.{volume_is}
+use Rattle.luks_cli.specs.Header.{message_for_header}
+use Rattle.luks_cli.specs.Outcome.{Deed, Outcome, found_outcome, opened_outcome, outcome_after, unwritten, volume_outcome}
+use Rattle.luks_cli.specs.Payload.{cat_promptly}
+use Rattle.luks_cli.specs.Request.{OpeningRequest}
+use Rattle.luks_cli.specs.Run.{BreaksOff, Bytes, IsSilent, Runs}
+use Rattle.luks_cli.specs.Secret.{NoSecretRead}
+use Rattle.luks_cli.specs.Unlocking.{TakesHeld, Unlocks}
+use Rattle.luks_cli.specs.Volume.{HasSegment, StopsFinding, Volume, held_for, message_for_opening, volume_of}
+use Rattle.luks_cli.specs.declared.message.Message.{Message}
+use Rattle.luks_cli.specs.declared.message.Message.TheVariants.{Cut, KeyFileLength, OutOfMemory, ReadFailed, WriteFailed}
+
+-- ---- how much of the image is taken for what is promised
+
+cost_there : (image : List ℕ) → cost_of image ≤ length image
+unfolding cost_of
+cost_there image = omega arith
+
+pub cost_most : (image : List ℕ) → cost_of image ≤ 592
+unfolding cost_of
+cost_most image = omega arith
+
+-- the payload of a volume starts behind its header
+pub behind_header : (header : Header) (segment : Segment) → segment_of header ≡ Ok segment → 592 ≤ segment.offset
+unfolding segment1_of
+behind_header (V1 header) segment is =
+    let readable = IsReadable-ok header segment is in
+    let start : segment.offset ≡ 512 * header.payload_offset = ap (λ (s : Segment). s.offset) readable.0 in
+    omega (arith, readable.1.behind_header)
+
+pub same_segment : (image : List ℕ) (s t : Segment) → HasSegment image s → HasSegment image t → t ≡ s
+same_segment image s t one other =
+    let first : header_of image ≡ Ok one.0 = one.1 in
+    let second : header_of image ≡ Ok other.0 = other.1 in
+    let third : segment_of one.0 ≡ Ok s = one.2 in
+    let fourth : segment_of other.0 ≡ Ok t = other.2 in
+    cc
+
+-- nothing past the header was taken
+prompt_in_header : (image : List ℕ) (message : Message) (a b : ℕ) → a ≤ cost_of image → cat_promptly image message a b 0
+prompt_in_header image ReadFailed a b few segment has = λ past. absurd (omega arith)
+prompt_in_header image WriteFailed a b few segment has = omega arith
+prompt_in_header image _ a b few segment has = tt
+
+-- nothing past the payload's start was taken
+prompt_before_payload : (image : List ℕ) (message : Message) (a b : ℕ) (segment : Segment) → HasSegment image segment → a ≤ segment.offset → cat_promptly image message a b 0
+prompt_before_payload image ReadFailed a b segment has few other is = λ past.
+    let same = same_segment image segment other has is in
+    let none : a - other.offset ≡ 0 = rw same (omega arith) in
+    rw (none, zero-div (sector_len other)) (omega arith)
+prompt_before_payload image WriteFailed a b segment has few other is =
+    let same = same_segment image segment other has is in
+    let start : a ≤ other.offset = rw same few in
+    omega arith
+prompt_before_payload image _ a b segment has few other is = tt
+
+-- ---- runs without output
+
+-- a run that was broken off before any output
+early : (out : Outcome) (before : Bytes) (message : Message) (i s w : Option (List ℕ)) (a b : ℕ) → IsSilent message 0 → cat_promptly before.image message a b 0
+    → a ≤ out.image_taken → b ≤ out.secret_taken → i ≡ Some (drop a before.image) → s ≡ Some (drop b before.secret) → w ≡ Some before.written
+    → BreaksOff (cat_promptly before.image) out before message i s w
+early out before message i s w a b silent prompt few little image secret was = record {
+  image_taken = a;
+  secret_taken = b;
+  output_len = 0;
+  image_within = few;
+  secret_within = little;
+  output_within = omega arith;
+  is_silent = silent;
+  is_prompt = prompt;
+  left = record { image = image; secret = secret; written = was ∙ ap Some (sym (append-nil before.written)) };
+}
+
+-- a run whose outcome has no output, whatever it tells
+ends_unwritten : (before : Bytes) (message : Message) (i s w : Option (List ℕ)) (a b : ℕ) → cat_promptly before.image message a b 0
+    → i ≡ Some (drop a before.image) → s ≡ Some (drop b before.secret) → w ≡ Some before.written
+    → Runs (cat_promptly before.image) (unwritten message a b) before message i s w
+ends_unwritten before OutOfMemory i s w a b prompt image secret was = early _ before OutOfMemory i s w a b refl prompt (omega arith) (omega arith) image secret was
+ends_unwritten before ReadFailed i s w a b prompt image secret was = early _ before ReadFailed i s w a b tt prompt (omega arith) (omega arith) image secret was
+ends_unwritten before WriteFailed i s w a b prompt image secret was = early _ before WriteFailed i s w a b tt prompt (omega arith) (omega arith) image secret was
+ends_unwritten before _ i s w a b prompt image secret was =
+    record { told = refl; left = record { image = image; secret = secret; written = was ∙ ap Some (sym (append-nil before.written)) } }
+
+-- ---- the outcome of a volume that was found
+
+module _ (deed : Deed) (named : Option ℕ) (v : Volume) (image secret : List ℕ) where
+  found_long : 8388608 < length secret → found_outcome deed named v image secret ≡ unwritten KeyFileLength (cost_of image) 8388609
+  unfolding found_outcome
+  found_long long = let yes : nat_lt 8388608 (length secret) ≡ true = grind (arith, nat_tests) in rw yes refl
+
+  found_cut : length secret ≤ 8388608 → length image < held_of v.tries.slots → found_outcome deed named v image secret ≡ unwritten Cut (length image) (length secret)
+  unfolding found_outcome
+  found_cut short few =
+      let no : nat_lt 8388608 (length secret) ≡ false = grind (arith, nat_tests) in
+      let yes : nat_lt (length image) (held_of v.tries.slots) ≡ true = grind (arith, nat_tests) in
+      rw (no, yes) refl
+
+  found_whole : length secret ≤ 8388608 → held_of v.tries.slots ≤ length image
+      → found_outcome deed named v image secret ≡ opened_outcome deed named v image secret (opening_of v.header v.tries image secret)
+  unfolding found_outcome
+  found_whole short enough =
+      let no : nat_lt 8388608 (length secret) ≡ false = grind (arith, nat_tests) in
+      let none : nat_lt (length image) (held_of v.tries.slots) ≡ false = grind (arith, nat_tests) in
+      rw (no, none) refl
+
+  module _ (takes : TakesHeld secret deed) where
+    opened_within : (r : Result Opened OpenFault)
+        → (held_for image v ≤ (opened_outcome deed named v image secret r).image_taken) × (length secret ≤ (opened_outcome deed named v image secret r).secret_taken)
+    opened_within (Ok opened) =
+        (takes.held v.segment opened (held_for image v), omega (arith, takes.whole v.segment opened (held_for image v)))
+    opened_within (Err fault) = (omega arith, omega arith)
+
+    -- a key file that is not too long is taken whole, and the image as far as it is held
+    area_within : length secret ≤ 8388608
+        → (min (length image) (held_for image v) ≤ (found_outcome deed named v image secret).image_taken) × (length secret ≤ (found_outcome deed named v image secret).secret_taken)
+    area_within short = elim (cases_lt (length image) (held_of v.tries.slots)) [
+      | inl few ↦ rw (found_cut short few) (omega arith, omega arith)
+      | inr enough ↦
+          let all = opened_within (opening_of v.header v.tries image secret) in
+          rw (found_whole short enough) (omega (arith, all.0), all.1)
+    ]
+
+    -- the header is taken, and of the key file as much as is read at most
+    found_within : (cost_of image ≤ (found_outcome deed named v image secret).image_taken)
+        × (min (length secret) 8388609 ≤ (found_outcome deed named v image secret).secret_taken)
+    found_within = elim (cases_lt 8388608 (length secret)) [
+      | inl long ↦ rw (found_long long) (omega arith, omega arith)
+      | inr short ↦
+          let all = area_within short in
+          (omega (arith, all.0, cost_there image), omega (arith, all.1))
+    ]
+
+-- ---- the area that is held
+
+module _ (image area area' : List ℕ) (i : Option (List ℕ)) (held : ℕ) (front : area ≡ take (cost_of image) image) where
+  front_len : length area ≡ cost_of image
+  front_len = ap length front ∙ length-take-le (cost_of image) image (cost_there image)
+
+  -- so many bytes more are held
+  area_more : (n : ℕ) → Grows area area' (drop (cost_of image) image) i n
+      → (cost_of image + n ≤ length image) × (area' ≡ take (cost_of image + n) image) × (i ≡ Some (drop (cost_of image + n) image))
+  area_more n grows = (
+    omega (arith, grows.there, length-drop (cost_of image) image, cost_there image),
+    grows.holds ∙ ap (λ l. l ++ take n (drop (cost_of image) image)) front ∙ sym (take-add (cost_of image) n image),
+    grows.leaves ∙ ap Some (drop-drop n (cost_of image) image),
+  )
+
+  module _ (grows : Grows area area' (drop (cost_of image) image) i (min (held - length area) (length (drop (cost_of image) image)))) where
+    reached : ℕ
+    reached = cost_of image + min (held - length area) (length (drop (cost_of image) image))
+
+    grown : (length area' ≡ reached) × (reached ≡ max (cost_of image) (min held (length image)))
+    unfolding reached
+    grown =
+        let more = area_more _ grows in
+        (ap length more.1 ∙ length-take-le _ image more.0, omega (arith, front_len, length-drop (cost_of image) image, cost_there image))
+
+    -- the image ended before the area was held
+    pub area_cut : length area' < held → (length image < held) × (i ≡ Some (drop (length image) image))
+    unfolding reached
+    area_cut short =
+        let more = area_more _ grows in
+        let all : reached ≡ length image = omega (arith, grown.0, grown.1, cost_there image) in
+        (omega (arith, grown.0, grown.1, cost_there image), rw all at more.2)
+
+    -- the area is held
+    pub area_held : held ≤ length area' → (held ≤ length image) × (length area' ≡ max (cost_of image) held)
+        × (area' ≡ take (max (cost_of image) held) image) × (i ≡ Some (drop (max (cost_of image) held) image))
+    unfolding reached
+    area_held enough =
+        let more = area_more _ grows in
+        let there : held ≤ length image = omega (arith, grown.0, grown.1, cost_there image, more.0) in
+        let all : reached ≡ max (cost_of image) held = omega (arith, grown.1) in
+        (there, grown.0 ∙ all, rw all at more.1, rw all at more.2)
+
+-- ---- runs that open no volume
+
+module _ (o : OpeningRequest) (before : Bytes) (i s w : Option (List ℕ)) where
+  outcome_is : (deed : Deed) (r : Result Volume Message) → volume_of o before.image ≡ r
+      → volume_outcome deed o before.image before.secret ≡ outcome_after deed o.key_slot before.image before.secret r
+  unfolding volume_outcome
+  outcome_is deed r is = rw is refl
+
+  module _ (deed : Deed) (was : w ≡ Some before.written) (takes : TakesHeld before.secret deed) where
+    cost_taken : cost_of before.image ≤ (volume_outcome deed o before.image before.secret).image_taken
+    unfolding volume_outcome
+    cost_taken = after (volume_of o before.image)
+      where
+        after : (r : Result Volume Message) → cost_of before.image ≤ (outcome_after deed o.key_slot before.image before.secret r).image_taken
+        after (Ok v) = (found_within deed o.key_slot v before.image before.secret takes).0
+        after (Err message) = omega arith
+
+    -- there was no volume, or its header was not read
+    pub runs_without_volume : (message : Message) → StopsFinding o before.image i message → s ≡ Some before.secret
+        → Runs (cat_promptly before.image) (volume_outcome deed o before.image before.secret) before message i s w
+    runs_without_volume OutOfMemory stop whole =
+        early _ before OutOfMemory i s w stop.0 0 refl (prompt_in_header before.image OutOfMemory stop.0 0 stop.1) (omega (arith, stop.1, cost_taken)) (omega arith) stop.2 whole was
+    runs_without_volume ReadFailed stop whole =
+        early _ before ReadFailed i s w stop.0 0 tt (prompt_in_header before.image ReadFailed stop.0 0 stop.1) (omega (arith, stop.1, cost_taken)) (omega arith) stop.2 whole was
+    runs_without_volume WriteFailed stop whole =
+        rw (outcome_is deed (Err WriteFailed) stop.0)
+        (ends_unwritten before WriteFailed i s w (cost_of before.image) 0 (prompt_in_header before.image WriteFailed (cost_of before.image) 0 (omega arith)) stop.1 whole was)
+    runs_without_volume message stop whole =
+        rw (outcome_is deed (Err message) stop.0)
+        (ends_unwritten before message i s w (cost_of before.image) 0 (prompt_in_header before.image message (cost_of before.image) 0 (omega arith)) stop.1 whole was)
+
+  -- the header names this segment and these key slots to be tried
+  module _ (header : Header) (segment : Segment) (tries : Tries) (found : header_of before.image ≡ Ok header) (is_segment : segment_of header ≡ Ok segment)
+      (ordered : order_of header o.key_slot o.max_iterations ≡ Ok tries) where
+    volume : Volume
+    volume = record { header = header; segment = segment; tries = tries }
+
+    outcome_found : (deed : Deed) → volume_outcome deed o before.image before.secret ≡ found_outcome deed o.key_slot volume before.image before.secret
+    unfolding volume
+    outcome_found deed = outcome_is deed (Ok volume) (volume_is o before.image i header found segment tries is_segment ordered)
+
+    held_before : held_for before.image volume ≤ segment.offset
+    unfolding volume
+    held_before =
+        omega (arith, cost_most before.image, behind_header header segment is_segment, held_before_payload header segment o.key_slot o.max_iterations tries is_segment ordered)
+
+    -- the key file was not read
+    pub runs_without_secret : (deed : Deed) (was : w ≡ Some before.written) (takes : TakesHeld before.secret deed) (message : Message) → NoSecretRead before.secret s message
+        → i ≡ Some (drop (cost_of before.image) before.image)
+        → Runs (cat_promptly before.image) (volume_outcome deed o before.image before.secret) before message i s w
+    runs_without_secret deed was takes KeyFileLength stop rest =
+        rw (outcome_found deed, found_long deed o.key_slot volume before.image before.secret stop.0)
+        (ends_unwritten before KeyFileLength i s w (cost_of before.image) 8388609 (λ segment has. tt) rest stop.1 was)
+    runs_without_secret deed was takes OutOfMemory stop rest =
+        let within = found_within deed o.key_slot volume before.image before.secret takes in
+        rw (outcome_found deed)
+        (early _ before OutOfMemory i s w (cost_of before.image) stop.0 refl (λ segment has. tt) within.0 (omega (arith, stop.1, within.1)) rest stop.2 was)
+    runs_without_secret deed was takes ReadFailed stop rest =
+        let within = found_within deed o.key_slot volume before.image before.secret takes in
+        rw (outcome_found deed)
+        (early _ before ReadFailed i s w (cost_of before.image) stop.0 tt (prompt_in_header before.image ReadFailed (cost_of before.image) stop.0 (omega arith)) within.0
+        (omega (arith, stop.1, within.1)) rest stop.2 was)
+    runs_without_secret deed was takes _ stop rest = absurd stop
+
+    -- the key file was read
+    module _ (short : length before.secret ≤ 8388608) (gone : s ≡ Some []) (area area' : List ℕ) (front : area ≡ take (cost_of before.image) before.image) where
+      taken : s ≡ Some (drop (length before.secret) before.secret)
+      taken = gone ∙ ap Some (sym (drop_all (length before.secret) before.secret (omega arith)))
+
+      -- the key areas were not taken
+      pub runs_without_area : (deed : Deed) (was : w ≡ Some before.written) (takes : TakesHeld before.secret deed) (fault : HeaderFault)
+          → StopsGrowing (held_of tries.slots - length area) area area' (drop (cost_of before.image) before.image) i fault
+          → Runs (cat_promptly before.image) (volume_outcome deed o before.image before.secret) before (message_for_header fault) i s w
+      unfolding volume
+      runs_without_area deed was takes LostRead stop =
+          let more = area_more before.image area area' i (held_of tries.slots) front stop.0 stop.2 in
+          let few : cost_of before.image + stop.0 ≤ held_for before.image volume = omega (arith, stop.1, front_len before.image area area' i (held_of tries.slots) front) in
+          let within = area_within deed o.key_slot volume before.image before.secret takes short in
+          rw (outcome_found deed)
+          (early _ before ReadFailed i s w (cost_of before.image + stop.0) (length before.secret) tt
+          (prompt_before_payload before.image ReadFailed (cost_of before.image + stop.0) (length before.secret) segment (header, found, is_segment) (omega (arith, few, held_before)))
+          (omega (arith, within.0, more.0, few)) within.1 more.2 taken was)
+      runs_without_area deed was takes NoMemory stop =
+          let within = found_within deed o.key_slot volume before.image before.secret takes in
+          let whole = area_within deed o.key_slot volume before.image before.secret takes short in
+          rw (outcome_found deed)
+          (early _ before OutOfMemory i s w (cost_of before.image) (length before.secret) refl (λ segment has. tt) within.0 whole.1 stop.leaves taken was)
+      runs_without_area deed was takes _ stop = absurd stop
+
+      module _ (grows : Grows area area' (drop (cost_of before.image) before.image) i (min (held_of tries.slots - length area) (length (drop (cost_of before.image) before.image)))) where
+        -- the image ended within them
+        pub runs_cut : (deed : Deed) (was : w ≡ Some before.written) → length area' < held_of tries.slots
+            → Runs (cat_promptly before.image) (volume_outcome deed o before.image before.secret) before Cut i s w
+        unfolding volume
+        runs_cut deed was few =
+            let cut = area_cut before.image area area' i (held_of tries.slots) front grows few in
+            rw (outcome_found deed, found_cut deed o.key_slot volume before.image before.secret short cut.0)
+            (ends_unwritten before Cut i s w (length before.image) (length before.secret) (λ segment has. tt) cut.1 taken was)
+
+        module _ (enough : held_of tries.slots ≤ length area') (r : Result Opened OpenFault) (tried : opening_of header tries area' before.secret ≡ r) where
+          outcome_tried : (deed : Deed) → volume_outcome deed o before.image before.secret ≡ opened_outcome deed o.key_slot volume before.image before.secret r
+          unfolding volume
+          outcome_tried deed =
+              let held = area_held before.image area area' i (held_of tries.slots) front grows enough in
+              let whole : opening_of header tries before.image before.secret ≡ r =
+              sym (opening_beginning header tries (max (cost_of before.image) (held_of tries.slots)) before.image before.secret (omega arith))
+              ∙ ap (λ l. opening_of header tries l before.secret) (sym held.2) ∙ tried in
+              outcome_found deed ∙ found_whole deed o.key_slot volume before.image before.secret short held.0
+              ∙ ap (opened_outcome deed o.key_slot volume before.image before.secret) whole
+
+      -- no key slot opens
+      pub runs_unopened : (grows : Grows area area' (drop (cost_of before.image) before.image) i (min (held_of tries.slots - length area) (length (drop (cost_of before.image) before.image))))
+          → (enough : held_of tries.slots ≤ length area') (fault : OpenFault) (tried : opening_of header tries area' before.secret ≡ Err fault) (deed : Deed) (was : w ≡ Some before.written)
+          → Runs (cat_promptly before.image) (volume_outcome deed o before.image before.secret) before (message_for_opening o.key_slot fault) i s w
+      unfolding volume
+      runs_unopened grows enough fault tried deed was =
+          let held = area_held before.image area area' i (held_of tries.slots) front grows enough in
+          rw (outcome_tried grows enough (Err fault) tried deed)
+          (ends_unwritten before (message_for_opening o.key_slot fault) i s w (held_for before.image volume) (length before.secret)
+          (prompt_before_payload before.image (message_for_opening o.key_slot fault) (held_for before.image volume) (length before.secret) segment (header, found, is_segment) held_before)
+          held.3 taken was)
+
+      -- a key slot opens
+      pub unlocks : (grows : Grows area area' (drop (cost_of before.image) before.image) i (min (held_of tries.slots - length area) (length (drop (cost_of before.image) before.image))))
+          → (enough : held_of tries.slots ≤ length area') (opened : Opened) (tried : opening_of header tries area' before.secret ≡ Ok opened)
+          → Unlocks o before.image before.secret segment opened (length area') i s
+      unfolding volume
+      unlocks grows enough opened tried =
+          let held = area_held before.image area area' i (held_of tries.slots) front grows enough in
+          record {
+            outcome = λ deed. outcome_tried grows enough (Ok opened) tried deed ∙ ap (deed segment opened) (sym held.1);
+            has = (header, found, is_segment);
+            cost = omega (arith, held.1);
+            there = omega (arith, held.0, held.1, cost_there before.image);
+            image_left = rw (← held.1) at held.3;
+            secret_left = gone;
+          }

@@ -1,0 +1,18 @@
+use Rattle.std.proofs.Common.{◌≡◌, ◌≤◌, ◌<◌, ◌^◌, List, ℕ, Some, length, drop, true}
+use Rattle.luks_volume.specs.Pumped.{is_running}
+use Rattle.luks_cli.proofs.PayloadLemmas.{Passing}
+use Rattle.luks_cli.proofs.execute.payload.write_payload.Given as goal
+
+-- the pump has passed on so many sectors
+abbrev pub invariant-sectors : goal.invariant-sectors
+invariant-sectors g l = record {
+  segment : l.pump.segment ≡ l.fn.segment;
+  key : l.pump.key ≡ l.fn.key;
+  count : l.pump.count ≡ l.counter;
+  running : is_running l.pump.state ≡ true;
+  reads : g.I.Source.failures l.image ≡ g.I.Source.failures l.initial.image;
+  writes : g.O.Sink.failures l.out ≡ g.O.Sink.failures l.initial.out;
+  passing : (whole before : List ℕ) → length whole < 2 ^ 64 → l.fn.consumed ≤ length whole
+      → g.I.Source.to_come l.initial.image ≡ Some (drop l.fn.consumed whole) → g.O.Sink.written l.initial.out ≡ Some before
+      → Passing l.pump whole before (g.I.Source.to_come l.image) (g.O.Sink.written l.out);
+}

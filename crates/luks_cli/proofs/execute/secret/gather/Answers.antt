@@ -1,0 +1,39 @@
+use Rattle.std.proofs.Common.{◌≡◌, ◌∙◌, length-take-le, vec_len, arith}
+use Rattle.std.proofs.lemmas.Result.{err_from_is_err_and}
+use Rattle.luks_cli.proofs.SecretLemmas.{piece_last, piece_lost, piece_more}
+use Rattle.luks_cli.proofs.execute.secret.gather.Goals as goal
+
+pub returns-in_err-take_piece-clause-err : goal.returns-in_err-take_piece-clause-err
+returns-in_err-take_piece-clause-err g c =
+    let p = err_from_is_err_and c.from_residual.result c.from_residual.ensures.1 in
+    let sized = length-take-le c.min-size.result c.pieces.buffer (omega arith) in
+    rw (p.1, p.2) (λ told is.
+    let so_far = c.pieces.invariant.taken told is in
+    piece_lost told _ c.min-size.result _ _ _ so_far.1 (omega arith) (rw sized at (c.in_err-take_piece.ensures.err _ so_far.1.1)) c.in_err-take_piece.ensures.only)
+
+pub returns-then-branch-size-clause-ok : goal.returns-then-branch-size-clause-ok
+returns-then-branch-size-clause-ok g c told is =
+    let sized = length-take-le c.min-size.result c.pieces.buffer (omega arith) in
+    let so_far = c.pieces.invariant.taken told is in
+    let next = rw sized at (c.in_ok-take_piece.ensures.ok _ so_far.1.1) in
+    piece_last told _ _ _ _ c.min-size.result _ _ so_far next.1 next.0 c.if-branch-size.true
+
+pub pieces-preserved : goal.pieces-preserved
+pieces-preserved g c =
+    let sized = length-take-le c.min-size.result c.pieces.buffer (omega arith) in
+    let len = c.in_ok-take_piece.ensures.len in
+    record {
+      within = omega (arith, c.in_ok-take_piece.ensures.size);
+      reads = c.in_ok-take_piece.ensures.reads ∙ c.pieces.invariant.reads;
+      taken = λ told is.
+          let so_far = c.pieces.invariant.taken told is in
+          let next = c.in_ok-take_piece.ensures.ok _ so_far.1.1 in
+          rw len (piece_more told _ _ _ _ _ _ so_far next.1);
+    }
+
+pub returns-clause-err : goal.returns-clause-err
+returns-clause-err g c told is =
+    let so_far = c.pieces.invariant.taken told is in
+    let within = c.pieces.invariant.within in
+    let full : vec_len c.pieces.secret ≡ 8388609 = omega arith in
+    (omega (arith, so_far.1.0), rw full at so_far.1.1)

@@ -1,0 +1,174 @@
+//! The commands on volumes over devices that move a few bytes a call, fail, or are refused memory.
+
+use super::execute;
+use crate::command::plan;
+use crate::message::Message;
+use crate::report::Report;
+use crate::tests::devices::{Broken, Flaky, Leaky};
+use crate::tests::scarce::Scarcity;
+use crate::tests::volume::{PASSPHRASE, SMALL, USUAL, plain_bytes, sealed};
+use luks_io::memory::{MemSink, MemSource};
+use std::process::Abort;
+use std::test::Fail;
+
+const NEVER: u64 = u64::MAX;
+
+#[test]
+fn writes_the_same_for_all_pieces(rt: HostRuntime) -> Result<(), Fail> {
+    let alloc = rt.alloc();
+    let image = sealed(alloc, SMALL, PASSPHRASE)?;
+    let plain = plain_bytes(alloc)?;
+    let words = ["luksCat", "--key-file", "f", "i"];
+    let command = plan(alloc, &words).ok().ok_or("a command")?;
+    for given in [1, 511, 512, 513, 5000] {
+        for taken in [1, 700] {
+            let mut source = Flaky::new(&image, given, NEVER);
+            let mut secret = Flaky::new(PASSPHRASE, given, NEVER);
+            let mut out = Leaky::new(alloc, taken, NEVER)?;
+            let report = execute(alloc, &command, &mut source, &mut secret, &mut out);
+            assert_eq!(rt; report, Report::of(Message::Done));
+            assert_eq!(rt; out.as_slice(), plain.as_slice());
+            assert_eq!(rt; (source.left(), secret.left()), (0, 0));
+        }
+    }
+    Ok(())
+}
+
+#[test]
+fn stops_at_a_failed_write(rt: HostRuntime) -> Result<(), Fail> {
+    let alloc = rt.alloc();
+    let image = sealed(alloc, USUAL, PASSPHRASE)?;
+    let plain = plain_bytes(alloc)?;
+    let words = ["luksCat", "--key-file", "f", "i"];
+    let command = plan(alloc, &words).ok().ok_or("a command")?;
+    for (room, taken) in [
+        (0, 2_097_664),
+        (511, 2_097_664),
+        (512, 2_098_176),
+        (700, 2_098_176),
+        (1535, 2_098_688),
+    ] {
+        let mut source = MemSource::new(&image);
+        let mut secret = MemSource::new(PASSPHRASE);
+        let mut out = MemSink::new(alloc, room)?;
+        let report = execute(alloc, &command, &mut source, &mut secret, &mut out);
+        assert_eq!(rt; report, Report::of(Message::WriteFailed));
+        assert_eq!(rt; out.as_slice(), &plain[..plain.len().min(room)]);
+        assert_eq!(rt; image.len() - source.left().len().min(image.len()), taken);
+    }
+    Ok(())
+}
+
+#[test]
+fn stops_at_a_failed_read(rt: HostRuntime) -> Result<(), Fail> {
+    let alloc = rt.alloc();
+    let image = sealed(alloc, USUAL, PASSPHRASE)?;
+    let plain = plain_bytes(alloc)?;
+    let words = ["luksCat", "--key-file", "f", "i"];
+    let command = plan(alloc, &words).ok().ok_or("a command")?;
+    for (given, sectors) in [
+        (0, 0),
+        (591, 0),
+        (260_095, 0),
+        (2_097_151, 0),
+        (2_097_152, 0),
+        (2_098_175, 1),
+        (2_098_300, 2),
+        (2_098_688, 3),
+    ] {
+        let mut source = Broken::new(&image, given);
+        let mut secret = MemSource::new(PASSPHRASE);
+        let mut out = MemSink::new(alloc, 4096)?;
+        let report = execute(alloc, &command, &mut source, &mut secret, &mut out);
+        assert_eq!(rt; report, Report::of(Message::ReadFailed));
+        assert_eq!(rt; out.as_slice(), &plain[..plain.len().min(512 * sectors)]);
+        assert_eq!(rt; image.len() - source.left().min(image.len()), given);
+    }
+    let mut source = MemSource::new(&image);
+    let mut secret = Broken::new(PASSPHRASE, 5);
+    let mut out = MemSink::new(alloc, 4096)?;
+    let report = execute(alloc, &command, &mut source, &mut secret, &mut out);
+    assert_eq!(rt; report, Report::of(Message::ReadFailed));
+    assert_eq!(rt; image.len() - source.left().len().min(image.len()), 592);
+    assert_eq!(rt;
+        (out.as_slice().len(), secret.left()),
+        (0, PASSPHRASE.len() - 5)
+    );
+    Ok(())
+}
+
+// Runs with one failing call each, counted upwards until a run meets none. Each is told as what failed, and what it wrote is a
+// beginning of the whole: for a failed read of the image the whole sectors that were taken.
+fn check_failures(rt: &(impl Abort + AllocGlobal), name: &str, whole: &[u8]) -> Result<(), Fail> {
+    let alloc = rt.alloc();
+    let image = sealed(alloc, SMALL, PASSPHRASE)?;
+    let words = [name, "--key-file", "f", "i"];
+    let command = plan(alloc, &words).ok().ok_or("a command")?;
+    for device in 0..3 {
+        for call in 0..600 {
+            let at = |which: u32| if which == device { call } else { NEVER };
+            let mut source = Flaky::new(&image, 200, at(0));
+            let mut secret = Flaky::new(PASSPHRASE, 5, at(1));
+            let mut out = Leaky::new(alloc, 7, at(2))?;
+            let report = execute(alloc, &command, &mut source, &mut secret, &mut out);
+            assert!(rt; whole.starts_with(out.as_slice()));
+            if source.failures == 0 && secret.failures == 0 && out.failures() == 0 {
+                assert_eq!(rt; report, Report::of(Message::Done));
+                assert_eq!(rt; out.as_slice(), whole);
+                break;
+            }
+            let told = if device == 2 {
+                Message::WriteFailed
+            } else {
+                Message::ReadFailed
+            };
+            assert_eq!(rt; report, Report::of(told));
+            assert!(rt; call < 599);
+        }
+    }
+    Ok(())
+}
+
+#[test]
+fn tells_each_failed_call(rt: HostRuntime) -> Result<(), Fail> {
+    let plain = plain_bytes(rt.alloc())?;
+    check_failures(&rt, "luksCat", &plain)?;
+    check_failures(&rt, "testPassphrase", b"Key slot 0 opens the volume.\n")
+}
+
+// Runs with less and less memory refused, until one meets no refusal. Each refused run answers want of memory, and writes
+// nothing.
+#[test]
+fn answers_memory_where_it_is_refused(rt: HostRuntime) -> Result<(), Fail> {
+    let alloc = rt.alloc();
+    let image = sealed(alloc, SMALL, PASSPHRASE)?;
+    let plain = plain_bytes(alloc)?;
+    let line: &[u8] = b"Key slot 0 opens the volume.\n";
+    for (name, whole) in [("luksCat", plain.as_slice()), ("testPassphrase", line)] {
+        let words = [name, "--key-file", "f", "i"];
+        let command = plan(alloc, &words).ok().ok_or("a command")?;
+        let mut out = MemSink::new(alloc, 4096)?;
+        let mut reports = Vec::with_capacity(alloc, 400)?;
+        let mut scarcity = Scarcity::new(alloc, 400, 136)?;
+        for _ in 0..400 {
+            let mut source = MemSource::new(&image);
+            let mut secret = MemSource::new(PASSPHRASE);
+            let report = execute(alloc, &command, &mut source, &mut secret, &mut out);
+            let _ = reports.push((report, out.as_slice().len()));
+            if report.status == 0 {
+                break;
+            }
+            scarcity.relent();
+        }
+        drop(scarcity);
+        let last = reports.pop().ok_or("a run")?;
+        assert_eq!(rt; last.0, Report::of(Message::Done), "{name}");
+        assert_eq!(rt; out.as_slice(), whole, "{name}");
+        assert!(rt; 10 < reports.len(), "{name}");
+        for (report, written) in reports.iter() {
+            assert_eq!(rt; *report, Report::of(Message::OutOfMemory), "{name}");
+            assert_eq!(rt; *written, 0, "{name}");
+        }
+    }
+    Ok(())
+}

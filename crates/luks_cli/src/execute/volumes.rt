@@ -1,0 +1,219 @@
+//! `testPassphrase` and `luksCat`: volumes that a passphrase opens.
+
+ghost use Rattle.std.specs.Prelude.{◌≡◌, ◌≢◌, ◌<◌, ◌≤◌, ◌^◌, List, ℕ, Option, Some, Ok, IfOk, IfErr, drop, length, string_bytes, take, true};
+ghost use Rattle.luks_cipher.specs.Xts.{is_xts_key_length};
+ghost use Rattle.luks_header.specs.Header.{cost_of, header_of};
+ghost use Rattle.luks_header.specs.Segment.{segment_of};
+ghost use Rattle.luks_open.specs.Order.{order_of};
+ghost use Rattle.luks_cli.specs.Outcome.{Deed, payload_written, slot_told, volume_outcome};
+ghost use Rattle.luks_cli.specs.Payload.{cat_promptly};
+ghost use Rattle.luks_cli.specs.Request.{opening_request};
+ghost use Rattle.luks_cli.specs.Run.{Bytes, Counts, Runs, Tell, count_reads, ending_of, none_owed};
+ghost use Rattle.luks_cli.specs.Unlocking.{TakesHeld, Unlocks};
+ghost use Rattle.luks_cli.specs.Volume.{StopsFinding, message_for_opening, slot_line};
+
+use super::payload::write_payload;
+use super::secret::read_secret;
+use crate::command::Opening;
+use crate::message::Message;
+use luks_cipher::XtsKey;
+use luks_header::area::HeaderArea;
+use luks_header::header::{Header, read_header};
+use luks_header::payload::segment;
+use luks_header::segment::Segment;
+use luks_io::sink::{Sink, put_all};
+use luks_io::source::Source;
+use luks_kdf::Work;
+use luks_open::fault::OpenFault;
+use luks_open::opening::{Opened, open};
+use luks_open::order::order;
+use luks_open::tries::{Order, held_end};
+use std::alloc::{AllocError, Global};
+
+/// A volume whose header is read: where its payload lies, and which key slots are tried.
+#[derive(Drop)]
+struct Volume {
+    header: Header,
+    area: HeaderArea,
+    segment: Segment,
+    order: Order,
+}
+
+/// A volume that is opened.
+#[derive(Drop)]
+struct Unlocked {
+    segment: Segment,
+    opened: Opened,
+    /// How many bytes of the image are taken.
+    held: u64,
+}
+
+/// The number of the key slot that is named.
+fn named_slot(opening: &Opening<'_>) -> Option<u8>
+    ensures { result ≡ (opening_request opening.now).key_slot }
+{
+    match opening.key_slot {
+        Some(slot) => Some(slot.get()),
+        None => None,
+    }
+}
+
+/// The limit on iterations.
+fn limit(opening: &Opening<'_>) -> Option<u32>
+    ensures { result ≡ (opening_request opening.now).max_iterations }
+{
+    match opening.max_iterations {
+        Some(limit) => Some(limit.get()),
+        None => None,
+    }
+}
+
+/// What is told where no key slot is tried or none opens.
+fn refusal_of(named: Option<u8>, fault: OpenFault) -> Message
+    ensures { result ≡ message_for_opening named fault }
+{
+    let slot = named.unwrap_or(0);
+    match fault {
+        OpenFault::NoSuchSlot => Message::NoSuchSlot(slot),
+        OpenFault::Disabled => Message::SlotDisabled(slot),
+        OpenFault::NamedSkipped(reason) => Message::SlotSkipped(slot, reason),
+        OpenFault::NothingTried(skipped) => Message::NothingTried(skipped),
+        OpenFault::NoKey(skipped) => Message::NoKey(skipped),
+        OpenFault::Memory => Message::OutOfMemory,
+    }
+}
+
+/// Reads the header of an image, and finds its segment and the key slots that are tried.
+fn find_volume<I: Source>(
+    alloc: Global,
+    opening: &Opening<'_>,
+    image: &mut I,
+) -> Result<Volume, Message>
+    ensures ok { IfOk result (λ volume. (told : List ℕ) → I.to_come image.old ≡ Some told
+        → (header_of told ≡ Ok volume.header) × (volume.area ≡ take (cost_of told) told)
+        × (I.to_come image.new ≡ Some (drop (cost_of told) told))) }
+    ensures err { IfErr result (λ message. (told : List ℕ) → I.to_come image.old ≡ Some told
+        → StopsFinding (opening_request opening.now) told (I.to_come image.new) message) }
+    ensures segment { IfOk result (λ volume. segment_of volume.header ≡ Ok volume.segment) }
+    ensures order { IfOk result (λ volume. let o = opening_request opening.now in
+        order_of volume.header o.key_slot o.max_iterations ≡ Ok volume.order) }
+    ensures area { IfOk result (λ volume. length volume.area ≡ cost_of volume.area) }
+    ensures found { IfOk result (λ volume. header_of volume.area ≡ Ok volume.header) }
+    ensures writes { IfErr result (λ message. message ≢ Message.WriteFailed) }
+    ensures reads { I.failures image.new ≡ count_reads (ending_of result) (I.failures image.old) }
+{
+    let (header, area) = read_header(alloc, image)?;
+    let segment = segment(&header)?;
+    let named = named_slot(opening);
+    match order(alloc, &header, named, limit(opening)) {
+        Ok(order) => Ok(Volume {
+            header,
+            area,
+            segment,
+            order,
+        }),
+        Err(fault) => Err(refusal_of(named, fault)),
+    }
+}
+
+/// Opens a volume by the passphrase that the key file has.
+fn unlock<I: Source, K: Source>(
+    alloc: Global,
+    opening: &Opening<'_>,
+    image: &mut I,
+    secret: &mut K,
+) -> Result<Unlocked, Message>
+    ensures ok { IfOk result (λ unlocked. (told pass : List ℕ)
+        → I.to_come image.old ≡ Some told → K.to_come secret.old ≡ Some pass
+        → Unlocks (opening_request opening.now) told pass unlocked.segment unlocked.opened unlocked.held
+        (I.to_come image.new) (K.to_come secret.new)) }
+    ensures err { IfErr result (λ message. (written : Option (List ℕ)) (before : Bytes)
+        → Tell (I.to_come image.old) (K.to_come secret.old) written before
+        → (deed : Deed) → TakesHeld before.secret deed
+        → Runs (cat_promptly before.image)
+        (volume_outcome deed (opening_request opening.now) before.image before.secret) before
+        message (I.to_come image.new) (K.to_come secret.new) written) }
+    ensures held { IfOk result (λ unlocked. unlocked.held ≤ unlocked.segment.offset) }
+    ensures key { IfOk result (λ unlocked. is_xts_key_length (length unlocked.opened.key) ≡ true) }
+    ensures counts { (written : ℕ) → Counts (ending_of result)
+        (record { image = I.failures image.old; secret = K.failures secret.old; written = written })
+        (record { image = I.failures image.new; secret = K.failures secret.new; written = written }) }
+{
+    let volume = find_volume(alloc, opening, image)?;
+    let pass = read_secret(alloc, secret)?;
+    let Volume {
+        header,
+        mut area,
+        segment,
+        order,
+    } = volume;
+    if !area.extend_to(image, held_end(&order))? {
+        return Err(Message::Cut);
+    }
+    match open(&header, &area, &order, &pass, &mut Work::new(0)) {
+        Ok(opened) => Ok(Unlocked {
+            segment,
+            opened,
+            held: area.as_slice().len() as u64,
+        }),
+        Err(fault) => Err(refusal_of(named_slot(opening), fault)),
+    }
+}
+
+/// What is printed of the key slot that opens.
+#[tactic(auto, unfolding(crate::specs::Volume::slot_line))]
+fn slot_page(alloc: Global, slot: u8) -> Result<String, AllocError>
+    ensures { IfOk result (λ page. string_bytes page ≡ slot_line slot) }
+{
+    let mut page = format!(in alloc; "Key slot {slot}")?;
+    page.push_str(" opens the volume.\n")?;
+    Ok(page)
+}
+
+/// `testPassphrase`.
+pub(super) fn test_passphrase<I: Source, K: Source, O: Sink>(
+    alloc: Global,
+    opening: &Opening<'_>,
+    image: &mut I,
+    secret: &mut K,
+    out: &mut O,
+) -> Result<(), Message>
+    ensures run { (before : Bytes)
+        → Tell (I.to_come image.old) (K.to_come secret.old) (O.written out.old) before
+        → Runs none_owed
+        (volume_outcome (slot_told before.secret) (opening_request opening.now) before.image before.secret) before
+        (ending_of result) (I.to_come image.new) (K.to_come secret.new) (O.written out.new) }
+    ensures counts { Counts (ending_of result)
+        (record { image = I.failures image.old; secret = K.failures secret.old; written = O.failures out.old })
+        (record { image = I.failures image.new; secret = K.failures secret.new; written = O.failures out.new }) }
+{
+    let unlocked = unlock(alloc, opening, image, secret)?;
+    let page = slot_page(alloc, unlocked.opened.slot)?;
+    put_all(out, page.as_bytes())?;
+    Ok(())
+}
+
+/// `luksCat`.
+pub(super) fn cat<I: Source, K: Source, O: Sink>(
+    alloc: Global,
+    opening: &Opening<'_>,
+    image: &mut I,
+    secret: &mut K,
+    out: &mut O,
+) -> Result<(), Message>
+    ensures run { (before : Bytes)
+        → Tell (I.to_come image.old) (K.to_come secret.old) (O.written out.old) before
+        → length before.image < 2 ^ 64
+        → Runs (cat_promptly before.image)
+        (volume_outcome (payload_written before.image before.secret) (opening_request opening.now) before.image before.secret) before
+        (ending_of result) (I.to_come image.new) (K.to_come secret.new) (O.written out.new) }
+    ensures counts { Counts (ending_of result)
+        (record { image = I.failures image.old; secret = K.failures secret.old; written = O.failures out.old })
+        (record { image = I.failures image.new; secret = K.failures secret.new; written = O.failures out.new }) }
+{
+    let unlocked = unlock(alloc, opening, image, secret)?;
+    let Some(key) = XtsKey::new(unlocked.opened.key.as_slice()) else {
+        unreachable!()
+    };
+    write_payload(unlocked.segment, key, unlocked.held, image, out)
+}
