@@ -9,22 +9,22 @@ use Rattle.luks_cli.specs.declared.message.Message.{Message}
 use Rattle.luks_cli.specs.declared.message.Message.TheVariants.{Done, OutOfMemory, ReadFailed, WriteFailed}
 use Rattle.luks_cli.specs.Header.{answer_to_is_luks, message_for_header}
 use Rattle.luks_cli.specs.Outcome.{Outcome, is_luks_outcome, print_outcome}
-use Rattle.luks_cli.specs.Run.{IsSilent, Bytes, Runs, BreaksOff, none_owed}
+use Rattle.luks_cli.specs.Run.{IsBeginning, IsSilent, Bytes, Runs, BreaksOff, none_owed}
 
 -- nothing was written
 unwritten : (w : Option (List ℕ)) (ws : List ℕ) → w ≡ Some ws → w ≡ Some (ws ++ [])
 unwritten w ws was = was ∙ ap Some (sym (append-nil ws))
 
 -- a run that ended before any output
-early : (o : Outcome) (before : Bytes) (message : Message) (i s w : Option (List ℕ)) (count : ℕ) → IsSilent message 0 → count ≤ o.image_taken → i ≡ Some (drop count before.image)
+early : (o : Outcome) (before : Bytes) (message : Message) (i s w : Option (List ℕ)) (count : ℕ) → IsSilent message 0 → IsBeginning message 0 (length o.output) → count ≤ o.image_taken → i ≡ Some (drop count before.image)
     → s ≡ Some before.secret → w ≡ Some before.written → BreaksOff none_owed o before message i s w
-early o before message i s w count silent few left is was = record {
+early o before message i s w count silent begins few left is was = record {
   image_taken = count;
   secret_taken = 0;
   output_len = 0;
   image_within = few;
   secret_within = omega arith;
-  output_within = omega arith;
+  output_within = begins;
   is_silent = silent;
   is_prompt = tt;
   left = record { image = left; secret = is; written = unwritten w before.written was };
@@ -39,7 +39,7 @@ module _ (text : Header → List ℕ) (before : Bytes) (i s w : Option (List ℕ
 
     -- memory was refused for its text
     pub runs_without_text : w ≡ Some before.written → Runs none_owed (print_outcome text before.image) before OutOfMemory i s w
-    runs_without_text was = rw print_found (early _ before OutOfMemory i s w (cost_of before.image) refl (omega arith) left is was)
+    runs_without_text was = rw print_found (early _ before OutOfMemory i s w (cost_of before.image) refl (omega arith) (omega arith) left is was)
 
     -- the text was written
     pub runs_to_end : (page : List ℕ) (w' : Option (List ℕ)) → page ≡ text header → w ≡ Some before.written → Adds w w' page
@@ -77,8 +77,8 @@ module _ (text : Header → List ℕ) (before : Bytes) (i s w : Option (List ℕ
   runs_without_header NoLuks stop was = rw (print_none NoLuks stop.0) (record { told = refl; left = record { image = stop.1; secret = is; written = unwritten w before.written was } })
   runs_without_header IsCut stop was = rw (print_none IsCut stop.0) (record { told = refl; left = record { image = stop.1; secret = is; written = unwritten w before.written was } })
   runs_without_header NoJson stop was = rw (print_none NoJson stop.0) (record { told = refl; left = record { image = stop.1; secret = is; written = unwritten w before.written was } })
-  runs_without_header Read stop was = early _ before ReadFailed i s w stop.0 tt (omega (arith, stop.1, print_cost)) stop.2 is was
-  runs_without_header Memory stop was = early _ before OutOfMemory i s w stop.0 refl (omega (arith, stop.1, print_cost)) stop.2 is was
+  runs_without_header Read stop was = early _ before ReadFailed i s w stop.0 tt (omega arith) (omega (arith, stop.1, print_cost)) stop.2 is was
+  runs_without_header Memory stop was = early _ before OutOfMemory i s w stop.0 refl (omega arith) (omega (arith, stop.1, print_cost)) stop.2 is was
 
 module _ (before : Bytes) (i s w : Option (List ℕ)) (is : s ≡ Some before.secret) (was : w ≡ Some before.written) where
   asked_cost : (is_luks_outcome before.image).image_taken ≡ cost_of before.image
@@ -101,5 +101,5 @@ module _ (before : Bytes) (i s w : Option (List ℕ)) (is : s ≡ Some before.se
   is_luks_refused NoLuks stop = rw (asked (Err NoLuks) stop.0) (record { told = refl; left = record { image = stop.1; secret = is; written = unwritten w before.written was } })
   is_luks_refused IsCut stop = rw (asked (Err IsCut) stop.0) (record { told = refl; left = record { image = stop.1; secret = is; written = unwritten w before.written was } })
   is_luks_refused NoJson stop = rw (asked (Err NoJson) stop.0) (record { told = refl; left = record { image = stop.1; secret = is; written = unwritten w before.written was } })
-  is_luks_refused Read stop = early _ before ReadFailed i s w stop.0 tt (omega (arith, stop.1, asked_cost)) stop.2 is was
-  is_luks_refused Memory stop = early _ before OutOfMemory i s w stop.0 refl (omega (arith, stop.1, asked_cost)) stop.2 is was
+  is_luks_refused Read stop = early _ before ReadFailed i s w stop.0 tt (omega arith) (omega (arith, stop.1, asked_cost)) stop.2 is was
+  is_luks_refused Memory stop = early _ before OutOfMemory i s w stop.0 refl (omega arith) (omega (arith, stop.1, asked_cost)) stop.2 is was

@@ -15,7 +15,7 @@ use Rattle.luks_io.specs.Bytes.{Adds}
 use Rattle.luks_cli.specs.declared.message.Message.{Message}
 use Rattle.luks_cli.specs.declared.message.Message.TheVariants.{Done, KeyLength, FewRandomBytes, ReadFailed, WriteFailed}
 use Rattle.luks_cli.specs.Outcome.{Outcome, split_key_outcome, split_outcome, stripes_of}
-use Rattle.luks_cli.specs.Run.{IsSilent, Bytes, Runs, BreaksOff, Completes}
+use Rattle.luks_cli.specs.Run.{IsBeginning, IsSilent, Bytes, Runs, BreaksOff, Completes}
 use Rattle.luks_cli.specs.Stripe.{NoKeyRead, Passed, StopsPassing, split_promptly}
 
 module _ (h : Hash) (count : ℕ) (key random : List ℕ) where
@@ -110,15 +110,16 @@ module _ (h : Hash) (count : ℕ) (before : Bytes) (k r w : Option (List ℕ)) (
 
   -- the random bytes were taken and written so far
   broken : (message : Message) (taken written : ℕ) → IsSilent message written → MayPass (split_key_outcome h count before.image before.secret) before.secret taken written
+      → IsBeginning message written (length (split_key_outcome h count before.image before.secret).output)
       → split_promptly (length before.image) message (length before.image) taken written → Passed before.secret before.written r w taken written
       → BreaksOff (split_promptly (length before.image)) (split_outcome h count before.image before.secret) before message k r w
-  broken message taken written silent may prompt p = rw (key_allowed h count before.image before.secret some room) (record {
+  broken message taken written silent may begins prompt p = rw (key_allowed h count before.image before.secret some room) (record {
     image_taken = length before.image;
     secret_taken = taken;
     output_len = written;
     image_within = key_whole;
     secret_within = may.within;
-    output_within = may.fits;
+    output_within = begins;
     is_silent = silent;
     is_prompt = prompt;
     left = record { image = key_gone; secret = p.left; written = rw may.begins p.output };
@@ -137,14 +138,16 @@ module _ (h : Hash) (count : ℕ) (before : Bytes) (k r w : Option (List ℕ)) (
   runs_without_stripes ReadFailed stop =
       let below : stop.0 + 1 ≤ count - 1 = omega (arith, stop.2) in
       let span : (stop.0 + 1) * length before.image ≤ (count - 1) * length before.image = mul-le-mul_right (length before.image) below in
-      broken ReadFailed stop.1 (stop.0 * length before.image) tt
-      (may_pass h count before.image before.secret stop.0 stop.1 (stop.0 * length before.image) some (omega arith) stop.5.there (omega arith) (omega (arith, stop.5.there)) (omega arith))
+      let may = may_pass h count before.image before.secret stop.0 stop.1 (stop.0 * length before.image) some (omega arith) stop.5.there (omega arith) (omega (arith, stop.5.there)) (omega arith) in
+      broken ReadFailed stop.1 (stop.0 * length before.image) tt may may.fits
       (ap (λ q. q * length before.image) (sym (div-eq_of_lt-le (length before.image) stop.3 stop.4))) stop.5
   runs_without_stripes WriteFailed stop =
       let below : stop.0 + 1 ≤ count - 1 = omega (arith, stop.2) in
       let span : (stop.0 + 1) * length before.image ≤ (count - 1) * length before.image = mul-le-mul_right (length before.image) below in
-      broken WriteFailed ((stop.0 + 1) * length before.image) stop.1 tt
-      (may_pass h count before.image before.secret (stop.0 + 1) ((stop.0 + 1) * length before.image) stop.1 some span stop.5.there (omega arith) stop.5.there (omega arith))
+      let whole = (stop.0 + 1) * length before.image in
+      let may = may_pass h count before.image before.secret (stop.0 + 1) whole stop.1 some span stop.5.there (omega arith) stop.5.there (omega arith) in
+      let all = may_pass h count before.image before.secret (stop.0 + 1) whole whole some span stop.5.there (omega arith) stop.5.there (omega arith) in
+      broken WriteFailed whole stop.1 tt may (omega (arith, all.fits, stop.4))
       (rw (div-eq_of_lt-le (length before.image) stop.3 stop.4) (omega arith)) stop.5
   runs_without_stripes _ stop = absurd stop
 

@@ -5,7 +5,7 @@ use Rattle.std.proofs.lemmas.Bool.Decides.{nat_tests}
 use Rattle.std.proofs.lemmas.List.{drop-drop, drop_all}
 use Rattle.std.proofs.Math.Nat.{zero-div}
 use Rattle.std.proofs.Math.Seq.{take-add}
-use Rattle.std.specs.Prelude.{nat_lt}
+use Rattle.std.specs.Prelude.{◌≢◌, nat_lt}
 use Rattle.luks_header.proofs.SegmentLemmas.{IsReadable-ok}
 use Rattle.luks_header.specs.Area.{Grows, StopsGrowing}
 use Rattle.luks_header.specs.Header.{cost_of, header_of}
@@ -19,6 +19,7 @@ use Rattle.luks_open.proofs.CallerLemmas.{held_before_payload, opening_beginning
 use Rattle.luks_open.specs.Opening.{opening_of}
 use Rattle.luks_open.specs.Order.{Tries, held_of, order_of}
 use Rattle.luks_open.specs.declared.fault.OpenFault.{OpenFault}
+use Rattle.luks_open.specs.declared.fault.OpenFault.TheVariants.{NoSuchSlot as NotThere, Disabled, NamedSkipped, NothingTried as NoneTried, NoKey as NoneOpens, Memory}
 use Rattle.luks_open.specs.declared.opening.Opened.{Opened}
 use Rattle.luks_volume.specs.Plain.{sector_len}
 use Rattle.luks_cli.proofs.VolumeLemmas.{volume_is}
@@ -26,7 +27,7 @@ use Rattle.luks_cli.specs.Header.{message_for_header}
 use Rattle.luks_cli.specs.Outcome.{Deed, Outcome, found_outcome, opened_outcome, outcome_after, unwritten, volume_outcome}
 use Rattle.luks_cli.specs.Payload.{cat_promptly}
 use Rattle.luks_cli.specs.Request.{OpeningRequest}
-use Rattle.luks_cli.specs.Run.{BreaksOff, Bytes, IsSilent, Runs}
+use Rattle.luks_cli.specs.Run.{BreaksOff, Bytes, IsBeginning, IsSilent, Runs}
 use Rattle.luks_cli.specs.Secret.{NoSecretRead}
 use Rattle.luks_cli.specs.Unlocking.{TakesHeld, Unlocks}
 use Rattle.luks_cli.specs.Volume.{HasSegment, StopsFinding, Volume, held_for, message_for_opening, volume_of}
@@ -80,30 +81,39 @@ prompt_before_payload image _ a b segment has few other is = tt
 -- ---- runs without output
 
 -- a run that was broken off before any output
-early : (out : Outcome) (before : Bytes) (message : Message) (i s w : Option (List ℕ)) (a b : ℕ) → IsSilent message 0 → cat_promptly before.image message a b 0
+early : (out : Outcome) (before : Bytes) (message : Message) (i s w : Option (List ℕ)) (a b : ℕ) → IsSilent message 0 → IsBeginning message 0 (length out.output) → cat_promptly before.image message a b 0
     → a ≤ out.image_taken → b ≤ out.secret_taken → i ≡ Some (drop a before.image) → s ≡ Some (drop b before.secret) → w ≡ Some before.written
     → BreaksOff (cat_promptly before.image) out before message i s w
-early out before message i s w a b silent prompt few little image secret was = record {
+early out before message i s w a b silent begins prompt few little image secret was = record {
   image_taken = a;
   secret_taken = b;
   output_len = 0;
   image_within = few;
   secret_within = little;
-  output_within = omega arith;
+  output_within = begins;
   is_silent = silent;
   is_prompt = prompt;
   left = record { image = image; secret = secret; written = was ∙ ap Some (sym (append-nil before.written)) };
 }
 
--- a run whose outcome has no output, whatever it tells
-ends_unwritten : (before : Bytes) (message : Message) (i s w : Option (List ℕ)) (a b : ℕ) → cat_promptly before.image message a b 0
+-- a run whose outcome has no output, whatever it tells but for a failed write
+ends_unwritten : (before : Bytes) (message : Message) (i s w : Option (List ℕ)) (a b : ℕ) → message ≢ WriteFailed → cat_promptly before.image message a b 0
     → i ≡ Some (drop a before.image) → s ≡ Some (drop b before.secret) → w ≡ Some before.written
     → Runs (cat_promptly before.image) (unwritten message a b) before message i s w
-ends_unwritten before OutOfMemory i s w a b prompt image secret was = early _ before OutOfMemory i s w a b refl prompt (omega arith) (omega arith) image secret was
-ends_unwritten before ReadFailed i s w a b prompt image secret was = early _ before ReadFailed i s w a b tt prompt (omega arith) (omega arith) image secret was
-ends_unwritten before WriteFailed i s w a b prompt image secret was = early _ before WriteFailed i s w a b tt prompt (omega arith) (omega arith) image secret was
-ends_unwritten before _ i s w a b prompt image secret was =
+ends_unwritten before OutOfMemory i s w a b other prompt image secret was = early _ before OutOfMemory i s w a b refl (omega arith) prompt (omega arith) (omega arith) image secret was
+ends_unwritten before ReadFailed i s w a b other prompt image secret was = early _ before ReadFailed i s w a b tt (omega arith) prompt (omega arith) (omega arith) image secret was
+ends_unwritten before WriteFailed i s w a b other prompt image secret was = absurd (other refl)
+ends_unwritten before _ i s w a b other prompt image secret was =
     record { told = refl; left = record { image = image; secret = secret; written = was ∙ ap Some (sym (append-nil before.written)) } }
+
+-- of key slots no failed write is told
+no_write_told : (named : Option ℕ) (fault : OpenFault) → message_for_opening named fault ≢ WriteFailed
+no_write_told named NotThere h = cc
+no_write_told named Disabled h = cc
+no_write_told named (NamedSkipped reason) h = cc
+no_write_told named (NoneTried skipped) h = cc
+no_write_told named (NoneOpens skipped) h = cc
+no_write_told named Memory h = cc
 
 -- ---- the outcome of a volume that was found
 
@@ -215,18 +225,16 @@ module _ (o : OpeningRequest) (before : Bytes) (i s w : Option (List ℕ)) where
         after (Err message) = omega arith
 
     -- there was no volume, or its header was not read
-    pub runs_without_volume : (message : Message) → StopsFinding o before.image i message → s ≡ Some before.secret
+    pub runs_without_volume : (message : Message) → message ≢ WriteFailed → StopsFinding o before.image i message → s ≡ Some before.secret
         → Runs (cat_promptly before.image) (volume_outcome deed o before.image before.secret) before message i s w
-    runs_without_volume OutOfMemory stop whole =
-        early _ before OutOfMemory i s w stop.0 0 refl (prompt_in_header before.image OutOfMemory stop.0 0 stop.1) (omega (arith, stop.1, cost_taken)) (omega arith) stop.2 whole was
-    runs_without_volume ReadFailed stop whole =
-        early _ before ReadFailed i s w stop.0 0 tt (prompt_in_header before.image ReadFailed stop.0 0 stop.1) (omega (arith, stop.1, cost_taken)) (omega arith) stop.2 whole was
-    runs_without_volume WriteFailed stop whole =
-        rw (outcome_is deed (Err WriteFailed) stop.0)
-        (ends_unwritten before WriteFailed i s w (cost_of before.image) 0 (prompt_in_header before.image WriteFailed (cost_of before.image) 0 (omega arith)) stop.1 whole was)
-    runs_without_volume message stop whole =
+    runs_without_volume OutOfMemory other stop whole =
+        early _ before OutOfMemory i s w stop.0 0 refl (omega arith) (prompt_in_header before.image OutOfMemory stop.0 0 stop.1) (omega (arith, stop.1, cost_taken)) (omega arith) stop.2 whole was
+    runs_without_volume ReadFailed other stop whole =
+        early _ before ReadFailed i s w stop.0 0 tt (omega arith) (prompt_in_header before.image ReadFailed stop.0 0 stop.1) (omega (arith, stop.1, cost_taken)) (omega arith) stop.2 whole was
+    runs_without_volume WriteFailed other stop whole = absurd (other refl)
+    runs_without_volume message other stop whole =
         rw (outcome_is deed (Err message) stop.0)
-        (ends_unwritten before message i s w (cost_of before.image) 0 (prompt_in_header before.image message (cost_of before.image) 0 (omega arith)) stop.1 whole was)
+        (ends_unwritten before message i s w (cost_of before.image) 0 other (prompt_in_header before.image message (cost_of before.image) 0 (omega arith)) stop.1 whole was)
 
   -- the header names this segment and these key slots to be tried
   module _ (header : Header) (segment : Segment) (tries : Tries) (found : header_of before.image ≡ Ok header) (is_segment : segment_of header ≡ Ok segment)
@@ -249,15 +257,15 @@ module _ (o : OpeningRequest) (before : Bytes) (i s w : Option (List ℕ)) where
         → Runs (cat_promptly before.image) (volume_outcome deed o before.image before.secret) before message i s w
     runs_without_secret deed was takes KeyFileLength stop rest =
         rw (outcome_found deed, found_long deed o.key_slot volume before.image before.secret stop.0)
-        (ends_unwritten before KeyFileLength i s w (cost_of before.image) 8388609 (λ segment has. tt) rest stop.1 was)
+        (ends_unwritten before KeyFileLength i s w (cost_of before.image) 8388609 (λ h. cc) (λ segment has. tt) rest stop.1 was)
     runs_without_secret deed was takes OutOfMemory stop rest =
         let within = found_within deed o.key_slot volume before.image before.secret takes in
         rw (outcome_found deed)
-        (early _ before OutOfMemory i s w (cost_of before.image) stop.0 refl (λ segment has. tt) within.0 (omega (arith, stop.1, within.1)) rest stop.2 was)
+        (early _ before OutOfMemory i s w (cost_of before.image) stop.0 refl (omega arith) (λ segment has. tt) within.0 (omega (arith, stop.1, within.1)) rest stop.2 was)
     runs_without_secret deed was takes ReadFailed stop rest =
         let within = found_within deed o.key_slot volume before.image before.secret takes in
         rw (outcome_found deed)
-        (early _ before ReadFailed i s w (cost_of before.image) stop.0 tt (prompt_in_header before.image ReadFailed (cost_of before.image) stop.0 (omega arith)) within.0
+        (early _ before ReadFailed i s w (cost_of before.image) stop.0 tt (omega arith) (prompt_in_header before.image ReadFailed (cost_of before.image) stop.0 (omega arith)) within.0
         (omega (arith, stop.1, within.1)) rest stop.2 was)
     runs_without_secret deed was takes _ stop rest = absurd stop
 
@@ -276,14 +284,14 @@ module _ (o : OpeningRequest) (before : Bytes) (i s w : Option (List ℕ)) where
           let few : cost_of before.image + stop.0 ≤ held_for before.image volume = omega (arith, stop.1, front_len before.image area area' i (held_of tries.slots) front) in
           let within = area_within deed o.key_slot volume before.image before.secret takes short in
           rw (outcome_found deed)
-          (early _ before ReadFailed i s w (cost_of before.image + stop.0) (length before.secret) tt
+          (early _ before ReadFailed i s w (cost_of before.image + stop.0) (length before.secret) tt (omega arith)
           (prompt_before_payload before.image ReadFailed (cost_of before.image + stop.0) (length before.secret) segment (header, found, is_segment) (omega (arith, few, held_before)))
           (omega (arith, within.0, more.0, few)) within.1 more.2 taken was)
       runs_without_area deed was takes NoMemory stop =
           let within = found_within deed o.key_slot volume before.image before.secret takes in
           let whole = area_within deed o.key_slot volume before.image before.secret takes short in
           rw (outcome_found deed)
-          (early _ before OutOfMemory i s w (cost_of before.image) (length before.secret) refl (λ segment has. tt) within.0 whole.1 stop.leaves taken was)
+          (early _ before OutOfMemory i s w (cost_of before.image) (length before.secret) refl (omega arith) (λ segment has. tt) within.0 whole.1 stop.leaves taken was)
       runs_without_area deed was takes _ stop = absurd stop
 
       module _ (grows : Grows area area' (drop (cost_of before.image) before.image) i (min (held_of tries.slots - length area) (length (drop (cost_of before.image) before.image)))) where
@@ -294,7 +302,7 @@ module _ (o : OpeningRequest) (before : Bytes) (i s w : Option (List ℕ)) where
         runs_cut deed was few =
             let cut = area_cut before.image area area' i (held_of tries.slots) front grows few in
             rw (outcome_found deed, found_cut deed o.key_slot volume before.image before.secret short cut.0)
-            (ends_unwritten before Cut i s w (length before.image) (length before.secret) (λ segment has. tt) cut.1 taken was)
+            (ends_unwritten before Cut i s w (length before.image) (length before.secret) (λ h. cc) (λ segment has. tt) cut.1 taken was)
 
         module _ (enough : held_of tries.slots ≤ length area') (r : Result Opened OpenFault) (tried : opening_of header tries area' before.secret ≡ r) where
           outcome_tried : (deed : Deed) → volume_outcome deed o before.image before.secret ≡ opened_outcome deed o.key_slot volume before.image before.secret r
@@ -315,7 +323,7 @@ module _ (o : OpeningRequest) (before : Bytes) (i s w : Option (List ℕ)) where
       runs_unopened grows enough fault tried deed was =
           let held = area_held before.image area area' i (held_of tries.slots) front grows enough in
           rw (outcome_tried grows enough (Err fault) tried deed)
-          (ends_unwritten before (message_for_opening o.key_slot fault) i s w (held_for before.image volume) (length before.secret)
+          (ends_unwritten before (message_for_opening o.key_slot fault) i s w (held_for before.image volume) (length before.secret) (no_write_told o.key_slot fault)
           (prompt_before_payload before.image (message_for_opening o.key_slot fault) (held_for before.image volume) (length before.secret) segment (header, found, is_segment) held_before)
           held.3 taken was)
 

@@ -45,6 +45,11 @@ abbrev pub IsSilent : Message → ℕ → Type 0
 IsSilent OutOfMemory output = output ≡ 0
 IsSilent _ output = Unit {0}
 
+-- so many of the bytes of the stated output were written: all of them at most, and fewer where a write failed
+abbrev pub IsBeginning : Message → ℕ → ℕ → Type 0
+IsBeginning WriteFailed output stated = output < stated
+IsBeginning _ output stated = output ≤ stated
+
 -- a run that was broken off: what it wrote is a beginning of the stated output, and no input was taken further than stated
 pub record BreaksOff (prompt : Prompt) (o : Outcome) (before : Bytes) (message : Message) (image secret written : Option (List ℕ)) : Type 0 where
   pub image_taken : ℕ
@@ -52,7 +57,7 @@ pub record BreaksOff (prompt : Prompt) (o : Outcome) (before : Bytes) (message :
   pub output_len : ℕ
   pub image_within : image_taken ≤ o.image_taken
   pub secret_within : secret_taken ≤ o.secret_taken
-  pub output_within : output_len ≤ length o.output
+  pub output_within : IsBeginning message output_len (length o.output)
   pub is_silent : IsSilent message output_len
   pub is_prompt : prompt message image_taken secret_taken output_len
   pub left : Tell image secret written (bytes_after before image_taken secret_taken (take output_len o.output))

@@ -1,9 +1,9 @@
 //! What the commands do.
 
-ghost use Rattle.std.specs.Prelude.{◌≡◌, ◌≢◌, IfErr};
+ghost use Rattle.std.specs.Prelude.{◌≡◌, ◌≢◌, IfErr, None};
 ghost use Rattle.luks_cli.specs.Outcome.{outcome_of};
 ghost use Rattle.luks_cli.specs.Report.{report_of};
-ghost use Rattle.luks_cli.specs.Request.{request_of};
+ghost use Rattle.luks_cli.specs.Request.{request_of, secret_of};
 ghost use Rattle.luks_cli.specs.Run.{Bytes, Counts, IsCounted, Runs, TakesNoMemory, Tell, ending_of, prompt_of};
 
 use crate::command::Command;
@@ -25,7 +25,8 @@ mod volumes;
 ///
 /// What is written, told and taken of both inputs is one function of the command and of the bytes that the inputs give.
 /// Where memory is refused or a read or a write fails, what was written is a beginning of that output, and no input was
-/// taken further than stated; a failed read or write is told exactly where one failed.
+/// taken further than stated; a failed read or write is told exactly where one failed. Where a write failed, not all of the
+/// output is written. A command that has no second input leaves that source as it is.
 pub fn execute<I: Source, K: Source, O: Sink>(
     alloc: Global,
     command: &Command<'_>,
@@ -41,6 +42,7 @@ pub fn execute<I: Source, K: Source, O: Sink>(
         result.message (I.to_come image.new) (K.to_come secret.new) (O.written out.new) }
     ensures status { result ≡ report_of result.message }
     ensures memory { TakesNoMemory (request_of command.now) → result.message ≢ Message.OutOfMemory }
+    ensures unread { secret_of (request_of command.now) ≡ None → secret.new ≡ secret.old }
     ensures counts { Counts result.message
         (record { image = I.failures image.old; secret = K.failures secret.old; written = O.failures out.old })
         (record { image = I.failures image.new; secret = K.failures secret.new; written = O.failures out.new }) }
@@ -67,6 +69,7 @@ fn perform<I: Source, K: Source, O: Sink>(
         (ending_of result) (I.to_come image.new) (K.to_come secret.new) (O.written out.new) }
     ensures memory { TakesNoMemory (request_of command.now)
         → IfErr result (λ message. message ≢ Message.OutOfMemory) }
+    ensures unread { secret_of (request_of command.now) ≡ None → secret.new ≡ secret.old }
     ensures counts { Counts (ending_of result)
         (record { image = I.failures image.old; secret = K.failures secret.old; written = O.failures out.old })
         (record { image = I.failures image.new; secret = K.failures secret.new; written = O.failures out.new }) }

@@ -11,7 +11,7 @@ pub returns-in_err-volume-clause-err : goal.returns-in_err-volume-clause-err
 returns-in_err-volume-clause-err g c =
     let p = err_from_is_err_and c.from_residual.result c.from_residual.ensures.1 in
     rw (p.1, p.2) (λ written before tell deed takes.
-    runs_without_volume _ before _ _ _ deed tell.written takes _ (c.in_err-volume.ensures.err before.image tell.image) tell.secret)
+    runs_without_volume _ before _ _ _ deed tell.written takes _ c.in_err-volume.ensures.writes (c.in_err-volume.ensures.err before.image tell.image) tell.secret)
 
 pub returns-in_err-pass-clause-err : goal.returns-in_err-pass-clause-err
 returns-in_err-pass-clause-err g c =
