@@ -46,6 +46,28 @@ usage: luksrd isLuks IMAGE
 TEXT
 )
 
+# scarce HEX WORD..: with less memory than a run on these words needs, it says so and writes nothing, and else these bytes
+scarce() {
+    local output=$1 refused=0 kib
+    shift
+    for kib in $(seq 2000 20 20000); do
+        (ulimit -v "$kib"; exec "$program" "$@") >out 2>err
+        echo $? >status
+        case $(cat status) in
+        127) ;; # the loader found no memory for the program itself
+        3)
+            refused=$((refused + 1))
+            expect "$1 in $kib KiB of memory" 3 '' 'luksrd: out of memory'
+            ;;
+        *)
+            expect "$1 in $kib KiB of memory" 0 "$output" ''
+            break
+            ;;
+        esac
+    done
+    [ "$refused" -gt 0 ] || { failed=$((failed + 1)); echo "FAILED: no run of $1 was refused memory"; }
+}
+
 # finish: the count, and whether all was as expected
 finish() {
     echo "$passed passed, $failed failed"

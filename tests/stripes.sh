@@ -108,24 +108,8 @@ expect 'a full device' 6 '' 'luksrd: write failed'
 echo $? >status
 expect 'no output to a full device' 4 '' 'luksrd: stripes are too few'
 
-# with less memory than the program's buffers need, it says so and writes nothing
-refused=0
-for kib in $(seq 2000 20 20000); do
-    (ulimit -v "$kib"; exec "$program" afMerge --hash sha256 --stripes 1 --key-bytes 32 stripes) >out 2>err
-    echo $? >status
-    case $(cat status) in
-    127) ;; # the loader found no memory for the program itself
-    3)
-        refused=$((refused + 1))
-        expect "$kib KiB of memory" 3 '' 'luksrd: out of memory'
-        ;;
-    *)
-        expect "$kib KiB of memory" 0 "$numbers" ''
-        break
-        ;;
-    esac
-done
-[ "$refused" -gt 0 ] || { failed=$((failed + 1)); echo 'FAILED: no run was refused memory'; }
+# memory
+scarce "$numbers" afMerge --hash sha256 --stripes 1 --key-bytes 32 stripes
 
 # a reader that goes away ends the program
 head -c 512 /dev/zero >key512
