@@ -1,11 +1,16 @@
-# make         builds the program, crates/luksrd/out/luksrd, which proves it and all that it stands on
-# make demo    builds it and splits and merges a key with it
-# make test    what CI runs: the script tests on the built program, and then the gate, which proves everything from nothing
-# make bench   measures key derivation and decryption beside other implementations
+# make            builds the program, crates/luksrd/out/luksrd, which proves it and all that it stands on
+# make demo       builds it and reads the sample volume, from a pipe
+# make test       what CI runs: the script tests on the built program, and then the gate, which proves everything from nothing
+# make bench      measures key derivation, decryption and whole volumes beside other implementations
+# make install    puts the program and its man page below PREFIX (/usr/local where it is not given), in DESTDIR where that is given
+# make uninstall  takes them away again
 
 PROGRAM := crates/luksrd/out/luksrd
+PREFIX ?= /usr/local
+BINARIES = $(DESTDIR)$(PREFIX)/bin
+PAGES = $(DESTDIR)$(PREFIX)/share/man/man1
 
-.PHONY: all demo test bench
+.PHONY: all demo test bench install uninstall
 
 all: $(PROGRAM)
 
@@ -17,14 +22,27 @@ $(PROGRAM): FORCE
 FORCE:
 
 demo: all
-	@echo 'The key in crates/luksrd/data/stripes, which is one stripe:'
-	$(PROGRAM) afMerge --hash sha256 --stripes 1 --key-bytes 32 crates/luksrd/data/stripes | od -An -v -tx1
+	gzip -dc sample/volume.img.gz | $(PROGRAM) testPassphrase --key-file sample/passphrase -
+	gzip -dc sample/volume.img.gz | $(PROGRAM) luksCat --key-file sample/passphrase -
 
 test: all
 	tests/stripes.sh $(PROGRAM)
+	tests/volumes.sh $(PROGRAM)
 	interop/headers.sh $(PROGRAM)
+	interop/volumes.sh $(PROGRAM)
 	rt ci
 
 bench: all
 	bench/pbkdf2
 	bench/xts
+	bench/volume
+
+# What is built already is installed as it is, so that this needs no toolchain.
+install:
+	test -x $(PROGRAM)
+	install -d $(BINARIES) $(PAGES)
+	install -m 755 $(PROGRAM) $(BINARIES)/luksrd
+	install -m 644 docs/luksrd.1 $(PAGES)/luksrd.1
+
+uninstall:
+	rm -f $(BINARIES)/luksrd $(PAGES)/luksrd.1

@@ -1,3 +1,4 @@
+# shellcheck shell=bash
 # What the scripts of this folder share: a folder to work in, and a comparison that counts. The first argument is the built program.
 # The images are plain files that other tools make; no device mapper and no kernel cryptography is used.
 set -u

@@ -1,49 +1,8 @@
 #!/usr/bin/env bash
 # Runs the built program's stripe commands on files and on pipes, as a user would, and compares output, message and status.
-set -u
-program=$(realpath "${1:?the built program}")
-work=$(mktemp -d)
-trap 'rm -rf "$work"' EXIT
-cd "$work" || exit 1
-passed=0
-failed=0
+# shellcheck source=tests/common.sh
+. "$(dirname "$0")/common.sh"
 
-# bytes HEX: these bytes
-bytes() { printf '%b' "$(printf '%s' "$1" | sed 's/../\\x&/g')"; }
-
-# hex FILE: the bytes of a file as digits
-hex() { od -An -v -tx1 "$1" | tr -d ' \n'; }
-
-# expect NAME STATUS HEX MESSAGE: the last run, whose output, message and status lie in out, err and status
-expect() {
-    local output message
-    output=$(hex out)
-    message=$(cat err)
-    if [ "$(cat status)" = "$2" ] && [ "$output" = "$3" ] && [ "$message" = "$4" ]; then
-        passed=$((passed + 1))
-    else
-        failed=$((failed + 1))
-        echo "FAILED $1: status $(cat status), output $output, message $message"
-    fi
-}
-
-# run WORD..: the program on these words, with standard input from the file in
-run() {
-    "$program" "$@" <in >out 2>err
-    echo $? >status
-}
-
-usage=$(sed -n '/^usage:/,/STRIPES$/p' <<'TEXT'
-usage: luksrd isLuks IMAGE
-       luksrd luksUUID IMAGE
-       luksrd luksDump IMAGE
-       luksrd luksCheck IMAGE
-       luksrd testPassphrase --key-file FILE [--key-slot N] [--max-iterations N] IMAGE
-       luksrd luksCat --key-file FILE [--key-slot N] [--max-iterations N] IMAGE
-       luksrd afSplit --hash HASH --stripes N --random FILE KEY
-       luksrd afMerge --hash HASH --stripes N --key-bytes N STRIPES
-TEXT
-)
 zeros=$(printf '00%.0s' $(seq 28))
 key=$(printf 'ff%.0s' $(seq 28))
 hashed=66687aadf862bd776c8fc18b8e9f8e20089714856ee233b3902a591d
@@ -149,29 +108,12 @@ expect 'a full device' 6 '' 'luksrd: write failed'
 echo $? >status
 expect 'no output to a full device' 4 '' 'luksrd: stripes are too few'
 
-# with less memory than the program's buffers need, it says so and writes nothing
-refused=0
-for kib in $(seq 2000 20 20000); do
-    (ulimit -v "$kib"; exec "$program" afMerge --hash sha256 --stripes 1 --key-bytes 32 stripes) >out 2>err
-    echo $? >status
-    case $(cat status) in
-    127) ;; # the loader found no memory for the program itself
-    3)
-        refused=$((refused + 1))
-        expect "$kib KiB of memory" 3 '' 'luksrd: out of memory'
-        ;;
-    *)
-        expect "$kib KiB of memory" 0 "$numbers" ''
-        break
-        ;;
-    esac
-done
-[ "$refused" -gt 0 ] || { failed=$((failed + 1)); echo 'FAILED: no run was refused memory'; }
+# memory
+scarce "$numbers" afMerge --hash sha256 --stripes 1 --key-bytes 32 stripes
 
 # a reader that goes away ends the program
 head -c 512 /dev/zero >key512
 timeout 60 bash -c '"$0" afSplit --hash sha512 --stripes 4000 --random /dev/zero key512 2>err; echo $? >status' "$program" | head -c 10 >out
 expect 'a reader that goes away' 6 00000000000000000000 'luksrd: write failed'
 
-echo "$passed passed, $failed failed"
-[ "$failed" = 0 ]
+finish

@@ -1,0 +1,75 @@
+# shellcheck shell=bash
+# What the scripts of this folder share: a folder to work in, and how a run of the program is compared. The first argument is the built
+# program.
+set -u
+program=$(realpath "${1:?the built program}")
+work=$(mktemp -d)
+trap 'rm -rf "$work"' EXIT
+cd "$work" || exit 1
+passed=0
+failed=0
+
+# bytes HEX: these bytes
+bytes() { printf '%b' "$(printf '%s' "$1" | sed 's/../\\x&/g')"; }
+
+# hex FILE: the bytes of a file as digits
+hex() { od -An -v -tx1 "$1" | tr -d ' \n'; }
+
+# expect NAME STATUS HEX MESSAGE: the last run, whose output, message and status lie in out, err and status
+expect() {
+    local output message
+    output=$(hex out)
+    message=$(cat err)
+    if [ "$(cat status)" = "$2" ] && [ "$output" = "$3" ] && [ "$message" = "$4" ]; then
+        passed=$((passed + 1))
+    else
+        failed=$((failed + 1))
+        echo "FAILED $1: status $(cat status), output $output, message $message"
+    fi
+}
+
+# run WORD..: the program on these words, with standard input from the file in
+run() {
+    "$program" "$@" <in >out 2>err
+    echo $? >status
+}
+
+usage=$(sed -n '/^usage:/,/STRIPES$/p' <<'TEXT'
+usage: luksrd isLuks IMAGE
+       luksrd luksUUID IMAGE
+       luksrd luksDump IMAGE
+       luksrd luksCheck IMAGE
+       luksrd testPassphrase --key-file FILE [--key-slot N] [--max-iterations N] IMAGE
+       luksrd luksCat --key-file FILE [--key-slot N] [--max-iterations N] IMAGE
+       luksrd afSplit --hash HASH --stripes N --random FILE KEY
+       luksrd afMerge --hash HASH --stripes N --key-bytes N STRIPES
+TEXT
+)
+
+# scarce HEX WORD..: with less memory than a run on these words needs, it says so and writes nothing, and else these bytes
+scarce() {
+    local output=$1 refused=0 kib
+    shift
+    for kib in $(seq 2000 20 20000); do
+        (ulimit -v "$kib"; exec "$program" "$@") >out 2>err
+        echo $? >status
+        case $(cat status) in
+        127) ;; # the loader found no memory for the program itself
+        3)
+            refused=$((refused + 1))
+            expect "$1 in $kib KiB of memory" 3 '' 'luksrd: out of memory'
+            ;;
+        *)
+            expect "$1 in $kib KiB of memory" 0 "$output" ''
+            break
+            ;;
+        esac
+    done
+    [ "$refused" -gt 0 ] || { failed=$((failed + 1)); echo "FAILED: no run of $1 was refused memory"; }
+}
+
+# finish: the count, and whether all was as expected
+finish() {
+    echo "$passed passed, $failed failed"
+    [ "$failed" = 0 ]
+}
