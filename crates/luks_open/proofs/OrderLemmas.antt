@@ -126,9 +126,9 @@ All-IsWithin (V1 header) limit =
     All-from_recursion IsWithin (verdicts_of (V1 header) limit) (All-verdicts1 (λ slot. end_of slot ≤ 33554432) header limit (λ slot range. range.within_area))
 
 -- the key slots of two priorities end within what can be held, where all usable ones do
-pub held_of-usable_at : (first second : ℕ) (verdicts : List (ℕ × Verdict)) → All IsWithin verdicts
+pub held_of_two : (first second : ℕ) (verdicts : List (ℕ × Verdict)) → All IsWithin verdicts
     → held_of (filter_map (usable_at first) verdicts ++ filter_map (usable_at second) verdicts) ≤ 33554432
-held_of-usable_at first second verdicts all =
+held_of_two first second verdicts all =
     let each = recursion_from_All IsWithin verdicts all in
     held_of-le 33554432 _
     (AllByRecursion-append (λ (entry : ℕ × Slot). end_of entry.1 ≤ 33554432) _ _ (All-usable_at (λ slot. end_of slot ≤ 33554432) first verdicts each)

@@ -62,24 +62,31 @@ fn sorted(alloc: Global, verdicts: Vec<(u8, Verdict)>) -> Result<ByPriority, All
     Ok(sorted)
 }
 
+// The key slots of one list, and then those of another.
+fn joined(
+    mut first: Vec<(u8, Slot)>,
+    mut second: Vec<(u8, Slot)>,
+) -> Result<Vec<(u8, Slot)>, AllocError>
+    ensures { IfOk result (λ slots. slots.items ≡ first.items ++ second.items) }
+{
+    first.append(&mut second)?;
+    Ok(first)
+}
+
 // No key slot is named.
-#[tactic(auto, unfolding(crate::specs::Order::tries_of_all))]
+#[tactic(auto, using(crate::proofs::OrderLemmas::held_of_two), unfolding(crate::specs::Order::tries_of_all))]
 fn order_all(alloc: Global, verdicts: Vec<(u8, Verdict)>) -> Result<Order, OpenFault>
     requires few { vec_len verdicts ≤ 32 }
     requires within { All IsWithin verdicts.items }
     ensures ok { IfOk result (λ order. tries_of_all verdicts.items ≡ Ok order) }
     ensures err { IfErr result (λ fault. (fault ≡ OpenFault.Memory) ⊎ (tries_of_all verdicts.items ≡ Err fault)) }
 {
-    let ByPriority {
-        preferred: mut slots,
-        mut normal,
-        skipped,
-    } = sorted(alloc, verdicts)?;
-    slots.append(&mut normal)?;
+    let sorted = sorted(alloc, verdicts)?;
+    let slots = joined(sorted.preferred, sorted.normal)?;
     if slots.is_empty() {
-        return Err(OpenFault::NothingTried(skipped));
+        return Err(OpenFault::NothingTried(sorted.skipped));
     }
-    Ok(Order::new(slots, skipped))
+    Ok(Order::new(slots, sorted.skipped))
 }
 
 // One key slot alone.
