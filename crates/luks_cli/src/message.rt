@@ -1,7 +1,8 @@
 //! What luksrd says on standard error when it ends.
 
-ghost use Rattle.std.specs.Prelude.{◌≡◌};
-ghost use Rattle.luks_cli.specs.Texts.{line_of, status_of};
+ghost use Rattle.std.specs.Prelude.{◌≡◌, ◌++◌, Some, codes};
+ghost use Rattle.std.specs.Fmt.{DisplaysOnOk, decimal};
+ghost use Rattle.luks_cli.specs.Texts.{line, skips_text};
 
 use crate::command::USAGE;
 use luks_header::fault::HeaderFault;
@@ -94,40 +95,24 @@ impl fmt::Display for Message {
         match self {
             Message::Done | Message::No => Ok(()),
             Message::Usage => f.write_str(USAGE),
-            Message::SegmentRefused(fault) => {
-                write!(f, "luksrd: segment refused: {}\n", fault.text())
-            }
-            Message::NoSuchSlot(slot) => write!(f, "luksrd: key slot {slot} is not there\n"),
-            Message::SlotDisabled(slot) => write!(f, "luksrd: key slot {slot} is disabled\n"),
+            Message::SegmentRefused(fault) => tell_text(f, "segment refused: ", fault.text()),
+            Message::NoSuchSlot(slot) => tell_slot(f, *slot, " is not there", ""),
+            Message::SlotDisabled(slot) => tell_slot(f, *slot, " is disabled", ""),
             Message::SlotSkipped(slot, reason) => {
-                write!(f, "luksrd: key slot {slot} is skipped: {}\n", reason.text())
+                tell_slot(f, *slot, " is skipped: ", reason.text())
             }
-            Message::NothingTried(skipped) => {
-                let skips = Skips(skipped.as_slice());
-                write!(f, "luksrd: no key slot can be tried{skips}\n")
-            }
-            Message::KeyFileLength => {
-                f.write_str("luksrd: key file is longer than 8388608 bytes\n")
-            }
-            Message::NoKey(skipped) => {
-                let skips = Skips(skipped.as_slice());
-                write!(f, "luksrd: no key opens the volume{skips}\n")
-            }
+            Message::NothingTried(skipped) => tell_skips(f, "no key slot can be tried", skipped),
+            Message::KeyFileLength => tell_text(f, "key file is longer than 8388608 bytes", ""),
+            Message::NoKey(skipped) => tell_skips(f, "no key opens the volume", skipped),
             Message::NotLuks => f.write_str("luksrd: not a LUKS image\n"),
             Message::Cut => f.write_str("luksrd: image ends inside the header or a key area\n"),
             Message::Json => f.write_str("luksrd: LUKS2 JSON area is not readable\n"),
             Message::CutBeforePayload => f.write_str("luksrd: image ends before the payload\n"),
-            Message::Tail(bytes) => {
-                write!(
-                    f,
-                    "luksrd: image ends inside a sector: {bytes} bytes left over\n"
-                )
+            Message::Tail(left) => {
+                tell_bytes(f, "image ends inside a sector: ", *left, " bytes left over")
             }
-            Message::Short(bytes) => {
-                write!(
-                    f,
-                    "luksrd: image ends {bytes} bytes before the segment does\n"
-                )
+            Message::Short(missing) => {
+                tell_bytes(f, "image ends ", *missing, " bytes before the segment does")
             }
             Message::KeyLength => f.write_str("luksrd: key must be 1 to 512 bytes\n"),
             Message::FewRandomBytes => f.write_str("luksrd: random bytes are too few\n"),
@@ -137,6 +122,52 @@ impl fmt::Display for Message {
             Message::WriteFailed => f.write_str("luksrd: write failed\n"),
         }
     }
+}
+
+/// Writes a line of two texts.
+fn tell_text<W: fmt::Write>(f: &mut fmt::Formatter<W>, text: &str, rest: &str) -> fmt::Result
+    ensures { DisplaysOnOk W.write_str_gives f.old result (Some (line (text.now ++ rest.now))) f.new }
+{
+    write!(f, "luksrd: {text}{rest}\n")
+}
+
+/// Writes a line with a number of bytes.
+fn tell_bytes<W: fmt::Write>(
+    f: &mut fmt::Formatter<W>,
+    text: &str,
+    bytes: u64,
+    rest: &str,
+) -> fmt::Result
+    ensures { DisplaysOnOk W.write_str_gives f.old result
+        (Some (line (text.now ++ decimal bytes ++ rest.now))) f.new }
+{
+    write!(f, "luksrd: {text}{bytes}{rest}\n")
+}
+
+/// Writes a line on a key slot.
+fn tell_slot<W: fmt::Write>(
+    f: &mut fmt::Formatter<W>,
+    slot: u8,
+    text: &str,
+    rest: &str,
+) -> fmt::Result
+    ensures { DisplaysOnOk W.write_str_gives f.old result
+        (Some (line (codes "key slot " ++ decimal slot ++ text.now ++ rest.now))) f.new }
+{
+    write!(f, "luksrd: key slot {slot}{text}{rest}\n")
+}
+
+/// Writes a line that ends with the key slots that were skipped.
+fn tell_skips<W: fmt::Write>(
+    f: &mut fmt::Formatter<W>,
+    text: &str,
+    skipped: &SkippedSlots,
+) -> fmt::Result
+    ensures { DisplaysOnOk W.write_str_gives f.old result
+        (Some (line (text.now ++ skips_text skipped.now))) f.new }
+{
+    let skips = Skips(skipped.as_slice());
+    write!(f, "luksrd: {text}{skips}\n")
 }
 
 /// A key slot that was skipped, and the reason.

@@ -98,7 +98,6 @@ fn find_volume<I: Source>(
     ensures order { IfOk result (λ volume. let o = opening_request opening.now in
         order_of volume.header o.key_slot o.max_iterations ≡ Ok volume.order) }
     ensures area { IfOk result (λ volume. length volume.area ≡ cost_of volume.area) }
-    ensures found { IfOk result (λ volume. header_of volume.area ≡ Ok volume.header) }
     ensures writes { IfErr result (λ message. message ≢ Message.WriteFailed) }
     ensures reads { I.failures image.new ≡ count_reads (ending_of result) (I.failures image.old) }
 {

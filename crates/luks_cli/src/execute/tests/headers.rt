@@ -224,8 +224,9 @@ fn answers_memory_where_it_is_refused(rt: HostRuntime) -> Result<(), Fail> {
                 &mut MemSource::new(&[]),
                 &mut out,
             );
+            let done = report.status == 0;
             let _ = reports.push((report, out.as_slice().len()));
-            if report.status == 0 {
+            if done {
                 break;
             }
             scarcity.relent();

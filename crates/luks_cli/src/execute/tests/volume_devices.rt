@@ -154,8 +154,9 @@ fn answers_memory_where_it_is_refused(rt: HostRuntime) -> Result<(), Fail> {
             let mut source = MemSource::new(&image);
             let mut secret = MemSource::new(PASSPHRASE);
             let report = execute(alloc, &command, &mut source, &mut secret, &mut out);
+            let done = report.status == 0;
             let _ = reports.push((report, out.as_slice().len()));
-            if report.status == 0 {
+            if done {
                 break;
             }
             scarcity.relent();

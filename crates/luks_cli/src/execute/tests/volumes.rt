@@ -1,14 +1,17 @@
 //! Whole runs of the commands on volumes.
 
-use super::{check, run};
+use super::{Ended, check, run};
 use crate::tests::volume::{PASSPHRASE, PLAIN_LEN, SMALL, USUAL, changed, plain_bytes, sealed};
-use std::alloc::Global;
+use std::alloc::{AllocError, Global};
 use std::process::Abort;
 use std::test::Fail;
 
 const CUT: &str = "luksrd: image ends inside the header or a key area\n";
 
 const NO_KEY: &str = "luksrd: no key opens the volume\n";
+
+// The length of the longest key file.
+const LONGEST: usize = 8_388_608;
 
 const OPENS: &str = "Key slot 0 opens the volume.\n";
 
@@ -199,24 +202,39 @@ fn tells_skipped_key_slots_by_number(rt: HostRuntime) -> Result<(), Fail> {
     check_refused(&rt, "", &image, told)
 }
 
+// So many zeros.
+fn zeros(alloc: Global, len: usize) -> Result<Vec<u8>, AllocError> {
+    vec![in alloc; 0; len]
+}
+
+// The first bytes, so many of them.
+fn first(bytes: &[u8], len: usize) -> &[u8] {
+    &bytes[..len.min(bytes.len())]
+}
+
+// Runs `testPassphrase` with so many bytes of a key file.
+fn run_with(alloc: Global, image: &[u8], key_file: &[u8], len: usize) -> Result<Ended, Fail> {
+    let line = "testPassphrase --key-file f i";
+    run(alloc, line, image, first(key_file, len))
+}
+
 #[test]
 fn reads_long_key_files(rt: HostRuntime) -> Result<(), Fail> {
     let alloc = rt.alloc();
-    let zeros = vec![in alloc; 0u8; 8_388_612]?;
-    let image = sealed(alloc, SMALL, &zeros[..8_388_608])?;
-    let line = "testPassphrase --key-file f i";
-    let ended = run(alloc, line, &image, &zeros[..8_388_608])?;
+    let zeros = zeros(alloc, LONGEST + 4)?;
+    let image = sealed(alloc, SMALL, first(&zeros, LONGEST))?;
+    let ended = run_with(alloc, &image, &zeros, LONGEST)?;
     check(&rt, &ended, OPENS.as_bytes(), 0, "");
     assert_eq!(rt; ended.secret_left, 0);
     let long = "luksrd: key file is longer than 8388608 bytes\n";
-    for (len, left) in [(8_388_609, 0), (8_388_610, 1), (8_388_612, 3)] {
-        let ended = run(alloc, line, &image, &zeros[..len])?;
+    for more in [1, 2, 4] {
+        let ended = run_with(alloc, &image, &zeros, LONGEST + more)?;
         check(&rt, &ended, &[], 1, long);
-        assert_eq!(rt; ended.secret_left, left);
+        assert_eq!(rt; ended.secret_left, more - 1);
         assert_eq!(rt; image.len() - ended.image_left.min(image.len()), 592);
     }
-    for len in [0, 1, 4095, 4096, 4097, 8192, 8_388_607] {
-        let ended = run(alloc, line, &image, &zeros[..len])?;
+    for len in [0, 1, 4095, 4096, 4097, 8192, LONGEST - 1] {
+        let ended = run_with(alloc, &image, &zeros, len)?;
         check(&rt, &ended, &[], 2, NO_KEY);
         assert_eq!(rt; ended.secret_left, 0);
     }
