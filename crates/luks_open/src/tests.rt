@@ -1,6 +1,5 @@
-//! Small volumes of LUKS1 that are opened, and scarce memory.
+//! Small volumes of LUKS1 that are opened.
 
 mod opening;
 mod ordering;
-mod scarce;
 mod volumes;

@@ -1,7 +1,6 @@
 //! What no clause says: runs of whole payloads whose images were encrypted here with the unit numbers written out,
 //! and devices that give and take in pieces or fail.
 
-mod device;
 mod fixture;
 mod layout;
 mod payload;

@@ -9,8 +9,8 @@ use super::execute;
 use crate::command::{PlanFault, plan};
 use crate::message::Message;
 use crate::report::Report;
-use crate::tests::devices::{Flaky, Leaky};
 use luks_io::memory::{MemSink, MemSource};
+use luks_testing::devices::{Flaky, Leaky};
 use std::alloc::{AllocError, Global};
 use std::process::Abort;
 use std::test::Fail;
@@ -247,10 +247,10 @@ fn check_failures(
             let at = |which: u32| if which == device { call } else { u64::MAX };
             let mut key = Flaky::new(image, 5, at(0));
             let mut random = Flaky::new(secret, 5, at(1));
-            let mut out = Leaky::new(alloc, 3, at(2))?;
+            let mut out = Leaky::new(alloc, 4096, 3, at(2))?;
             let report = execute(alloc, &command, &mut key, &mut random, &mut out);
             assert!(rt; whole.starts_with(out.as_slice()), "{line}");
-            if key.failures == 0 && random.failures == 0 && out.failures() == 0 {
+            if key.failures() == 0 && random.failures() == 0 && out.failures() == 0 {
                 assert_eq!(rt; report.status, 0);
                 assert_eq!(rt; out.as_slice(), whole);
                 break;

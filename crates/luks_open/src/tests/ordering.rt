@@ -1,6 +1,5 @@
 //! Which slots are tried of a header, and what is answered where there are none.
 
-use super::scarce::Scarcity;
 use super::volumes::SHORT_KEY;
 use crate::fault::OpenFault;
 use crate::order::order;
@@ -8,6 +7,7 @@ use crate::tries::{Order, held_end};
 use luks_header::header::{Header, read_header};
 use luks_header::refusal::SkipReason;
 use luks_io::memory::MemSource;
+use luks_testing::scarce::Scarcity;
 use std::alloc::Global;
 use std::test::Fail;
 

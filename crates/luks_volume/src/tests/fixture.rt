@@ -4,16 +4,15 @@ ghost use Rattle.std.specs.Prelude.{◌≡◌, ◌%◌, ◌≤◌};
 ghost use Rattle.std.specs.Option.{ForSome};
 ghost use Rattle.luks_header.specs.SectorSize.{bytes_of};
 
-use super::device::{Giver, Taker};
 use crate::fault::VolumeFault;
 use crate::pump::Pump;
 use crate::state::Step;
 use luks_cipher::XtsKey;
 use luks_header::sector_size::SectorSize;
 use luks_header::segment::Segment;
-use luks_io::memory::MemSink;
 use luks_io::sink::Sink;
 use luks_io::source::Source;
+use luks_testing::devices::{Flaky, Leaky};
 use std::alloc::Global;
 use std::test::Fail;
 
@@ -120,8 +119,8 @@ pub fn run_pump<S: Source, O: Sink>(pump: &mut Pump, source: &mut S, sink: &mut 
 }
 
 /// A sink with room for so many bytes, which takes `piece` at a time and fails at call `bad`.
-pub fn taker(alloc: Global, room: usize, piece: usize, bad: u64) -> Result<Taker, Fail> {
-    Ok(Taker::new(MemSink::new(alloc, room)?, piece, bad))
+pub fn taker(alloc: Global, room: usize, piece: usize, bad: u64) -> Result<Leaky, Fail> {
+    Ok(Leaky::new(alloc, room, piece, bad)?)
 }
 
 /// No call fails.
@@ -136,11 +135,11 @@ pub fn whole_run(
     pieces: (usize, usize),
 ) -> Result<(Run, Vec<u8>, usize), Fail> {
     let mut pump = Pump::new(segment, key()?, 0);
-    let mut source = Giver::new(image, pieces.0, NEVER);
+    let mut source = Flaky::new(image, pieces.0, NEVER);
     let mut sink = taker(alloc, 65536, pieces.1, NEVER)?;
     let run = run_pump(&mut pump, &mut source, &mut sink);
     let mut written = Vec::new(alloc);
-    written.extend_from_slice(sink.bytes.as_slice())?;
-    let left = source.bytes.left().len();
+    written.extend_from_slice(sink.as_slice())?;
+    let left = source.left();
     Ok((run, written, image.len().saturating_sub(left)))
 }

@@ -1,6 +1,5 @@
 //! Payloads of all endings.
 
-use super::device::Giver;
 use super::fixture::{NEVER, Run, dynamic, fixed, key, make_volume, run_pump, taker, whole_run};
 use crate::fault::VolumeFault;
 use crate::pump::Pump;
@@ -8,6 +7,7 @@ use crate::state::Step;
 use luks_header::sector_size::SectorSize;
 use luks_header::segment::Segment;
 use luks_io::memory::{MemSink, MemSource};
+use luks_testing::devices::Flaky;
 use std::alloc::Global;
 use std::process::Abort;
 use std::test::Fail;
@@ -197,17 +197,17 @@ fn broken_run(
     written: &mut Vec<u8>,
 ) -> Result<(Run, usize, bool), Fail> {
     let mut pump = Pump::new(dynamic(1000, SectorSize::B512, 5), key()?, 0);
-    let mut source = Giver::new(image, 200, bad.0);
+    let mut source = Flaky::new(image, 200, bad.0);
     let mut sink = taker(alloc, 65536, 200, bad.1)?;
     let first = run_pump(&mut pump, &mut source, &mut sink);
-    written.extend_from_slice(sink.bytes.as_slice())?;
-    let left = source.bytes.left().len();
-    let calls = (source.calls, sink.calls);
+    written.extend_from_slice(sink.as_slice())?;
+    let left = source.left();
+    let calls = (source.calls(), sink.calls());
     let again = run_pump(&mut pump, &mut source, &mut sink);
     let skipped = pump.skip(&mut source);
     let same = again.last == first.last
         && again.sectors == 0
-        && (source.calls, sink.calls) == calls
+        && (source.calls(), sink.calls()) == calls
         && skipped.is_err() == first.last.is_err();
     Ok((first, image.len().saturating_sub(left), same))
 }

@@ -2,7 +2,6 @@
 
 ghost use Rattle.std.specs.Prelude.{◌≡◌, length};
 
-use super::device::Giver;
 use super::fixture::{NEVER, Run, counted, dynamic, run_pump, taker};
 use crate::pump::Pump;
 use crate::seal::luks1::seal1;
@@ -11,6 +10,7 @@ use crate::state::Step;
 use luks_cipher::XtsKey;
 use luks_header::sector_size::SectorSize;
 use luks_kdf::{Hash, Work, af_merge, pbkdf2};
+use luks_testing::devices::Flaky;
 use std::alloc::Global;
 use std::process::Abort;
 use std::test::Fail;
@@ -180,14 +180,14 @@ fn check_sealed(rt: &(impl Abort + AllocGlobal)) -> Result<(), Fail> {
         return Err("no key".into());
     };
     let mut pump = Pump::new(dynamic(36_864, SectorSize::B512, 0), key, 0);
-    let mut source = Giver::new(&image, 5000, NEVER);
+    let mut source = Flaky::new(&image, 5000, NEVER);
     let mut sink = taker(alloc, 4096, 5000, NEVER)?;
     let ended = Run {
         sectors: 2,
         last: Ok(Step::End),
     };
     assert_eq!(rt; run_pump(&mut pump, &mut source, &mut sink), ended);
-    assert_eq!(rt; sink.bytes.as_slice(), plain.as_slice());
+    assert_eq!(rt; sink.as_slice(), plain.as_slice());
     Ok(())
 }
 

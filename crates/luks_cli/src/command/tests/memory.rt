@@ -2,7 +2,7 @@
 
 use super::super::{Command, PlanFault, plan};
 use super::words_of;
-use crate::tests::scarce::Scarcity;
+use luks_testing::scarce::Scarcity;
 use std::alloc::{AllocError, Global};
 use std::test::Fail;
 

@@ -7,8 +7,8 @@ use crate::command::plan;
 use crate::execute::execute;
 use crate::message::Message;
 use crate::report::Report;
-use crate::tests::scarce::Scarcity;
 use luks_io::memory::{MemSink, MemSource};
+use luks_testing::scarce::Scarcity;
 use std::test::Fail;
 
 // Puts bytes at a place of a header.

@@ -4,10 +4,10 @@ use super::execute;
 use crate::command::plan;
 use crate::message::Message;
 use crate::report::Report;
-use crate::tests::devices::{Broken, Flaky, Leaky};
-use crate::tests::scarce::Scarcity;
 use crate::tests::volume::{PASSPHRASE, SMALL, USUAL, plain_bytes, sealed};
 use luks_io::memory::{MemSink, MemSource};
+use luks_testing::devices::{Broken, Flaky, Leaky};
+use luks_testing::scarce::Scarcity;
 use std::process::Abort;
 use std::test::Fail;
 
@@ -24,7 +24,7 @@ fn writes_the_same_for_all_pieces(rt: HostRuntime) -> Result<(), Fail> {
         for taken in [1, 700] {
             let mut source = Flaky::new(&image, given, NEVER);
             let mut secret = Flaky::new(PASSPHRASE, given, NEVER);
-            let mut out = Leaky::new(alloc, taken, NEVER)?;
+            let mut out = Leaky::new(alloc, 4096, taken, NEVER)?;
             let report = execute(alloc, &command, &mut source, &mut secret, &mut out);
             assert_eq!(rt; report, Report::of(Message::Done));
             assert_eq!(rt; out.as_slice(), plain.as_slice());
@@ -109,10 +109,10 @@ fn check_failures(rt: &(impl Abort + AllocGlobal), name: &str, whole: &[u8]) -> 
             let at = |which: u32| if which == device { call } else { NEVER };
             let mut source = Flaky::new(&image, 200, at(0));
             let mut secret = Flaky::new(PASSPHRASE, 5, at(1));
-            let mut out = Leaky::new(alloc, 7, at(2))?;
+            let mut out = Leaky::new(alloc, 4096, 7, at(2))?;
             let report = execute(alloc, &command, &mut source, &mut secret, &mut out);
             assert!(rt; whole.starts_with(out.as_slice()));
-            if source.failures == 0 && secret.failures == 0 && out.failures() == 0 {
+            if source.failures() == 0 && secret.failures() == 0 && out.failures() == 0 {
                 assert_eq!(rt; report, Report::of(Message::Done));
                 assert_eq!(rt; out.as_slice(), whole);
                 break;

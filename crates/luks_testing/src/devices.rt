@@ -8,18 +8,20 @@ use luks_io::sink::Sink;
 use luks_io::source::Source;
 use std::alloc::{AllocError, Global};
 
-/// A source that gives at most `piece` bytes a call. Call number `failing`, from 0, fails, and later ones go on.
+/// A source that gives at most `piece` bytes a call, or all that are asked for where `piece` is 0. Call number `failing`, from 0,
+/// fails, and later ones go on.
 #[derive(Drop)]
-pub(crate) struct Flaky<'a> {
+pub struct Flaky<'a> {
     left: &'a [u8],
     piece: usize,
     failing: u64,
     calls: u64,
-    pub(crate) failures: u64,
+    failures: u64,
 }
 
 impl<'a> Flaky<'a> {
-    pub(crate) fn new(bytes: &'a [u8], piece: usize, failing: u64) -> Flaky<'a> {
+    /// A source of these bytes.
+    pub fn new(bytes: &'a [u8], piece: usize, failing: u64) -> Flaky<'a> {
         Flaky {
             left: bytes,
             piece,
@@ -30,8 +32,18 @@ impl<'a> Flaky<'a> {
     }
 
     /// How many bytes are left.
-    pub(crate) fn left(&self) -> usize {
+    pub fn left(&self) -> usize {
         self.left.len()
+    }
+
+    /// How many calls there were.
+    pub fn calls(&self) -> u64 {
+        self.calls
+    }
+
+    /// How many of them failed.
+    pub fn failures(&self) -> u64 {
+        self.failures
     }
 }
 
@@ -60,9 +72,9 @@ impl<'a> Source for Flaky<'a> {
     }
 }
 
-/// A sink that takes at most `piece` bytes a call. Call number `failing`, from 0, fails, and later ones go on.
+/// A sink that takes at most `piece` bytes a call, and at least one. Call number `failing`, from 0, fails, and later ones go on.
 #[derive(Drop)]
-pub(crate) struct Leaky {
+pub struct Leaky {
     sink: MemSink,
     piece: usize,
     failing: u64,
@@ -72,23 +84,34 @@ pub(crate) struct Leaky {
 }
 
 impl Leaky {
-    pub(crate) fn new(alloc: Global, piece: usize, failing: u64) -> Result<Leaky, AllocError>
-        requires { 0 < piece }
-    {
+    /// A sink with room for so many bytes.
+    pub fn new(
+        alloc: Global,
+        room: usize,
+        piece: usize,
+        failing: u64,
+    ) -> Result<Leaky, AllocError> {
         Ok(Leaky {
-            sink: MemSink::new(alloc, 4096)?,
-            piece,
+            sink: MemSink::new(alloc, room)?,
+            piece: piece.max(1),
             failing,
             calls: 0,
             failures: 0,
         })
     }
 
-    pub(crate) fn as_slice(&self) -> &[u8] {
+    /// The bytes that were written.
+    pub fn as_slice(&self) -> &[u8] {
         self.sink.as_slice()
     }
 
-    pub(crate) fn failures(&self) -> u64 {
+    /// How many calls there were.
+    pub fn calls(&self) -> u64 {
+        self.calls
+    }
+
+    /// How many of them failed.
+    pub fn failures(&self) -> u64 {
         self.failures
     }
 }
@@ -120,14 +143,15 @@ impl Sink for Leaky {
 
 /// A source that gives so many bytes, and whose further reads fail.
 #[derive(Drop)]
-pub(crate) struct Broken<'a> {
+pub struct Broken<'a> {
     left: &'a [u8],
     given: usize,
-    pub(crate) failures: u64,
+    failures: u64,
 }
 
 impl<'a> Broken<'a> {
-    pub(crate) fn new(bytes: &'a [u8], given: usize) -> Broken<'a> {
+    /// A source of these bytes, of which so many are given.
+    pub fn new(bytes: &'a [u8], given: usize) -> Broken<'a> {
         Broken {
             left: bytes,
             given,
@@ -136,8 +160,13 @@ impl<'a> Broken<'a> {
     }
 
     /// How many bytes are left.
-    pub(crate) fn left(&self) -> usize {
+    pub fn left(&self) -> usize {
         self.left.len()
+    }
+
+    /// How many calls failed.
+    pub fn failures(&self) -> u64 {
+        self.failures
     }
 }
 

@@ -17,7 +17,7 @@ const BLOCKS: usize = 1 << 18;
 
 /// Memory that is taken, so that there is none for others.
 #[derive(Drop)]
-pub(crate) struct Scarcity {
+pub struct Scarcity {
     pieces: Vec<Vec<u8>>,
     blocks: Vec<Vec<u8>>,
 }
@@ -26,7 +26,7 @@ impl Scarcity {
     /// Takes all memory, `count` pieces of `size` bytes of it to be given back one by one. Pieces of
     /// less than 129 bytes serve only requests of their own size, and so do the first seven of less
     /// than 1,033.
-    pub(crate) fn new(alloc: Global, count: usize, size: usize) -> Result<Scarcity, AllocError> {
+    pub fn new(alloc: Global, count: usize, size: usize) -> Result<Scarcity, AllocError> {
         let mut pieces = Vec::with_capacity(alloc, count)?;
         let mut blocks = Vec::with_capacity(alloc, BLOCKS)?;
         for _ in 0..count {
@@ -41,7 +41,7 @@ impl Scarcity {
     }
 
     /// Gives a piece back.
-    pub(crate) fn relent(&mut self) {
+    pub fn relent(&mut self) {
         self.pieces.pop();
     }
 }

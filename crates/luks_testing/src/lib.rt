@@ -1,0 +1,7 @@
+//! What the tests of several crates share: devices of which one call fails, and memory that is taken away.
+//!
+//! Nothing but tests uses it.
+#![tactic(auto)]
+
+pub mod devices;
+pub mod scarce;
