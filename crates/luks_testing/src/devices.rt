@@ -16,7 +16,8 @@ pub struct Flaky<'a> {
     piece: usize,
     failing: u64,
     calls: u64,
-    failures: u64,
+    /// How many calls failed.
+    pub failures: u64,
 }
 
 impl<'a> Flaky<'a> {
@@ -39,11 +40,6 @@ impl<'a> Flaky<'a> {
     /// How many calls there were.
     pub fn calls(&self) -> u64 {
         self.calls
-    }
-
-    /// How many of them failed.
-    pub fn failures(&self) -> u64 {
-        self.failures
     }
 }
 
@@ -146,7 +142,8 @@ impl Sink for Leaky {
 pub struct Broken<'a> {
     left: &'a [u8],
     given: usize,
-    failures: u64,
+    /// How many calls failed.
+    pub failures: u64,
 }
 
 impl<'a> Broken<'a> {
@@ -162,11 +159,6 @@ impl<'a> Broken<'a> {
     /// How many bytes are left.
     pub fn left(&self) -> usize {
         self.left.len()
-    }
-
-    /// How many calls failed.
-    pub fn failures(&self) -> u64 {
-        self.failures
     }
 }
 

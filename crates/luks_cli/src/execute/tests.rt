@@ -250,7 +250,7 @@ fn check_failures(
             let mut out = Leaky::new(alloc, 4096, 3, at(2))?;
             let report = execute(alloc, &command, &mut key, &mut random, &mut out);
             assert!(rt; whole.starts_with(out.as_slice()), "{line}");
-            if key.failures() == 0 && random.failures() == 0 && out.failures() == 0 {
+            if key.failures == 0 && random.failures == 0 && out.failures() == 0 {
                 assert_eq!(rt; report.status, 0);
                 assert_eq!(rt; out.as_slice(), whole);
                 break;

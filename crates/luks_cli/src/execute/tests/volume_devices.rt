@@ -112,7 +112,7 @@ fn check_failures(rt: &(impl Abort + AllocGlobal), name: &str, whole: &[u8]) -> 
             let mut out = Leaky::new(alloc, 4096, 7, at(2))?;
             let report = execute(alloc, &command, &mut source, &mut secret, &mut out);
             assert!(rt; whole.starts_with(out.as_slice()));
-            if source.failures() == 0 && secret.failures() == 0 && out.failures() == 0 {
+            if source.failures == 0 && secret.failures == 0 && out.failures() == 0 {
                 assert_eq!(rt; report, Report::of(Message::Done));
                 assert_eq!(rt; out.as_slice(), whole);
                 break;
