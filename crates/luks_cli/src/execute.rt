@@ -26,6 +26,9 @@ mod volumes;
 /// What is written, told and taken of both inputs is one function of the command and of the bytes that the inputs give.
 /// Where memory is refused or a read or a write fails, what was written is a beginning of that output, and no input was
 /// taken further than stated; a failed read or write is told exactly where one failed.
+///
+/// `luksCat` writes each sector as it comes: where a write fails, nothing of the image past the current sector was taken, and
+/// where a read fails, all whole sectors that were taken are written. Its image is shorter than 2^64 bytes.
 pub fn execute<I: Source, K: Source, O: Sink>(
     alloc: Global,
     command: &Command<'_>,
