@@ -41,14 +41,6 @@ in_sectors len stripes whole rest is some is_whole is_rest = of_len (one_of_two 
     of_len (inl h) = subst (λ n. AreInSectors n stripes whole rest) (sym h) (of_32 (rw h at is_whole) (rw h at is_rest))
     of_len (inr h) = subst (λ n. AreInSectors n stripes whole rest) (sym h) (of_64 (rw h at is_whole) (rw h at is_rest))
 
--- the chain before any stripe of these
-pub taken_none : (h : Hash) (len : ℕ) (before stripes : List ℕ) (number : ℕ) (chain : Chain) → chain ≡ chain_after h len before number
-    → chain ≡ chain_after h len (before ++ take (0 * len) stripes) (number + 0)
-taken_none h len before stripes number chain is =
-    let nothing : 0 * len ≡ 0 = omega arith in
-    let same : number + 0 ≡ number = omega arith in
-    rw (nothing, same) (is ∙ ap (λ all. chain_after h len all number) (sym (append-nil before)))
-
 -- the chain one stripe further
 pub taken_more : (h : Hash) (len : ℕ) (before stripes stripe : List ℕ) (number i : ℕ) (chain : Chain) → (i + 1) * len ≤ length stripes
     → length before ≡ number * len → stripe ≡ take len (drop (i * len) stripes)

@@ -8,10 +8,6 @@ use Rattle.luks_header.specs.declared.slot.Slot.{Slot}
 use Rattle.luks_open.specs.Candidate.{KeyDigest}
 use Rattle.luks_open.specs.Opening.{evaluations_of, first_opening, key_of, opened_or, tried_of}
 
--- a count that was raised twice
-pub capped-capped : (a b : ℕ) → capped (capped a + b) ≡ capped (a + b)
-capped-capped a b = omega arith
-
 -- the evaluations that these key slots take, up to the first that opens
 abbrev pub work_on : KeyDigest → List (ℕ × Slot) → List ℕ → List ℕ → ℕ
 work_on digest slots image pass = sum_by (evaluations_of digest) (tried_of digest slots image pass)

@@ -8,5 +8,5 @@ abbrev pub invariant-loop-number : goal.invariant-loop-number
 invariant-loop-number l = record {
   count : vec_len l.verdicts ≡ l.number;
   all : l.verdicts.items ++ enumerate_from l.number (map (verdict1_of l.header l.limit) (drop l.number l.header.slots))
-    ≡ enumerate_from 0 (map (verdict1_of l.header l.limit) l.header.slots);
+      ≡ enumerate_from 0 (map (verdict1_of l.header l.limit) l.header.slots);
 }
