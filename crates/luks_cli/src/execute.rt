@@ -27,6 +27,9 @@ mod volumes;
 /// Where memory is refused or a read or a write fails, what was written is a beginning of that output, and no input was
 /// taken further than stated; a failed read or write is told exactly where one failed. Where a write failed, not all of the
 /// output is written. A command that has no second input leaves that source as it is.
+///
+/// `luksCat` writes each sector as it comes: where a write fails, nothing of the image past the current sector was taken, and
+/// where a read fails, all whole sectors that were taken are written. Its image is shorter than 2^64 bytes.
 pub fn execute<I: Source, K: Source, O: Sink>(
     alloc: Global,
     command: &Command<'_>,
