@@ -4,6 +4,7 @@ use super::volumes::{LONG_KEY, Question, SHORT_KEY, Volume, answer, any};
 use crate::fault::OpenFault;
 use luks_header::refusal::SkipReason;
 use luks_kdf::Work;
+use std::alloc::Global;
 use std::process::Abort;
 use std::test::Fail;
 
@@ -160,4 +161,41 @@ fn a_full_count_of_work_stays(rt: HostRuntime) -> Result<(), Fail> {
     assert!(rt; answer(rt.alloc(), &image, any(b"fourth"), &mut work)?.is_err());
     assert_eq!(rt; work.count(), u128::MAX);
     Ok(())
+}
+
+// An image whose header has the numbers of a usual volume: SHA-256, a key of 64 bytes, 4000 stripes from sector 8 on, the payload from
+// sector 4096 on, and 1000 iterations each for slot 0, which alone is in use, and for the digest. Its key material is not the split of a
+// key.
+fn with_usual_numbers(alloc: Global) -> Result<Vec<u8>, Fail> {
+    let mut image = SHORT_KEY.image(alloc)?;
+    image.resize(260_096, 0)?;
+    for (place, number) in [
+        (104, 4096),
+        (108, 64),
+        (164, 1000),
+        (212, 1000),
+        (248, 8),
+        (252, 4000),
+    ] {
+        put_number(&mut image, place, number)?;
+    }
+    for slot in 1..8usize {
+        put_number(&mut image, 208 + 48 * slot, 0xdead)?;
+    }
+    Ok(image)
+}
+
+// Puts a number into a header.
+fn put_number(image: &mut [u8], place: usize, number: u32) -> Result<(), Fail> {
+    if 588 < place || image.len() < 592 {
+        return Err("no place".into());
+    }
+    image[place..place + 4].copy_from_slice(&number.to_be_bytes());
+    Ok(())
+}
+
+#[test]
+fn a_usual_volume_takes_3000_evaluations(rt: HostRuntime) -> Result<(), Fail> {
+    let image = with_usual_numbers(rt.alloc())?;
+    check_no_key(&rt, &image, any(b"first"), &[], 3000)
 }
