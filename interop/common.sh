@@ -3,9 +3,12 @@
 # The images are plain files that other tools make; no device mapper and no kernel cryptography is used.
 set -u
 program=$(realpath "${1:?the built program}")
-for tool in cryptsetup qemu-img; do
-    command -v "$tool" >/dev/null || { echo "$tool is missing: apt-get install cryptsetup-bin qemu-utils"; exit 1; }
-done
+if ! command -v cryptsetup >/dev/null || ! command -v qemu-img >/dev/null; then
+    (apt-get update -qq && apt-get install -y -qq cryptsetup-bin qemu-utils) >/dev/null || {
+        echo 'cryptsetup or qemu-img is missing: install cryptsetup-bin and qemu-utils'
+        exit 1
+    }
+fi
 work=$(mktemp -d)
 trap 'rm -rf "$work"' EXIT
 cd "$work" || exit 1
