@@ -1,6 +1,6 @@
 //! Devices over memory that move a few bytes a call, and of which one call fails.
 
-ghost use Rattle.std.specs.Prelude.{◌<◌};
+ghost use Rattle.std.specs.Prelude.{◌≡◌, ◌<◌, ℕ, List, [], Some, IfOk, length};
 
 use luks_io::DeviceFault;
 use luks_io::memory::MemSink;
@@ -22,7 +22,10 @@ pub struct Flaky<'a> {
 
 impl<'a> Flaky<'a> {
     /// A source of these bytes.
-    pub fn new(bytes: &'a [u8], piece: usize, failing: u64) -> Flaky<'a> {
+    pub fn new(bytes: &'a [u8], piece: usize, failing: u64) -> Flaky<'a>
+        ensures bytes { ⟦<Flaky<'a> as Source>⟧.to_come result ≡ Some bytes.entry.now }
+        ensures failures { ⟦<Flaky<'a> as Source>⟧.failures result ≡ 0 }
+    {
         Flaky {
             left: bytes,
             piece,
@@ -33,7 +36,9 @@ impl<'a> Flaky<'a> {
     }
 
     /// How many bytes are left.
-    pub fn left(&self) -> usize {
+    pub fn left(&self) -> usize
+        ensures { (told : List ℕ) → ⟦<Flaky<'a> as Source>⟧.to_come self.now ≡ Some told → result ≡ length told }
+    {
         self.left.len()
     }
 
@@ -81,12 +86,10 @@ pub struct Leaky {
 
 impl Leaky {
     /// A sink with room for so many bytes.
-    pub fn new(
-        alloc: Global,
-        room: usize,
-        piece: usize,
-        failing: u64,
-    ) -> Result<Leaky, AllocError> {
+    pub fn new(alloc: Global, room: usize, piece: usize, failing: u64) -> Result<Leaky, AllocError>
+        ensures bytes { IfOk result (λ sink. ⟦<Leaky as Sink>⟧.written sink ≡ Some []) }
+        ensures failures { IfOk result (λ sink. ⟦<Leaky as Sink>⟧.failures sink ≡ 0) }
+    {
         Ok(Leaky {
             sink: MemSink::new(alloc, room)?,
             piece: piece.max(1),
@@ -97,7 +100,9 @@ impl Leaky {
     }
 
     /// The bytes that were written.
-    pub fn as_slice(&self) -> &[u8] {
+    pub fn as_slice(&self) -> &[u8]
+        ensures { ⟦<Leaky as Sink>⟧.written self.now ≡ Some result.now }
+    {
         self.sink.as_slice()
     }
 
@@ -107,7 +112,9 @@ impl Leaky {
     }
 
     /// How many of them failed.
-    pub fn failures(&self) -> u64 {
+    pub fn failures(&self) -> u64
+        ensures { result ≡ ⟦<Leaky as Sink>⟧.failures self.now }
+    {
         self.failures
     }
 }
@@ -148,7 +155,10 @@ pub struct Broken<'a> {
 
 impl<'a> Broken<'a> {
     /// A source of these bytes, of which so many are given.
-    pub fn new(bytes: &'a [u8], given: usize) -> Broken<'a> {
+    pub fn new(bytes: &'a [u8], given: usize) -> Broken<'a>
+        ensures bytes { ⟦<Broken<'a> as Source>⟧.to_come result ≡ Some bytes.entry.now }
+        ensures failures { ⟦<Broken<'a> as Source>⟧.failures result ≡ 0 }
+    {
         Broken {
             left: bytes,
             given,
@@ -157,7 +167,9 @@ impl<'a> Broken<'a> {
     }
 
     /// How many bytes are left.
-    pub fn left(&self) -> usize {
+    pub fn left(&self) -> usize
+        ensures { (told : List ℕ) → ⟦<Broken<'a> as Source>⟧.to_come self.now ≡ Some told → result ≡ length told }
+    {
         self.left.len()
     }
 }
