@@ -6,10 +6,8 @@
 mod input;
 
 use input::{Input, OpenFault};
-use luks_cli::command::{Command, plan};
 use luks_cli::execute::execute;
-use luks_cli::message::Message;
-use luks_cli::report::Report;
+use luks_cli::{Command, Message, Report, plan};
 use luks_io::adapters::{ReadSource, WriteSink};
 use std::env;
 use std::io::{BufWriter, ErrorKind, Write};

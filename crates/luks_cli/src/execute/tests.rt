@@ -6,10 +6,10 @@ mod volume_devices;
 mod volumes;
 
 use super::execute;
-use crate::command::{PlanFault, plan};
-use crate::message::Message;
-use crate::report::Report;
+use luks_command::planning::{PlanFault, plan};
 use luks_io::memory::{MemSink, MemSource};
+use luks_report::message::Message;
+use luks_report::report::Report;
 use luks_testing::devices::{Flaky, Leaky};
 use std::alloc::{AllocError, Global};
 use std::process::Abort;

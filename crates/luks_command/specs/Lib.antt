@@ -1,0 +1,4 @@
+pub mod Command
+pub mod Grammar
+pub mod Number
+pub mod Request
