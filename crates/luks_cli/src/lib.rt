@@ -6,7 +6,7 @@
 pub use luks_command::command::{Command, Merging, Opening, Splitting};
 pub use luks_command::number::{IterationLimit, KeyBytes, SlotNumber, StripeCount};
 pub use luks_command::planning::{PlanFault, plan};
-pub use luks_command::usage::USAGE;
+pub use luks_report::input::{NOT_OPENED, not_opened_page};
 pub use luks_report::message::Message;
 pub use luks_report::report::Report;
 

@@ -1,7 +1,7 @@
 use crate::command::{Command, Merging, Opening, Splitting};
 use crate::number::{IterationLimit, KeyBytes, SlotNumber, StripeCount};
 use crate::planning::{PlanFault, plan};
-use crate::usage::USAGE;
+use crate::usage::usage;
 use luks_kdf::Hash;
 use std::alloc::{AllocError, Global};
 use std::test::Fail;
@@ -227,9 +227,9 @@ fn numbers_have_ranges(rt: HostRuntime) -> Result<(), Fail> {
 
 #[test]
 fn usage_has_a_line_a_command(rt: HostRuntime) {
-    let mut lines = USAGE.lines();
+    let mut lines = usage().lines();
     assert_eq!(rt; lines.next(), Some("usage: luksrd isLuks IMAGE"));
     assert_eq!(rt; lines.next(), Some("       luksrd luksUUID IMAGE"));
-    assert_eq!(rt; USAGE.lines().count(), 8);
-    assert!(rt; USAGE.ends_with(" --key-bytes N STRIPES\n"));
+    assert_eq!(rt; usage().lines().count(), 8);
+    assert!(rt; usage().ends_with(" --key-bytes N STRIPES\n"));
 }

@@ -1,7 +1,9 @@
 //! The usage text.
 
-/// How luksrd is called, one line a command. It is what a command line that is none of these gets.
-pub const USAGE: &str = "\
+ghost use Rattle.std.specs.Prelude.{◌≡◌, ◌≤◌, length};
+ghost use Rattle.luks_command.specs.Usage.{usage_text};
+
+const USAGE: &str = "\
 usage: luksrd isLuks IMAGE
        luksrd luksUUID IMAGE
        luksrd luksDump IMAGE
@@ -11,3 +13,12 @@ usage: luksrd isLuks IMAGE
        luksrd afSplit --hash HASH --stripes N --random FILE KEY
        luksrd afMerge --hash HASH --stripes N --key-bytes N STRIPES
 ";
+
+/// How luksrd is called, one line a command. It is what a command line that is none of these gets.
+#[tactic(auto, unfolding(crate::specs::Usage::usage_text))]
+pub fn usage() -> &'static str
+    ensures value { result.now ≡ usage_text }
+    ensures short { length result.now ≤ 1000 }
+{
+    USAGE
+}

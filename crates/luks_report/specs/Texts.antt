@@ -8,7 +8,7 @@ use Rattle.luks_report.specs.declared.message.Message.{Message}
 use Rattle.luks_report.specs.declared.message.Message.TheVariants.{Done, No, Usage, NotLuks, Cut, Json, KeyLength, FewRandomBytes, FewStripes, OutOfMemory, ReadFailed, WriteFailed}
 use Rattle.luks_report.specs.declared.message.Message.TheVariants.{SegmentRefused, NoSuchSlot, SlotDisabled, SlotSkipped, NothingTried, KeyFileLength, NoKey}
 use Rattle.luks_report.specs.declared.message.Message.TheVariants.{CutBeforePayload, Tail, Short}
-use Rattle.luks_command.specs.declared.usage.TheConstants.{USAGE}
+use Rattle.luks_command.specs.Usage.{usage_text}
 
 -- a message on a line of its own
 abbrev pub line : List ℕ → List ℕ
@@ -31,11 +31,15 @@ skips_text (skip ∷ skips) = codes "; skipped: " ++ skip_text skip ++ more_skip
 unfoldable pub opened_line : ℕ → List ℕ
 opened_line number = codes "Key slot " ++ decimal number ++ codes " opens the volume." ++ 10 ∷ []
 
+-- what is told of an input that does not open, by its name as it was given
+unfoldable pub not_opened_line : List ℕ → List ℕ
+not_opened_line name = line (codes "cannot open " ++ name)
+
 -- what is printed
 abbrev pub line_of : Message → List ℕ
 line_of Done = []
 line_of No = []
-line_of Usage = USAGE.now
+line_of Usage = usage_text
 line_of (SegmentRefused fault) = line (codes "segment refused: " ++ fault_text fault)
 line_of (NoSuchSlot slot) = line (codes "key slot " ++ decimal slot ++ codes " is not there")
 line_of (SlotDisabled slot) = line (codes "key slot " ++ decimal slot ++ codes " is disabled")

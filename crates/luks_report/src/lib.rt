@@ -5,6 +5,8 @@
 pub mod dump;
 mod escaping;
 mod faults;
+pub mod input;
+mod line;
 pub mod message;
 pub mod opened;
 pub mod report;
