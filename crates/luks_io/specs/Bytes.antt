@@ -69,3 +69,7 @@ TakesNext old new count bytes =
 -- a source was asked for so many bytes and gave count of them: all that it had, if that is fewer
 abbrev pub GivesAll : Option (List ℕ) → ℕ → ℕ → Type 0
 GivesAll old asked count = (told : List ℕ) → old ≡ Some told → count ≡ min asked (length told)
+
+-- a call that ended well leaves the count, and one that failed raises it by one
+abbrev pub CountsFailure : {T E : Type 0} → ℕ → ℕ → Result T E → Type 0
+CountsFailure old new r = MatchResult r (λ _. new ≡ old) (λ _. new ≡ raised old)
