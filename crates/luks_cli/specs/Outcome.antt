@@ -15,6 +15,8 @@ use Rattle.luks_open.specs.declared.fault.OpenFault.{OpenFault}
 use Rattle.luks_open.specs.declared.opening.Opened.{Opened}
 use Rattle.luks_volume.specs.Plain.{ending_of, payload_end_of, plain_of}
 use Rattle.luks_report.specs.Faults.{message_at_end}
+use Rattle.luks_cli.specs.Secret.{longest_key_file}
+use Rattle.luks_cli.specs.Stripe.{longest_key}
 use Rattle.luks_cli.specs.Volume.{Volume, held_for, volume_of}
 use Rattle.luks_report.specs.Faults.{message_for_opening}
 use Rattle.luks_report.specs.Texts.{opened_line}
@@ -43,9 +45,9 @@ split_key_outcome hash count key random =
 -- `afSplit`: the key is the whole image, and the random bytes are the secret
 unfoldable pub split_outcome : Hash → ℕ → List ℕ → List ℕ → Outcome
 split_outcome hash count key random =
-    if nat_lt 0 (length key) && nat_le (length key) 512
+    if nat_lt 0 (length key) && nat_le (length key) longest_key
     then split_key_outcome hash count key random
-    else record { output = []; message = KeyLength; image_taken = min (length key) 513; secret_taken = 0 }
+    else record { output = []; message = KeyLength; image_taken = min (length key) (longest_key + 1); secret_taken = 0 }
 
 -- `afMerge`: the stripes are the beginning of the image
 unfoldable pub merge_outcome : Hash → ℕ → ℕ → List ℕ → Outcome
@@ -72,17 +74,17 @@ print_outcome text image = record {
 abbrev pub unwritten : Message → ℕ → ℕ → Outcome
 unwritten message image_taken secret_taken = record { output = []; message = message; image_taken = image_taken; secret_taken = secret_taken }
 
--- what is done with a volume whose segment and key are known, and of whose image so many bytes were taken so far
-abbrev pub Deed : Type 0
-Deed = Segment → Opened → ℕ → Outcome
+-- what a command does with a volume that is opened: with its segment, its key, and the bytes of its image that were taken so far
+abbrev pub OnOpened : Type 0
+OnOpened = Segment → Opened → ℕ → Outcome
 
 -- `testPassphrase`: the key slot that opens is told
-abbrev pub slot_told : List ℕ → Deed
-slot_told secret segment opened held = record { output = opened_line opened.slot; message = Done; image_taken = held; secret_taken = length secret }
+abbrev pub slot_outcome : List ℕ → OnOpened
+slot_outcome secret segment opened held = record { output = opened_line opened.slot; message = Done; image_taken = held; secret_taken = length secret }
 
 -- `luksCat`: the payload is written as plain text
-abbrev pub payload_written : List ℕ → List ℕ → Deed
-payload_written image secret segment opened held = record {
+abbrev pub payload_outcome : List ℕ → List ℕ → OnOpened
+payload_outcome image secret segment opened held = record {
   output = plain_of segment opened.key image;
   message = message_at_end (ending_of segment image);
   image_taken = max held (payload_end_of segment image);
@@ -90,36 +92,32 @@ payload_written image secret segment opened held = record {
 }
 
 -- the key slots were tried
-abbrev pub opened_outcome : Deed → Option ℕ → Volume → List ℕ → List ℕ → Result Opened OpenFault → Outcome
-opened_outcome deed named volume image secret (Ok opened) = deed volume.segment opened (held_for image volume)
-opened_outcome deed named volume image secret (Err fault) = unwritten (message_for_opening named fault) (held_for image volume) (length secret)
-
--- the longest key file
-abbrev pub longest_key_file : ℕ
-longest_key_file = 8388608
+abbrev pub opened_outcome : OnOpened → Option ℕ → Volume → List ℕ → List ℕ → Result Opened OpenFault → Outcome
+opened_outcome on_opened named volume image secret (Ok opened) = on_opened volume.segment opened (held_for image volume)
+opened_outcome on_opened named volume image secret (Err fault) = unwritten (message_for_opening named fault) (held_for image volume) (length secret)
 
 -- a volume was found: the key file is read whole, then the image up to the end of the key areas, and the key slots are tried
-unfoldable pub found_outcome : Deed → Option ℕ → Volume → List ℕ → List ℕ → Outcome
-found_outcome deed named volume image secret =
+unfoldable pub found_outcome : OnOpened → Option ℕ → Volume → List ℕ → List ℕ → Outcome
+found_outcome on_opened named volume image secret =
     if nat_lt longest_key_file (length secret) then unwritten KeyFileLength (cost_of image) (longest_key_file + 1)
     else (if nat_lt (length image) (held_of volume.tries.slots) then unwritten Cut (length image) (length secret)
-    else opened_outcome deed named volume image secret (opening_of volume.header volume.tries image secret))
+    else opened_outcome on_opened named volume image secret (opening_of volume.header volume.tries image secret))
 
 -- there is a volume or not
-abbrev pub outcome_after : Deed → Option ℕ → List ℕ → List ℕ → Result Volume Message → Outcome
-outcome_after deed named image secret (Ok volume) = found_outcome deed named volume image secret
-outcome_after deed named image secret (Err message) = unwritten message (cost_of image) 0
+abbrev pub outcome_after : OnOpened → Option ℕ → List ℕ → List ℕ → Result Volume Message → Outcome
+outcome_after on_opened named image secret (Ok volume) = found_outcome on_opened named volume image secret
+outcome_after on_opened named image secret (Err message) = unwritten message (cost_of image) 0
 
 -- a command that opens a volume
-unfoldable pub volume_outcome : Deed → OpeningRequest → List ℕ → List ℕ → Outcome
-volume_outcome deed o image secret = outcome_after deed o.key_slot image secret (volume_of o image)
+unfoldable pub volume_outcome : OnOpened → OpeningRequest → List ℕ → List ℕ → Outcome
+volume_outcome on_opened o image secret = outcome_after on_opened o.key_slot image secret (volume_of o image)
 
 -- what a command does with the bytes that its inputs give
 abbrev pub outcome_of : Request → List ℕ → List ℕ → Outcome
 outcome_of (is_luks _) image secret = is_luks_outcome image
 outcome_of (luks_uuid _) image secret = print_outcome uuid_of image
 outcome_of (luks_dump _) image secret = print_outcome dump_of image
-outcome_of (test_passphrase o) image secret = volume_outcome (slot_told secret) o image secret
-outcome_of (luks_cat o) image secret = volume_outcome (payload_written image secret) o image secret
+outcome_of (test_passphrase o) image secret = volume_outcome (slot_outcome secret) o image secret
+outcome_of (luks_cat o) image secret = volume_outcome (payload_outcome image secret) o image secret
 outcome_of (af_split s) image secret = split_outcome s.hash s.stripes image secret
 outcome_of (af_merge m) image secret = merge_outcome m.hash m.stripes m.key_bytes image

@@ -1,5 +1,6 @@
 -- How passing on a payload ends.
-use Rattle.std.specs.Prelude.{◌≡◌, ℕ, ◌+◌, ◌-◌, ◌*◌, ◌/◌, ◌<◌, ◌≤◌, ◌++◌, max, List, drop, take, Option, Some}
+use Rattle.std.specs.Prelude.{◌≡◌, ℕ, ◌+◌, ◌-◌, ◌*◌, ◌/◌, ◌<◌, ◌≤◌, max, List, take, Option}
+use Rattle.luks_io.specs.Bytes.{Adds, Took}
 use Rattle.luks_header.specs.Header.{cost_of}
 use Rattle.luks_header.specs.declared.segment.Segment.{Segment}
 use Rattle.luks_volume.specs.Plain.{ending_of, payload_end_of, plain_of, sector_len, sector_start, sectors_of}
@@ -21,12 +22,12 @@ cat_promptly image message image_taken secret_taken output =
     (segment : Segment) → HasSegment image segment → passed_promptly segment (cost_of image) message image_taken output
 
 -- passing on the payload of an image ended with this message: all of it was written and taken, or it was broken off within a sector
-abbrev pub PassesPayload : Segment → List ℕ → List ℕ → List ℕ → Option (List ℕ) → Option (List ℕ) → Message → Type 0
-PassesPayload s key image before left after ReadFailed =
+abbrev pub PassesPayload : Segment → List ℕ → List ℕ → Option (List ℕ) → Option (List ℕ) → Option (List ℕ) → Message → Type 0
+PassesPayload s key image left before after ReadFailed =
     (place : ℕ) × (count : ℕ) × (count ≡ (place - s.offset) / sector_len s) × (count ≤ sectors_of s image) × (place ≤ payload_end_of s image)
-    × (left ≡ Some (drop place image)) × (after ≡ Some (before ++ take (count * sector_len s) (plain_of s key image)))
-PassesPayload s key image before left after WriteFailed =
+    × Took image left place × Adds before after (take (count * sector_len s) (plain_of s key image))
+PassesPayload s key image left before after WriteFailed =
     (count : ℕ) × (written : ℕ) × (count < sectors_of s image) × (written < sector_len s) × (sector_start s (count + 1) ≤ payload_end_of s image)
-    × (left ≡ Some (drop (sector_start s (count + 1)) image)) × (after ≡ Some (before ++ take (count * sector_len s + written) (plain_of s key image)))
-PassesPayload s key image before left after message =
-    (message ≡ message_at_end (ending_of s image)) × (left ≡ Some (drop (payload_end_of s image) image)) × (after ≡ Some (before ++ plain_of s key image))
+    × Took image left (sector_start s (count + 1)) × Adds before after (take (count * sector_len s + written) (plain_of s key image))
+PassesPayload s key image left before after message =
+    (message ≡ message_at_end (ending_of s image)) × Took image left (payload_end_of s image) × Adds before after (plain_of s key image)

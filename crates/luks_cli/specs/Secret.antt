@@ -1,12 +1,16 @@
--- What reading a key file leaves, where its source tells its bytes.
-use Rattle.std.specs.Prelude.{◌≡◌, ℕ, ◌<◌, List, drop, length, min, Option, Some}
-use Rattle.luks_header.specs.Header.{LosesUpTo}
+-- What reading a key file leaves in its source.
+use Rattle.std.specs.Prelude.{ℕ, ◌+◌, ◌<◌, List, length, min, Option}
+use Rattle.luks_io.specs.Bytes.{Took, TookUpTo}
 use Rattle.luks_report.specs.declared.message.Message.{Message}
 use Rattle.luks_report.specs.declared.message.Message.TheVariants.{KeyFileLength, OutOfMemory, ReadFailed}
 
+-- the longest key file
+abbrev pub longest_key_file : ℕ
+longest_key_file = 8388608
+
 -- how reading a key file failed: of one that is too long one byte more is taken than the longest has
 abbrev pub NoSecretRead : List ℕ → Option (List ℕ) → Message → Type 0
-NoSecretRead secret left KeyFileLength = (8388608 < length secret) × (left ≡ Some (drop 8388609 secret))
-NoSecretRead secret left OutOfMemory = LosesUpTo secret left (min (length secret) 8388609)
-NoSecretRead secret left ReadFailed = LosesUpTo secret left (min (length secret) 8388609)
+NoSecretRead secret left KeyFileLength = (longest_key_file < length secret) × Took secret left (longest_key_file + 1)
+NoSecretRead secret left OutOfMemory = TookUpTo secret left (min (length secret) (longest_key_file + 1))
+NoSecretRead secret left ReadFailed = TookUpTo secret left (min (length secret) (longest_key_file + 1))
 NoSecretRead secret left _ = ⊥

@@ -1,6 +1,7 @@
 -- What an image's header says of its volume, before any key slot is tried.
-use Rattle.std.specs.Prelude.{◌≡◌, ℕ, List, drop, max, Option, Some, Result, Ok, Err}
-use Rattle.luks_header.specs.Header.{LosesUpTo, cost_of, header_of}
+use Rattle.std.specs.Prelude.{◌≡◌, ℕ, List, max, Option, Result, Ok, Err}
+use Rattle.luks_io.specs.Bytes.{Took, TookUpTo}
+use Rattle.luks_header.specs.Header.{cost_of, header_of}
 use Rattle.luks_header.specs.Segment.{segment_of}
 use Rattle.luks_header.specs.declared.header.Header.{Header}
 use Rattle.luks_header.specs.declared.fault.HeaderFault.{HeaderFault}
@@ -49,6 +50,6 @@ HasSegment image segment = (header : Header) × (header_of image ≡ Ok header) 
 
 -- finding the volume of an image ended without one
 abbrev pub StopsFinding : OpeningRequest → List ℕ → Option (List ℕ) → Message → Type 0
-StopsFinding o image left ReadFailed = LosesUpTo image left (cost_of image)
-StopsFinding o image left OutOfMemory = LosesUpTo image left (cost_of image)
-StopsFinding o image left message = (volume_of o image ≡ Err message) × (left ≡ Some (drop (cost_of image) image))
+StopsFinding o image left ReadFailed = TookUpTo image left (cost_of image)
+StopsFinding o image left OutOfMemory = TookUpTo image left (cost_of image)
+StopsFinding o image left message = (volume_of o image ≡ Err message) × Took image left (cost_of image)

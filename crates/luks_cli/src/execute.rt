@@ -1,10 +1,9 @@
 //! What the commands do.
 
 ghost use Rattle.std.specs.Prelude.{◌≡◌, ◌≢◌, IfErr, None};
-ghost use Rattle.luks_cli.specs.Outcome.{outcome_of};
 ghost use Rattle.luks_report.specs.Report.{report_of};
 ghost use Rattle.luks_command.specs.Request.{request_of, secret_of};
-ghost use Rattle.luks_cli.specs.Run.{Bytes, Counts, IsCounted, Runs, TakesNoMemory, Tell, ending_of, prompt_of};
+ghost use Rattle.luks_cli.specs.Run.{Counts, RunsAsStated, TakesNoMemory, message_of};
 
 use luks_command::command::Command;
 use luks_io::sink::Sink;
@@ -37,12 +36,9 @@ pub fn execute<I: Source, K: Source, O: Sink>(
     secret: &mut K,
     out: &mut O,
 ) -> Report
-    ensures run { (before : Bytes)
-        → Tell (I.to_come image.old) (K.to_come secret.old) (O.written out.old) before
-        → let request = request_of command.now in
-        IsCounted request before.image
-        → Runs (prompt_of request before) (outcome_of request before.image before.secret) before
-        result.message (I.to_come image.new) (K.to_come secret.new) (O.written out.new) }
+    ensures run { RunsAsStated (request_of command.now) result.message
+        (I.to_come image.old) (I.to_come image.new) (K.to_come secret.old) (K.to_come secret.new)
+        (O.written out.old) (O.written out.new) }
     ensures status { result ≡ report_of result.message }
     ensures memory { TakesNoMemory (request_of command.now) → result.message ≢ Message.OutOfMemory }
     ensures unread { secret_of (request_of command.now) ≡ None → secret.new ≡ secret.old }
@@ -64,16 +60,13 @@ fn perform<I: Source, K: Source, O: Sink>(
     secret: &mut K,
     out: &mut O,
 ) -> Result<(), Message>
-    ensures run { (before : Bytes)
-        → Tell (I.to_come image.old) (K.to_come secret.old) (O.written out.old) before
-        → let request = request_of command.now in
-        IsCounted request before.image
-        → Runs (prompt_of request before) (outcome_of request before.image before.secret) before
-        (ending_of result) (I.to_come image.new) (K.to_come secret.new) (O.written out.new) }
+    ensures run { RunsAsStated (request_of command.now) (message_of result)
+        (I.to_come image.old) (I.to_come image.new) (K.to_come secret.old) (K.to_come secret.new)
+        (O.written out.old) (O.written out.new) }
     ensures memory { TakesNoMemory (request_of command.now)
         → IfErr result (λ message. message ≢ Message.OutOfMemory) }
     ensures unread { secret_of (request_of command.now) ≡ None → secret.new ≡ secret.old }
-    ensures counts { Counts (ending_of result)
+    ensures counts { Counts (message_of result)
         (record { image = I.failures image.old; secret = K.failures secret.old; written = O.failures out.old })
         (record { image = I.failures image.new; secret = K.failures secret.new; written = O.failures out.new }) }
 {

@@ -1,10 +1,11 @@
 //! `isLuks`, `luksUUID` and `luksDump`: what an image's header says.
 
 ghost use Rattle.std.specs.Prelude.{◌≡◌, List, ℕ, Option};
+ghost use Rattle.luks_io.specs.Bytes.{Adds, Took, WhereKnown};
 ghost use Rattle.luks_cli.specs.Header.{answer_to_is_luks};
 ghost use Rattle.luks_report.specs.Dump.{dump_of, uuid_of};
 ghost use Rattle.luks_cli.specs.Outcome.{is_luks_outcome, print_outcome};
-ghost use Rattle.luks_cli.specs.Run.{Bytes, Counts, Runs, Tell, ending_of, none_owed};
+ghost use Rattle.luks_cli.specs.Run.{Counts, Runs, TookNone, at_any_pace, message_of};
 
 use luks_header::fault::HeaderFault;
 use luks_header::header::read_header;
@@ -16,11 +17,10 @@ use std::alloc::Global;
 
 /// `isLuks`: nothing is written; what is no LUKS is told by the status alone.
 pub(super) fn is_luks<S: Source>(alloc: Global, image: &mut S) -> Result<(), Message>
-    ensures run { (secret written : Option (List ℕ)) (before : Bytes)
-        → Tell (S.to_come image.old) secret written before
-        → Runs none_owed (is_luks_outcome before.image) before
-        (ending_of result) (S.to_come image.new) secret written }
-    ensures counts { (secret written : ℕ) → Counts (ending_of result)
+    ensures run { (written : Option (List ℕ)) → WhereKnown (S.to_come image.old) (λ known.
+        Runs at_any_pace (is_luks_outcome known) (message_of result)
+        (Took known (S.to_come image.new)) TookNone (Adds written written)) }
+    ensures counts { (secret written : ℕ) → Counts (message_of result)
         (record { image = S.failures image.old; secret = secret; written = written })
         (record { image = S.failures image.new; secret = secret; written = written }) }
 {
@@ -46,11 +46,10 @@ pub(super) fn print_uuid<S: Source, O: Sink>(
     image: &mut S,
     out: &mut O,
 ) -> Result<(), Message>
-    ensures run { (secret : Option (List ℕ)) (before : Bytes)
-        → Tell (S.to_come image.old) secret (O.written out.old) before
-        → Runs none_owed (print_outcome uuid_of before.image) before
-        (ending_of result) (S.to_come image.new) secret (O.written out.new) }
-    ensures counts { (secret : ℕ) → Counts (ending_of result)
+    ensures run { WhereKnown (S.to_come image.old) (λ known.
+        Runs at_any_pace (print_outcome uuid_of known) (message_of result)
+        (Took known (S.to_come image.new)) TookNone (Adds (O.written out.old) (O.written out.new))) }
+    ensures counts { (secret : ℕ) → Counts (message_of result)
         (record { image = S.failures image.old; secret = secret; written = O.failures out.old })
         (record { image = S.failures image.new; secret = secret; written = O.failures out.new }) }
 {
@@ -66,11 +65,10 @@ pub(super) fn print_dump<S: Source, O: Sink>(
     image: &mut S,
     out: &mut O,
 ) -> Result<(), Message>
-    ensures run { (secret : Option (List ℕ)) (before : Bytes)
-        → Tell (S.to_come image.old) secret (O.written out.old) before
-        → Runs none_owed (print_outcome dump_of before.image) before
-        (ending_of result) (S.to_come image.new) secret (O.written out.new) }
-    ensures counts { (secret : ℕ) → Counts (ending_of result)
+    ensures run { WhereKnown (S.to_come image.old) (λ known.
+        Runs at_any_pace (print_outcome dump_of known) (message_of result)
+        (Took known (S.to_come image.new)) TookNone (Adds (O.written out.old) (O.written out.new))) }
+    ensures counts { (secret : ℕ) → Counts (message_of result)
         (record { image = S.failures image.old; secret = secret; written = O.failures out.old })
         (record { image = S.failures image.new; secret = secret; written = O.failures out.new }) }
 {
