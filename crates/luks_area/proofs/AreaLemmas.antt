@@ -1,0 +1,42 @@
+-- An area that takes further bytes: room is made behind those that it holds, and a source fills its front.
+use Rattle.std.proofs.Common.{◌≡◌, ℕ, ◌+◌, ◌-◌, ◌≤◌, List, ◌++◌, Option, Some, ◌∙◌, ap, subst, take, drop, length, min, arith, length-append, length-drop, take_all}
+use Rattle.std.proofs.lemmas.List.{take-append-le, take-take, length-replicate}
+use Rattle.std.proofs.Math.ListN.{replicate}
+use Rattle.std.proofs.Math.Seq.{take-append_seam, take-append-add}
+use Rattle.luks_io.specs.Bytes.{GivesAll, TakesNext}
+use Rattle.luks_area.specs.Area.{Grows}
+
+module _ (old whole buf : List ℕ) (held n : ℕ) (is-whole : whole ≡ old ++ replicate n 0) (is-held : held ≡ length old)
+    (kept : length buf ≡ length (take (length whole - held) (drop held whole))) where
+  -- the buffer that a source fills is the room that was made
+  pub length-room : length buf ≡ n
+  length-room =
+      kept ∙ ap length (take_all (length whole - held) (drop held whole) (omega (arith, length-drop held whole)))
+      ∙ (let all : length whole ≡ length old + n = ap length is-whole ∙ length-append old (replicate n 0) ∙ ap (λ k. length old + k) (length-replicate n 0) in
+      omega (arith, length-drop held whole))
+
+  -- the front of a list whose room was filled: the bytes that were held, and those that were given
+  pub front_filled : (rest more new : List ℕ) (len count : ℕ) → len ≡ length whole → count ≤ length buf
+      → new ≡ take (held + count) (take len (take held whole ++ (buf ++ rest) ++ more)) → new ≡ old ++ take count buf
+  front_filled rest more new len count is-len few is =
+      let front : take held whole ≡ old = ap (take held) is-whole ∙ ap (λ k. take k (old ++ replicate n 0)) is-held ∙ take-append_seam old (replicate n 0) in
+      let all : length whole ≡ length old + n = ap length is-whole ∙ length-append old (replicate n 0) ∙ ap (λ k. length old + k) (length-replicate n 0) in
+      let room = length-room in
+      is ∙ take-take (held + count) len (take held whole ++ (buf ++ rest) ++ more) (omega arith)
+      ∙ take-append-le (held + count) (take held whole ++ (buf ++ rest)) more
+      (omega (arith, ap length front, length-append (take held whole) (buf ++ rest), length-append buf rest))
+      ∙ ap (λ l. take (held + count) (l ++ (buf ++ rest))) front
+      ∙ ap (λ k. take (k + count) (old ++ (buf ++ rest))) is-held
+      ∙ take-append-add old (buf ++ rest) count
+      ∙ ap (λ l. old ++ l) (take-append-le count buf rest few)
+
+-- the bytes that a source gave went behind those that were held
+pub grown : (old new told bytes : List ℕ) (s s' : Option (List ℕ)) (count : ℕ) → s ≡ Some told → new ≡ old ++ bytes → TakesNext s s' count bytes → Grows old new told s' count
+grown old new told bytes s s' count tells is taken =
+    let next = taken told tells in record { there = next.0; holds = is ∙ ap (λ l. old ++ l) next.1; leaves = next.2 }
+
+-- all that were asked for, or all that there were
+pub grown_whole : (old new told bytes : List ℕ) (s s' : Option (List ℕ)) (count asked most : ℕ) → s ≡ Some told → new ≡ old ++ bytes → TakesNext s s' count bytes
+    → GivesAll s asked count → asked ≡ most → Grows old new told s' (min most (length told))
+grown_whole old new told bytes s s' count asked most tells is taken all is-most =
+    subst (Grows old new told s') (all told tells ∙ ap (λ k. min k (length told)) is-most) (grown old new told bytes s s' count tells is taken)
