@@ -1,9 +1,11 @@
 -- The steps of the loops that move bytes piece by piece.
-use Rattle.std.proofs.Common.{◌≡◌, ℕ, ◌+◌, ◌-◌, ◌≤◌, List, ◌++◌, Option, ◌∙◌, ap, sym, subst, take, drop, length, take_all, length-drop, length-take-le, arith}
+use Rattle.std.proofs.Common.{◌≡◌, ◌==◌, ◌&&◌, ℕ, ◌+◌, ◌-◌, ◌≤◌, nat_lt, refl, List, ◌++◌, Option, ◌∙◌, ap, sym, subst, take, drop, length, take_all, length-drop, length-take-le, arith}
 use Rattle.std.specs.Io.KnownBytes.{Appends, Consumes}
 use Rattle.std.proofs.KnownBytes.{Consumes-trans, Appends-trans}
 use Rattle.std.proofs.Math.Seq.{take-add, take-append-add}
 use Rattle.std.proofs.lemmas.List.{take-append-le}
+use Rattle.std.proofs.lemmas.Bool.{ne_eqb}
+use Rattle.luks_io.specs.Bytes.{counted}
 use borrow.Rule.Slice.PartMut.{put_mid}
 
 -- the rest of a list, read as a range, is the rest
@@ -28,3 +30,7 @@ pub Consumes-next : (a b c : Option (List ℕ)) (xs ys : List ℕ) (at n : ℕ) 
     → Consumes a c (take (at + n) (put_mid at (length xs - at) xs ys))
 Consumes-next a b c xs ys at n within few p q =
     subst (Consumes a c) (sym (front_of xs ys _ at n within few)) (Consumes-trans a b c (take at xs) (take n ys) p q)
+
+-- a read that gave some bytes found no end
+pub counted-some : (got room count : ℕ) → (got ≡ 0 → ⊥) → counted (got == 0 && nat_lt 0 room) count ≡ count
+counted-some got room count some = rw (ne_eqb got 0 some) refl

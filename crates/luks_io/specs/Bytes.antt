@@ -1,32 +1,75 @@
--- What calls of a source or a sink do: which bytes move, and how failures are counted.
--- Known bytes are `Some` of a list, or `None` where a device doesn't tell them; std's words `Consumes`, `Appends` and
--- `IsAtEnd` say what becomes of them, and claim nothing at `None`.
-use Rattle.std.specs.Prelude.{◌≡◌, ℕ, ◌+◌, ◌-◌, ◌^◌, ◌<◌, ◌≤◌, ◌++◌, min, List, drop, length, take, MatchResult, Result, Option, Some}
+-- What calls do to one device: which bytes a source gave, which bytes a sink took, and what is counted.
+-- A device may know its bytes: `Some` of a list, or `None` where it doesn't. std's words `Consumes`, `Appends` and `IsAtEnd` say
+-- what one call does to them, and claim nothing at `None`.
+use Rattle.std.specs.Prelude.{◌≡◌, ℕ, ◌+◌, ◌-◌, ◌^◌, ◌<◌, ◌≤◌, ◌++◌, ◌==◌, ◌&&◌, min, nat_lt, Bool, true, false, List, drop, length, take, MatchResult, Result, Ok, Err, Option, Some}
 
--- count bytes were the next ones of a source, as far as it tells them: they are these, and the ones behind them are left
-abbrev pub TakesNext : Option (List ℕ) → Option (List ℕ) → ℕ → List ℕ → Type 0
-TakesNext old new count bytes = (told : List ℕ) → old ≡ Some told → (count ≤ length told) × (bytes ≡ take count told) × (new ≡ Some (drop count told))
+-- where a device knows its bytes, this holds of them
+abbrev pub WhereKnown : Option (List ℕ) → (List ℕ → Type 0) → Type 0
+WhereKnown device Holds = (known : List ℕ) → device ≡ Some known → Holds known
 
--- a source was asked for so many bytes and gave count of them: all that it had, if that is fewer
-abbrev pub GivesAll : Option (List ℕ) → ℕ → ℕ → Type 0
-GivesAll old asked count = (told : List ℕ) → old ≡ Some told → count ≡ min asked (length told)
+-- of the bytes that a source knew to come, the first `count` were taken, and those behind them are left
+pub record Took (known : List ℕ) (left' : Option (List ℕ)) (count : ℕ) : Type 0 where
+  pub within : count ≤ length known
+  pub left : left' ≡ Some (drop count known)
 
--- the bytes stand behind those that a sink had taken, as far as it tells them
+-- of those bytes some first ones were taken: at most so many
+abbrev pub TookUpTo : List ℕ → Option (List ℕ) → ℕ → Type 0
+TookUpTo known left most = (count : ℕ) × (count ≤ most) × Took known left count
+
+-- of those bytes some first ones were taken: fewer than so many
+abbrev pub TookFewer : List ℕ → Option (List ℕ) → ℕ → Type 0
+TookFewer known left all = (count : ℕ) × (count < all) × Took known left count
+
+-- of those bytes some first ones were taken: at least `least`, and at most `most`
+abbrev pub TookBetween : List ℕ → Option (List ℕ) → ℕ → ℕ → Type 0
+TookBetween known left least most = (count : ℕ) × (least ≤ count) × (count ≤ most) × Took known left count
+
+-- the bytes that were taken are these
+abbrev pub TookThese : List ℕ → Option (List ℕ) → List ℕ → Type 0
+TookThese known left bytes = Took known left (length bytes) × (bytes ≡ take (length bytes) known)
+
+-- the first `count` bytes of a buffer are those that were taken
+abbrev pub TookInto : List ℕ → Option (List ℕ) → List ℕ → ℕ → Type 0
+TookInto known left buf count = Took known left count × (take count buf ≡ take count known)
+
+-- the bytes stand behind those that a sink had taken, as far as it knows them
 abbrev pub Adds : Option (List ℕ) → Option (List ℕ) → List ℕ → Type 0
-Adds old new bytes = (told : List ℕ) → old ≡ Some told → new ≡ Some (told ++ bytes)
+Adds before after bytes = (known : List ℕ) → before ≡ Some known → after ≡ Some (known ++ bytes)
 
--- the greatest count, at which a count of failures stays
+-- the greatest count, at which a count stays
 abbrev pub greatest_count : ℕ
 greatest_count = 2 ^ 64 - 1
 
--- a count of failures after one more
+-- a count after one more
 abbrev pub raised : ℕ → ℕ
 raised count = min (count + 1) greatest_count
 
--- a call that ended well leaves the count, and one that failed raises it by one
-abbrev pub CountsFailure : {T E : Type 0} → ℕ → ℕ → Result T E → Type 0
-CountsFailure old new r = MatchResult r (λ _. new ≡ old) (λ _. new ≡ raised old)
+-- a count after a call that is one of those counted, or is not: one more exactly where it is
+abbrev pub counted : Bool → ℕ → ℕ
+counted true count = raised count
+counted false count = count
+
+-- a read found the end: it gave nothing to a buffer with room for so many bytes
+abbrev pub is_end : {E : Type 0} → Result ℕ E → ℕ → Bool
+is_end (Ok count) room = count == 0 && nat_lt 0 room
+is_end (Err _) room = false
+
+-- fewer bytes came than were asked for, and no read failed: the end came first
+abbrev pub is_short : {E : Type 0} → Result ℕ E → ℕ → Bool
+is_short (Ok count) asked = nat_lt count asked
+is_short (Err _) asked = false
 
 -- a sink took between one byte and all of a buffer that has any, and of an empty one none
 abbrev pub TakesSome : {E : Type 0} → Result ℕ E → List ℕ → Type 0
 TakesSome r buf = MatchResult r (λ n. (n ≤ length buf) × (0 < length buf → 0 < n)) (λ _. Unit {0})
+
+-- Words of before, which go once nothing cites them:
+
+-- count bytes were the next ones of a source, as far as it tells them: they are these, and the ones behind them are left
+abbrev pub TakesNext : Option (List ℕ) → Option (List ℕ) → ℕ → List ℕ → Type 0
+TakesNext old new count bytes =
+    (told : List ℕ) → old ≡ Some told → (count ≤ length told) × (bytes ≡ take count told) × (new ≡ Some (drop count told))
+
+-- a source was asked for so many bytes and gave count of them: all that it had, if that is fewer
+abbrev pub GivesAll : Option (List ℕ) → ℕ → ℕ → Type 0
+GivesAll old asked count = (told : List ℕ) → old ≡ Some told → count ≡ min asked (length told)

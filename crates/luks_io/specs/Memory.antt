@@ -1,5 +1,10 @@
--- Sinks over memory.
+-- Sources and sinks over memory.
 use Rattle.std.specs.Prelude.{ℕ, List}
+
+-- what a source over memory holds: the bytes that are left, and how many reads found the end
+pub record Given : Type 0 where
+  pub left : List ℕ
+  pub ends : ℕ
 
 -- what a sink over memory holds: the bytes written, how many more fit, and how many writes failed
 pub record Held : Type 0 where

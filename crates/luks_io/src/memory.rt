@@ -1,57 +1,68 @@
 //! Sources and sinks over memory, which tell their bytes.
 
-ghost use Rattle.std.specs.Prelude.{◌≡◌, ◌+◌, ◌-◌, ◌<◌, ◌≤◌, ◌↔◌, ℕ, List, [], Some, length, take, drop, min, vec_len, IfOk, IsErr};
+ghost use Rattle.std.specs.Prelude.{◌≡◌, ◌+◌, ◌-◌, ◌<◌, ◌≤◌, ◌↔◌, ◌++◌, ℕ, List, [], Some, length, take, drop, min, vec_len, is_err, IfOk, IsErr};
 ghost use Rattle.std.specs.Io.{ReadsAtMost};
 ghost use Rattle.std.specs.Io.KnownBytes.{ReadConsumes, WriteAppends};
-ghost use Rattle.luks_io.specs.Bytes.{CountsFailure, TakesSome};
+ghost use Rattle.luks_io.specs.Bytes.{TakesSome, counted, is_end};
 
 use crate::DeviceFault;
 use crate::sink::Sink;
-use crate::source::Source;
+use crate::source::{Source, count_end};
 use std::alloc::{AllocError, Global};
 use std::marker::Model;
 
-/// Reads from bytes in memory. No read of it fails. A clause sees the bytes that are left.
+/// Reads from bytes in memory. No read of it fails. A clause sees the bytes that are left, and how often the end was found.
 #[derive(Drop)]
 pub struct MemSource<'a> {
     left: &'a [u8],
+    ends: u64,
 }
 
 impl<'a> Model for MemSource<'a> {
-    ghost Value = { List ℕ };
+    ghost use Rattle.luks_io.specs.Memory.{Given};
 
-    ghost view = { λ s. s.left.now };
+    ghost Value = { Given };
+
+    ghost view = { λ s. record { left = s.left.now; ends = s.ends } };
 }
 
 impl<'a> MemSource<'a> {
     /// A source of these bytes.
     pub fn new(bytes: &'a [u8]) -> MemSource<'a>
-        ensures { result ≡ bytes.entry.now }
+        ensures { result ≡ record { left = bytes.entry.now; ends = 0 } }
     {
-        MemSource { left: bytes }
+        MemSource {
+            left: bytes,
+            ends: 0,
+        }
     }
 
     /// The bytes that no read has taken yet.
     pub fn left(&self) -> &'a [u8]
-        ensures { result.now ≡ self.now }
+        ensures { result.now ≡ self.now.left }
     {
         self.left
     }
 }
 
 impl<'a> Source for MemSource<'a> {
-    ghost to_come = { λ s. Some s };
+    ghost to_come = { λ s. Some s.left };
 
     ghost failures = { λ _. 0 };
 
-    /// Gives as many of the bytes that are left as the buffer has room for.
+    ghost ends = { λ s. s.ends };
+
+    /// Gives as many of the bytes that are left as the buffer has room for. The buffer stays as it was behind them.
     fn read(&mut self, buf: &mut [u8]) -> Result<usize, DeviceFault>
         ensures bound { ReadsAtMost result buf.new }
-        ensures bytes { ReadConsumes (Some self.old) (Some self.new) result buf.new }
-        ensures counts { CountsFailure 0 0 result }
-        ensures count { IfOk result (λ n. n ≡ min (length buf.new) (length self.old)) }
+        ensures bytes { ReadConsumes (Some self.old.left) (Some self.new.left) result buf.new }
+        ensures counts { 0 ≡ counted (is_err result) 0 }
+        ensures ends { self.new.ends ≡ counted (is_end result (length buf.new)) self.old.ends }
+        ensures count { IfOk result (λ n. n ≡ min (length buf.new) (length self.old.left)) }
+        ensures rest { IfOk result (λ n. drop n buf.new ≡ drop n buf.old) }
     {
         let count = buf.len().min(self.left.len());
+        count_end(&mut self.ends, count, buf.len());
         let (now, later) = self.left.split_at(count);
         buf[..count].copy_from_slice(now);
         self.left = later;
@@ -115,7 +126,7 @@ impl Sink for MemSink {
     fn write(&mut self, buf: &[u8]) -> Result<usize, DeviceFault>
         ensures bound { TakesSome result buf.now }
         ensures bytes { WriteAppends (Some self.old.written) (Some self.new.written) result buf.now }
-        ensures counts { CountsFailure self.old.failures self.new.failures result }
+        ensures counts { self.new.failures ≡ counted (is_err result) self.old.failures }
         ensures count { IfOk result (λ n. n ≡ min (length buf.now) self.old.room) }
         ensures room { IfOk result (λ n. self.new.room ≡ self.old.room - n) }
         ensures full { IsErr result ↔ ((self.old.room ≡ 0) × (0 < length buf.now)) }

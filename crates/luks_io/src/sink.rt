@@ -1,8 +1,8 @@
 //! What takes bytes.
 
-ghost use Rattle.std.specs.Prelude.{◌≡◌, ◌<◌, ◌≤◌, ℕ, List, Option, length, take, OnOk, IfErr};
+ghost use Rattle.std.specs.Prelude.{◌≡◌, ◌<◌, ◌≤◌, ℕ, List, Option, length, take, is_err, OnOk, IfErr};
 ghost use Rattle.std.specs.Io.KnownBytes.{WriteAppends};
-ghost use Rattle.luks_io.specs.Bytes.{Adds, CountsFailure, TakesSome};
+ghost use Rattle.luks_io.specs.Bytes.{Adds, TakesSome, counted};
 
 use crate::DeviceFault;
 
@@ -19,7 +19,7 @@ pub trait Sink {
     fn write(&mut self, buf: &[u8]) -> Result<usize, DeviceFault>
         ensures bound { TakesSome result buf.now }
         ensures bytes { WriteAppends (written self.old) (written self.new) result buf.now }
-        ensures counts { CountsFailure (failures self.old) (failures self.new) result };
+        ensures counts { failures self.new ≡ counted (is_err result) (failures self.old) };
 }
 
 /// A write failed after `written` bytes.
@@ -35,7 +35,7 @@ pub fn put_all<S: Sink>(sink: &mut S, bytes: &[u8]) -> Result<(), WriteFault>
     ensures ok { OnOk result (Adds (S.written sink.old) (S.written sink.new) bytes.now) }
     ensures err { IfErr result (λ fault. (fault.written < length bytes.now)
         × Adds (S.written sink.old) (S.written sink.new) (take fault.written bytes.now)) }
-    ensures counts { CountsFailure (S.failures sink.old) (S.failures sink.new) result }
+    ensures counts { S.failures sink.new ≡ counted (is_err result) (S.failures sink.old) }
 {
     let mut at = 0;
     while at < bytes.len() {

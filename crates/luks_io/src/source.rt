@@ -1,9 +1,10 @@
 //! What gives bytes.
 
-ghost use Rattle.std.specs.Prelude.{◌≡◌, ◌<◌, ◌≤◌, ℕ, List, Option, length, take, IfOk, IfErr};
+ghost use Rattle.std.specs.Prelude.{◌≡◌, ◌<◌, ◌≤◌, ◌==◌, ◌&&◌, ℕ, List, Option, length, min, nat_lt, take, is_err, IfOk, IfErr, MatchResult};
 ghost use Rattle.std.specs.Io.{ReadsAtMost};
 ghost use Rattle.std.specs.Io.KnownBytes.{ReadConsumes};
-ghost use Rattle.luks_io.specs.Bytes.{CountsFailure, GivesAll, TakesNext};
+ghost use Rattle.luks_io.specs.Bytes.{GivesAll, TakesNext, TookInto, WhereKnown, counted, is_end, is_short};
+ghost use Rattle.luks_io.specs.Reads.{got_in};
 
 use crate::DeviceFault;
 
@@ -15,12 +16,25 @@ pub trait Source {
     /// How many reads have failed. It stays at its greatest value.
     ghost failures: { Self → ℕ };
 
+    /// How many reads have found the end: they gave nothing to a buffer with room. It stays at its greatest value.
+    ghost ends: { Self → ℕ };
+
     /// Reads the next bytes into the front of the buffer, and answers how many.
     /// `Ok(0)` for a buffer that has room means that none are left. A failure consumes nothing.
     fn read(&mut self, buf: &mut [u8]) -> Result<usize, DeviceFault>
         ensures bound { ReadsAtMost result buf.new }
         ensures bytes { ReadConsumes (to_come self.old) (to_come self.new) result buf.new }
-        ensures counts { CountsFailure (failures self.old) (failures self.new) result };
+        ensures counts { failures self.new ≡ counted (is_err result) (failures self.old) }
+        ensures ends { ends self.new ≡ counted (is_end result (length buf.new)) (ends self.old) };
+}
+
+/// Counts a read that found the end: it gave nothing to a buffer with room. For a source's own `read`.
+pub fn count_end(ends: &mut u64, got: usize, room: usize)
+    ensures { ends.new ≡ counted (got == 0 && nat_lt 0 room) ends.old }
+{
+    if got == 0 && room > 0 {
+        *ends = ends.saturating_add(1);
+    }
 }
 
 /// A read failed after `got` bytes.
@@ -30,16 +44,20 @@ pub struct ReadFault {
 }
 
 /// Fills the buffer with the next bytes of the source, and answers how many there were:
-/// fewer than the buffer's length only where the source is at its end.
+/// fewer than the buffer's length only where the source is at its end. That is found by one read, the last.
 ///
 /// A [`ReadFault`] says how many bytes were consumed before a read failed. They stand in front.
 pub fn fill<S: Source>(source: &mut S, buf: &mut [u8]) -> Result<usize, ReadFault>
+    ensures bound { MatchResult result (λ count. count ≤ length buf.new) (λ fault. fault.got < length buf.new) }
+    ensures bytes { WhereKnown (S.to_come source.old)
+        (λ known. TookInto known (S.to_come source.new) buf.new (got_in result)) }
     ensures ok { IfOk result (λ count. (count ≤ length buf.new)
         × TakesNext (S.to_come source.old) (S.to_come source.new) count (take count buf.new)) }
     ensures end { IfOk result (GivesAll (S.to_come source.old) (length buf.new)) }
     ensures err { IfErr result (λ fault. (fault.got < length buf.new)
         × TakesNext (S.to_come source.old) (S.to_come source.new) fault.got (take fault.got buf.new)) }
-    ensures counts { CountsFailure (S.failures source.old) (S.failures source.new) result }
+    ensures counts { S.failures source.new ≡ counted (is_err result) (S.failures source.old) }
+    ensures ends { S.ends source.new ≡ counted (is_short result (length buf.new)) (S.ends source.old) }
 {
     let mut at = 0;
     while at < buf.len() {

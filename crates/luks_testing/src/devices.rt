@@ -5,7 +5,7 @@ ghost use Rattle.std.specs.Prelude.{◌≡◌, ◌<◌, ℕ, List, [], Some, IfO
 use luks_io::DeviceFault;
 use luks_io::memory::MemSink;
 use luks_io::sink::Sink;
-use luks_io::source::Source;
+use luks_io::source::{Source, count_end};
 use std::alloc::{AllocError, Global};
 
 /// A source that gives at most `piece` bytes a call, or all that are asked for where `piece` is 0. Call number `failing`, from 0,
@@ -18,6 +18,7 @@ pub struct Flaky<'a> {
     calls: u64,
     /// How many calls failed.
     pub failures: u64,
+    ends: u64,
 }
 
 impl<'a> Flaky<'a> {
@@ -32,12 +33,13 @@ impl<'a> Flaky<'a> {
             failing,
             calls: 0,
             failures: 0,
+            ends: 0,
         }
     }
 
     /// How many bytes are left.
     pub fn left(&self) -> usize
-        ensures { (told : List ℕ) → ⟦<Flaky<'a> as Source>⟧.to_come self.now ≡ Some told → result ≡ length told }
+        ensures { (known : List ℕ) → ⟦<Flaky<'a> as Source>⟧.to_come self.now ≡ Some known → result ≡ length known }
     {
         self.left.len()
     }
@@ -55,6 +57,8 @@ impl<'a> Source for Flaky<'a> {
 
     ghost failures = { λ s. s.failures };
 
+    ghost ends = { λ s. s.ends };
+
     fn read(&mut self, buf: &mut [u8]) -> Result<usize, DeviceFault> {
         let call = self.calls;
         self.calls = call.wrapping_add(1);
@@ -69,6 +73,7 @@ impl<'a> Source for Flaky<'a> {
         let (now, later) = self.left.split_at(count);
         buf[..count].copy_from_slice(now);
         self.left = later;
+        count_end(&mut self.ends, count, buf.len());
         Ok(count)
     }
 }
@@ -151,6 +156,7 @@ pub struct Broken<'a> {
     given: usize,
     /// How many calls failed.
     pub failures: u64,
+    ends: u64,
 }
 
 impl<'a> Broken<'a> {
@@ -163,12 +169,13 @@ impl<'a> Broken<'a> {
             left: bytes,
             given,
             failures: 0,
+            ends: 0,
         }
     }
 
     /// How many bytes are left.
     pub fn left(&self) -> usize
-        ensures { (told : List ℕ) → ⟦<Broken<'a> as Source>⟧.to_come self.now ≡ Some told → result ≡ length told }
+        ensures { (known : List ℕ) → ⟦<Broken<'a> as Source>⟧.to_come self.now ≡ Some known → result ≡ length known }
     {
         self.left.len()
     }
@@ -181,6 +188,8 @@ impl<'a> Source for Broken<'a> {
 
     ghost failures = { λ s. s.failures };
 
+    ghost ends = { λ s. s.ends };
+
     fn read(&mut self, buf: &mut [u8]) -> Result<usize, DeviceFault> {
         if self.given == 0 {
             self.failures = self.failures.saturating_add(1);
@@ -191,6 +200,7 @@ impl<'a> Source for Broken<'a> {
         let (now, later) = self.left.split_at(count);
         buf[..count].copy_from_slice(now);
         self.left = later;
+        count_end(&mut self.ends, count, buf.len());
         Ok(count)
     }
 }

@@ -7,4 +7,5 @@ abbrev pub invariant-loop : goal.invariant-loop
 invariant-loop g l = record {
   kept : Keeps (g.R.Read.remaining l.initial.self.reader) (g.R.Read.remaining l.self.reader);
   failures : l.self.failures ≡ l.initial.self.failures;
+  ends : l.self.ends ≡ l.initial.self.ends;
 }
