@@ -1,7 +1,8 @@
 //! The front of an image, where its headers and key areas are.
 
-ghost use Rattle.std.specs.Prelude.{◌≡◌, ◌-◌, ◌≤◌, ◌↔◌, ◌++◌, true, List, ℕ, [], Some, IsTrue, IfOk, IfErr, OnOk, OnErr, Ok, Err, length, max, min, replicate, take, vec_len};
-ghost use Rattle.luks_area.specs.Area.{Grows, StopsGrowing, failures_after};
+ghost use Rattle.std.specs.Prelude.{◌≡◌, ◌-◌, ◌<◌, ◌≤◌, ◌↔◌, ◌++◌, ◌⊎◌, true, List, ℕ, [], Some, IsTrue, IfOk, IfErr, OnOk, OnErr, Ok, Err, length, max, min, replicate, take, vec_capacity, vec_len};
+ghost use Rattle.luks_io.specs.Bytes.{WhereKnown, counted};
+ghost use Rattle.luks_area.specs.Area.{BreaksTaking, Grows, StopsGrowing, TookBehind, is_read, is_short, longest_area};
 
 use crate::fault::HeaderFault;
 use luks_io::source::{ReadFault, Source, fill};
@@ -20,7 +21,7 @@ impl Model for HeaderArea {
 
     ghost view = { λ area. area.bytes.items };
 
-    ghost invariant = { λ area. vec_len area.bytes ≤ 33554432 };
+    ghost invariant = { λ area. vec_len area.bytes ≤ longest_area };
 }
 
 impl HeaderArea {
@@ -39,7 +40,7 @@ impl HeaderArea {
     /// The bytes that are held.
     pub fn as_slice(&self) -> &[u8]
         ensures value { result.now ≡ self.now }
-        ensures within { length self.now ≤ 33554432 }
+        ensures within { length self.now ≤ longest_area }
     {
         self.bytes.as_slice()
     }
@@ -51,19 +52,27 @@ impl HeaderArea {
     /// After [`HeaderFault::Read`] the area holds what was taken before a read failed, after [`HeaderFault::Memory`]
     /// nothing was taken. There are no other faults.
     pub fn extend_to<S: Source>(&mut self, source: &mut S, end: usize) -> Result<bool, HeaderFault>
-        requires { end ≤ 33554432 }
-        ensures ok { IfOk result (λ whole. (told : List ℕ) → S.to_come source.old ≡ Some told →
-            Grows self.old self.new told (S.to_come source.new) (min (end - length self.old) (length told))) }
-        ensures err { IfErr result (λ fault. (told : List ℕ) → S.to_come source.old ≡ Some told →
-            StopsGrowing (end - length self.old) self.old self.new told (S.to_come source.new) fault) }
+        requires { end ≤ longest_area }
+        ensures taken { IfOk result (λ whole. WhereKnown (S.to_come source.old) (λ known.
+            TookBehind self.old self.new known (S.to_come source.new) (min (end - length self.old) (length known)))) }
+        ensures broken { IfErr result (λ fault. WhereKnown (S.to_come source.old) (λ known.
+            BreaksTaking (end - length self.old) self.old self.new known (S.to_come source.new) fault)) }
 
-        // Whether or not the source tells its bytes:
+        // Whether or not the source knows its bytes:
         ensures whole { IfOk result (λ whole. IsTrue whole ↔ (end ≤ length self.new)) }
         ensures within { length self.new ≤ max (length self.old) end }
         ensures held { take (length self.old) self.new ≡ self.old }
         ensures already { end ≤ length self.old → (result ≡ Ok true) × (self.new ≡ self.old) × (source.new ≡ source.old) }
         ensures memory { result ≡ Err HeaderFault.Memory → (self.new ≡ self.old) × (source.new ≡ source.old) }
-        ensures reads { S.failures source.new ≡ failures_after result (S.failures source.old) }
+        ensures refusals { IfErr result (λ fault. (fault ≡ HeaderFault.Read) ⊎ (fault ≡ HeaderFault.Memory)) }
+        ensures reads { S.failures source.new ≡ counted (is_read result) (S.failures source.old) }
+        ensures ends { S.ends source.new ≡ counted (is_short result) (S.ends source.old) }
+
+        // In words of before, which go once nothing cites them:
+        ensures ok { IfOk result (λ whole. (told : List ℕ) → S.to_come source.old ≡ Some told →
+            Grows self.old self.new told (S.to_come source.new) (min (end - length self.old) (length told))) }
+        ensures err { IfErr result (λ fault. (told : List ℕ) → S.to_come source.old ≡ Some told →
+            StopsGrowing (end - length self.old) self.old self.new told (S.to_come source.new) fault) }
     {
         if end <= self.bytes.len() {
             return Ok(true);
@@ -72,28 +81,42 @@ impl HeaderArea {
     }
 }
 
+// Gives the bytes room for `end` of them in all, and no more.
+fn reserve(bytes: &mut Vec<u8>, end: usize) -> Result<(), AllocError>
+    requires { vec_len bytes.old ≤ end }
+    ensures items { bytes.new.items ≡ bytes.old.items }
+    ensures room { OnOk result (vec_capacity bytes.new ≡ max (vec_capacity bytes.old) end) }
+    ensures none { OnErr result (vec_capacity bytes.new ≡ vec_capacity bytes.old) }
+{
+    bytes.reserve_exact(end - bytes.len())
+}
+
 // Puts so many zeros behind the bytes that there are `end` of them.
 fn make_room(bytes: &mut Vec<u8>, end: usize) -> Result<(), AllocError>
     requires { vec_len bytes.old ≤ end }
     ensures ok { OnOk result (bytes.new.items ≡ bytes.old.items ++ replicate (end - vec_len bytes.old) 0) }
     ensures err { OnErr result (bytes.new.items ≡ bytes.old.items) }
 {
-    bytes.reserve_exact(end - bytes.len())?;
+    reserve(bytes, end)?;
     bytes.resize(end, 0)
 }
 
 // Puts the next bytes of the source behind these, up to `end` in all.
 fn extend<S: Source>(bytes: &mut Vec<u8>, source: &mut S, end: usize) -> Result<bool, HeaderFault>
-    requires { vec_len bytes.old ≤ end }
-    ensures ok { IfOk result (λ whole. (told : List ℕ) → S.to_come source.old ≡ Some told →
-        Grows bytes.old.items bytes.new.items told (S.to_come source.new) (min (end - vec_len bytes.old) (length told))) }
-    ensures err { IfErr result (λ fault. (told : List ℕ) → S.to_come source.old ≡ Some told →
-        StopsGrowing (end - vec_len bytes.old) bytes.old.items bytes.new.items told (S.to_come source.new) fault) }
+    requires { vec_len bytes.old < end }
+    ensures taken { IfOk result (λ whole. WhereKnown (S.to_come source.old) (λ known.
+        TookBehind bytes.old.items bytes.new.items known (S.to_come source.new)
+        (min (end - vec_len bytes.old) (length known)))) }
+    ensures broken { IfErr result (λ fault. WhereKnown (S.to_come source.old) (λ known.
+        BreaksTaking (end - vec_len bytes.old) bytes.old.items bytes.new.items known (S.to_come source.new) fault)) }
     ensures whole { IfOk result (λ whole. IsTrue whole ↔ (end ≤ vec_len bytes.new)) }
     ensures within { vec_len bytes.new ≤ end }
     ensures held { take (vec_len bytes.old) bytes.new.items ≡ bytes.old.items }
-    ensures memory { result ≡ Err HeaderFault.Memory → (bytes.new.items ≡ bytes.old.items) × (source.new ≡ source.old) }
-    ensures reads { S.failures source.new ≡ failures_after result (S.failures source.old) }
+    ensures memory { result ≡ Err HeaderFault.Memory
+        → (bytes.new.items ≡ bytes.old.items) × (source.new ≡ source.old) }
+    ensures refusals { IfErr result (λ fault. (fault ≡ HeaderFault.Read) ⊎ (fault ≡ HeaderFault.Memory)) }
+    ensures reads { S.failures source.new ≡ counted (is_read result) (S.failures source.old) }
+    ensures ends { S.ends source.new ≡ counted (is_short result) (S.ends source.old) }
 {
     let held = bytes.len();
     make_room(bytes, end)?;

@@ -1,2 +1,3 @@
+pub mod JudgedLemmas
 pub mod MadeLemmas
 pub mod TableLemmas

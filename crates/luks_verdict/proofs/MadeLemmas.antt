@@ -4,6 +4,7 @@ use Rattle.std.specs.Prelude.{option_map}
 use Rattle.std.specs.Coded.{le_prop}
 use Rattle.std.proofs.Math.Bool.{Bool-set}
 use Rattle.std.proofs.Math.Nat.{ℕ_set}
+use Rattle.std.proofs.lemmas.Option.{none-some, same_Some}
 use Rattle.std.specs.Option.{ForSome}
 use Rattle.luks_kdf.specs.declared.hash.Hash.{Hash}
 use Rattle.luks_verdict.specs.Digest.{digest_from, digest_of, is_undigested, is_usable}
@@ -125,3 +126,11 @@ undigested-yes limit parts is = ap (is_undigested limit) (digest_from-yes parts 
 pub undigested-no : (limit : Option ℕ) (parts : DigestParts) → is_usable parts ≡ false → is_undigested limit (digest_from parts) ≡ true
 unfolding is_undigested
 undigested-no limit parts is = ap (is_undigested limit) (digest_from-no parts is)
+
+-- a digest that was made has the numbers that were read
+pub digest_from-some : (parts : DigestParts) (digest : KeyDigest) → digest_from parts ≡ Some digest → (is : is_usable parts ≡ true) × (digest ≡ digest_of parts is)
+digest_from-some parts digest made = of_test (is_usable parts) refl
+  where
+    of_test : (test : Bool) → is_usable parts ≡ test → (is : is_usable parts ≡ true) × (digest ≡ digest_of parts is)
+    of_test true is = (is, same_Some digest (digest_of parts is) (sym made ∙ digest_from-yes parts is))
+    of_test false is = absurd (none-some digest (sym (digest_from-no parts is) ∙ made))

@@ -1,21 +1,25 @@
 -- What is known of a header whose segment is not refused.
-use Rattle.std.proofs.Common.{◌≡◌, ℕ, ◌*◌, ◌≤◌, refl, Bool, true, false, List, [], ◌∷◌, Option, Some, None, Ok, ◌⊎◌}
+use Rattle.std.proofs.Common.{◌≡◌, ◌∙◌, ℕ, ◌*◌, ◌≤◌, ap, sym, refl, Bool, true, false, List, [], ◌∷◌, Option, Some, None, Ok, ◌⊎◌}
 use Rattle.std.specs.Prelude.{◌==◌, ◌||◌, not, nat_lt, is_none}
 use Rattle.std.proofs.lemmas.Bool.{ltb-false}
 use Rattle.std.proofs.lemmas.Bool.Decides.{nat_tests}
 use Rattle.std.proofs.Common.{arith}
+use Rattle.std.proofs.lemmas.Option.{same_Some}
 use Rattle.luks_kdf.specs.declared.hash.Hash.{Hash}
-use Rattle.luks_header.specs.Segment.{fault1_of, is_aes_xts1, segment1_of, segment_of, unless_fault}
-use Rattle.luks_header.specs.Slot.{hash1_of}
-use Rattle.luks_header.specs.declared.header.Header.TheVariants.{V1}
-use Rattle.luks_header.specs.declared.luks1.Header1.{Header1}
-use Rattle.luks_header.specs.declared.refusal.SegmentFault.{SegmentFault}
-use Rattle.luks_header.specs.declared.refusal.SegmentFault.TheVariants.{Encryption, KeyBytes, Offset}
-use Rattle.luks_header.specs.declared.refusal.SegmentFault.TheVariants.{Hash as UnknownHash}
-use Rattle.luks_header.specs.declared.segment.Segment.{Segment}
-use Rattle.luks_header.proofs.SlotLemmas.{first_not}
+use Rattle.luks_verdict.specs.Digest.{digest_of}
+use Rattle.luks_verdict.specs.Segment.{refused_or, segment_from, segment_of_all, segment_with}
+use Rattle.luks_verdict.specs.declared.digest.KeyDigest.{KeyDigest}
+use Rattle.luks_verdict.specs.declared.refusal.SegmentFault.{SegmentFault}
+use Rattle.luks_verdict.specs.declared.refusal.SegmentFault.TheVariants.{Encryption, KeyBytes, Offset}
+use Rattle.luks_verdict.specs.declared.refusal.SegmentFault.TheVariants.{Hash as UnknownHash}
+use Rattle.luks_verdict.specs.declared.segment.Segment.{Segment}
+use Rattle.luks_verdict.proofs.MadeLemmas.{digest_from-some}
+use Rattle.luks_verdict.proofs.TableLemmas.{first_not}
+use Rattle.luks1.specs.Segment1.{fault1_of, is_aes_xts1, segment1_of, segment_parts1_of}
+use Rattle.luks1.specs.Slot1.{digest1_of, digest_parts1_of, hash1_of}
+use Rattle.luks1.specs.declared.header.Header1.{Header1}
 
--- a LUKS1 volume that can be read: its cipher and hash are known ones, and its key has one of two lengths
+-- a volume that can be read: its cipher and hash are known ones, and its key has one of two lengths
 pub record IsReadable (header : Header1) : Type 0 where
   pub cipher : is_aes_xts1 header ≡ true
   pub hash : (hash : Hash) × (hash1_of header ≡ Some hash)
@@ -50,10 +54,19 @@ IsReadable-none header none =
     }
 
 -- of a segment that is not refused
-pub IsReadable-ok : (header : Header1) (segment : Segment) → segment_of (V1 header) ≡ Ok segment → (segment ≡ segment1_of header) × IsReadable header
-unfolding segment_of
+pub IsReadable-ok : (header : Header1) (segment : Segment) → segment1_of header ≡ Ok segment
+    → (segment.offset ≡ 512 * header.payload_offset) × IsReadable header
+unfolding segment1_of segment_parts1_of segment_from segment_of_all segment_with
 IsReadable-ok header segment is = of_fault (fault1_of header) refl is
   where
-    of_fault : (fault : Option SegmentFault) → fault1_of header ≡ fault → unless_fault fault (segment1_of header) ≡ Ok segment → (segment ≡ segment1_of header) × IsReadable header
+    of_fault : (fault : Option SegmentFault) → fault1_of header ≡ fault → refused_or fault (segment_from (segment_parts1_of header)) ≡ Ok segment
+        → (segment.offset ≡ 512 * header.payload_offset) × IsReadable header
     of_fault None none h = (cc, IsReadable-none header none)
-    of_fault (Some fault) some h = cc
+    of_fault (Some fault) some h = absurd cc
+
+-- the digest has the header's hash
+pub digest_hash : (header : Header1) (digest : KeyDigest) → digest1_of header ≡ Some digest → digest.hash ≡ hash1_of header
+unfolding digest1_of digest_of digest_parts1_of
+digest_hash header digest is =
+    let made = digest_from-some (digest_parts1_of header) digest is in
+    ap (λ (d : KeyDigest). d.hash) made.1
