@@ -1,6 +1,6 @@
 # shellcheck shell=bash
-# What the scripts of this folder share: a folder to work in, and how a run of the program is compared. The first argument is the built
-# program.
+# What the scripts that run the built program share: a folder to work in, and how a run is compared. The first argument is the program.
+# Images are plain files; no device mapper and no kernel cryptography is used.
 set -u
 program=$(realpath "${1:?the built program}")
 work=$(mktemp -d)
@@ -26,6 +26,22 @@ expect() {
         failed=$((failed + 1))
         echo "FAILED $1: status $(cat status), output $output, message $message"
     fi
+}
+
+# same NAME GOT WANTED
+same() {
+    if [ "$2" = "$3" ]; then
+        passed=$((passed + 1))
+    else
+        failed=$((failed + 1))
+        printf 'FAILED %s\n got: %s\n wanted: %s\n' "$1" "$2" "$3"
+    fi
+}
+
+# told WORD..: the message of a run without output and its status; output is shown where there is some
+told() {
+    "$program" "$@" 2>&1
+    echo $?
 }
 
 # run WORD..: the program on these words, with standard input from the file in

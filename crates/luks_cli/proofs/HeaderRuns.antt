@@ -5,9 +5,10 @@ use Rattle.luks_header.specs.Header.{StopsReading, cost_of, header_of}
 use Rattle.luks_header.specs.declared.header.Header.{Header}
 use Rattle.luks_header.specs.declared.fault.HeaderFault.{HeaderFault}
 use Rattle.luks_header.specs.declared.fault.HeaderFault.TheVariants.{NotLuks as NoLuks, Cut as IsCut, Json as NoJson, Read, Memory}
-use Rattle.luks_cli.specs.declared.message.Message.{Message}
-use Rattle.luks_cli.specs.declared.message.Message.TheVariants.{Done, OutOfMemory, ReadFailed, WriteFailed}
-use Rattle.luks_cli.specs.Header.{answer_to_is_luks, message_for_header}
+use Rattle.luks_report.specs.declared.message.Message.{Message}
+use Rattle.luks_report.specs.declared.message.Message.TheVariants.{Done, OutOfMemory, ReadFailed, WriteFailed}
+use Rattle.luks_cli.specs.Header.{answer_to_is_luks}
+use Rattle.luks_report.specs.Faults.{message_for_header}
 use Rattle.luks_cli.specs.Outcome.{Outcome, is_luks_outcome, print_outcome}
 use Rattle.luks_cli.specs.Run.{IsBeginning, IsSilent, Bytes, Runs, BreaksOff, none_owed}
 

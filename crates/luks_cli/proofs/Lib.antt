@@ -1,7 +1,5 @@
-pub mod GrammarLemmas
 pub mod HeaderRuns
 pub mod MergeLemmas
-pub mod NumberLemmas
 pub mod OpenedRuns
 pub mod PayloadLemmas
 pub mod SecretLemmas

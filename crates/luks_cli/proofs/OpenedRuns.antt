@@ -12,12 +12,12 @@ use Rattle.luks_cli.proofs.PayloadLemmas.{plain_len}
 use Rattle.luks_cli.proofs.VolumeRuns.{same_segment}
 use Rattle.luks_cli.specs.Outcome.{Outcome, payload_written, slot_told, volume_outcome}
 use Rattle.luks_cli.specs.Payload.{PassesPayload, cat_promptly}
-use Rattle.luks_cli.specs.Request.{OpeningRequest}
+use Rattle.luks_command.specs.Request.{OpeningRequest}
 use Rattle.luks_cli.specs.Run.{BreaksOff, Bytes, Completes, Counts, Failures, Prompt, Runs, breaks_off, count_reads, count_writes, ending_of, none_owed}
 use Rattle.luks_cli.specs.Unlocking.{TakesHeld, Unlocks}
-use Rattle.luks_cli.specs.Volume.{slot_line}
-use Rattle.luks_cli.specs.declared.message.Message.{Message}
-use Rattle.luks_cli.specs.declared.message.Message.TheVariants.{Done, OutOfMemory, ReadFailed, WriteFailed}
+use Rattle.luks_report.specs.Texts.{opened_line}
+use Rattle.luks_report.specs.declared.message.Message.{Message}
+use Rattle.luks_report.specs.declared.message.Message.TheVariants.{Done, OutOfMemory, ReadFailed, WriteFailed}
 
 pub takes_slot : (secret : List ℕ) → TakesHeld secret (slot_told secret)
 takes_slot secret = record { held = λ segment opened held. omega arith; whole = λ segment opened held. refl }
@@ -70,7 +70,7 @@ module _ (o : OpeningRequest) (before : Bytes) (segment : Segment) (opened : Ope
       unwritten : (ws : List ℕ) (w : Option (List ℕ)) → w ≡ Some ws → w ≡ Some (ws ++ [])
       unwritten ws w was = was ∙ ap Some (sym (append-nil ws))
 
-  module _ (page : List ℕ) (is : page ≡ slot_line opened.slot) (w w' : Option (List ℕ)) (was : w ≡ Some before.written) where
+  module _ (page : List ℕ) (is : page ≡ opened_line opened.slot) (w w' : Option (List ℕ)) (was : w ≡ Some before.written) where
     -- the line was written
     pub runs_told : Adds w w' page → Runs none_owed (volume_outcome (slot_told before.secret) o before.image before.secret) before Done i s w'
     runs_told added = rw (u.outcome (slot_told before.secret)) (record {

@@ -17,9 +17,10 @@ use Rattle.luks_volume.specs.declared.fault.VolumeFault.TheVariants.{CutBeforePa
 use Rattle.luks_volume.specs.declared.state.State.TheVariants.{BeforePayload, InPayload}
 use Rattle.luks_volume.specs.declared.state.Step.{Step}
 use Rattle.luks_volume.specs.declared.state.Step.TheVariants.{Sector, End}
-use Rattle.luks_cli.specs.Payload.{PassesPayload, message_at_end, message_for_payload}
+use Rattle.luks_cli.specs.Payload.{PassesPayload}
+use Rattle.luks_report.specs.Faults.{message_at_end, message_for_payload}
 use Rattle.luks_cli.specs.Run.{count_reads, count_writes}
-use Rattle.luks_cli.specs.declared.message.Message.TheVariants.{Done, OutOfMemory}
+use Rattle.luks_report.specs.declared.message.Message.TheVariants.{Done, OutOfMemory}
 
 -- ---- lengths
 

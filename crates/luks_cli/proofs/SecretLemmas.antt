@@ -6,8 +6,8 @@ use Rattle.luks_header.specs.Area.{Grows}
 use Rattle.luks_header.specs.Header.{LosesUpTo}
 use Rattle.luks_cli.specs.Secret.{NoSecretRead}
 use Rattle.luks_cli.specs.Stripe.{Taken}
-use Rattle.luks_cli.specs.declared.message.Message.{Message}
-use Rattle.luks_cli.specs.declared.message.Message.TheVariants.{OutOfMemory, ReadFailed}
+use Rattle.luks_report.specs.declared.message.Message.{Message}
+use Rattle.luks_report.specs.declared.message.Message.TheVariants.{OutOfMemory, ReadFailed}
 
 module _ (told : List ℕ) (n : ℕ) where
   -- the next bytes stand behind those so far

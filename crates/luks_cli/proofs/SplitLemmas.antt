@@ -12,8 +12,8 @@ use Rattle.luks_kdf.specs.Bytes.{xor}
 use Rattle.luks_kdf.specs.Stripes.{Chain, chain_after, chain_of}
 use Rattle.luks_kdf.proofs.StripesLemmas.{chain_of-append}
 use Rattle.luks_io.specs.Bytes.{Adds}
-use Rattle.luks_cli.specs.declared.message.Message.{Message}
-use Rattle.luks_cli.specs.declared.message.Message.TheVariants.{Done, KeyLength, FewRandomBytes, ReadFailed, WriteFailed}
+use Rattle.luks_report.specs.declared.message.Message.{Message}
+use Rattle.luks_report.specs.declared.message.Message.TheVariants.{Done, KeyLength, FewRandomBytes, ReadFailed, WriteFailed}
 use Rattle.luks_cli.specs.Outcome.{Outcome, split_key_outcome, split_outcome, stripes_of}
 use Rattle.luks_cli.specs.Run.{IsBeginning, IsSilent, Bytes, Runs, BreaksOff, Completes}
 use Rattle.luks_cli.specs.Stripe.{NoKeyRead, Passed, StopsPassing, split_promptly}

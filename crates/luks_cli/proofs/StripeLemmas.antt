@@ -5,7 +5,7 @@ use Rattle.std.proofs.Math.Seq.{take-add}
 use Rattle.luks_kdf.specs.Stripes.{stripe_at}
 use Rattle.luks_io.specs.Bytes.{Adds, GivesAll, TakesNext}
 use Rattle.luks_cli.specs.Stripe.{Passed, StopsPassing}
-use Rattle.luks_cli.specs.declared.message.Message.TheVariants.{FewRandomBytes, ReadFailed, WriteFailed}
+use Rattle.luks_report.specs.declared.message.Message.TheVariants.{FewRandomBytes, ReadFailed, WriteFailed}
 
 -- before any byte is taken
 pub passed_none : (random before : List ℕ) (r w : Option (List ℕ)) (len : ℕ) → r ≡ Some random → w ≡ Some before → Passed random before r w (0 * len) (0 * len)

@@ -10,10 +10,11 @@ use Rattle.luks_header.specs.declared.segment.Segment.{Segment}
 use Rattle.luks_open.specs.Order.{Tries, order_of}
 use Rattle.luks_open.specs.declared.fault.OpenFault.{OpenFault}
 use Rattle.luks_open.specs.declared.fault.OpenFault.TheVariants.{NoSuchSlot as NotThere, Disabled, NamedSkipped, NothingTried as NoneTried, NoKey as NoneOpens, Memory}
-use Rattle.luks_cli.specs.Header.{message_for_header}
-use Rattle.luks_cli.specs.Request.{OpeningRequest}
-use Rattle.luks_cli.specs.Volume.{StopsFinding, message_for_opening, volume_of}
-use Rattle.luks_cli.specs.declared.message.Message.TheVariants.{SegmentRefused}
+use Rattle.luks_report.specs.Faults.{message_for_header}
+use Rattle.luks_command.specs.Request.{OpeningRequest}
+use Rattle.luks_cli.specs.Volume.{StopsFinding, volume_of}
+use Rattle.luks_report.specs.Faults.{message_for_opening}
+use Rattle.luks_report.specs.declared.message.Message.TheVariants.{SegmentRefused}
 
 module _ (o : OpeningRequest) (image : List ℕ) (left : Option (List ℕ)) where
   no_header : (fault : HeaderFault) → header_of image ≡ Err fault → volume_of o image ≡ Err (message_for_header fault)

@@ -23,16 +23,17 @@ use Rattle.luks_open.specs.declared.fault.OpenFault.TheVariants.{NoSuchSlot as N
 use Rattle.luks_open.specs.declared.opening.Opened.{Opened}
 use Rattle.luks_volume.specs.Plain.{sector_len}
 use Rattle.luks_cli.proofs.VolumeLemmas.{volume_is}
-use Rattle.luks_cli.specs.Header.{message_for_header}
+use Rattle.luks_report.specs.Faults.{message_for_header}
 use Rattle.luks_cli.specs.Outcome.{Deed, Outcome, found_outcome, opened_outcome, outcome_after, unwritten, volume_outcome}
 use Rattle.luks_cli.specs.Payload.{cat_promptly}
-use Rattle.luks_cli.specs.Request.{OpeningRequest}
+use Rattle.luks_command.specs.Request.{OpeningRequest}
 use Rattle.luks_cli.specs.Run.{BreaksOff, Bytes, IsBeginning, IsSilent, Runs}
 use Rattle.luks_cli.specs.Secret.{NoSecretRead}
 use Rattle.luks_cli.specs.Unlocking.{TakesHeld, Unlocks}
-use Rattle.luks_cli.specs.Volume.{HasSegment, StopsFinding, Volume, held_for, message_for_opening, volume_of}
-use Rattle.luks_cli.specs.declared.message.Message.{Message}
-use Rattle.luks_cli.specs.declared.message.Message.TheVariants.{Cut, KeyFileLength, OutOfMemory, ReadFailed, WriteFailed}
+use Rattle.luks_cli.specs.Volume.{HasSegment, StopsFinding, Volume, held_for, volume_of}
+use Rattle.luks_report.specs.Faults.{message_for_opening}
+use Rattle.luks_report.specs.declared.message.Message.{Message}
+use Rattle.luks_report.specs.declared.message.Message.TheVariants.{Cut, KeyFileLength, OutOfMemory, ReadFailed, WriteFailed}
 
 -- ---- how much of the image is taken for what is promised
 

@@ -1,15 +1,8 @@
-pub mod Command
-pub mod Dump
-pub mod Grammar
 pub mod Header
-pub mod Number
 pub mod Outcome
 pub mod Payload
-pub mod Report
-pub mod Request
 pub mod Run
 pub mod Secret
 pub mod Stripe
-pub mod Texts
 pub mod Unlocking
 pub mod Volume

@@ -1,10 +1,11 @@
 -- What a run of luksrd does: a function of the command and the bytes of both inputs.
 use Rattle.std.specs.Prelude.{ℕ, ◌+◌, ◌-◌, ◌*◌, ◌/◌, ◌&&◌, ◌++◌, List, [], length, take, max, min, nat_lt, nat_le, if◌then◌else◌, Option, Result, Ok, Err}
 use Rattle.luks_kdf.specs.declared.hash.Hash.{Hash}
-use Rattle.luks_cli.specs.Request.{OpeningRequest, Request, is_luks, luks_uuid, luks_dump, test_passphrase, luks_cat, af_split, af_merge}
+use Rattle.luks_command.specs.Request.{OpeningRequest, Request, is_luks, luks_uuid, luks_dump, test_passphrase, luks_cat, af_split, af_merge}
 use Rattle.luks_header.specs.Header.{cost_of, header_of}
 use Rattle.luks_header.specs.declared.header.Header.{Header}
-use Rattle.luks_cli.specs.Header.{answer_to_is_luks, dump_of, printed, told_of, uuid_of}
+use Rattle.luks_cli.specs.Header.{answer_to_is_luks, printed, told_of}
+use Rattle.luks_report.specs.Dump.{dump_of, uuid_of}
 use Rattle.luks_kdf.specs.Bytes.{xor}
 use Rattle.luks_kdf.specs.Stripes.{chain_of, merged}
 use Rattle.luks_header.specs.declared.segment.Segment.{Segment}
@@ -13,10 +14,12 @@ use Rattle.luks_open.specs.Order.{held_of}
 use Rattle.luks_open.specs.declared.fault.OpenFault.{OpenFault}
 use Rattle.luks_open.specs.declared.opening.Opened.{Opened}
 use Rattle.luks_volume.specs.Plain.{ending_of, payload_end_of, plain_of}
-use Rattle.luks_cli.specs.Payload.{message_at_end}
-use Rattle.luks_cli.specs.Volume.{Volume, held_for, message_for_opening, slot_line, volume_of}
-use Rattle.luks_cli.specs.declared.message.Message.{Message}
-use Rattle.luks_cli.specs.declared.message.Message.TheVariants.{Done, Cut, KeyFileLength, KeyLength, FewRandomBytes, FewStripes}
+use Rattle.luks_report.specs.Faults.{message_at_end}
+use Rattle.luks_cli.specs.Volume.{Volume, held_for, volume_of}
+use Rattle.luks_report.specs.Faults.{message_for_opening}
+use Rattle.luks_report.specs.Texts.{opened_line}
+use Rattle.luks_report.specs.declared.message.Message.{Message}
+use Rattle.luks_report.specs.declared.message.Message.TheVariants.{Done, Cut, KeyFileLength, KeyLength, FewRandomBytes, FewStripes}
 
 -- what is written, what is told, and how many bytes of both inputs are taken
 pub record Outcome : Type 0 where
@@ -75,7 +78,7 @@ Deed = Segment → Opened → ℕ → Outcome
 
 -- `testPassphrase`: the key slot that opens is told
 abbrev pub slot_told : List ℕ → Deed
-slot_told secret segment opened held = record { output = slot_line opened.slot; message = Done; image_taken = held; secret_taken = length secret }
+slot_told secret segment opened held = record { output = opened_line opened.slot; message = Done; image_taken = held; secret_taken = length secret }
 
 -- `luksCat`: the payload is written as plain text
 abbrev pub payload_written : List ℕ → List ℕ → Deed

@@ -1,27 +1,12 @@
 -- How passing on a payload ends.
-use Rattle.std.specs.Prelude.{◌≡◌, ℕ, ◌+◌, ◌-◌, ◌*◌, ◌/◌, ◌<◌, ◌≤◌, ◌++◌, max, List, drop, take, Option, Some, Result, Ok, Err}
+use Rattle.std.specs.Prelude.{◌≡◌, ℕ, ◌+◌, ◌-◌, ◌*◌, ◌/◌, ◌<◌, ◌≤◌, ◌++◌, max, List, drop, take, Option, Some}
 use Rattle.luks_header.specs.Header.{cost_of}
 use Rattle.luks_header.specs.declared.segment.Segment.{Segment}
 use Rattle.luks_volume.specs.Plain.{ending_of, payload_end_of, plain_of, sector_len, sector_start, sectors_of}
-use Rattle.luks_volume.specs.declared.fault.VolumeFault.{VolumeFault}
-use Rattle.luks_volume.specs.declared.fault.VolumeFault.TheVariants.{CutBeforePayload as IsCutBefore, Tail as HasTail, Short as IsShort, Read, Write}
-use Rattle.luks_volume.specs.declared.state.Step.{Step}
 use Rattle.luks_cli.specs.Volume.{HasSegment}
-use Rattle.luks_cli.specs.declared.message.Message.{Message}
-use Rattle.luks_cli.specs.declared.message.Message.TheVariants.{Done, CutBeforePayload, Tail, Short, ReadFailed, WriteFailed}
-
--- what is told of a payload that is not whole
-abbrev pub message_for_payload : VolumeFault → Message
-message_for_payload IsCutBefore = CutBeforePayload
-message_for_payload (HasTail bytes) = Tail bytes
-message_for_payload (IsShort bytes) = Short bytes
-message_for_payload Read = ReadFailed
-message_for_payload Write = WriteFailed
-
--- what is told of the end of a payload
-abbrev pub message_at_end : Result Step VolumeFault → Message
-message_at_end (Ok _) = Done
-message_at_end (Err fault) = message_for_payload fault
+use Rattle.luks_report.specs.Faults.{message_at_end}
+use Rattle.luks_report.specs.declared.message.Message.{Message}
+use Rattle.luks_report.specs.declared.message.Message.TheVariants.{ReadFailed, WriteFailed}
 
 -- passing on a payload is broken off: where a write fails, no byte of the image past the sector of the last byte written was taken,
 -- but for the header's; where a read fails past the header, the whole sectors that were taken are written

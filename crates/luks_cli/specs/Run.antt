@@ -2,11 +2,11 @@
 use Rattle.std.specs.Prelude.{◌≡◌, ℕ, ◌<◌, ◌≤◌, ◌^◌, ◌++◌, List, drop, length, take, Option, Some, Bool, true, false, MatchBool, ◌⊎◌, Result, Ok, Err}
 use Rattle.luks_io.specs.Bytes.{raised}
 use Rattle.luks_cli.specs.Payload.{cat_promptly}
-use Rattle.luks_cli.specs.Request.{Request, luks_cat, af_split, af_merge}
+use Rattle.luks_command.specs.Request.{Request, luks_cat, af_split, af_merge}
 use Rattle.luks_cli.specs.Outcome.{Outcome}
 use Rattle.luks_cli.specs.Stripe.{split_promptly}
-use Rattle.luks_cli.specs.declared.message.Message.{Message}
-use Rattle.luks_cli.specs.declared.message.Message.TheVariants.{Done, OutOfMemory, ReadFailed, WriteFailed}
+use Rattle.luks_report.specs.declared.message.Message.{Message}
+use Rattle.luks_report.specs.declared.message.Message.TheVariants.{Done, OutOfMemory, ReadFailed, WriteFailed}
 
 -- the bytes that the inputs give from here on, and those that were written
 pub record Bytes : Type 0 where

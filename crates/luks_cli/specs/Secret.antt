@@ -1,8 +1,8 @@
 -- What reading a key file leaves, where its source tells its bytes.
 use Rattle.std.specs.Prelude.{◌≡◌, ℕ, ◌<◌, List, drop, length, min, Option, Some}
 use Rattle.luks_header.specs.Header.{LosesUpTo}
-use Rattle.luks_cli.specs.declared.message.Message.{Message}
-use Rattle.luks_cli.specs.declared.message.Message.TheVariants.{KeyFileLength, OutOfMemory, ReadFailed}
+use Rattle.luks_report.specs.declared.message.Message.{Message}
+use Rattle.luks_report.specs.declared.message.Message.TheVariants.{KeyFileLength, OutOfMemory, ReadFailed}
 
 -- how reading a key file failed: of one that is too long one byte more is taken than the longest has
 abbrev pub NoSecretRead : List ℕ → Option (List ℕ) → Message → Type 0

@@ -1,8 +1,8 @@
 -- What the parts of the stripe commands leave, where the devices tell their bytes.
 use Rattle.std.specs.Prelude.{◌≡◌, ℕ, ◌+◌, ◌*◌, ◌/◌, ◌<◌, ◌≤◌, ◌++◌, ◌⊎◌, List, drop, length, take, min, Option, Some}
 use Rattle.luks_header.specs.Header.{LosesUpTo}
-use Rattle.luks_cli.specs.declared.message.Message.{Message}
-use Rattle.luks_cli.specs.declared.message.Message.TheVariants.{KeyLength, FewRandomBytes, FewStripes, ReadFailed, WriteFailed}
+use Rattle.luks_report.specs.declared.message.Message.{Message}
+use Rattle.luks_report.specs.declared.message.Message.TheVariants.{KeyLength, FewRandomBytes, FewStripes, ReadFailed, WriteFailed}
 
 -- how reading a key failed
 abbrev pub NoKeyRead : List ℕ → Option (List ℕ) → Message → Type 0

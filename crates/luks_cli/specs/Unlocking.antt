@@ -4,7 +4,7 @@ use Rattle.luks_header.specs.Header.{cost_of}
 use Rattle.luks_header.specs.declared.segment.Segment.{Segment}
 use Rattle.luks_open.specs.declared.opening.Opened.{Opened}
 use Rattle.luks_cli.specs.Outcome.{Deed, volume_outcome}
-use Rattle.luks_cli.specs.Request.{OpeningRequest}
+use Rattle.luks_command.specs.Request.{OpeningRequest}
 use Rattle.luks_cli.specs.Volume.{HasSegment}
 
 -- what is done with a volume takes no less of its image than is held, and the whole key file

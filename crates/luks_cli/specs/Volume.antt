@@ -1,6 +1,5 @@
 -- What an image's header says of its volume, before any key slot is tried.
-use Rattle.std.specs.Prelude.{◌≡◌, ℕ, ◌++◌, ◌∷◌, [], List, drop, max, Option, Some, None, Result, Ok, Err, codes}
-use Rattle.std.specs.Fmt.{decimal}
+use Rattle.std.specs.Prelude.{◌≡◌, ℕ, List, drop, max, Option, Some, Result, Ok, Err}
 use Rattle.luks_header.specs.Header.{LosesUpTo, cost_of, header_of}
 use Rattle.luks_header.specs.Segment.{segment_of}
 use Rattle.luks_header.specs.declared.header.Header.{Header}
@@ -9,31 +8,16 @@ use Rattle.luks_header.specs.declared.refusal.SegmentFault.{SegmentFault}
 use Rattle.luks_header.specs.declared.segment.Segment.{Segment}
 use Rattle.luks_open.specs.Order.{Tries, held_of, order_of}
 use Rattle.luks_open.specs.declared.fault.OpenFault.{OpenFault}
-use Rattle.luks_open.specs.declared.fault.OpenFault.TheVariants.{NoSuchSlot as NotThere, Disabled, NamedSkipped, NothingTried as NoneTried, NoKey as NoneOpens, Memory}
-use Rattle.luks_cli.specs.Header.{message_for_header}
-use Rattle.luks_cli.specs.Request.{OpeningRequest}
-use Rattle.luks_cli.specs.declared.message.Message.{Message}
-use Rattle.luks_cli.specs.declared.message.Message.TheVariants.{SegmentRefused, NoSuchSlot, SlotDisabled, SlotSkipped, NothingTried, NoKey, OutOfMemory, ReadFailed}
+use Rattle.luks_report.specs.Faults.{message_for_header, message_for_opening}
+use Rattle.luks_command.specs.Request.{OpeningRequest}
+use Rattle.luks_report.specs.declared.message.Message.{Message}
+use Rattle.luks_report.specs.declared.message.Message.TheVariants.{SegmentRefused, OutOfMemory, ReadFailed}
 
 -- a volume: its header, where its payload lies, and which key slots are tried
 pub record Volume : Type 0 where
   pub header : Header
   pub segment : Segment
   pub tries : Tries
-
--- the number of the key slot that is named. Without a name no fault speaks of one
-abbrev pub number_named : Option ℕ → ℕ
-number_named None = 0
-number_named (Some number) = number
-
--- what is told where no key slot is tried or none opens, by the key slot that is named
-abbrev pub message_for_opening : Option ℕ → OpenFault → Message
-message_for_opening named NotThere = NoSuchSlot (number_named named)
-message_for_opening named Disabled = SlotDisabled (number_named named)
-message_for_opening named (NamedSkipped reason) = SlotSkipped (number_named named) reason
-message_for_opening named (NoneTried skipped) = NothingTried skipped
-message_for_opening named (NoneOpens skipped) = NoKey skipped
-message_for_opening named Memory = OutOfMemory
 
 -- the volume with this order of key slots
 abbrev pub volume_in_order : Option ℕ → Header → Segment → Result Tries OpenFault → Result Volume Message
@@ -62,10 +46,6 @@ held_for image volume = max (cost_of image) (held_of volume.tries.slots)
 -- the image has a header with this segment
 abbrev pub HasSegment : List ℕ → Segment → Type 0
 HasSegment image segment = (header : Header) × (header_of image ≡ Ok header) × (segment_of header ≡ Ok segment)
-
--- what `testPassphrase` prints of the key slot that opens
-unfoldable pub slot_line : ℕ → List ℕ
-slot_line number = codes "Key slot " ++ decimal number ++ codes " opens the volume." ++ 10 ∷ []
 
 -- finding the volume of an image ended without one
 abbrev pub StopsFinding : OpeningRequest → List ℕ → Option (List ℕ) → Message → Type 0

@@ -2,15 +2,15 @@
 
 ghost use Rattle.std.specs.Prelude.{◌≡◌, ◌≢◌, IfErr, None};
 ghost use Rattle.luks_cli.specs.Outcome.{outcome_of};
-ghost use Rattle.luks_cli.specs.Report.{report_of};
-ghost use Rattle.luks_cli.specs.Request.{request_of, secret_of};
+ghost use Rattle.luks_report.specs.Report.{report_of};
+ghost use Rattle.luks_command.specs.Request.{request_of, secret_of};
 ghost use Rattle.luks_cli.specs.Run.{Bytes, Counts, IsCounted, Runs, TakesNoMemory, Tell, ending_of, prompt_of};
 
-use crate::command::Command;
-use crate::message::Message;
-use crate::report::Report;
+use luks_command::command::Command;
 use luks_io::sink::Sink;
 use luks_io::source::Source;
+use luks_report::message::Message;
+use luks_report::report::Report;
 use std::alloc::Global;
 
 mod headers;

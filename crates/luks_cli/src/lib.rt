@@ -1,15 +1,15 @@
-//! The command line of luksrd and what its commands do.
+//! What the commands of luksrd do, over sources and a sink.
+//!
+//! With what the program needs of the layers beneath: the command line and the report of a run.
 #![tactic(auto)]
 
-pub use command::{
-    Command, IterationLimit, KeyBytes, Merging, Opening, PlanFault, SlotNumber, Splitting,
-    StripeCount, USAGE, plan,
-};
+pub use luks_command::command::{Command, Merging, Opening, Splitting};
+pub use luks_command::number::{IterationLimit, KeyBytes, SlotNumber, StripeCount};
+pub use luks_command::planning::{PlanFault, plan};
+pub use luks_report::input::{NOT_OPENED, not_opened_page};
+pub use luks_report::message::Message;
+pub use luks_report::report::Report;
 
-pub mod command;
-mod dump;
 pub mod execute;
-pub mod message;
-pub mod report;
 #[cfg(test)]
 mod tests;

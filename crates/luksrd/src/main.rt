@@ -6,11 +6,10 @@
 mod input;
 
 use input::{Input, OpenFault};
-use luks_cli::command::{Command, plan};
 use luks_cli::execute::execute;
-use luks_cli::message::Message;
-use luks_cli::report::Report;
+use luks_cli::{Command, Message, NOT_OPENED, Report, not_opened_page, plan};
 use luks_io::adapters::{ReadSource, WriteSink};
+use luks_io::sink::put_all;
 use std::env;
 use std::io::{BufWriter, ErrorKind, Write};
 use std::process::ExitCode;
@@ -60,24 +59,24 @@ fn run(rt: &HostRuntime, command: &Command<'_>) -> ExitCode {
 }
 
 /// Tells that an input was not opened.
-fn tell_fault(rt: &impl Eprint, fault: OpenFault, name: &str) -> ExitCode {
-    match fault {
-        OpenFault::Memory => tell(rt, Message::OutOfMemory),
-        OpenFault::NotOpened => {
-            let _ = eprintln!(rt; "luksrd: cannot open {name}");
-            ExitCode::from(4)
-        }
+fn tell_fault(rt: &HostRuntime, fault: OpenFault, name: &str) -> ExitCode {
+    if fault == OpenFault::Memory {
+        return tell(rt, Message::OutOfMemory);
     }
+    let Ok(page) = not_opened_page(rt.alloc(), name) else {
+        return tell(rt, Message::OutOfMemory);
+    };
+    let _ = put_all(&mut WriteSink::new(rt.stderr()), page.as_bytes());
+    ExitCode::from(NOT_OPENED)
 }
 
 /// Tells how a run ended.
-fn tell(rt: &impl Eprint, message: Message) -> ExitCode {
+fn tell(rt: &HostRuntime, message: Message) -> ExitCode {
     tell_report(rt, &Report::of(message))
 }
 
-/// Prints the message of a report and gives its status. Where the message can't be printed there is nobody to tell.
-fn tell_report(rt: &impl Eprint, report: &Report) -> ExitCode {
-    let message = report.message;
-    let _ = eprint!(rt; "{message}");
+/// Prints the message of a report and gives its status. Where it can't be printed there is nobody to tell.
+fn tell_report(rt: &HostRuntime, report: &Report) -> ExitCode {
+    let _ = report.message.print(&mut WriteSink::new(rt.stderr()));
     ExitCode::from(report.status)
 }

@@ -1,16 +1,17 @@
 //! `isLuks`, `luksUUID` and `luksDump`: what an image's header says.
 
 ghost use Rattle.std.specs.Prelude.{◌≡◌, List, ℕ, Option};
-ghost use Rattle.luks_cli.specs.Header.{answer_to_is_luks, dump_of, uuid_of};
+ghost use Rattle.luks_cli.specs.Header.{answer_to_is_luks};
+ghost use Rattle.luks_report.specs.Dump.{dump_of, uuid_of};
 ghost use Rattle.luks_cli.specs.Outcome.{is_luks_outcome, print_outcome};
 ghost use Rattle.luks_cli.specs.Run.{Bytes, Counts, Runs, Tell, ending_of, none_owed};
 
-use crate::dump::{dump_page, uuid_page};
-use crate::message::Message;
 use luks_header::fault::HeaderFault;
 use luks_header::header::read_header;
 use luks_io::sink::{Sink, put_all};
 use luks_io::source::Source;
+use luks_report::dump::{dump_page, uuid_page};
+use luks_report::message::Message;
 use std::alloc::Global;
 
 /// `isLuks`: nothing is written; what is no LUKS is told by the status alone.

@@ -4,11 +4,11 @@ ghost use Rattle.std.specs.Prelude.{◌≡◌, ◌≢◌, ◌<◌, ◌≤◌, �
 ghost use Rattle.luks_cli.specs.Payload.{PassesPayload};
 ghost use Rattle.luks_cli.specs.Run.{count_reads, count_writes, ending_of};
 
-use crate::message::Message;
 use luks_cipher::XtsKey;
 use luks_header::segment::Segment;
 use luks_io::sink::Sink;
 use luks_io::source::Source;
+use luks_report::message::Message;
 use luks_volume::pump::Pump;
 use luks_volume::state::Step;
 

@@ -6,8 +6,8 @@ ghost use Rattle.luks_header.specs.Header.{LosesUpTo};
 ghost use Rattle.luks_cli.specs.Run.{count_reads, ending_of};
 ghost use Rattle.luks_cli.specs.Secret.{NoSecretRead};
 
-use crate::message::Message;
 use luks_io::source::{Source, fill};
+use luks_report::message::Message;
 use std::alloc::Global;
 
 /// The length of the longest key file.

@@ -7,11 +7,11 @@ ghost use Rattle.luks_cli.specs.Run.{Bytes, Counts, Runs, Tell, none_owed};
 ghost use Rattle.luks_cli.specs.Outcome.{merge_outcome, split_outcome};
 ghost use Rattle.luks_cli.specs.Stripe.{NoKeyRead, Passed, StopsPassing, StopsTaking, Taken, split_promptly};
 
-use crate::command::{Merging, Splitting};
-use crate::message::Message;
+use luks_command::command::{Merging, Splitting};
 use luks_io::sink::{Sink, put_all};
 use luks_io::source::{Source, fill};
 use luks_kdf::{AfSplitter, Hash};
+use luks_report::message::Message;
 
 /// The length of the longest key.
 const LONGEST_KEY: usize = 512;

@@ -6,10 +6,10 @@ mod volume_devices;
 mod volumes;
 
 use super::execute;
-use crate::command::{PlanFault, plan};
-use crate::message::Message;
-use crate::report::Report;
+use luks_command::planning::{PlanFault, plan};
 use luks_io::memory::{MemSink, MemSource};
+use luks_report::message::Message;
+use luks_report::report::Report;
 use luks_testing::devices::{Flaky, Leaky};
 use std::alloc::{AllocError, Global};
 use std::process::Abort;
@@ -20,9 +20,16 @@ use std::test::Fail;
 struct Ended {
     output: Vec<u8>,
     status: u8,
-    told: String,
+    told: Vec<u8>,
     image_left: usize,
     secret_left: usize,
+}
+
+// The line that is told.
+fn line_of(alloc: Global, message: &Message) -> Result<Vec<u8>, Fail> {
+    let mut line = MemSink::new(alloc, 2048)?;
+    message.print(&mut line).ok().ok_or("room for a line")?;
+    Ok(line.as_slice().to_vec(alloc)?)
 }
 
 // Runs a line of words that single spaces part.
@@ -38,7 +45,7 @@ fn run(alloc: Global, line: &str, image: &[u8], secret: &[u8]) -> Result<Ended, 
     Ok(Ended {
         output: out.as_slice().to_vec(alloc)?,
         status: report.status,
-        told: report.message.to_string(alloc)?,
+        told: line_of(alloc, &report.message)?,
         image_left: image.left().len(),
         secret_left: secret.left().len(),
     })
@@ -47,7 +54,7 @@ fn run(alloc: Global, line: &str, image: &[u8], secret: &[u8]) -> Result<Ended, 
 fn check(rt: &impl Abort, ended: &Ended, output: &[u8], status: u8, told: &str) {
     assert_eq!(rt; ended.output.as_slice(), output);
     assert_eq!(rt; ended.status, status);
-    assert_eq!(rt; ended.told.as_str(), told);
+    assert_eq!(rt; ended.told.as_slice(), told.as_bytes());
 }
 
 const ZEROS: [u8; 28] = [0; 28];
@@ -224,8 +231,8 @@ fn tells_how_it_is_called(rt: HostRuntime) -> Result<(), Fail> {
     let report = Report::of_fault(PlanFault::Memory);
     assert_eq!(rt; (report.status, report.message), (3, Message::OutOfMemory));
     assert_eq!(rt;
-        report.message.to_string(alloc)?.as_str(),
-        "luksrd: out of memory\n"
+        line_of(alloc, &report.message)?.as_slice(),
+        b"luksrd: out of memory\n".as_slice()
     );
     Ok(())
 }

@@ -1,22 +1,21 @@
 //! `testPassphrase` and `luksCat`: volumes that a passphrase opens.
 
-ghost use Rattle.std.specs.Prelude.{◌≡◌, ◌≢◌, ◌<◌, ◌≤◌, ◌^◌, List, ℕ, Option, Some, Ok, IfOk, IfErr, drop, length, string_bytes, take, true};
+ghost use Rattle.std.specs.Prelude.{◌≡◌, ◌≢◌, ◌<◌, ◌≤◌, ◌^◌, List, ℕ, Option, Some, Ok, IfOk, IfErr, drop, length, take, true};
 ghost use Rattle.luks_cipher.specs.Xts.{is_xts_key_length};
 ghost use Rattle.luks_header.specs.Header.{cost_of, header_of};
 ghost use Rattle.luks_header.specs.Segment.{segment_of};
 ghost use Rattle.luks_open.specs.Order.{order_of};
 ghost use Rattle.luks_cli.specs.Outcome.{Deed, payload_written, slot_told, volume_outcome};
 ghost use Rattle.luks_cli.specs.Payload.{cat_promptly};
-ghost use Rattle.luks_cli.specs.Request.{opening_request};
+ghost use Rattle.luks_command.specs.Request.{opening_request};
 ghost use Rattle.luks_cli.specs.Run.{Bytes, Counts, Runs, Tell, count_reads, ending_of, none_owed};
 ghost use Rattle.luks_cli.specs.Unlocking.{TakesHeld, Unlocks};
-ghost use Rattle.luks_cli.specs.Volume.{StopsFinding, message_for_opening, slot_line};
+ghost use Rattle.luks_cli.specs.Volume.{StopsFinding};
 
 use super::payload::write_payload;
 use super::secret::read_secret;
-use crate::command::Opening;
-use crate::message::Message;
 use luks_cipher::XtsKey;
+use luks_command::command::Opening;
 use luks_header::area::HeaderArea;
 use luks_header::header::{Header, read_header};
 use luks_header::payload::segment;
@@ -24,11 +23,12 @@ use luks_header::segment::Segment;
 use luks_io::sink::{Sink, put_all};
 use luks_io::source::Source;
 use luks_kdf::Work;
-use luks_open::fault::OpenFault;
 use luks_open::opening::{Opened, open};
 use luks_open::order::order;
 use luks_open::tries::{Order, held_end};
-use std::alloc::{AllocError, Global};
+use luks_report::message::Message;
+use luks_report::opened::opened_page;
+use std::alloc::Global;
 
 /// A volume whose header is read: where its payload lies, and which key slots are tried.
 #[derive(Drop)]
@@ -68,21 +68,6 @@ fn limit(opening: &Opening<'_>) -> Option<u32>
     }
 }
 
-/// What is told where no key slot is tried or none opens.
-fn refusal_of(named: Option<u8>, fault: OpenFault) -> Message
-    ensures { result ≡ message_for_opening named fault }
-{
-    let slot = named.unwrap_or(0);
-    match fault {
-        OpenFault::NoSuchSlot => Message::NoSuchSlot(slot),
-        OpenFault::Disabled => Message::SlotDisabled(slot),
-        OpenFault::NamedSkipped(reason) => Message::SlotSkipped(slot, reason),
-        OpenFault::NothingTried(skipped) => Message::NothingTried(skipped),
-        OpenFault::NoKey(skipped) => Message::NoKey(skipped),
-        OpenFault::Memory => Message::OutOfMemory,
-    }
-}
-
 /// Reads the header of an image, and finds its segment and the key slots that are tried.
 fn find_volume<I: Source>(
     alloc: Global,
@@ -111,7 +96,7 @@ fn find_volume<I: Source>(
             segment,
             order,
         }),
-        Err(fault) => Err(refusal_of(named, fault)),
+        Err(fault) => Err(Message::of_opening(named, fault)),
     }
 }
 
@@ -155,18 +140,8 @@ fn unlock<I: Source, K: Source>(
             opened,
             held: area.as_slice().len() as u64,
         }),
-        Err(fault) => Err(refusal_of(named_slot(opening), fault)),
+        Err(fault) => Err(Message::of_opening(named_slot(opening), fault)),
     }
-}
-
-/// What is printed of the key slot that opens.
-#[tactic(auto, unfolding(crate::specs::Volume::slot_line))]
-fn slot_page(alloc: Global, slot: u8) -> Result<String, AllocError>
-    ensures { IfOk result (λ page. string_bytes page ≡ slot_line slot) }
-{
-    let mut page = format!(in alloc; "Key slot {slot}")?;
-    page.push_str(" opens the volume.\n")?;
-    Ok(page)
 }
 
 /// `testPassphrase`.
@@ -187,7 +162,7 @@ pub(super) fn test_passphrase<I: Source, K: Source, O: Sink>(
         (record { image = I.failures image.new; secret = K.failures secret.new; written = O.failures out.new }) }
 {
     let unlocked = unlock(alloc, opening, image, secret)?;
-    let page = slot_page(alloc, unlocked.opened.slot)?;
+    let page = opened_page(alloc, unlocked.opened.slot)?;
     put_all(out, page.as_bytes())?;
     Ok(())
 }

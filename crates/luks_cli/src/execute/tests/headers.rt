@@ -3,11 +3,11 @@
 ghost use Rattle.std.specs.Prelude.{◌≡◌, ◌+◌, ◌≤◌, length};
 
 use super::{check, check_failures, run};
-use crate::command::plan;
 use crate::execute::execute;
-use crate::message::Message;
-use crate::report::Report;
+use luks_command::planning::plan;
 use luks_io::memory::{MemSink, MemSource};
+use luks_report::message::Message;
+use luks_report::report::Report;
 use luks_testing::scarce::Scarcity;
 use std::test::Fail;
 

@@ -1,11 +1,11 @@
 //! The commands on volumes over devices that move a few bytes a call, fail, or are refused memory.
 
 use super::execute;
-use crate::command::plan;
-use crate::message::Message;
-use crate::report::Report;
 use crate::tests::volume::{PASSPHRASE, SMALL, USUAL, plain_bytes, sealed};
+use luks_command::planning::plan;
 use luks_io::memory::{MemSink, MemSource};
+use luks_report::message::Message;
+use luks_report::report::Report;
 use luks_testing::devices::{Broken, Flaky, Leaky};
 use luks_testing::scarce::Scarcity;
 use std::process::Abort;

@@ -1,6 +1,6 @@
 use Rattle.std.proofs.Common.{◌∙◌}
 use Rattle.std.proofs.lemmas.Result.{err_from_is_err_and}
-use Rattle.luks_cli.specs.Header.{dump_of}
+use Rattle.luks_report.specs.Dump.{dump_of}
 use Rattle.luks_cli.proofs.HeaderRuns.{runs_to_end, runs_without_header, runs_without_rest, runs_without_text}
 use Rattle.luks_cli.proofs.execute.headers.print_dump.Goals as goal
 

@@ -1,7 +1,7 @@
 use Rattle.std.proofs.Common.{◌+◌, ◌∙◌, ap, refl, arith}
 use Rattle.std.proofs.lemmas.Result.{err_from_is_err_and}
 use Rattle.luks_cli.proofs.PayloadLemmas.{few_sectors, never_memory, passing_breaks, passing_ends, passing_more, passing_start, reads_are, writes_are}
-use Rattle.luks_cli.specs.Payload.{message_for_payload}
+use Rattle.luks_report.specs.Faults.{message_for_payload}
 use Rattle.luks_cli.specs.Run.{count_reads, count_writes}
 use Rattle.luks_cli.proofs.execute.payload.write_payload.Goals as goal
 

@@ -2,7 +2,7 @@ use Rattle.std.proofs.Common.{◌≡◌, ◌≤◌, ◌<◌, ◌+◌, ◌-◌, �
 use Rattle.std.proofs.lemmas.Result.{err_from_is_err_and}
 use Rattle.std.proofs.Math.Nat.{mul-le-mul_right}
 use Rattle.luks_cli.proofs.MergeLemmas.{key_merged, runs_to_end, runs_without_key, runs_without_stripes, stops_before, stops_reading, stops_short, stripe_more}
-use Rattle.luks_cli.specs.declared.message.Message.TheVariants.{FewStripes, ReadFailed}
+use Rattle.luks_report.specs.declared.message.Message.TheVariants.{FewStripes, ReadFailed}
 use Rattle.luks_cli.proofs.execute.stripes.write_merged.Goals as goal
 
 pub returns-in_err-splitter-clause-run : goal.returns-in_err-splitter-clause-run

@@ -1,6 +1,6 @@
 use Rattle.std.proofs.lemmas.Result.{err_from_is_err_and}
 use Rattle.std.proofs.Common.{sym}
-use Rattle.luks_cli.specs.Request.{opening_request}
+use Rattle.luks_command.specs.Request.{opening_request}
 use Rattle.luks_cli.proofs.VolumeLemmas.{stops_without_header, stops_without_order, stops_without_segment}
 use Rattle.luks_cli.proofs.execute.volumes.find_volume.Goals as goal
 
@@ -18,7 +18,7 @@ returns-in_err-segment-clause-err g c =
 
 pub returns-in-Err-clause-err : goal.returns-in-Err-clause-err
 returns-in-Err-clause-err g c =
-    rw (c.refusal_of.ensures, c.named_slot-named.ensures) (λ told is.
+    rw (c.of_opening.ensures, c.named_slot-named.ensures) (λ told is.
     let read = c.in_ok-header.ensures.ok told is in
     stops_without_order (opening_request c.args.opening.now) told _ c.in_ok-header.header read.0 read.2 c.in_ok-segment.segment c.in-Err.fault (sym c.in_ok-segment.ensures)
     (rw (c.named_slot-named.ensures, c.limit.ensures) at c.in-Err.ensures.err))

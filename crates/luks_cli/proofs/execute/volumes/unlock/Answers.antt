@@ -2,7 +2,7 @@ use Rattle.std.proofs.lemmas.Result.{err_from_is_err_and}
 use Rattle.std.proofs.Common.{◌≤◌, [], Some, ap, sym, length, arith}
 use Rattle.luks_header.proofs.HeaderLemmas.{short_from_not_whole}
 use Rattle.luks_open.proofs.CallerLemmas.{held_before_payload}
-use Rattle.luks_cli.specs.Request.{opening_request}
+use Rattle.luks_command.specs.Request.{opening_request}
 use Rattle.luks_cli.specs.Run.{Bytes}
 use Rattle.luks_cli.proofs.VolumeRuns.{behind_header, cost_most, runs_cut, runs_unopened, runs_without_area, runs_without_secret, runs_without_volume, unlocks}
 use Rattle.luks_cli.proofs.execute.volumes.unlock.Goals as goal
@@ -75,6 +75,6 @@ returns-clause-err g c written before tell deed takes =
     let end = c.held_end.ensures.value in
     let enough = c.in_ok-extend_to.ensures.whole.0 c.if-not-branch.false in
     let tried = sym (rw (c.deref.ensures.value, pass.0) at c.in-Err.ensures.value) in
-    rw (c.refusal_of.ensures, c.named_slot.ensures)
+    rw (c.of_opening.ensures, c.named_slot.ensures)
     (runs_unopened (opening_request c.args.opening.now) before _ _ _ _ _ _ read.0 volume.segment volume.order short pass.1 _ _ read.1
     (rw end at (c.in_ok-extend_to.ensures.ok _ read.2)) (rw end at enough) c.in-Err.fault tried deed tell.written)

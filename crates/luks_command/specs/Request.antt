@@ -1,0 +1,89 @@
+-- What luksrd can be asked for: a command with its options, each text by its bytes.
+use Rattle.std.specs.Prelude.{ℕ, Option, Some, None, option_map}
+use Rattle.clap.specs.Words.{Text}
+use Rattle.luks_kdf.specs.declared.Hash.{Hash}
+use Rattle.luks_command.specs.declared.command.Command.{Command}
+use Rattle.luks_command.specs.declared.command.Command.TheVariants.{AfMerge, AfSplit, IsLuks, LuksCat}
+use Rattle.luks_command.specs.declared.command.Command.TheVariants.{LuksDump, LuksUuid, TestPassphrase}
+use Rattle.luks_command.specs.declared.command.Opening.{Opening}
+use Rattle.luks_command.specs.declared.command.Splitting.{Splitting}
+use Rattle.luks_command.specs.declared.command.Merging.{Merging}
+
+pub record OpeningRequest : Type 0 where
+  pub image : Text
+  pub key_file : Text
+  pub key_slot : Option ℕ
+  pub max_iterations : Option ℕ
+
+pub record SplittingRequest : Type 0 where
+  pub hash : Hash
+  pub stripes : ℕ
+  pub random : Text
+  pub key : Text
+
+pub record MergingRequest : Type 0 where
+  pub hash : Hash
+  pub stripes : ℕ
+  pub key_bytes : ℕ
+  pub stripes_file : Text
+
+pub data Request : Type 0 where
+  is_luks : Text → Request
+  luks_uuid : Text → Request
+  luks_dump : Text → Request
+  test_passphrase : OpeningRequest → Request
+  luks_cat : OpeningRequest → Request
+  af_split : SplittingRequest → Request
+  af_merge : MergingRequest → Request
+
+-- the first input: IMAGE, KEY or STRIPES
+abbrev pub image_of : Request → Text
+image_of (is_luks image) = image
+image_of (luks_uuid image) = image
+image_of (luks_dump image) = image
+image_of (test_passphrase o) = o.image
+image_of (luks_cat o) = o.image
+image_of (af_split s) = s.key
+image_of (af_merge m) = m.stripes_file
+
+-- the second input, where there is one: FILE of `--key-file` or `--random`
+abbrev pub secret_of : Request → Option Text
+secret_of (test_passphrase o) = Some o.key_file
+secret_of (luks_cat o) = Some o.key_file
+secret_of (af_split s) = Some s.random
+secret_of _ = None
+
+-- ---- the request that a `Command` is
+
+abbrev pub opening_request : Opening → OpeningRequest
+opening_request o = record {
+  image = o.image.now;
+  key_file = o.key_file.now;
+  key_slot = option_map (λ slot. slot.number) o.key_slot;
+  max_iterations = option_map (λ limit. limit.iterations) o.max_iterations;
+}
+
+abbrev pub splitting_request : Splitting → SplittingRequest
+splitting_request s = record {
+  hash = s.hash;
+  stripes = s.stripes.count;
+  random = s.random.now;
+  key = s.key.now;
+}
+
+abbrev pub merging_request : Merging → MergingRequest
+merging_request m = record {
+  hash = m.hash;
+  stripes = m.stripes.count;
+  key_bytes = m.key_bytes.bytes;
+  stripes_file = m.stripes_file.now;
+}
+
+abbrev pub request_of : Command → Request
+request_of (IsLuks image) = is_luks image.now
+request_of (LuksUuid image) = luks_uuid image.now
+request_of (LuksDump image) = luks_dump image.now
+request_of (TestPassphrase o) = test_passphrase (opening_request o)
+request_of (LuksCat o) = luks_cat (opening_request o)
+request_of (AfSplit s) = af_split (splitting_request s)
+request_of (AfMerge m) = af_merge (merging_request m)

@@ -1,0 +1,118 @@
+//! The commands of luksrd as `clap` reads them.
+
+ghost use Rattle.std.specs.Prelude.{◌≡◌, [], IfOk, false};
+ghost use Rattle.clap.specs.Words.{app_of, rule_of, with_subcommand};
+ghost use Rattle.luks_command.specs.Grammar.{Reads, af_merge, af_split, alone, command, input, is_luks};
+ghost use Rattle.luks_command.specs.Grammar.{luks_cat, luks_dump, luks_uuid, luksrd, option, program};
+ghost use Rattle.luks_command.specs.Grammar.{test_passphrase, volume_command};
+
+use clap::{Arg, Command};
+use std::alloc::{AllocError, Global};
+
+// luksrd with all its commands.
+#[tactic(auto, unfolding(crate::specs::Grammar::luksrd))]
+pub(super) fn grammar<'a>(alloc: Global) -> Result<Command<'a>, AllocError>
+    ensures { IfOk result (λ command. app_of command ≡ luksrd) }
+{
+    let program = with_header_commands(alloc, program(alloc))?;
+    let program = with_volume_commands(alloc, program)?;
+    with_stripe_commands(alloc, program)
+}
+
+// luksrd with no command yet, and with no word that asks for help.
+fn program<'a>(alloc: Global) -> Command<'a>
+    ensures { Reads result (alone program) }
+{
+    Command::new(alloc, "luksrd")
+        .no_binary_name(true)
+        .disable_help_flag(true)
+        .disable_help_subcommand(true)
+}
+
+// The program with the commands on headers as well.
+fn with_header_commands<'a>(alloc: Global, program: Command<'a>) -> Result<Command<'a>, AllocError>
+    ensures { IfOk result (λ command. app_of command ≡ with_subcommand (with_subcommand
+        (with_subcommand (app_of program.entry) is_luks) luks_uuid) luks_dump) }
+{
+    program
+        .subcommand(header_command(alloc, "isLuks")?)?
+        .subcommand(header_command(alloc, "luksUUID")?)?
+        .subcommand(header_command(alloc, "luksDump")?)
+}
+
+// The program with the commands on volumes as well.
+fn with_volume_commands<'a>(alloc: Global, program: Command<'a>) -> Result<Command<'a>, AllocError>
+    ensures { IfOk result (λ command. app_of command
+        ≡ with_subcommand (with_subcommand (app_of program.entry) test_passphrase) luks_cat) }
+{
+    program
+        .subcommand(volume_command(alloc, "testPassphrase")?)?
+        .subcommand(volume_command(alloc, "luksCat")?)
+}
+
+// The program with the commands on stripes as well.
+fn with_stripe_commands<'a>(alloc: Global, program: Command<'a>) -> Result<Command<'a>, AllocError>
+    ensures { IfOk result (λ command. app_of command
+        ≡ with_subcommand (with_subcommand (app_of program.entry) af_split) af_merge) }
+{
+    program
+        .subcommand(af_split(alloc)?)?
+        .subcommand(af_merge(alloc)?)
+}
+
+// `NAME IMAGE`
+fn header_command<'a>(alloc: Global, name: &'a str) -> Result<Command<'a>, AllocError>
+    ensures { IfOk result (λ made. Reads made (alone (command name.entry.now []))) }
+{
+    Command::new(alloc, name).arg(input(alloc))
+}
+
+// `NAME --key-file FILE [--key-slot N] [--max-iterations N] IMAGE`
+#[tactic(auto, unfolding(crate::specs::Grammar::volume_command))]
+fn volume_command<'a>(alloc: Global, name: &'a str) -> Result<Command<'a>, AllocError>
+    ensures { IfOk result (λ made. Reads made (alone (volume_command name.entry.now))) }
+{
+    Command::new(alloc, name)
+        .arg(option(alloc, "key-file", true))?
+        .arg(option(alloc, "key-slot", false))?
+        .arg(option(alloc, "max-iterations", false))?
+        .arg(input(alloc))
+}
+
+// `afSplit --hash HASH --stripes N --random FILE KEY`
+fn af_split<'a>(alloc: Global) -> Result<Command<'a>, AllocError>
+    ensures { IfOk result (λ command. Reads command (alone af_split)) }
+{
+    Command::new(alloc, "afSplit")
+        .arg(option(alloc, "hash", true))?
+        .arg(option(alloc, "stripes", true))?
+        .arg(option(alloc, "random", true))?
+        .arg(input(alloc))
+}
+
+// `afMerge --hash HASH --stripes N --key-bytes N STRIPES`
+fn af_merge<'a>(alloc: Global) -> Result<Command<'a>, AllocError>
+    ensures { IfOk result (λ command. Reads command (alone af_merge)) }
+{
+    Command::new(alloc, "afMerge")
+        .arg(option(alloc, "hash", true))?
+        .arg(option(alloc, "stripes", true))?
+        .arg(option(alloc, "key-bytes", true))?
+        .arg(input(alloc))
+}
+
+// The option `--name`, which takes one text.
+fn option<'a>(alloc: Global, name: &'a str, is_required: bool) -> Arg<'a>
+    ensures rule { rule_of result ≡ option name.entry.now is_required }
+    ensures local { result.global ≡ false }
+{
+    Arg::new(alloc, name).long(name).required(is_required)
+}
+
+// The input, which stands by itself and may not be left out.
+fn input<'a>(alloc: Global) -> Arg<'a>
+    ensures rule { rule_of result ≡ input }
+    ensures local { result.global ≡ false }
+{
+    Arg::new(alloc, "input").required(true)
+}

@@ -1,0 +1,11 @@
+//! The command line of luksrd: words, and the command that they name.
+#![tactic(auto)]
+
+pub mod command;
+mod grammar;
+pub mod number;
+mod options;
+pub mod planning;
+#[cfg(test)]
+mod tests;
+pub mod usage;

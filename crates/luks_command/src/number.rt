@@ -1,0 +1,180 @@
+//! The numbers of a command line, each in its range.
+
+ghost use Rattle.std.specs.Prelude.{◌≡◌, ◌≤◌, option_map};
+ghost use Rattle.std.specs.Char.{is_ascii_digit};
+ghost use Rattle.std.specs.List.{list_all};
+ghost use Rattle.luks_command.specs.Number.{is_number, number_of, number_within, within};
+
+/// A number of stripes: 1 to 4000.
+#[derive(Clone, Copy, PartialEq, Eq, Debug)]
+pub struct StripeCount {
+    /// How many there are.
+    pub count: usize,
+    ghost in_range: { (1 ≤ count) × (count ≤ 4000) },
+}
+
+impl StripeCount {
+    /// This number of stripes, or `None` where it is out of range.
+    pub fn new(number: u64) -> Option<StripeCount>
+        ensures { option_map (λ stripes. stripes.count) result ≡ within 1 4000 number }
+    {
+        if 1 <= number && number <= 4000 {
+            Some(StripeCount {
+                count: number as usize,
+            })
+        } else {
+            None
+        }
+    }
+
+    /// How many there are.
+    pub fn get(self) -> usize
+        ensures { result ≡ self.count }
+    {
+        self.count
+    }
+
+    // The number of stripes that the text writes.
+    pub(super) fn read(text: &str) -> Option<StripeCount>
+        ensures { option_map (λ stripes. stripes.count) result ≡ number_within 1 4000 text.now }
+    {
+        StripeCount::new(number(text)?)
+    }
+}
+
+/// The length of a key in bytes: 1 to 512.
+#[derive(Clone, Copy, PartialEq, Eq, Debug)]
+pub struct KeyBytes {
+    /// How many there are.
+    pub bytes: usize,
+    ghost in_range: { (1 ≤ bytes) × (bytes ≤ 512) },
+}
+
+impl KeyBytes {
+    /// This number of bytes, or `None` where it is out of range.
+    pub fn new(number: u64) -> Option<KeyBytes>
+        ensures { option_map (λ key. key.bytes) result ≡ within 1 512 number }
+    {
+        if 1 <= number && number <= 512 {
+            Some(KeyBytes {
+                bytes: number as usize,
+            })
+        } else {
+            None
+        }
+    }
+
+    /// How many there are.
+    pub fn get(self) -> usize
+        ensures { result ≡ self.bytes }
+    {
+        self.bytes
+    }
+
+    // The number of bytes that the text writes.
+    pub(super) fn read(text: &str) -> Option<KeyBytes>
+        ensures { option_map (λ key. key.bytes) result ≡ number_within 1 512 text.now }
+    {
+        KeyBytes::new(number(text)?)
+    }
+}
+
+/// The number of a key slot: 0 to 31.
+#[derive(Clone, Copy, PartialEq, Eq, Debug)]
+pub struct SlotNumber {
+    /// The number.
+    pub number: u8,
+    ghost in_range: { number ≤ 31 },
+}
+
+impl SlotNumber {
+    /// The slot of this number, or `None` where it is out of range.
+    pub fn new(number: u64) -> Option<SlotNumber>
+        ensures { option_map (λ slot. slot.number) result ≡ within 0 31 number }
+    {
+        if number <= 31 {
+            Some(SlotNumber {
+                number: number as u8,
+            })
+        } else {
+            None
+        }
+    }
+
+    /// The number.
+    pub fn get(self) -> u8
+        ensures { result ≡ self.number }
+    {
+        self.number
+    }
+
+    // The slot that the text numbers.
+    pub(super) fn read(text: &str) -> Option<SlotNumber>
+        ensures { option_map (λ slot. slot.number) result ≡ number_within 0 31 text.now }
+    {
+        SlotNumber::new(number(text)?)
+    }
+}
+
+/// A limit on iterations: 1 to 4294967295.
+#[derive(Clone, Copy, PartialEq, Eq, Debug)]
+pub struct IterationLimit {
+    /// The most iterations that are allowed.
+    pub iterations: u32,
+    ghost in_range: { 1 ≤ iterations },
+}
+
+impl IterationLimit {
+    /// This limit, or `None` where it is out of range.
+    pub fn new(number: u64) -> Option<IterationLimit>
+        ensures { option_map (λ limit. limit.iterations) result ≡ within 1 4294967295 number }
+    {
+        if 1 <= number && number <= 4294967295 {
+            Some(IterationLimit {
+                iterations: number as u32,
+            })
+        } else {
+            None
+        }
+    }
+
+    /// The most iterations that are allowed.
+    pub fn get(self) -> u32
+        ensures { result ≡ self.iterations }
+    {
+        self.iterations
+    }
+
+    // The limit that the text writes.
+    pub(super) fn read(text: &str) -> Option<IterationLimit>
+        ensures { option_map (λ limit. limit.iterations) result
+            ≡ number_within 1 4294967295 text.now }
+    {
+        IterationLimit::new(number(text)?)
+    }
+}
+
+// Whether each byte of the text is an ASCII digit.
+fn is_all_digits(text: &str) -> bool
+    ensures { result ≡ list_all is_ascii_digit text.now }
+{
+    text.bytes().all(|byte| byte.is_ascii_digit())
+}
+
+// Whether the text is 1 to 10 ASCII digits.
+fn is_number(text: &str) -> bool
+    ensures { result ≡ is_number text.now }
+{
+    0 < text.len() && text.len() <= 10 && is_all_digits(text)
+}
+
+// The number that the text writes in 1 to 10 ASCII digits, or `None` for any other text.
+fn number(text: &str) -> Option<u64>
+    ensures { result ≡ number_of text.now }
+{
+    if is_number(text) {
+        text.parse().ok()
+    } else {
+        None
+    }
+}

@@ -1,0 +1,55 @@
+-- Which message a fault of the layers below has.
+use Rattle.std.specs.Prelude.{ℕ, Option, Some, None, Result, Ok, Err}
+use Rattle.luks_header.specs.declared.fault.HeaderFault.{HeaderFault}
+use Rattle.luks_header.specs.declared.fault.HeaderFault.TheVariants.{NotLuks as NoLuks, Cut as IsCut, Json as NoJson, Read as HeaderRead, Memory as NoMemory}
+use Rattle.luks_open.specs.declared.fault.OpenFault.{OpenFault}
+use Rattle.luks_open.specs.declared.fault.OpenFault.TheVariants.{NoSuchSlot as NotThere, Disabled, NamedSkipped, NothingTried as NoneTried, NoKey as NoneOpens, Memory as NoRoom}
+use Rattle.luks_volume.specs.declared.fault.VolumeFault.{VolumeFault}
+use Rattle.luks_volume.specs.declared.fault.VolumeFault.TheVariants.{CutBeforePayload as IsCutBefore, Tail as HasTail, Short as IsShort, Read, Write}
+use Rattle.luks_volume.specs.declared.state.Step.{Step}
+use Rattle.luks_command.specs.declared.planning.PlanFault.{PlanFault}
+use Rattle.luks_command.specs.declared.planning.PlanFault.TheVariants.{Memory as NoPlan, Usage as NoCommand}
+use Rattle.luks_report.specs.declared.message.Message.{Message}
+use Rattle.luks_report.specs.declared.message.Message.TheVariants.{Done, Usage, NotLuks, Cut, Json, OutOfMemory, ReadFailed, WriteFailed}
+use Rattle.luks_report.specs.declared.message.Message.TheVariants.{NoSuchSlot, SlotDisabled, SlotSkipped, NothingTried, NoKey}
+use Rattle.luks_report.specs.declared.message.Message.TheVariants.{CutBeforePayload, Tail, Short}
+
+-- the words give no command
+abbrev pub message_for_plan : PlanFault → Message
+message_for_plan NoCommand = Usage
+message_for_plan NoPlan = OutOfMemory
+
+-- there is no header
+abbrev pub message_for_header : HeaderFault → Message
+message_for_header NoLuks = NotLuks
+message_for_header IsCut = Cut
+message_for_header NoJson = Json
+message_for_header HeaderRead = ReadFailed
+message_for_header NoMemory = OutOfMemory
+
+-- the number of the key slot that is named. Without a name no fault speaks of one
+abbrev pub number_named : Option ℕ → ℕ
+number_named None = 0
+number_named (Some number) = number
+
+-- no key slot is tried or none opens, by the key slot that is named
+abbrev pub message_for_opening : Option ℕ → OpenFault → Message
+message_for_opening named NotThere = NoSuchSlot (number_named named)
+message_for_opening named Disabled = SlotDisabled (number_named named)
+message_for_opening named (NamedSkipped reason) = SlotSkipped (number_named named) reason
+message_for_opening named (NoneTried skipped) = NothingTried skipped
+message_for_opening named (NoneOpens skipped) = NoKey skipped
+message_for_opening named NoRoom = OutOfMemory
+
+-- the payload is not whole
+abbrev pub message_for_payload : VolumeFault → Message
+message_for_payload IsCutBefore = CutBeforePayload
+message_for_payload (HasTail bytes) = Tail bytes
+message_for_payload (IsShort bytes) = Short bytes
+message_for_payload Read = ReadFailed
+message_for_payload Write = WriteFailed
+
+-- the end of a payload
+abbrev pub message_at_end : Result Step VolumeFault → Message
+message_at_end (Ok _) = Done
+message_at_end (Err fault) = message_for_payload fault

@@ -1,0 +1,86 @@
+-- The messages of luksrd, as they stand on standard error, and the exit status of each.
+use Rattle.std.specs.Prelude.{ℕ, List, [], ◌∷◌, ◌++◌, codes, flat_map}
+use Rattle.std.specs.Fmt.{decimal}
+use Rattle.luks_header.specs.SegmentFault.{fault_text}
+use Rattle.luks_header.specs.SkipReason.{reason_text}
+use Rattle.luks_header.specs.declared.refusal.SkipReason.{SkipReason}
+use Rattle.luks_report.specs.declared.message.Message.{Message}
+use Rattle.luks_report.specs.declared.message.Message.TheVariants.{Done, No, Usage, NotLuks, Cut, Json, KeyLength, FewRandomBytes, FewStripes, OutOfMemory, ReadFailed, WriteFailed}
+use Rattle.luks_report.specs.declared.message.Message.TheVariants.{SegmentRefused, NoSuchSlot, SlotDisabled, SlotSkipped, NothingTried, KeyFileLength, NoKey}
+use Rattle.luks_report.specs.declared.message.Message.TheVariants.{CutBeforePayload, Tail, Short}
+use Rattle.luks_command.specs.Usage.{usage_text}
+
+-- a message on a line of its own
+abbrev pub line : List ℕ → List ℕ
+line text = codes "luksrd: " ++ text ++ 10 ∷ []
+
+-- a key slot that was skipped, and the reason
+abbrev pub skip_text : ℕ × SkipReason → List ℕ
+skip_text (number, reason) = decimal number ++ codes " (" ++ reason_text reason ++ codes ")"
+
+-- key slots that were skipped behind another
+abbrev pub more_skips_text : List (ℕ × SkipReason) → List ℕ
+more_skips_text skips = flat_map (λ skip. codes ", " ++ skip_text skip) skips
+
+-- what is said of the key slots that were skipped, at the end of a line
+abbrev pub skips_text : List (ℕ × SkipReason) → List ℕ
+skips_text [] = []
+skips_text (skip ∷ skips) = codes "; skipped: " ++ skip_text skip ++ more_skips_text skips
+
+-- what `testPassphrase` prints of the key slot that opens
+unfoldable pub opened_line : ℕ → List ℕ
+opened_line number = codes "Key slot " ++ decimal number ++ codes " opens the volume." ++ 10 ∷ []
+
+-- what is told of an input that does not open, by its name as it was given
+unfoldable pub not_opened_line : List ℕ → List ℕ
+not_opened_line name = line (codes "cannot open " ++ name)
+
+-- what is printed
+abbrev pub line_of : Message → List ℕ
+line_of Done = []
+line_of No = []
+line_of Usage = usage_text
+line_of (SegmentRefused fault) = line (codes "segment refused: " ++ fault_text fault)
+line_of (NoSuchSlot slot) = line (codes "key slot " ++ decimal slot ++ codes " is not there")
+line_of (SlotDisabled slot) = line (codes "key slot " ++ decimal slot ++ codes " is disabled")
+line_of (SlotSkipped slot reason) = line (codes "key slot " ++ decimal slot ++ codes " is skipped: " ++ reason_text reason)
+line_of (NothingTried skips) = line (codes "no key slot can be tried" ++ skips_text skips)
+line_of KeyFileLength = line (codes "key file is longer than 8388608 bytes")
+line_of (NoKey skips) = line (codes "no key opens the volume" ++ skips_text skips)
+line_of NotLuks = line (codes "not a LUKS image")
+line_of Cut = line (codes "image ends inside the header or a key area")
+line_of Json = line (codes "LUKS2 JSON area is not readable")
+line_of CutBeforePayload = line (codes "image ends before the payload")
+line_of (Tail bytes) = line (codes "image ends inside a sector: " ++ decimal bytes ++ codes " bytes left over")
+line_of (Short bytes) = line (codes "image ends " ++ decimal bytes ++ codes " bytes before the segment does")
+line_of KeyLength = line (codes "key must be 1 to 512 bytes")
+line_of FewRandomBytes = line (codes "random bytes are too few")
+line_of FewStripes = line (codes "stripes are too few")
+line_of OutOfMemory = line (codes "out of memory")
+line_of ReadFailed = line (codes "read failed")
+line_of WriteFailed = line (codes "write failed")
+
+-- the exit status
+abbrev pub status_of : Message → ℕ
+status_of Done = 0
+status_of No = 1
+status_of Usage = 1
+status_of (SegmentRefused _) = 1
+status_of (NoSuchSlot _) = 1
+status_of (SlotDisabled _) = 1
+status_of (SlotSkipped _ _) = 1
+status_of (NothingTried _) = 1
+status_of KeyFileLength = 1
+status_of (NoKey _) = 2
+status_of OutOfMemory = 3
+status_of NotLuks = 4
+status_of Cut = 4
+status_of Json = 4
+status_of CutBeforePayload = 4
+status_of (Tail _) = 4
+status_of (Short _) = 4
+status_of KeyLength = 4
+status_of FewRandomBytes = 4
+status_of FewStripes = 4
+status_of ReadFailed = 6
+status_of WriteFailed = 6

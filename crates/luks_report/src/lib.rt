@@ -1,0 +1,13 @@
+//! Every text that luksrd prints: messages, with the status that goes with each, and what is
+//! printed of a header.
+#![tactic(auto)]
+
+pub mod dump;
+mod escaping;
+mod faults;
+pub mod input;
+mod line;
+pub mod message;
+pub mod opened;
+pub mod report;
+mod wording;

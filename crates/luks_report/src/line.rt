@@ -1,0 +1,65 @@
+//! A line of text that takes no memory.
+
+ghost use Rattle.std.specs.Prelude.{◌≡◌, ◌+◌, ◌≤◌, ◌++◌, [], length, decimal};
+
+use itoa::Buffer;
+use std::marker::Model;
+
+/// How many bytes a line has room for: more than any message needs.
+const ROOM: usize = 2048;
+
+/// A line that is put together piece by piece. A clause sees its bytes.
+#[derive(Drop)]
+pub(crate) struct Line {
+    places: [u8; ROOM],
+    taken: usize,
+}
+
+impl Model for Line {
+    ghost use Rattle.std.specs.Prelude.{List, ℕ, ◌≤◌, take};
+
+    ghost Value = { List ℕ };
+
+    ghost view = { λ line. take line.taken line.places };
+
+    ghost invariant = { λ line. line.taken ≤ 2048 };
+}
+
+impl Line {
+    /// A line with nothing in it.
+    pub(crate) fn new() -> Line
+        ensures { result ≡ [] }
+    {
+        Line {
+            places: [0; ROOM],
+            taken: 0,
+        }
+    }
+
+    /// Puts a text behind what is there.
+    pub(crate) fn push(&mut self, text: &str)
+        requires { length self.old + length text.now ≤ 2048 }
+        ensures { self.new ≡ self.old ++ text.now }
+    {
+        let end = self.taken + text.len();
+        self.places[self.taken..end].copy_from_slice(text.as_bytes());
+        self.taken = end;
+    }
+
+    /// Puts a number behind what is there, in decimal digits.
+    pub(crate) fn push_number(&mut self, number: u64)
+        requires { length self.old + 20 ≤ 2048 }
+        ensures value { self.new ≡ self.old ++ decimal number }
+        ensures short { length self.new ≤ length self.old + 20 }
+    {
+        let mut digits = Buffer::new();
+        self.push(digits.format(number));
+    }
+
+    /// The bytes of the line.
+    pub(crate) fn as_slice(&self) -> &[u8]
+        ensures { result.now ≡ self.now }
+    {
+        &self.places[..self.taken]
+    }
+}

@@ -1,0 +1,76 @@
+//! What luksrd says on standard error when it ends, and with which status.
+
+ghost use Rattle.std.specs.Prelude.{◌≡◌};
+ghost use Rattle.luks_report.specs.Texts.{status_of};
+
+use luks_header::refusal::{SegmentFault, SkipReason};
+use luks_open::skipped::SkippedSlots;
+
+/// How a run ended. It prints as the line that is told of it, newline included, or as nothing.
+#[derive(Clone, Copy, Debug, PartialEq, Eq)]
+pub enum Message {
+    /// All was done. Nothing is told.
+    Done,
+    /// `isLuks` of what is no LUKS. Nothing is told but by the status.
+    No,
+    /// The words are no command line of luksrd. The usage text is told.
+    Usage,
+    /// The payload cannot be read.
+    SegmentRefused(SegmentFault),
+    /// The key slot that was named is not there.
+    NoSuchSlot(u8),
+    /// The key slot that was named is not in use.
+    SlotDisabled(u8),
+    /// The key slot that was named cannot be tried.
+    SlotSkipped(u8, SkipReason),
+    /// There is no key slot to try. These were skipped.
+    NothingTried(SkippedSlots),
+    /// The key file is longer than 8,388,608 bytes.
+    KeyFileLength,
+    /// No key slot that was tried opens the volume. These were skipped.
+    NoKey(SkippedSlots),
+    /// The image has no LUKS header.
+    NotLuks,
+    /// The image ends inside the header or a key area.
+    Cut,
+    /// The JSON area of a LUKS2 header is not readable.
+    Json,
+    /// The image ends before its payload begins.
+    CutBeforePayload,
+    /// The image ends inside a sector, of which it has so many bytes.
+    Tail(u64),
+    /// The image ends so many bytes before the end of a payload of fixed size.
+    Short(u64),
+    /// A key to be split is empty or longer than 512 bytes.
+    KeyLength,
+    /// The random bytes ended before there was one stripe of them for each stripe but the last.
+    FewRandomBytes,
+    /// The stripes ended before all of them were there.
+    FewStripes,
+    /// Memory was refused.
+    OutOfMemory,
+    /// A read failed.
+    ReadFailed,
+    /// A write failed.
+    WriteFailed,
+}
+
+impl Message {
+    /// The exit status of a run that ended so.
+    pub fn status(&self) -> u8
+        ensures { result ≡ status_of self.now }
+    {
+        match self {
+            Message::Done => 0,
+            Message::No | Message::Usage => 1,
+            Message::SegmentRefused(_) | Message::NothingTried(_) | Message::KeyFileLength => 1,
+            Message::NoSuchSlot(_) | Message::SlotDisabled(_) | Message::SlotSkipped(..) => 1,
+            Message::NoKey(_) => 2,
+            Message::OutOfMemory => 3,
+            Message::NotLuks | Message::Cut | Message::Json => 4,
+            Message::CutBeforePayload | Message::Tail(_) | Message::Short(_) => 4,
+            Message::KeyLength | Message::FewRandomBytes | Message::FewStripes => 4,
+            Message::ReadFailed | Message::WriteFailed => 6,
+        }
+    }
+}

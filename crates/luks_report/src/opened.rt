@@ -1,0 +1,16 @@
+//! What is printed where a volume was opened.
+
+ghost use Rattle.std.specs.Prelude.{◌≡◌, IfOk, string_bytes};
+ghost use Rattle.luks_report.specs.Texts.{opened_line};
+
+use std::alloc::{AllocError, Global};
+
+/// The line of the key slot that opens.
+#[tactic(auto, unfolding(crate::specs::Texts::opened_line))]
+pub fn opened_page(alloc: Global, slot: u8) -> Result<String, AllocError>
+    ensures { IfOk result (λ page. string_bytes page ≡ opened_line slot) }
+{
+    let mut page = format!(in alloc; "Key slot {slot}")?;
+    page.push_str(" opens the volume.\n")?;
+    Ok(page)
+}

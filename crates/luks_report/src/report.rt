@@ -1,0 +1,38 @@
+//! How a run ended, for the program that ran it.
+
+use crate::message::Message;
+use luks_command::planning::PlanFault;
+
+/// The exit status of a run and what is told of it.
+#[derive(Clone, Copy, Debug, PartialEq, Eq)]
+pub struct Report {
+    /// 0: all was done; 1: refused; 2: no key opens the volume; 3: no memory; 4: the input is not
+    /// as it has to be; 6: a read or a write failed.
+    pub status: u8,
+    /// What is printed on standard error.
+    pub message: Message,
+}
+
+impl Report {
+    ghost use Rattle.std.specs.Prelude.{◌≡◌};
+    ghost use Rattle.luks_report.specs.Faults.{message_for_plan};
+    ghost use Rattle.luks_report.specs.Report.{report_of};
+
+    /// The report of a run that ended so.
+    pub fn of(message: Message) -> Report
+        ensures { result ≡ report_of message }
+    {
+        let status = message.status();
+        Report { status, message }
+    }
+
+    /// The report of a run that had no command.
+    pub fn of_fault(fault: PlanFault) -> Report
+        ensures { result ≡ report_of (message_for_plan fault) }
+    {
+        match fault {
+            PlanFault::Usage => Report::of(Message::Usage),
+            PlanFault::Memory => Report::of(Message::OutOfMemory),
+        }
+    }
+}

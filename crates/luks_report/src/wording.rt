@@ -1,0 +1,165 @@
+//! The lines that messages are told as.
+
+ghost use Rattle.std.specs.Prelude.{◌≡◌, ◌+◌, ◌<◌, ◌≤◌, ◌++◌, OnOk, IfErr, codes, decimal, length, take};
+ghost use Rattle.luks_io.specs.Bytes.{Adds, CountsFailure};
+ghost use Rattle.luks_report.specs.Texts.{line, line_of, more_skips_text, skip_text, skips_text};
+
+use crate::line::Line;
+use crate::message::Message;
+use luks_command::usage::usage;
+use luks_header::refusal::SkipReason;
+use luks_io::sink::{Sink, WriteFault, put_all};
+use luks_open::skipped::SkippedSlots;
+
+impl Message {
+    /// Writes the line of the message, where it has one, newline included.
+    ///
+    /// A [`WriteFault`] says how many of its bytes went out before a write failed.
+    pub fn print<O: Sink>(&self, out: &mut O) -> Result<(), WriteFault>
+        ensures ok { OnOk result (Adds (O.written out.old) (O.written out.new) (line_of self.now)) }
+        ensures err { IfErr result (λ fault. (fault.written < length (line_of self.now))
+            × Adds (O.written out.old) (O.written out.new) (take fault.written (line_of self.now))) }
+        ensures counts { CountsFailure (O.failures out.old) (O.failures out.new) result }
+    {
+        put_all(out, self.line().as_slice())
+    }
+
+    // The line, or nothing.
+    #[tactic(auto, using(crate::proofs::TextLemmas::reason_short, crate::proofs::TextLemmas::fault_short))]
+    fn line(&self) -> Line
+        ensures { result ≡ line_of self.now }
+    {
+        match self {
+            Message::Done | Message::No => Line::new(),
+            Message::Usage => text(usage()),
+            Message::SegmentRefused(fault) => sentence("segment refused: ", fault.text()),
+            Message::NoSuchSlot(slot) => on_slot(*slot, " is not there", ""),
+            Message::SlotDisabled(slot) => on_slot(*slot, " is disabled", ""),
+            Message::SlotSkipped(slot, reason) => on_slot(*slot, " is skipped: ", reason.text()),
+            Message::NothingTried(skipped) => with_skipped("no key slot can be tried", skipped),
+            Message::KeyFileLength => sentence("key file is longer than 8388608 bytes", ""),
+            Message::NoKey(skipped) => with_skipped("no key opens the volume", skipped),
+            Message::NotLuks => sentence("not a LUKS image", ""),
+            Message::Cut => sentence("image ends inside the header or a key area", ""),
+            Message::Json => sentence("LUKS2 JSON area is not readable", ""),
+            Message::CutBeforePayload => sentence("image ends before the payload", ""),
+            Message::Tail(left) => {
+                of_bytes("image ends inside a sector: ", *left, " bytes left over")
+            }
+            Message::Short(missing) => {
+                of_bytes("image ends ", *missing, " bytes before the segment does")
+            }
+            Message::KeyLength => sentence("key must be 1 to 512 bytes", ""),
+            Message::FewRandomBytes => sentence("random bytes are too few", ""),
+            Message::FewStripes => sentence("stripes are too few", ""),
+            Message::OutOfMemory => sentence("out of memory", ""),
+            Message::ReadFailed => sentence("read failed", ""),
+            Message::WriteFailed => sentence("write failed", ""),
+        }
+    }
+}
+
+// A text as it is.
+fn text(text: &str) -> Line
+    requires { length text.now ≤ 2048 }
+    ensures { result ≡ text.now }
+{
+    let mut whole = Line::new();
+    whole.push(text);
+    whole
+}
+
+// A line of two texts.
+fn sentence(text: &str, rest: &str) -> Line
+    requires { length text.now + length rest.now ≤ 200 }
+    ensures { result ≡ line (text.now ++ rest.now) }
+{
+    let mut whole = Line::new();
+    whole.push("luksrd: ");
+    whole.push(text);
+    whole.push(rest);
+    whole.push("\n");
+    whole
+}
+
+// A line with a number of bytes.
+fn of_bytes(text: &str, bytes: u64, rest: &str) -> Line
+    requires { length text.now + length rest.now ≤ 200 }
+    ensures { result ≡ line (text.now ++ decimal bytes ++ rest.now) }
+{
+    let mut whole = Line::new();
+    whole.push("luksrd: ");
+    whole.push(text);
+    whole.push_number(bytes);
+    whole.push(rest);
+    whole.push("\n");
+    whole
+}
+
+// A line on a key slot.
+fn on_slot(slot: u8, text: &str, rest: &str) -> Line
+    requires { length text.now + length rest.now ≤ 200 }
+    ensures { result ≡ line (codes "key slot " ++ decimal slot ++ text.now ++ rest.now) }
+{
+    let mut whole = Line::new();
+    whole.push("luksrd: key slot ");
+    whole.push_number(u64::from(slot));
+    whole.push(text);
+    whole.push(rest);
+    whole.push("\n");
+    whole
+}
+
+// A line that ends with the key slots that were skipped.
+fn with_skipped(text: &str, skipped: &SkippedSlots) -> Line
+    requires { length text.now ≤ 100 }
+    ensures { result ≡ line (text.now ++ skips_text skipped.now) }
+{
+    let mut whole = Line::new();
+    whole.push("luksrd: ");
+    whole.push(text);
+    push_skipped(&mut whole, skipped.as_slice());
+    whole.push("\n");
+    whole
+}
+
+// Puts the key slots that were skipped behind a line.
+fn push_skipped(whole: &mut Line, skipped: &[(u8, SkipReason)])
+    requires short { length whole.old ≤ 200 }
+    requires few { length skipped.now ≤ 32 }
+    ensures value { whole.new ≡ whole.old ++ skips_text skipped.now }
+    ensures fits { length whole.new ≤ 2000 }
+{
+    if let [first, rest @ ..] = skipped {
+        whole.push("; skipped: ");
+        push_skip(whole, *first);
+        push_more(whole, rest);
+    }
+}
+
+// Puts the key slots that were skipped behind another one.
+fn push_more(whole: &mut Line, skipped: &[(u8, SkipReason)])
+    requires short { length whole.old ≤ 300 }
+    requires few { length skipped.now ≤ 31 }
+    ensures value { whole.new ≡ whole.old ++ more_skips_text skipped.now }
+    ensures fits { length whole.new ≤ 2000 }
+{
+    for skip in skipped {
+        whole.push(", ");
+        push_skip(whole, *skip);
+    }
+}
+
+// Puts one key slot and its reason behind a line.
+#[tactic(auto, using(crate::proofs::TextLemmas::reason_short))]
+fn push_skip(whole: &mut Line, skip: (u8, SkipReason))
+    requires { length whole.old ≤ 1900 }
+    ensures value { whole.new ≡ whole.old ++ skip_text skip }
+    ensures fits { length whole.new ≤ length whole.old + 50 }
+{
+    let (number, reason) = skip;
+    whole.push_number(u64::from(number));
+    whole.push(" (");
+    whole.push(reason.text());
+    whole.push(")");
+}
