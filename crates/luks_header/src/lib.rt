@@ -15,4 +15,4 @@ pub mod slot;
 mod tests;
 
 pub use luks_area::{area, fault, text};
-pub use luks_verdict::{bytes, refusal, sector_size, segment};
+pub use luks_verdict::{bytes, refusal, rule, sector_size, segment};

@@ -5,6 +5,7 @@
 #![tactic(auto)]
 
 mod digest;
+mod entry;
 pub mod fault;
 pub mod key;
 mod material;

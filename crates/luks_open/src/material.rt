@@ -4,7 +4,7 @@ ghost use Rattle.std.specs.Prelude.{◌≡◌, ◌+◌, ◌*◌, ◌≤◌, ◌+
 ghost use Rattle.luks_cipher.specs.Xts.{is_xts_key_length};
 ghost use Rattle.luks_kdf.specs.declared.hash.Hash.{Hash as AnyHash};
 ghost use Rattle.luks_kdf.specs.Stripes.{chain_after};
-ghost use Rattle.luks_header.specs.Slot.{need_of};
+ghost use Rattle.luks_verdict.specs.Rule.{need_of};
 ghost use Rattle.luks_open.specs.Candidate.{material_sector, unlocked};
 
 use luks_cipher::XtsKey;

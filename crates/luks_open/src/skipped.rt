@@ -20,7 +20,7 @@ pub struct SkippedSlots {
 
 impl Model for SkippedSlots {
     ghost use Rattle.std.specs.Prelude.{List, ℕ, take, length};
-    ghost use Rattle.luks_header.specs.declared.refusal.SkipReason.{SkipReason};
+    ghost use Rattle.luks_verdict.specs.declared.refusal.SkipReason.{SkipReason};
     ghost use Rattle.luks_open.specs.Skipped.{IsFilled, filled_up, filled_up_again};
 
     ghost Value = { List (ℕ × SkipReason) };

@@ -1,6 +1,7 @@
 -- Tables of which the first line that holds counts, and lists by rising number.
-use Rattle.std.proofs.Common.{◌≡◌, ◌∙◌, ℕ, zero, suc, ◌+◌, ◌<◌, ◌≤◌, ap, sym, refl, Bool, true, false, List, [], ◌∷◌, ◌++◌, Option, Some, None, length, length-append, add-one, arith}
+use Rattle.std.proofs.Common.{◌≡◌, ◌∙◌, ℕ, zero, suc, ◌+◌, ◌<◌, ◌≤◌, ap, sym, refl, Bool, true, false, List, [], ◌∷◌, ◌++◌, Option, Some, None, IsSome, ◌⊎◌, inl, inr, subst, length, length-append, add-one, arith}
 use Rattle.std.specs.List.{AllByRecursion, cons_option}
+use Rattle.std.proofs.lemmas.Bool.{cases_lt}
 use Rattle.std.proofs.lemmas.List.{append-nil}
 use Rattle.std.proofs.lemmas.Option.{none-some}
 use Rattle.luks_verdict.specs.Table.{first_holding, rising}
@@ -53,3 +54,17 @@ All-rising {X = X} P f (suc n) each = AllByRecursion-append P (rising f n) (cons
     of_one : (o : Option X) → f n ≡ o → AllByRecursion P (cons_option o [])
     of_one None is = tt
     of_one (Some x) is = (each n x is, tt)
+
+-- where something is made of a number, something is made
+pub some_rising : {X : Type 0} (f : ℕ → Option X) (i n : ℕ) → IsSome (f i) → i < n → 1 ≤ length (rising f n)
+unfolding rising
+some_rising f i zero some below = absurd (omega arith)
+some_rising {X = X} f i (suc n) some below = of_place (cases_lt i n) (some_rising f i n some)
+  where
+    of_last : (o : Option X) → IsSome o → 1 ≤ length (rising f n ++ cons_option o [])
+    of_last None is = absurd cc
+    of_last (Some x) is = omega (arith, length-append (rising f n) (x ∷ []))
+
+    of_place : (i < n) ⊎ (n ≤ i) → (i < n → 1 ≤ length (rising f n)) → 1 ≤ length (rising f n ++ cons_option (f n) [])
+    of_place (inl earlier) before = omega (arith, length-append (rising f n) (cons_option (f n) []), before earlier)
+    of_place (inr last) before = let same : i ≡ n = omega arith in of_last (f n) (subst (λ k. IsSome (f k)) same some)
