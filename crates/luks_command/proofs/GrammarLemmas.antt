@@ -25,13 +25,15 @@ module _ {A : Type 0} where
   faultless [] found none = refl
   faultless (k ∷ ks) found none = cc
 
-  faulty : (kinds : Kinds) (found : Option A) (error : Error) → HasKind kinds error → fault_for (kind_of error) ≡ Usage → unless_faulty kinds found ≡ None
+  faulty : (kinds : Kinds) (found : Option A) (error : Error) → HasKind kinds error → fault_for (kind_of error) ≡ Usage
+      → unless_faulty kinds found ≡ None
   faulty [] found error (inl memory) usage = let bad = ap fault_for memory in cc
   faulty [] found error (inr among) usage = absurd among
   faulty (k ∷ ks) found error kind usage = refl
 
 -- where no fault is named, the parse gives the subcommand of the words
-pub subcommand-ok : (app : App) (words : List Text) (m : ArgMatches) → app ≡ luksrd → fault_of app words ≡ [] → HasMatchesOf app words m → subcommand_in words ≡ subcommand_rows_of m
+pub subcommand-ok : (app : App) (words : List Text) (m : ArgMatches) → app ≡ luksrd → fault_of app words ≡ []
+    → HasMatchesOf app words m → subcommand_in words ≡ subcommand_rows_of m
 unfolding subcommand_in
 subcommand-ok app words m e none has =
     faultless (fault_of luksrd words) (subcommand_of luksrd words) (ap (λ (a : App). fault_of a words) (sym e) ∙ none)
@@ -39,13 +41,16 @@ subcommand-ok app words m e none has =
     ∙ sym (has (ap is_simple e ∙ luksrd-simple)).1
 
 -- and an error that is no want of memory names a fault
-pub subcommand-usage : (app : App) (words : List Text) (error : Error) → app ≡ luksrd → HasKind (fault_of app words) error → fault_for (kind_of error) ≡ Usage → subcommand_in words ≡ None
+pub subcommand-usage : (app : App) (words : List Text) (error : Error) → app ≡ luksrd
+    → HasKind (fault_of app words) error → fault_for (kind_of error) ≡ Usage → subcommand_in words ≡ None
 unfolding subcommand_in
 subcommand-usage app words error e kind usage =
-    faulty (fault_of luksrd words) (subcommand_of luksrd words) error (subst (λ (a : App). HasKind (fault_of a words) error) e kind) usage
+    faulty (fault_of luksrd words) (subcommand_of luksrd words) error
+    (subst (λ (a : App). HasKind (fault_of a words) error) e kind) usage
 
 module _ {T : Type 0} where
   -- the fault that an error became
-  pub fault_given : (r : Result T PlanFault) (fault : PlanFault) → IsErrAnd r (λ given. given ≡ fault) → r ≡ Err Usage → fault ≡ Usage
+  pub fault_given : (r : Result T PlanFault) (fault : PlanFault) → IsErrAnd r (λ given. given ≡ fault) → r ≡ Err Usage
+      → fault ≡ Usage
   fault_given (Ok x) fault given usage = cc
   fault_given (Err x) fault given usage = cc

@@ -10,9 +10,11 @@ use Rattle.luks_command.specs.Number.{is_number}
 numerals : IsNumeralModel (λ ds. list_all is_ascii_digit ds ≡ true) (digits_value 10)
 numerals = numerals_by_value _ (search rules)
 
-pub parse-number : {E : Type 0} (text : List ℕ) (r : Result ℕ E) → ParsesUnsigned 64 10 text r → is_number text ≡ true → result_ok r ≡ Some (digits_value 10 text)
+pub parse-number : {E : Type 0} (text : List ℕ) (r : Result ℕ E) → ParsesUnsigned 64 10 text r → is_number text ≡ true
+    → result_ok r ≡ Some (digits_value 10 text)
 parse-number text r h is =
     let digits : list_all is_ascii_digit text ≡ true = search rules in
     let some : 0 < length text = search rules in
     let few : length text ≤ 10 = search rules in
-    ap result_ok (parse_gives numerals 64 text r h digits some (omega (arith, digits_value_short numerals text 10 digits few)))
+    ap result_ok (parse_gives numerals 64 text r h digits some
+    (omega (arith, digits_value_short numerals text 10 digits few)))

@@ -11,7 +11,8 @@ use luks_kdf::Hash;
 
 // The text of the option or input.
 pub(super) fn text<'a>(options: &ArgMatches<'a>, name: &str) -> Option<&'a str>
-    ensures { option_map (λ text. text.now) result ≡ text_in name.now (rows_of (found_of options.now)) }
+    ensures { option_map (λ text. text.now) result
+        ≡ text_in name.now (rows_of (found_of options.now)) }
 {
     options.get_str(name)
 }
@@ -27,7 +28,8 @@ pub(super) fn hash(options: &ArgMatches<'_>) -> Option<Hash>
 // The number of `--stripes`.
 #[tactic(auto, unfolding(crate::specs::Command::stripes_in))]
 pub(super) fn stripes(options: &ArgMatches<'_>) -> Option<StripeCount>
-    ensures { option_map (λ stripes. stripes.count) result ≡ stripes_in (rows_of (found_of options.now)) }
+    ensures { option_map (λ stripes. stripes.count) result
+        ≡ stripes_in (rows_of (found_of options.now)) }
 {
     StripeCount::read(text(options, "stripes")?)
 }

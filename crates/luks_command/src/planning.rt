@@ -66,7 +66,8 @@ pub fn plan<'a, S: AsStr>(alloc: Global, words: &'a [S]) -> Result<Command<'a>, 
 fn matches_of<'a, S: AsStr>(alloc: Global, words: &'a [S]) -> Result<ArgMatches<'a>, PlanFault>
     ensures ok { IfOk result (λ matches.
         subcommand_in (map S.text words.entry.now) ≡ subcommand_rows_of matches) }
-    ensures usage { result ≡ Err PlanFault.Usage → subcommand_in (map S.text words.entry.now) ≡ None }
+    ensures usage { result ≡ Err PlanFault.Usage
+        → subcommand_in (map S.text words.entry.now) ≡ None }
 {
     let program = grammar(alloc)?;
     Ok(program.try_get_matches_from(words)?)
@@ -121,7 +122,8 @@ impl<'a> Opening<'a> {
 
 impl<'a> Splitting<'a> {
     fn read(options: &ArgMatches<'a>) -> Option<Splitting<'a>>
-        ensures { option_map splitting_request result ≡ splitting_in (rows_of (found_of options.now)) }
+        ensures { option_map splitting_request result
+            ≡ splitting_in (rows_of (found_of options.now)) }
     {
         Some(Splitting {
             hash: hash(options)?,

@@ -34,7 +34,8 @@ xor-undone [] [] h = refl
 xor-undone [] (y ∷ ys) h = absurd (omega arith)
 xor-undone (x ∷ xs) [] h = absurd (omega arith)
 xor-undone (x ∷ xs) (y ∷ ys) h =
-    let head : bit_xor x (bit_xor x y) ≡ y = sym (xor_assoc x x y) ∙ (ap (λ z. bit_xor z y) (xor_self x) ∙ xor_zero_l y) in
+    let head : bit_xor x (bit_xor x y) ≡ y = sym (xor_assoc x x y)
+    ∙ (ap (λ z. bit_xor z y) (xor_self x) ∙ xor_zero_l y) in
     let tail = xor-undone xs ys (omega arith) in
     cc
 

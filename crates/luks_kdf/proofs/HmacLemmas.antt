@@ -26,7 +26,12 @@ length-used_key h key = elim (cases_lt (block_of h) (length key)) [
 pub length-padded_key : (h : Hash) (key : List ℕ) → length (padded_key h key) ≡ block_of h
 unfolding padded_key
 length-padded_key h key =
-    omega (arith, length-used_key h key, length-append (used_key h key) (replicate (block_of h - length (used_key h key)) 0), length-replicate {A = ℕ} (block_of h - length (used_key h key)) 0)
+    omega (
+      arith,
+      length-used_key h key,
+      length-append (used_key h key) (replicate (block_of h - length (used_key h key)) 0),
+      length-replicate {A = ℕ} (block_of h - length (used_key h key)) 0,
+    )
 
 -- the key that is used, and zeros after it up to the block
 pub padded_from : (h : Hash) (key front rest : List ℕ) (n : ℕ) → front ≡ used_key h key

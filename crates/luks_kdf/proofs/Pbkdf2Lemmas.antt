@@ -160,7 +160,8 @@ count_all h start now turns size n count i is_size is_count is_last some counted
     let all = ap (λ k. k * size) is_count in
     let filled : 0 < i = elim (cases_lt 0 i) [
       | inl later ↦ later
-      | inr none ↦ absurd (nothing_filled i size n (omega arith) (omega (arith, bounds.0, ap (λ k. k * size) is_last, all)) some)
+      | inr none ↦ absurd
+          (nothing_filled i size n (omega arith) (omega (arith, bounds.0, ap (λ k. k * size) is_last, all)) some)
     ] in
     counted.some filled ∙ rw (is_last, is_count, is_size) refl
   where
@@ -175,5 +176,7 @@ unfolding derived_key
 length-derived_key h pass salt c n =
     let some : 0 < size_of h = omega (arith, (sizes h).least) in
     let bounds = div_ceil_times n (size_of h) some in
-    let blocks = length-joined (λ i. t_of h pass salt (suc i) c) (size_of h) (λ i. length-t_of h pass salt (suc i) c) (div_ceil n (size_of h)) in
-    length-take-le n (joined (λ i. t_of h pass salt (suc i) c) (div_ceil n (size_of h))) (omega (arith, bounds.0, blocks))
+    let blocks = length-joined (λ i. t_of h pass salt (suc i) c) (size_of h) (λ i. length-t_of h pass salt (suc i) c)
+    (div_ceil n (size_of h)) in
+    length-take-le n (joined (λ i. t_of h pass salt (suc i) c) (div_ceil n (size_of h)))
+    (omega (arith, bounds.0, blocks))

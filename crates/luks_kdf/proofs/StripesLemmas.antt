@@ -30,7 +30,12 @@ unfolding joined
 length_pieces h block zero = omega arith
 length_pieces h block (suc j) =
     let before = length_pieces h block j in
-    omega (arith, before, length-diffused_piece h block j, length-append (joined (diffused_piece h block) j) (diffused_piece h block j))
+    omega (
+      arith,
+      before,
+      length-diffused_piece h block j,
+      length-append (joined (diffused_piece h block) j) (diffused_piece h block j),
+    )
 
 -- a block that is diffused keeps its length
 pub length-diffused : (h : Hash) (block : List ℕ) → length (diffused h block) ≡ length block

@@ -21,7 +21,8 @@ pub enum Hash {
 impl Hash {
     /// The hash function of this name, in letters of either case, or `None` for any other text.
     pub fn from_name(name: &str) -> Option<Hash>
-        ensures named { MatchOption result ((hash : Hash) → ¬ Names name.now hash) (Names name.now) }
+        ensures named { MatchOption result ((hash : Hash) → ¬ Names name.now hash)
+            (Names name.now) }
         ensures value { result ≡ hash_named name.now }
     {
         if name.eq_ignore_ascii_case("sha1") {

@@ -62,7 +62,8 @@ impl AfSplitter {
         diffuse(hash, block);
     }
 
-    /// Writes the last stripe where `block` is the key, and the key where `block` is the last stripe.
+    /// Writes the last stripe where `block` is the key, and the key where `block` is the last
+    /// stripe.
     pub fn last(self, block: &[u8], out: &mut [u8])
         requires block { length block.now ≡ length self.block }
         requires out { length out.old ≡ length self.block }
@@ -103,7 +104,8 @@ fn diffuse_by<E: Engine>(block: &mut [u8])
 // What becomes of the piece of this number.
 fn diffuse_piece<E: Engine>(number: u32, piece: &mut [u8])
     requires { length piece.old ≤ size_of E.function }
-    ensures { piece.new ≡ take (length piece.old) (hash_of E.function (to_be_bytes w32 number ++ piece.old)) }
+    ensures { piece.new
+        ≡ take (length piece.old) (hash_of E.function (to_be_bytes w32 number ++ piece.old)) }
 {
     let mut engine = E::start();
     engine.absorb(&number.to_be_bytes());

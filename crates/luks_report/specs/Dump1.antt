@@ -10,8 +10,8 @@ use Rattle.luks_header.specs.declared.luks1.SlotState.TheVariants.{Enabled, Disa
 use Rattle.luks_report.specs.Escaping.{escaped}
 use Rattle.luks_report.specs.Field.{field}
 
--- what is said of a key slot that is in use: its iterations, its salt in digits, its area's offset in sectors of 512 bytes, and
--- its stripes
+-- what is said of a key slot that is in use: its iterations, its salt in digits, its area's offset in sectors of 512
+-- bytes, and its stripes
 abbrev pub enabled_text : ℕ → List ℕ → ℕ → ℕ → List ℕ
 enabled_text iterations salt offset stripes =
     codes "ENABLED iterations=" ++ decimal iterations ++ codes " salt=" ++ salt

@@ -43,7 +43,8 @@ line_of Usage = usage_text
 line_of (SegmentRefused fault) = line (codes "segment refused: " ++ fault_text fault)
 line_of (NoSuchSlot slot) = line (codes "key slot " ++ decimal slot ++ codes " is not there")
 line_of (SlotDisabled slot) = line (codes "key slot " ++ decimal slot ++ codes " is disabled")
-line_of (SlotSkipped slot reason) = line (codes "key slot " ++ decimal slot ++ codes " is skipped: " ++ reason_text reason)
+line_of (SlotSkipped slot reason) =
+    line (codes "key slot " ++ decimal slot ++ codes " is skipped: " ++ reason_text reason)
 line_of (NothingTried skips) = line (codes "no key slot can be tried" ++ skips_text skips)
 line_of KeyFileLength = line (codes "key file is longer than 8388608 bytes")
 line_of (NoKey skips) = line (codes "no key opens the volume" ++ skips_text skips)

@@ -30,7 +30,8 @@ pub fn dump_page(alloc: Global, header: &Header) -> Result<String, AllocError>
 /// Adds one line.
 #[tactic(auto, unfolding(crate::specs::Field::field))]
 fn push_field(page: &mut String, name: &str, value: &str) -> Result<(), AllocError>
-    ensures { OnOk result (string_bytes page.new ≡ string_bytes page.old ++ field name.now value.now) }
+    ensures { OnOk result
+        (string_bytes page.new ≡ string_bytes page.old ++ field name.now value.now) }
 {
     writeln!(page, "{name}: {value}")
 }

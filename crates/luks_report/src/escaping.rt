@@ -6,7 +6,8 @@ ghost use Rattle.luks_report.specs.Escaping.{escaped, escaped_byte};
 
 use std::alloc::{AllocError, Global};
 
-/// A text of a header as it is printed: bytes that are no visible ASCII, and the backslash, as `\xHH`.
+/// A text of a header as it is printed: bytes that are no visible ASCII, and the backslash, as
+/// `\xHH`.
 #[tactic(auto, unfolding(crate::specs::Escaping::escaped))]
 pub(crate) fn escape(alloc: Global, text: &[u8]) -> Result<String, AllocError>
     ensures { IfOk result (λ printed. string_bytes printed ≡ escaped text.now) }
@@ -21,7 +22,8 @@ pub(crate) fn escape(alloc: Global, text: &[u8]) -> Result<String, AllocError>
 /// Adds one byte of a header's text.
 #[tactic(auto, unfolding(crate::specs::Escaping::escaped_byte))]
 fn push_escaped(alloc: Global, printed: &mut String, byte: u8) -> Result<(), AllocError>
-    ensures { OnOk result (string_bytes printed.new ≡ string_bytes printed.old ++ escaped_byte byte) }
+    ensures { OnOk result
+        (string_bytes printed.new ≡ string_bytes printed.old ++ escaped_byte byte) }
 {
     if b' ' <= byte && byte <= b'~' && byte != b'\\' {
         printed.push(char::from(byte))

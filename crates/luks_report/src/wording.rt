@@ -18,7 +18,8 @@ impl Message {
     pub fn print<O: Sink>(&self, out: &mut O) -> Result<(), WriteFault>
         ensures ok { OnOk result (Adds (O.written out.old) (O.written out.new) (line_of self.now)) }
         ensures err { IfErr result (λ fault. (fault.written < length (line_of self.now))
-            × Adds (O.written out.old) (O.written out.new) (take fault.written (line_of self.now))) }
+            × Adds (O.written out.old) (O.written out.new)
+            (take fault.written (line_of self.now))) }
         ensures counts { CountsFailure (O.failures out.old) (O.failures out.new) result }
     {
         put_all(out, self.line().as_slice())

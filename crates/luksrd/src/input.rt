@@ -4,8 +4,8 @@ use crate::BUFFER;
 use std::fs::{self, File};
 use std::io::{self, BufReader, ErrorKind, Read, Stdin};
 
-/// An input that is open. A file is read ahead; standard input is not, so that what a run leaves of it stays for the
-/// program that reads on.
+/// An input that is open. A file is read ahead; standard input is not, so that what a run leaves of
+/// it stays for the program that reads on.
 #[derive(Drop)]
 pub enum Input {
     File(BufReader<File>),

@@ -1,6 +1,7 @@
 //! `luksrd`: reads the words, opens the inputs, runs the command, and tells how it ended.
 //!
-//! Everything that can be said of a run is said by `luks_cli`'s `plan` and `execute`; here are only the devices.
+//! Everything that can be said of a run is said by `luks_cli`'s `plan` and `execute`; here are only
+//! the devices.
 #![tactic(auto)]
 
 mod input;
@@ -75,7 +76,8 @@ fn tell(rt: &HostRuntime, message: Message) -> ExitCode {
     tell_report(rt, &Report::of(message))
 }
 
-/// Prints the message of a report and gives its status. Where it can't be printed there is nobody to tell.
+/// Prints the message of a report and gives its status. Where it can't be printed there is nobody
+/// to tell.
 fn tell_report(rt: &HostRuntime, report: &Report) -> ExitCode {
     let _ = report.message.print(&mut WriteSink::new(rt.stderr()));
     ExitCode::from(report.status)

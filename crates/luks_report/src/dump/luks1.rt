@@ -51,7 +51,8 @@ fn push_texts(alloc: Global, page: &mut String, header: &Header1) -> Result<(), 
 /// Adds the lines from the payload's offset to the iterations of the digest.
 #[tactic(auto, unfolding(crate::specs::Dump1::number_lines))]
 fn push_numbers(alloc: Global, page: &mut String, header: &Header1) -> Result<(), AllocError>
-    ensures { OnOk result (string_bytes page.new ≡ string_bytes page.old ++ number_lines header.now) }
+    ensures { OnOk result
+        (string_bytes page.new ≡ string_bytes page.old ++ number_lines header.now) }
 {
     let offset = header.payload_offset.to_string(alloc)?;
     let key_bytes = header.key_bytes.to_string(alloc)?;
@@ -70,7 +71,8 @@ fn push_numbers(alloc: Global, page: &mut String, header: &Header1) -> Result<()
 #[tactic(auto, unfolding(crate::specs::Dump1::slot_lines))]
 fn push_slots(alloc: Global, page: &mut String, slots: &[KeySlot]) -> Result<(), AllocError>
     requires { length slots.now ≤ 8 }
-    ensures { OnOk result (string_bytes page.new ≡ string_bytes page.old ++ slot_lines 0 slots.now) }
+    ensures { OnOk result
+        (string_bytes page.new ≡ string_bytes page.old ++ slot_lines 0 slots.now) }
 {
     for (number, slot) in slots.iter().enumerate() {
         push_slot(alloc, page, number, slot)?;
@@ -86,7 +88,8 @@ fn push_slot(
     number: usize,
     slot: &KeySlot,
 ) -> Result<(), AllocError>
-    ensures { OnOk result (string_bytes page.new ≡ string_bytes page.old ++ slot_line number slot.now) }
+    ensures { OnOk result
+        (string_bytes page.new ≡ string_bytes page.old ++ slot_line number slot.now) }
 {
     let name = format!(in alloc; "Slot {number}")?;
     let text = describe_slot(alloc, slot)?;
@@ -125,7 +128,8 @@ fn describe_enabled(
     offset: u32,
     stripes: u32,
 ) -> Result<String, AllocError>
-    ensures { IfOk result (λ text. string_bytes text ≡ enabled_text iterations salt.now offset stripes) }
+    ensures { IfOk result
+        (λ text. string_bytes text ≡ enabled_text iterations salt.now offset stripes) }
 {
     let mut text = format!(in alloc; "ENABLED iterations={iterations} salt={salt}")?;
     write!(text, " offset={offset} stripes={stripes}")?;

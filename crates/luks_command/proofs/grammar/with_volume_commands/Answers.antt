@@ -10,4 +10,5 @@ returns c =
     let top : App → Shape = λ a. a.top in
     IfOk-weaker c.subcommand-2.result _ _ (λ command adds. adds.shape second.local
     ∙ ap₂ with_subcommand (c.in_ok-subcommand.ensures.shape first.local
-    ∙ ap (λ (a : App). with_subcommand (app_of c.args.program) a.top) first.app) (ap top second.app)) c.subcommand-2.ensures
+    ∙ ap (λ (a : App). with_subcommand (app_of c.args.program) a.top) first.app) (ap top second.app))
+    c.subcommand-2.ensures

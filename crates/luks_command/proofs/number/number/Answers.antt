@@ -3,4 +3,5 @@ use Rattle.luks_command.proofs.NumberLemmas.{parse-number}
 use Rattle.luks_command.proofs.number.number.Goals as goal
 
 pub returns-then-is_number : goal.returns-then-is_number
-returns-then-is_number c = c.ok.ensures.value ∙ search (rules, parse-number c.args.text.now c.parse.result c.parse.ensures.value.0 (search rules))
+returns-then-is_number c = c.ok.ensures.value
+    ∙ search (rules, parse-number c.args.text.now c.parse.result c.parse.ensures.value.0 (search rules))

@@ -13,7 +13,8 @@ returns-clause-split c =
     c.last.ensures ∙ ap (λ (chain : Chain). xor chain.block c.args.key.now) c.splitter_after-splitter.ensures.start in (
       length random / len,
       whole_stripes len (length random) number.0 (omega arith) number.1 (c.requires.random ∙ number.3),
-      ap (λ (front : List ℕ). front ++ c.last.new.out) c.copy_from_slice.ensures.after ∙ ap (λ (back : List ℕ). random ++ back) last,
+      ap (λ (front : List ℕ). front ++ c.last.new.out) c.copy_from_slice.ensures.after
+          ∙ ap (λ (back : List ℕ). random ++ back) last,
     )
 
 pub returns-clause-merges : goal.returns-clause-merges

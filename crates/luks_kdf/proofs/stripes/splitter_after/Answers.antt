@@ -11,7 +11,8 @@ unfolding stripe_at
 slice-stripe_at len stripes i = ap (λ n. take n (drop (i * len) stripes)) (omega arith)
 
 pub stripes-init : goal.stripes-init
-stripes-init c = chain_start c.args.hash c.args.len c.args.stripes.now c.new-splitter.result c.new-splitter.ensures.start
+stripes-init c =
+    chain_start c.args.hash c.args.len c.args.stripes.now c.new-splitter.result c.new-splitter.ensures.start
 
 pub stripe-requires : goal.stripe-requires
 stripe-requires c =
