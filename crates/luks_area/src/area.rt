@@ -45,34 +45,41 @@ impl HeaderArea {
         self.bytes.as_slice()
     }
 
-    /// Takes further bytes of the image from the source until `end` are held, and answers whether they are:
-    /// `Ok(false)` says that the image ended first and is held whole.
-    /// Where as many are held already, nothing is read.
+    /// Takes further bytes of the image from the source until `end` are held, and answers whether
+    /// they are: `Ok(false)` says that the image ended first and is held whole. Where as many are
+    /// held already, nothing is read.
     ///
-    /// After [`HeaderFault::Read`] the area holds what was taken before a read failed, after [`HeaderFault::Memory`]
-    /// nothing was taken. There are no other faults.
+    /// After [`HeaderFault::Read`] the area holds what was taken before a read failed, after
+    /// [`HeaderFault::Memory`] nothing was taken. There are no other faults.
     pub fn extend_to<S: Source>(&mut self, source: &mut S, end: usize) -> Result<bool, HeaderFault>
         requires { end ≤ longest_area }
         ensures taken { IfOk result (λ whole. WhereKnown (S.to_come source.old) (λ known.
-            TookBehind self.old self.new known (S.to_come source.new) (min (end - length self.old) (length known)))) }
+            TookBehind self.old self.new known (S.to_come source.new)
+            (min (end - length self.old) (length known)))) }
         ensures broken { IfErr result (λ fault. WhereKnown (S.to_come source.old) (λ known.
-            BreaksTaking (end - length self.old) self.old self.new known (S.to_come source.new) fault)) }
+            BreaksTaking (end - length self.old) self.old self.new known (S.to_come source.new)
+            fault)) }
 
         // Whether or not the source knows its bytes:
         ensures whole { IfOk result (λ whole. IsTrue whole ↔ (end ≤ length self.new)) }
         ensures within { length self.new ≤ max (length self.old) end }
         ensures held { take (length self.old) self.new ≡ self.old }
-        ensures already { end ≤ length self.old → (result ≡ Ok true) × (self.new ≡ self.old) × (source.new ≡ source.old) }
-        ensures memory { result ≡ Err HeaderFault.Memory → (self.new ≡ self.old) × (source.new ≡ source.old) }
-        ensures refusals { IfErr result (λ fault. (fault ≡ HeaderFault.Read) ⊎ (fault ≡ HeaderFault.Memory)) }
+        ensures already { end ≤ length self.old
+            → (result ≡ Ok true) × (self.new ≡ self.old) × (source.new ≡ source.old) }
+        ensures memory { result ≡ Err HeaderFault.Memory
+            → (self.new ≡ self.old) × (source.new ≡ source.old) }
+        ensures refusals { IfErr result (λ fault.
+            (fault ≡ HeaderFault.Read) ⊎ (fault ≡ HeaderFault.Memory)) }
         ensures reads { S.failures source.new ≡ counted (is_read result) (S.failures source.old) }
         ensures ends { S.ends source.new ≡ counted (is_short result) (S.ends source.old) }
 
         // In words of before, which go once nothing cites them:
         ensures ok { IfOk result (λ whole. (told : List ℕ) → S.to_come source.old ≡ Some told →
-            Grows self.old self.new told (S.to_come source.new) (min (end - length self.old) (length told))) }
+            Grows self.old self.new told (S.to_come source.new)
+            (min (end - length self.old) (length told))) }
         ensures err { IfErr result (λ fault. (told : List ℕ) → S.to_come source.old ≡ Some told →
-            StopsGrowing (end - length self.old) self.old self.new told (S.to_come source.new) fault) }
+            StopsGrowing (end - length self.old) self.old self.new told (S.to_come source.new)
+            fault) }
     {
         if end <= self.bytes.len() {
             return Ok(true);
@@ -94,7 +101,8 @@ fn reserve(bytes: &mut Vec<u8>, end: usize) -> Result<(), AllocError>
 // Puts so many zeros behind the bytes that there are `end` of them.
 fn make_room(bytes: &mut Vec<u8>, end: usize) -> Result<(), AllocError>
     requires { vec_len bytes.old ≤ end }
-    ensures ok { OnOk result (bytes.new.items ≡ bytes.old.items ++ replicate (end - vec_len bytes.old) 0) }
+    ensures ok { OnOk result (bytes.new.items
+        ≡ bytes.old.items ++ replicate (end - vec_len bytes.old) 0) }
     ensures err { OnErr result (bytes.new.items ≡ bytes.old.items) }
 {
     reserve(bytes, end)?;
@@ -108,13 +116,15 @@ fn extend<S: Source>(bytes: &mut Vec<u8>, source: &mut S, end: usize) -> Result<
         TookBehind bytes.old.items bytes.new.items known (S.to_come source.new)
         (min (end - vec_len bytes.old) (length known)))) }
     ensures broken { IfErr result (λ fault. WhereKnown (S.to_come source.old) (λ known.
-        BreaksTaking (end - vec_len bytes.old) bytes.old.items bytes.new.items known (S.to_come source.new) fault)) }
+        BreaksTaking (end - vec_len bytes.old) bytes.old.items bytes.new.items known
+        (S.to_come source.new) fault)) }
     ensures whole { IfOk result (λ whole. IsTrue whole ↔ (end ≤ vec_len bytes.new)) }
     ensures within { vec_len bytes.new ≤ end }
     ensures held { take (vec_len bytes.old) bytes.new.items ≡ bytes.old.items }
     ensures memory { result ≡ Err HeaderFault.Memory
         → (bytes.new.items ≡ bytes.old.items) × (source.new ≡ source.old) }
-    ensures refusals { IfErr result (λ fault. (fault ≡ HeaderFault.Read) ⊎ (fault ≡ HeaderFault.Memory)) }
+    ensures refusals { IfErr result (λ fault.
+        (fault ≡ HeaderFault.Read) ⊎ (fault ≡ HeaderFault.Memory)) }
     ensures reads { S.failures source.new ≡ counted (is_read result) (S.failures source.old) }
     ensures ends { S.ends source.new ≡ counted (is_short result) (S.ends source.old) }
 {

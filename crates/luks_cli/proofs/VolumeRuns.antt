@@ -6,15 +6,14 @@ use Rattle.std.proofs.lemmas.List.{drop-drop, drop_all}
 use Rattle.std.proofs.Math.Nat.{zero-div}
 use Rattle.std.proofs.Math.Seq.{take-add}
 use Rattle.std.specs.Prelude.{◌≢◌, nat_lt}
-use Rattle.luks_header.proofs.SegmentLemmas.{IsReadable-ok}
+use Rattle.luks_header.proofs.KnownLemmas.{behind_header}
 use Rattle.luks_header.specs.Area.{Grows, StopsGrowing}
 use Rattle.luks_header.specs.Header.{cost_of, header_of}
-use Rattle.luks_header.specs.Segment.{segment1_of, segment_of}
+use Rattle.luks_header.specs.Segment.{segment_of}
 use Rattle.luks_header.specs.declared.header.Header.{Header}
-use Rattle.luks_header.specs.declared.header.Header.TheVariants.{V1}
-use Rattle.luks_header.specs.declared.fault.HeaderFault.{HeaderFault}
-use Rattle.luks_header.specs.declared.fault.HeaderFault.TheVariants.{Read as LostRead, Memory as NoMemory}
-use Rattle.luks_header.specs.declared.segment.Segment.{Segment}
+use Rattle.luks_area.specs.declared.fault.HeaderFault.{HeaderFault}
+use Rattle.luks_area.specs.declared.fault.HeaderFault.TheVariants.{Read as LostRead, Memory as NoMemory}
+use Rattle.luks_verdict.specs.declared.segment.Segment.{Segment}
 use Rattle.luks_open.proofs.CallerLemmas.{held_before_payload, opening_beginning}
 use Rattle.luks_open.specs.Opening.{opening_of}
 use Rattle.luks_open.specs.Order.{Tries, held_of, order_of}
@@ -44,14 +43,6 @@ cost_there image = omega arith
 pub cost_most : (image : List ℕ) → cost_of image ≤ 592
 unfolding cost_of
 cost_most image = omega arith
-
--- the payload of a volume starts behind its header
-pub behind_header : (header : Header) (segment : Segment) → segment_of header ≡ Ok segment → 592 ≤ segment.offset
-unfolding segment1_of
-behind_header (V1 header) segment is =
-    let readable = IsReadable-ok header segment is in
-    let start : segment.offset ≡ 512 * header.payload_offset = ap (λ (s : Segment). s.offset) readable.0 in
-    omega (arith, readable.1.behind_header)
 
 pub same_segment : (image : List ℕ) (s t : Segment) → HasSegment image s → HasSegment image t → t ≡ s
 same_segment image s t one other =
@@ -131,7 +122,7 @@ module _ (deed : Deed) (named : Option ℕ) (v : Volume) (image secret : List �
       rw (no, yes) refl
 
   found_whole : length secret ≤ 8388608 → held_of v.tries.slots ≤ length image
-      → found_outcome deed named v image secret ≡ opened_outcome deed named v image secret (opening_of v.header v.tries image secret)
+      → found_outcome deed named v image secret ≡ opened_outcome deed named v image secret (opening_of v.tries image secret)
   unfolding found_outcome
   found_whole short enough =
       let no : nat_lt 8388608 (length secret) ≡ false = grind (arith, nat_tests) in
@@ -151,7 +142,7 @@ module _ (deed : Deed) (named : Option ℕ) (v : Volume) (image secret : List �
     area_within short = elim (cases_lt (length image) (held_of v.tries.slots)) [
       | inl few ↦ rw (found_cut short few) (omega arith, omega arith)
       | inr enough ↦
-          let all = opened_within (opening_of v.header v.tries image secret) in
+          let all = opened_within (opening_of v.tries image secret) in
           rw (found_whole short enough) (omega (arith, all.0), all.1)
     ]
 
@@ -305,20 +296,20 @@ module _ (o : OpeningRequest) (before : Bytes) (i s w : Option (List ℕ)) where
             rw (outcome_found deed, found_cut deed o.key_slot volume before.image before.secret short cut.0)
             (ends_unwritten before Cut i s w (length before.image) (length before.secret) (λ h. cc) (λ segment has. tt) cut.1 taken was)
 
-        module _ (enough : held_of tries.slots ≤ length area') (r : Result Opened OpenFault) (tried : opening_of header tries area' before.secret ≡ r) where
+        module _ (enough : held_of tries.slots ≤ length area') (r : Result Opened OpenFault) (tried : opening_of tries area' before.secret ≡ r) where
           outcome_tried : (deed : Deed) → volume_outcome deed o before.image before.secret ≡ opened_outcome deed o.key_slot volume before.image before.secret r
           unfolding volume
           outcome_tried deed =
               let held = area_held before.image area area' i (held_of tries.slots) front grows enough in
-              let whole : opening_of header tries before.image before.secret ≡ r =
-              sym (opening_beginning header tries (max (cost_of before.image) (held_of tries.slots)) before.image before.secret (omega arith))
-              ∙ ap (λ l. opening_of header tries l before.secret) (sym held.2) ∙ tried in
+              let whole : opening_of tries before.image before.secret ≡ r =
+              sym (opening_beginning tries (max (cost_of before.image) (held_of tries.slots)) before.image before.secret (omega arith))
+              ∙ ap (λ l. opening_of tries l before.secret) (sym held.2) ∙ tried in
               outcome_found deed ∙ found_whole deed o.key_slot volume before.image before.secret short held.0
               ∙ ap (opened_outcome deed o.key_slot volume before.image before.secret) whole
 
       -- no key slot opens
       pub runs_unopened : (grows : Grows area area' (drop (cost_of before.image) before.image) i (min (held_of tries.slots - length area) (length (drop (cost_of before.image) before.image))))
-          → (enough : held_of tries.slots ≤ length area') (fault : OpenFault) (tried : opening_of header tries area' before.secret ≡ Err fault) (deed : Deed) (was : w ≡ Some before.written)
+          → (enough : held_of tries.slots ≤ length area') (fault : OpenFault) (tried : opening_of tries area' before.secret ≡ Err fault) (deed : Deed) (was : w ≡ Some before.written)
           → Runs (cat_promptly before.image) (volume_outcome deed o before.image before.secret) before (message_for_opening o.key_slot fault) i s w
       unfolding volume
       runs_unopened grows enough fault tried deed was =
@@ -330,7 +321,7 @@ module _ (o : OpeningRequest) (before : Bytes) (i s w : Option (List ℕ)) where
 
       -- a key slot opens
       pub unlocks : (grows : Grows area area' (drop (cost_of before.image) before.image) i (min (held_of tries.slots - length area) (length (drop (cost_of before.image) before.image))))
-          → (enough : held_of tries.slots ≤ length area') (opened : Opened) (tried : opening_of header tries area' before.secret ≡ Ok opened)
+          → (enough : held_of tries.slots ≤ length area') (opened : Opened) (tried : opening_of tries area' before.secret ≡ Ok opened)
           → Unlocks o before.image before.secret segment opened (length area') i s
       unfolding volume
       unlocks grows enough opened tried =

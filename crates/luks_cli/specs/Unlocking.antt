@@ -1,7 +1,7 @@
 -- What opening a volume leaves, where the devices tell their bytes.
 use Rattle.std.specs.Prelude.{◌≡◌, ℕ, ◌≤◌, List, [], drop, length, Option, Some}
 use Rattle.luks_header.specs.Header.{cost_of}
-use Rattle.luks_header.specs.declared.segment.Segment.{Segment}
+use Rattle.luks_verdict.specs.declared.segment.Segment.{Segment}
 use Rattle.luks_open.specs.declared.opening.Opened.{Opened}
 use Rattle.luks_cli.specs.Outcome.{Deed, volume_outcome}
 use Rattle.luks_command.specs.Request.{OpeningRequest}

@@ -3,9 +3,9 @@ use Rattle.std.specs.Prelude.{◌≡◌, ℕ, List, drop, max, Option, Some, Res
 use Rattle.luks_header.specs.Header.{LosesUpTo, cost_of, header_of}
 use Rattle.luks_header.specs.Segment.{segment_of}
 use Rattle.luks_header.specs.declared.header.Header.{Header}
-use Rattle.luks_header.specs.declared.fault.HeaderFault.{HeaderFault}
-use Rattle.luks_header.specs.declared.refusal.SegmentFault.{SegmentFault}
-use Rattle.luks_header.specs.declared.segment.Segment.{Segment}
+use Rattle.luks_area.specs.declared.fault.HeaderFault.{HeaderFault}
+use Rattle.luks_verdict.specs.declared.refusal.SegmentFault.{SegmentFault}
+use Rattle.luks_verdict.specs.declared.segment.Segment.{Segment}
 use Rattle.luks_open.specs.Order.{Tries, held_of, order_of}
 use Rattle.luks_open.specs.declared.fault.OpenFault.{OpenFault}
 use Rattle.luks_report.specs.Faults.{message_for_header, message_for_opening}

@@ -7,8 +7,8 @@ use Rattle.luks_io.specs.Bytes.{Took, WhereKnown}
 use Rattle.luks_area.specs.Area.{BreaksTaking, TookBehind}
 use Rattle.luks_area.specs.declared.fault.HeaderFault.{HeaderFault}
 use Rattle.luks_area.specs.declared.fault.HeaderFault.TheVariants.{NotLuks, Cut, Json, Read, Memory}
-use Rattle.luks1.specs.Header1.{header1_of, is_luks1}
-use Rattle.luks1.specs.declared.header.Header1.{Header1}
+use Rattle.luks1_header.specs.Header1.{header1_of, is_luks1}
+use Rattle.luks1_header.specs.declared.header.Header1.{Header1}
 use Rattle.luks_header.specs.Header.{BreaksReading, StopsReading, cost_of, header_of}
 use Rattle.luks_header.specs.declared.header.Header.{Header}
 use Rattle.luks_header.specs.declared.header.Header.TheVariants.{V1}

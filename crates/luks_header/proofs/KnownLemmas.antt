@@ -6,9 +6,9 @@ use Rattle.luks_verdict.specs.declared.digest.KeyDigest.{KeyDigest}
 use Rattle.luks_verdict.specs.declared.segment.Segment.{Segment}
 use Rattle.luks_verdict.specs.declared.slot.Slot.{Slot}
 use Rattle.luks_verdict.specs.declared.slot.Verdict.TheVariants.{Usable}
-use Rattle.luks1.specs.declared.header.Header1.{Header1}
-use Rattle.luks1.proofs.SegmentLemmas.{IsReadable-ok, digest_hash}
-use Rattle.luks1.proofs.SlotLemmas.{usable_at}
+use Rattle.luks1_header.specs.declared.header.Header1.{Header1}
+use Rattle.luks1_header.proofs.SegmentLemmas.{IsReadable-ok, digest_hash}
+use Rattle.luks1_header.proofs.SlotLemmas.{usable_at}
 use Rattle.luks_header.specs.Digest.{digest_for}
 use Rattle.luks_header.specs.Header.{cost_of}
 use Rattle.luks_header.specs.Segment.{segment_of}

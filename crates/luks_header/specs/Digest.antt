@@ -1,7 +1,7 @@
 -- The digests of a header.
 use Rattle.std.specs.Prelude.{ℕ, Option}
 use Rattle.luks_verdict.specs.declared.digest.KeyDigest.{KeyDigest}
-use Rattle.luks1.specs.Slot1.{digest1_of}
+use Rattle.luks1_header.specs.Slot1.{digest1_of}
 use Rattle.luks_header.specs.declared.header.Header.{Header}
 use Rattle.luks_header.specs.declared.header.Header.TheVariants.{V1}
 

@@ -2,7 +2,7 @@
 use Rattle.std.specs.Prelude.{◌≡◌, ℕ, ◌≤◌, List, Option, Some, Result, Ok, Err, drop, length, min, nat_lt, if◌then◌else◌}
 use Rattle.luks_io.specs.Bytes.{Took, TookUpTo}
 use Rattle.luks_area.specs.Field.{at}
-use Rattle.luks1.specs.Header1.{header1_len, header1_of, is_luks1}
+use Rattle.luks1_header.specs.Header1.{header1_len, header1_of, is_luks1}
 use Rattle.luks_header.specs.declared.header.Header.{Header}
 use Rattle.luks_header.specs.declared.header.Header.TheVariants.{V1}
 use Rattle.luks_area.specs.declared.fault.HeaderFault.{HeaderFault}

@@ -4,7 +4,7 @@ use Rattle.luks_verdict.specs.Rule.{most_slots}
 use Rattle.luks_verdict.specs.Table.{rising}
 use Rattle.luks_verdict.specs.declared.slot.Slot.{Slot}
 use Rattle.luks_verdict.specs.declared.slot.Verdict.{Verdict}
-use Rattle.luks1.specs.Slot1.{slot1_at, verdict1_at}
+use Rattle.luks1_header.specs.Slot1.{slot1_at, verdict1_at}
 use Rattle.luks_header.specs.declared.header.Header.{Header}
 use Rattle.luks_header.specs.declared.header.Header.TheVariants.{V1}
 

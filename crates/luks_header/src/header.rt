@@ -5,8 +5,8 @@ ghost use Rattle.luks_io.specs.Bytes.{Took, WhereKnown, counted};
 ghost use Rattle.luks_area.specs.Area.{is_read};
 ghost use Rattle.luks_header.specs.Header.{BreaksReading, StopsReading, cost_of, header_of};
 
-use luks1::header::{HEADER1_LEN, is_header1};
-pub use luks1::header::{Header1, KeySlot, SlotState};
+use luks1_header::header::{HEADER1_LEN, is_header1};
+pub use luks1_header::header::{Header1, KeySlot, SlotState};
 use luks_area::area::HeaderArea;
 use luks_area::fault::HeaderFault;
 use luks_io::source::Source;
@@ -19,11 +19,11 @@ pub enum Header {
     V1(Header1),
 }
 
-/// Reads the header at the front of an image, and answers it with the bytes that were read. It reads no more than it has to:
-/// 592 bytes, or all of a shorter image.
+/// Reads the header at the front of an image, and answers it with the bytes that were read. It
+/// reads no more than it has to: 592 bytes, or all of a shorter image.
 ///
-/// [`HeaderFault::NotLuks`] is for an image that does not begin with the magic bytes and version of LUKS1,
-/// [`HeaderFault::Cut`] for one that does and is shorter than the header.
+/// [`HeaderFault::NotLuks`] is for an image that does not begin with the magic bytes and version of
+/// LUKS1, [`HeaderFault::Cut`] for one that does and is shorter than the header.
 pub fn read_header<S: Source>(
     alloc: Global,
     source: &mut S,

@@ -13,6 +13,6 @@ pub fn segment(header: &Header) -> Result<Segment, SegmentFault>
     ensures { result ≡ segment_of header.now }
 {
     match header {
-        Header::V1(header) => luks1::judging::segment(header),
+        Header::V1(header) => luks1_header::judging::segment(header),
     }
 }

@@ -11,24 +11,25 @@ use luks_verdict::rule::MOST_SLOTS;
 pub use luks_verdict::slot::{Judgement, Slot, Verdict};
 use std::alloc::{AllocError, Global};
 
-/// What becomes of the key slot of this number, where the header has one, without what it takes to open it. No more iterations
-/// than the limit are made. This takes no memory.
+/// What becomes of the key slot of this number, where the header has one, without what it takes to
+/// open it. No more iterations than the limit are made. This takes no memory.
 #[tactic(auto, unfolding(crate::specs::Slot::verdict_at))]
 pub fn judge(header: &Header, limit: Option<u32>, number: u8) -> Option<Judgement>
     ensures { result ≡ option_map judgement_of (verdict_at header.now limit number) }
 {
     match header {
-        Header::V1(header) => luks1::judging::judge(header, limit, number),
+        Header::V1(header) => luks1_header::judging::judge(header, limit, number),
     }
 }
 
-/// What it takes to open the key slot of this number, where it is there and its numbers are in range.
+/// What it takes to open the key slot of this number, where it is there and its numbers are in
+/// range.
 #[tactic(auto, unfolding(crate::specs::Slot::slot_at))]
 pub fn slot(alloc: Global, header: &Header, number: u8) -> Result<Option<Slot>, AllocError>
     ensures { IfOk result (λ slot. slot ≡ slot_at header.now number) }
 {
     match header {
-        Header::V1(header) => luks1::judging::slot(alloc, header, number),
+        Header::V1(header) => luks1_header::judging::slot(alloc, header, number),
     }
 }
 
@@ -52,8 +53,8 @@ fn verdict(
     }
 }
 
-/// The key slots of a header by rising number, and what becomes of each: at most 32 slots. No more iterations than the limit
-/// are made.
+/// The key slots of a header by rising number, and what becomes of each: at most 32 slots. No more
+/// iterations than the limit are made.
 pub fn slots(
     alloc: Global,
     header: &Header,

@@ -19,7 +19,8 @@ pub struct Entry {
     pub digest: KeyDigest,
 }
 
-/// What is tried of the key slot of this number, where the header has what it takes to open it, and a digest.
+/// What is tried of the key slot of this number, where the header has what it takes to open it, and
+/// a digest.
 #[tactic(auto, unfolding(crate::specs::Order::entry_at))]
 pub(crate) fn entry_at(
     alloc: Global,

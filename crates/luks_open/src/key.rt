@@ -48,7 +48,8 @@ impl Key {
         requires turns { 1 ≤ iterations }
         requires some { 1 ≤ length self.old }
         ensures key { self.new ≡ derived_key hash secret.now salt.now iterations (length self.old) }
-        ensures work { work.new ≡ capped (work.old + iterations * div_ceil (length self.old) (size_of hash)) }
+        ensures work { work.new ≡ capped (work.old
+            + iterations * div_ceil (length self.old) (size_of hash)) }
     {
         let len = self.len;
         let bytes = &mut self.bytes[..len];

@@ -36,7 +36,8 @@ fn candidate(slot: &Slot, image: &[u8], pass: &[u8], work: &mut Work) -> Option<
     requires { IsTriable (length image.now) slot.now }
     ensures value { result ≡ candidate_of slot.now image.now pass.now }
     ensures some { IsSome result }
-    ensures work { work.new ≡ capped (work.old + evaluations slot.now.kdf_hash slot.now.iterations slot.now.area_key_bytes) }
+    ensures work { work.new ≡ capped (work.old
+        + evaluations slot.now.kdf_hash slot.now.iterations slot.now.area_key_bytes) }
     ensures len { IfSome result (λ key. is_xts_key_length (length key) ≡ true) }
 {
     let kdf = slot.kdf_hash?;
@@ -102,12 +103,13 @@ fn first_opening(
     None
 }
 
-/// Tries the key slots of an order under a passphrase, and answers the first that opens with its volume key (LUKS1 On-Disk
-/// Format Specification 1.2.3, "Master key recovery").
+/// Tries the key slots of an order under a passphrase, and answers the first that opens with its
+/// volume key (LUKS1 On-Disk Format Specification 1.2.3, "Master key recovery").
 ///
-/// A key slot opens where PBKDF2 of the key that its material holds equals the whole digest that it is opened against. Where none does, it is
-/// [`OpenFault::NoKey`]; there is no other fault. This takes no memory. The count of work is raised by the evaluations of HMAC
-/// that the key slots take which are tried: up to the first that opens, or all.
+/// A key slot opens where PBKDF2 of the key that its material holds equals the whole digest that it
+/// is opened against. Where none does, it is [`OpenFault::NoKey`]; there is no other fault. This
+/// takes no memory. The count of work is raised by the evaluations of HMAC that the key slots take
+/// which are tried: up to the first that opens, or all.
 #[tactic(auto, unfolding(crate::specs::Opening::opening_of, crate::specs::Opening::work_of))]
 pub fn open(
     header: &Header,
@@ -116,7 +118,8 @@ pub fn open(
     pass: &[u8],
     work: &mut Work,
 ) -> Result<Opened, OpenFault>
-    // The order is that of the header, whose segment is not refused, and the area holds the key material.
+    // The order is that of the header, whose segment is not refused, and the area holds the key
+    // material.
     requires order { (named limit : Option ℕ) × (order_of header.now named limit ≡ Ok order.now) }
     requires segment { (segment : Segment) × (segment_of header.now ≡ Ok segment) }
     requires held { held_of order.now.slots ≤ length area.now }

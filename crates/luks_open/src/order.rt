@@ -43,7 +43,8 @@ fn push_usable(
 ) -> Result<(), AllocError>
     ensures ok { OnOk result (entries.new.items
         ≡ entries.old.items ++ rising (usable_at header.now limit priority) most_slots) }
-    ensures err { OnErr result (1 ≤ length (rising (usable_at header.now limit priority) most_slots)) }
+    ensures err { OnErr result (1
+        ≤ length (rising (usable_at header.now limit priority) most_slots)) }
 {
     for number in 0..MOST_SLOTS {
         if let Some(entry) = usable(alloc, header, limit, priority, number)? {
@@ -80,7 +81,8 @@ fn skipped(header: &Header, limit: Option<u32>) -> SkippedSlots
 #[tactic(auto, unfolding(crate::specs::Order::tries_of_all))]
 fn order_all(alloc: Global, header: &Header, limit: Option<u32>) -> Result<Order, OpenFault>
     ensures ok { IfOk result (λ order. tries_of_all header.now limit ≡ Ok order) }
-    ensures err { IfErr result (λ fault. (fault ≡ OpenFault.Memory) ⊎ (tries_of_all header.now limit ≡ Err fault)) }
+    ensures err { IfErr result (λ fault. (fault ≡ OpenFault.Memory)
+        ⊎ (tries_of_all header.now limit ≡ Err fault)) }
     ensures memory { result ≡ Err OpenFault.Memory → IsOk (tries_of_all header.now limit) }
 {
     let mut entries = Vec::new(alloc);
@@ -104,7 +106,8 @@ fn order_one(alloc: Global, entry: Entry) -> Result<Order, AllocError>
 // A key slot that can be tried is named.
 fn order_usable(alloc: Global, header: &Header, named: u8) -> Result<Order, OpenFault>
     ensures ok { IfOk result (λ order. tried_alone (entry_at header.now named) ≡ Ok order) }
-    ensures err { IfErr result (λ fault. (fault ≡ OpenFault.Memory) ⊎ (tried_alone (entry_at header.now named) ≡ Err fault)) }
+    ensures err { IfErr result (λ fault. (fault ≡ OpenFault.Memory)
+        ⊎ (tried_alone (entry_at header.now named) ≡ Err fault)) }
 {
     match entry_at(alloc, header, named)? {
         Some(entry) => Ok(order_one(alloc, entry)?),
@@ -119,9 +122,12 @@ fn order_named(
     limit: Option<u32>,
     named: u8,
 ) -> Result<Order, OpenFault>
-    ensures ok { IfOk result (λ order. tries_of_named (entry_at header.now named) (verdict_at header.now limit named) ≡ Ok order) }
+    ensures ok { IfOk result (λ order.
+        tries_of_named (entry_at header.now named) (verdict_at header.now limit named)
+        ≡ Ok order) }
     ensures err { IfErr result (λ fault. (fault ≡ OpenFault.Memory)
-        ⊎ (tries_of_named (entry_at header.now named) (verdict_at header.now limit named) ≡ Err fault)) }
+        ⊎ (tries_of_named (entry_at header.now named) (verdict_at header.now limit named)
+        ≡ Err fault)) }
     ensures memory { result ≡ Err OpenFault.Memory
         → IsOk (tries_of_named (entry_at header.now named) (verdict_at header.now limit named)) }
 {
@@ -133,13 +139,14 @@ fn order_named(
     }
 }
 
-/// The key slots of a header that are tried, in their order: those of priority 2, then those of priority 1, each by rising
-/// number. Where a key slot is named, it is that one alone, whatever its priority. Key slots that want more iterations than the
-/// limit, or a digest that does, are skipped.
+/// The key slots of a header that are tried, in their order: those of priority 2, then those of
+/// priority 1, each by rising number. Where a key slot is named, it is that one alone, whatever its
+/// priority. Key slots that want more iterations than the limit, or a digest that does, are
+/// skipped.
 ///
-/// [`OpenFault::NoSuchSlot`], [`OpenFault::Disabled`] and [`OpenFault::NamedSkipped`] are for a key slot that is named,
-/// [`OpenFault::NothingTried`] is for a header of which no key slot is tried where none is named. [`OpenFault::Memory`] comes
-/// only where there is something to try.
+/// [`OpenFault::NoSuchSlot`], [`OpenFault::Disabled`] and [`OpenFault::NamedSkipped`] are for a key
+/// slot that is named, [`OpenFault::NothingTried`] is for a header of which no key slot is tried
+/// where none is named. [`OpenFault::Memory`] comes only where there is something to try.
 #[tactic(auto, unfolding(crate::specs::Order::order_of))]
 pub fn order(
     alloc: Global,
@@ -148,7 +155,8 @@ pub fn order(
     limit: Option<u32>,
 ) -> Result<Order, OpenFault>
     ensures ok { IfOk result (λ order. order_of header.now named limit ≡ Ok order) }
-    ensures err { IfErr result (λ fault. (fault ≡ OpenFault.Memory) ⊎ (order_of header.now named limit ≡ Err fault)) }
+    ensures err { IfErr result (λ fault. (fault ≡ OpenFault.Memory)
+        ⊎ (order_of header.now named limit ≡ Err fault)) }
     ensures memory { result ≡ Err OpenFault.Memory → IsOk (order_of header.now named limit) }
 {
     match named {

@@ -48,7 +48,8 @@ impl Order {
     }
 }
 
-/// How many of the image's first bytes have to be held to try these key slots: up to the end of the key material that ends last.
+/// How many of the image's first bytes have to be held to try these key slots: up to the end of the
+/// key material that ends last.
 pub fn held_end(order: &Order) -> usize
     ensures value { result ≡ held_of order.now.slots }
     ensures within { result ≤ longest_area }

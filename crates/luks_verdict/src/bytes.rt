@@ -5,7 +5,8 @@ ghost use Rattle.std.specs.Prelude.{◌≡◌, List, ℕ, IfOk};
 use std::alloc::{AllocError, Global};
 use std::marker::Model;
 
-/// Bytes of a header, as many as the header says: a salt or the value of a digest. A clause sees them.
+/// Bytes of a header, as many as the header says: a salt or the value of a digest. A clause sees
+/// them.
 #[derive(Drop, Debug)]
 pub struct HeaderBytes {
     bytes: Vec<u8>,

@@ -10,7 +10,8 @@ use luks_kdf::Hash;
 /// What is read of a digest, before it is judged.
 #[derive(Drop, Debug)]
 pub struct DigestParts {
-    /// The hash function of PBKDF2. `None` is for LUKS1 alone, where the hash function's name is not known.
+    /// The hash function of PBKDF2. `None` is for LUKS1 alone, where the hash function's name is
+    /// not known.
     pub hash: Option<Hash>,
     /// The iterations of PBKDF2.
     pub iterations: u32,
@@ -20,10 +21,12 @@ pub struct DigestParts {
     pub value: HeaderBytes,
 }
 
-/// By what a volume key is known: PBKDF2 of it gives this value. It has at least one iteration, and a value of 20 to 64 bytes.
+/// By what a volume key is known: PBKDF2 of it gives this value. It has at least one iteration, and
+/// a value of 20 to 64 bytes.
 #[derive(Drop, Debug)]
 pub struct KeyDigest {
-    /// The hash function of PBKDF2. `None` is for LUKS1 alone, where the hash function's name is not known.
+    /// The hash function of PBKDF2. `None` is for LUKS1 alone, where the hash function's name is
+    /// not known.
     pub hash: Option<Hash>,
     /// The iterations of PBKDF2.
     pub iterations: u32,
@@ -39,8 +42,8 @@ impl DigestParts {
     ghost use Rattle.luks_verdict.specs.Digest.{digest_from, is_undigested};
     ghost use Rattle.luks_verdict.specs.declared.digest.DigestParts.{DigestParts};
 
-    /// Whether a key slot is not tried against a digest of so many iterations and bytes: its numbers are not in range, or more
-    /// iterations than the limit would be made.
+    /// Whether a key slot is not tried against a digest of so many iterations and bytes: its
+    /// numbers are not in range, or more iterations than the limit would be made.
     pub fn undigested(limit: Option<u32>, iterations: u32, len: usize) -> bool
         ensures { (parts : DigestParts) → parts.iterations ≡ iterations → length parts.value ≡ len
             → result ≡ is_undigested limit (digest_from parts) }

@@ -29,9 +29,11 @@ pub enum SkipReason {
     Stripes,
     /// The number of iterations is 0, above 4,294,967,295 or above the limit.
     Iterations,
-    /// The key material starts inside the header, or it ends past the payload's start or past byte 33,554,432.
+    /// The key material starts inside the header, or it ends past the payload's start or past byte
+    /// 33,554,432.
     Area,
-    /// LUKS2: no usable digest lists the slot and the segment. Or the digest's iterations are 0 or above the limit.
+    /// LUKS2: no usable digest lists the slot and the segment. Or the digest's iterations are 0 or
+    /// above the limit.
     Digest,
 }
 

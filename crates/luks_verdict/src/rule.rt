@@ -17,7 +17,8 @@ pub const MOST_ITERATIONS: u64 = 4_294_967_295;
 /// The first byte behind the longest area.
 const LONGEST_AREA: u64 = HeaderArea::LONGEST as u64;
 
-/// Whether so many iterations are not made: none, more than four bytes can say, or more than the limit.
+/// Whether so many iterations are not made: none, more than four bytes can say, or more than the
+/// limit.
 #[tactic(auto, unfolding(crate::specs::Rule::is_beyond))]
 pub fn beyond(limit: Option<u32>, iterations: u64) -> bool
     ensures { result ≡ is_beyond limit iterations }
@@ -35,7 +36,8 @@ pub fn unstriped(stripes: u64) -> bool
     stripes == 0 || MOST_STRIPES < stripes
 }
 
-/// How many bytes of key material a slot has: one key for each stripe, in whole sectors of 512 bytes.
+/// How many bytes of key material a slot has: one key for each stripe, in whole sectors of 512
+/// bytes.
 #[tactic(auto, unfolding(crate::specs::Rule::need_of))]
 pub fn need(key_bytes: u32, stripes: u32) -> u64
     ensures { result ≡ need_of key_bytes stripes }
@@ -43,8 +45,9 @@ pub fn need(key_bytes: u32, stripes: u32) -> u64
     (u64::from(key_bytes) * u64::from(stripes)).div_ceil(512) * 512
 }
 
-/// Whether key material from `offset` on does not fit: it starts below `start`, its area of `size` bytes is too small for the
-/// `need`, or it ends past the payload's start, where that is known, or past what an area of an image holds.
+/// Whether key material from `offset` on does not fit: it starts below `start`, its area of `size`
+/// bytes is too small for the `need`, or it ends past the payload's start, where that is known, or
+/// past what an area of an image holds.
 #[tactic(auto, unfolding(crate::specs::Rule::is_misplaced))]
 pub fn misplaced(start: u64, payload: Option<u64>, offset: u64, size: u64, need: u64) -> bool
     ensures { result ≡ is_misplaced start payload offset size need }
@@ -58,7 +61,8 @@ pub fn misplaced(start: u64, payload: Option<u64>, offset: u64, size: u64, need:
         || LONGEST_AREA < end
 }
 
-/// Whether the numbers of a slot are in range: its iterations, its stripes, and where the `need` bytes of its key material end.
+/// Whether the numbers of a slot are in range: its iterations, its stripes, and where the `need`
+/// bytes of its key material end.
 #[tactic(auto, unfolding(crate::specs::Rule::is_in_range))]
 pub fn in_range(iterations: u64, stripes: u64, offset: u64, need: u64) -> bool
     ensures { result ≡ is_in_range iterations stripes (offset + need) }

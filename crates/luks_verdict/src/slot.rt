@@ -13,14 +13,15 @@ use luks_kdf::Hash;
 pub struct SlotParts {
     /// How soon it is tried: 2 before 1, and 0 only where it is named.
     pub priority: u8,
-    /// The hash function by which the key material's key comes of a passphrase. `None` is for LUKS1 alone, where the
-    /// hash function's name is not known.
+    /// The hash function by which the key material's key comes of a passphrase. `None` is for LUKS1
+    /// alone, where the hash function's name is not known.
     pub kdf_hash: Option<Hash>,
     /// The iterations by which it does.
     pub iterations: u32,
     /// The salt by which it does.
     pub salt: HeaderBytes,
-    /// The hash function of the stripes. `None` is for LUKS1 alone, where the hash function's name is not known.
+    /// The hash function of the stripes. `None` is for LUKS1 alone, where the hash function's name
+    /// is not known.
     pub af_hash: Option<Hash>,
     /// How many stripes the key material has.
     pub stripes: u32,
@@ -34,20 +35,21 @@ pub struct SlotParts {
     pub area_size: u64,
 }
 
-/// What it takes to open a key slot. Its numbers are in range: 1 to 4000 stripes, at least one iteration, and key material that
-/// ends within what an area of an image can hold.
+/// What it takes to open a key slot. Its numbers are in range: 1 to 4000 stripes, at least one
+/// iteration, and key material that ends within what an area of an image can hold.
 #[derive(Drop, Debug)]
 pub struct Slot {
     /// How soon it is tried: 2 before 1, and 0 only where it is named.
     pub priority: u8,
-    /// The hash function by which the key material's key comes of a passphrase. `None` is for LUKS1 alone, where the
-    /// hash function's name is not known.
+    /// The hash function by which the key material's key comes of a passphrase. `None` is for LUKS1
+    /// alone, where the hash function's name is not known.
     pub kdf_hash: Option<Hash>,
     /// The iterations by which it does.
     pub iterations: u32,
     /// The salt by which it does.
     pub salt: HeaderBytes,
-    /// The hash function of the stripes. `None` is for LUKS1 alone, where the hash function's name is not known.
+    /// The hash function of the stripes. `None` is for LUKS1 alone, where the hash function's name
+    /// is not known.
     pub af_hash: Option<Hash>,
     /// How many stripes the key material has.
     pub stripes: u32,
@@ -95,7 +97,8 @@ impl Slot {
         })
     }
 
-    /// How many bytes of key material there are: one key for each stripe, in whole sectors of 512 bytes.
+    /// How many bytes of key material there are: one key for each stripe, in whole sectors of 512
+    /// bytes.
     pub fn need(&self) -> u64
         ensures { result ≡ need_of self.now.key_bytes self.now.stripes }
     {

@@ -3,7 +3,7 @@ use Rattle.std.proofs.Common.{◌≡◌, ℕ, ◌+◌, ◌-◌, ◌*◌, ◌^◌
 use Rattle.std.specs.Prelude.{nat_lt, OnOk, IfErr}
 use Rattle.std.proofs.lemmas.Bool.{le-ltb, lt-ltb}
 use Rattle.std.proofs.lemmas.List.{drop-drop, drop_all}
-use Rattle.luks_header.specs.declared.segment.Segment.{Segment}
+use Rattle.luks_verdict.specs.declared.segment.Segment.{Segment}
 use Rattle.luks_volume.specs.Passing.{StopsDiscarding, StopsPassing, count_writes, limit_of}
 use Rattle.luks_volume.specs.Plain.{ending_within, payload_end_of, payload_len, sector_len, sector_start, unit_number, end_within}
 use Rattle.luks_volume.specs.Pumped.{Ends, Pumped, Skips, SkipsAgain, StandsIn, Steps, TakesSector, is_running, place_in, position}

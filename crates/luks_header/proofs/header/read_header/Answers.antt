@@ -1,7 +1,7 @@
 use Rattle.std.proofs.Common.{◌≡◌, ◌≤◌, ◌∙◌, Err, ap, sym, length, true, arith}
 use Rattle.std.proofs.lemmas.Result.{err_from_is_err_and}
 use Rattle.luks_header.specs.Header.{header_of}
-use Rattle.luks1.specs.Header1.{header1_of, is_luks1}
+use Rattle.luks1_header.specs.Header1.{header1_of, is_luks1}
 use Rattle.luks_header.specs.declared.header.Header.TheVariants.{V1}
 use Rattle.luks_area.specs.declared.fault.HeaderFault.TheVariants.{NotLuks, Cut}
 use Rattle.luks_header.proofs.HeaderLemmas.{all_cost, area_is, header_of-cut, header_of-other, header_of-whole, none_read, one_read, breaks_reading, short_from_not_whole, stops_reading}
