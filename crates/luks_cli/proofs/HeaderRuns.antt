@@ -5,8 +5,8 @@ use Rattle.luks_io.proofs.Taking.{adds-none}
 use Rattle.luks_cli.proofs.HeaderTaking.{took_header, took_some}
 use Rattle.luks_header.specs.Header.{StopsReading, cost_of, header_of}
 use Rattle.luks_header.specs.declared.header.Header.{Header}
-use Rattle.luks_header.specs.declared.fault.HeaderFault.{HeaderFault}
-use Rattle.luks_header.specs.declared.fault.HeaderFault.TheVariants.{NotLuks as NoLuks, Cut as IsCut, Json as NoJson, Read, Memory}
+use Rattle.luks_area.specs.declared.fault.HeaderFault.{HeaderFault}
+use Rattle.luks_area.specs.declared.fault.HeaderFault.TheVariants.{NotLuks as NoLuks, Cut as IsCut, Json as NoJson, Read, Memory}
 use Rattle.luks_report.specs.declared.message.Message.{Message}
 use Rattle.luks_report.specs.declared.message.Message.TheVariants.{Done, OutOfMemory, ReadFailed, WriteFailed}
 use Rattle.luks_cli.specs.Header.{answer_to_is_luks}

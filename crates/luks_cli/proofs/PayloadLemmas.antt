@@ -6,9 +6,9 @@ use Rattle.std.proofs.Math.Nat.{div-eq_of_lt-le, div-mul-le_self, mul-le-mul_lef
 use Rattle.std.proofs.Math.Seq.{take-append-add}
 use Rattle.luks_cipher.specs.Xts.{block_at, block_decrypted, block_sum, joined, tweak_of, xts_decrypted}
 use Rattle.luks_header.specs.SectorSize.{bytes_of}
-use Rattle.luks_header.specs.declared.sector_size.SectorSize.{SectorSize}
-use Rattle.luks_header.specs.declared.sector_size.SectorSize.TheVariants.{B512, B1024, B2048, B4096}
-use Rattle.luks_header.specs.declared.segment.Segment.{Segment}
+use Rattle.luks_verdict.specs.declared.sector_size.SectorSize.{SectorSize}
+use Rattle.luks_verdict.specs.declared.sector_size.SectorSize.TheVariants.{B512, B1024, B2048, B4096}
+use Rattle.luks_verdict.specs.declared.segment.Segment.{Segment}
 use Rattle.luks_io.proofs.Taking.{adds-more, adds-none}
 use Rattle.luks_io.specs.Bytes.{Adds, Took, counted}
 use Rattle.luks_volume.specs.Passing.{is_failed_read as is_lost, is_failed_write as is_unwritten}

@@ -6,15 +6,14 @@ use Rattle.std.proofs.lemmas.List.{drop-drop}
 use Rattle.std.proofs.Math.Nat.{zero-div}
 use Rattle.std.proofs.Math.Seq.{take-add}
 use Rattle.std.specs.Prelude.{◌≢◌, nat_lt}
-use Rattle.luks_header.proofs.SegmentLemmas.{IsReadable-ok}
+use Rattle.luks_header.proofs.KnownLemmas.{behind_header}
 use Rattle.luks_header.specs.Area.{Grows, StopsGrowing}
 use Rattle.luks_header.specs.Header.{cost_of, header_of}
-use Rattle.luks_header.specs.Segment.{segment1_of, segment_of}
+use Rattle.luks_header.specs.Segment.{segment_of}
 use Rattle.luks_header.specs.declared.header.Header.{Header}
-use Rattle.luks_header.specs.declared.header.Header.TheVariants.{V1}
-use Rattle.luks_header.specs.declared.fault.HeaderFault.{HeaderFault}
-use Rattle.luks_header.specs.declared.fault.HeaderFault.TheVariants.{Read as LostRead, Memory as NoMemory}
-use Rattle.luks_header.specs.declared.segment.Segment.{Segment}
+use Rattle.luks_area.specs.declared.fault.HeaderFault.{HeaderFault}
+use Rattle.luks_area.specs.declared.fault.HeaderFault.TheVariants.{Read as LostRead, Memory as NoMemory}
+use Rattle.luks_verdict.specs.declared.segment.Segment.{Segment}
 use Rattle.luks_open.proofs.CallerLemmas.{held_before_payload, opening_beginning}
 use Rattle.luks_open.specs.Opening.{opening_of}
 use Rattle.luks_open.specs.Order.{Tries, held_of, order_of}
@@ -43,14 +42,6 @@ use Rattle.luks_report.specs.declared.message.Message.TheVariants.{Cut, KeyFileL
 pub cost_most : (image : List ℕ) → cost_of image ≤ 592
 unfolding cost_of
 cost_most image = omega arith
-
--- the payload of a volume starts behind its header
-pub behind_header : (header : Header) (segment : Segment) → segment_of header ≡ Ok segment → 592 ≤ segment.offset
-unfolding segment1_of
-behind_header (V1 header) segment is =
-    let readable = IsReadable-ok header segment is in
-    let start : segment.offset ≡ 512 * header.payload_offset = ap (λ (s : Segment). s.offset) readable.0 in
-    omega (arith, readable.1.behind_header)
 
 pub same_segment : (image : List ℕ) (s t : Segment) → HasSegment image s → HasSegment image t → t ≡ s
 same_segment image s t one other =
@@ -130,7 +121,7 @@ module _ (on_opened : OnOpened) (named : Option ℕ) (v : Volume) (image secret 
       rw (no, yes) refl
 
   found_whole : length secret ≤ longest_key_file → held_of v.tries.slots ≤ length image
-      → found_outcome on_opened named v image secret ≡ opened_outcome on_opened named v image secret (opening_of v.header v.tries image secret)
+      → found_outcome on_opened named v image secret ≡ opened_outcome on_opened named v image secret (opening_of v.tries image secret)
   unfolding found_outcome
   found_whole short enough =
       let no : nat_lt longest_key_file (length secret) ≡ false = grind (arith, nat_tests) in
@@ -150,7 +141,7 @@ module _ (on_opened : OnOpened) (named : Option ℕ) (v : Volume) (image secret 
     area_within short = elim (cases_lt (length image) (held_of v.tries.slots)) [
       | inl few ↦ rw (found_cut short few) (omega arith, omega arith)
       | inr enough ↦
-          let all = opened_within (opening_of v.header v.tries image secret) in
+          let all = opened_within (opening_of v.tries image secret) in
           rw (found_whole short enough) (omega (arith, all.0), all.1)
     ]
 
@@ -303,20 +294,20 @@ module _ (o : OpeningRequest) (image pass : List ℕ) (i s w : Option (List ℕ)
             rw (outcome_found on_opened, found_cut on_opened o.key_slot volume image pass short cut.0)
             (ends_unwritten image pass Cut i s w (length image) (length pass) (λ h. cc) (λ segment has. tt) cut.1 gone)
 
-        module _ (enough : held_of tries.slots ≤ length area') (r : Result Opened OpenFault) (tried : opening_of header tries area' pass ≡ r) where
+        module _ (enough : held_of tries.slots ≤ length area') (r : Result Opened OpenFault) (tried : opening_of tries area' pass ≡ r) where
           outcome_tried : (on_opened : OnOpened) → volume_outcome on_opened o image pass ≡ opened_outcome on_opened o.key_slot volume image pass r
           unfolding volume
           outcome_tried on_opened =
               let held = area_held image area area' i (held_of tries.slots) front grows enough in
-              let whole : opening_of header tries image pass ≡ r =
-              sym (opening_beginning header tries (max (cost_of image) (held_of tries.slots)) image pass (omega arith))
-              ∙ ap (λ l. opening_of header tries l pass) (sym held.2) ∙ tried in
+              let whole : opening_of tries image pass ≡ r =
+              sym (opening_beginning tries (max (cost_of image) (held_of tries.slots)) image pass (omega arith))
+              ∙ ap (λ l. opening_of tries l pass) (sym held.2) ∙ tried in
               outcome_found on_opened ∙ found_whole on_opened o.key_slot volume image pass short held.0
               ∙ ap (opened_outcome on_opened o.key_slot volume image pass) whole
 
       -- no key slot opens
       pub runs_unopened : (grows : Grows area area' (drop (cost_of image) image) i (min (held_of tries.slots - length area) (length (drop (cost_of image) image))))
-          → (enough : held_of tries.slots ≤ length area') (fault : OpenFault) (tried : opening_of header tries area' pass ≡ Err fault) (on_opened : OnOpened)
+          → (enough : held_of tries.slots ≤ length area') (fault : OpenFault) (tried : opening_of tries area' pass ≡ Err fault) (on_opened : OnOpened)
           → Runs (cat_promptly image) (volume_outcome on_opened o image pass) (message_for_opening o.key_slot fault) (Took image i) (Took pass s) (Adds w w)
       unfolding volume
       runs_unopened grows enough fault tried on_opened =
@@ -328,7 +319,7 @@ module _ (o : OpeningRequest) (image pass : List ℕ) (i s w : Option (List ℕ)
 
       -- a key slot opens
       pub unlocks : (grows : Grows area area' (drop (cost_of image) image) i (min (held_of tries.slots - length area) (length (drop (cost_of image) image))))
-          → (enough : held_of tries.slots ≤ length area') (opened : Opened) (tried : opening_of header tries area' pass ≡ Ok opened)
+          → (enough : held_of tries.slots ≤ length area') (opened : Opened) (tried : opening_of tries area' pass ≡ Ok opened)
           → Unlocks o image pass segment opened (length area') i s
       unfolding volume
       unlocks grows enough opened tried =

@@ -1,8 +1,8 @@
 -- What the commands on headers answer.
 use Rattle.std.specs.Prelude.{ℕ, List, [], Result, Ok, Err}
 use Rattle.luks_header.specs.declared.header.Header.{Header}
-use Rattle.luks_header.specs.declared.fault.HeaderFault.{HeaderFault}
-use Rattle.luks_header.specs.declared.fault.HeaderFault.TheVariants.{NotLuks}
+use Rattle.luks_area.specs.declared.fault.HeaderFault.{HeaderFault}
+use Rattle.luks_area.specs.declared.fault.HeaderFault.TheVariants.{NotLuks}
 use Rattle.luks_report.specs.Faults.{message_for_header}
 use Rattle.luks_report.specs.declared.message.Message.{Message}
 use Rattle.luks_report.specs.declared.message.Message.TheVariants.{Done, No}

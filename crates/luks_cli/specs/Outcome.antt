@@ -8,7 +8,7 @@ use Rattle.luks_cli.specs.Header.{answer_to_is_luks, printed, told_of}
 use Rattle.luks_report.specs.Dump.{dump_of, uuid_of}
 use Rattle.luks_kdf.specs.Bytes.{xor}
 use Rattle.luks_kdf.specs.Stripes.{chain_of, merged}
-use Rattle.luks_header.specs.declared.segment.Segment.{Segment}
+use Rattle.luks_verdict.specs.declared.segment.Segment.{Segment}
 use Rattle.luks_open.specs.Opening.{opening_of}
 use Rattle.luks_open.specs.Order.{held_of}
 use Rattle.luks_open.specs.declared.fault.OpenFault.{OpenFault}
@@ -101,7 +101,7 @@ unfoldable pub found_outcome : OnOpened → Option ℕ → Volume → List ℕ �
 found_outcome on_opened named volume image secret =
     if nat_lt longest_key_file (length secret) then unwritten KeyFileLength (cost_of image) (longest_key_file + 1)
     else (if nat_lt (length image) (held_of volume.tries.slots) then unwritten Cut (length image) (length secret)
-    else opened_outcome on_opened named volume image secret (opening_of volume.header volume.tries image secret))
+    else opened_outcome on_opened named volume image secret (opening_of volume.tries image secret))
 
 -- there is a volume or not
 abbrev pub outcome_after : OnOpened → Option ℕ → List ℕ → List ℕ → Result Volume Message → Outcome

@@ -2,7 +2,7 @@
 use Rattle.std.specs.Prelude.{◌≡◌, ℕ, ◌+◌, ◌-◌, ◌*◌, ◌/◌, ◌<◌, ◌≤◌, max, List, take, Option}
 use Rattle.luks_io.specs.Bytes.{Adds, Took}
 use Rattle.luks_header.specs.Header.{cost_of}
-use Rattle.luks_header.specs.declared.segment.Segment.{Segment}
+use Rattle.luks_verdict.specs.declared.segment.Segment.{Segment}
 use Rattle.luks_volume.specs.Plain.{ending_of, payload_end_of, plain_of, sector_len, sector_start, sectors_of}
 use Rattle.luks_cli.specs.Volume.{HasSegment}
 use Rattle.luks_report.specs.Faults.{message_at_end}

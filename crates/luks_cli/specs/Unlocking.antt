@@ -2,7 +2,7 @@
 use Rattle.std.specs.Prelude.{◌≡◌, ℕ, ◌≤◌, List, length, Option}
 use Rattle.luks_io.specs.Bytes.{Took}
 use Rattle.luks_header.specs.Header.{cost_of}
-use Rattle.luks_header.specs.declared.segment.Segment.{Segment}
+use Rattle.luks_verdict.specs.declared.segment.Segment.{Segment}
 use Rattle.luks_open.specs.declared.opening.Opened.{Opened}
 use Rattle.luks_cli.specs.Outcome.{OnOpened, volume_outcome}
 use Rattle.luks_command.specs.Request.{OpeningRequest}

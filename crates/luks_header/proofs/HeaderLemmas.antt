@@ -3,14 +3,15 @@ use Rattle.std.proofs.Common.{◌≡◌, ℕ, ◌-◌, ◌<◌, ◌≤◌, List,
 use Rattle.std.specs.Prelude.{nat_lt, IsTrue, ◌↔◌}
 use Rattle.std.proofs.lemmas.Bool.{cases_lt, le-ltb, lt-ltb}
 use Rattle.std.proofs.lemmas.List.{length-take, take-take, take_min}
-use Rattle.luks_header.specs.Area.{Grows, StopsGrowing}
-use Rattle.luks_header.specs.Header.{StopsReading, cost_of, header_of}
-use Rattle.luks_header.specs.Luks1.{header1_of, is_luks1}
-use Rattle.luks_header.specs.declared.luks1.Header1.{Header1}
+use Rattle.luks_io.specs.Bytes.{Took, WhereKnown}
+use Rattle.luks_area.specs.Area.{BreaksTaking, TookBehind}
+use Rattle.luks_area.specs.declared.fault.HeaderFault.{HeaderFault}
+use Rattle.luks_area.specs.declared.fault.HeaderFault.TheVariants.{NotLuks, Cut, Json, Read, Memory}
+use Rattle.luks1_header.specs.Header1.{header1_of, is_luks1}
+use Rattle.luks1_header.specs.declared.header.Header1.{Header1}
+use Rattle.luks_header.specs.Header.{BreaksReading, StopsReading, cost_of, header_of}
 use Rattle.luks_header.specs.declared.header.Header.{Header}
 use Rattle.luks_header.specs.declared.header.Header.TheVariants.{V1}
-use Rattle.luks_header.specs.declared.fault.HeaderFault.{HeaderFault}
-use Rattle.luks_header.specs.declared.fault.HeaderFault.TheVariants.{NotLuks, Cut, Json, Read, Memory}
 
 -- the first bytes of an image say which header it has
 pub header_of-take : (image : List ℕ) → header_of (take (cost_of image) image) ≡ header_of image
@@ -25,12 +26,13 @@ header_of-take image =
     rw (take_min 592 image, take-take 8 592 image (lit≤ tt), take-take 592 592 image (lit≤ tt), few) refl
 
 -- the area that took what there was, up to 592 bytes, holds the first bytes of the image
-pub area_is : (area area' image : List ℕ) (left : Option (List ℕ)) → area ≡ [] → Grows area area' image left (min (592 - length area) (length image))
-    → (area' ≡ take (cost_of image) image) × (left ≡ Some (drop (cost_of image) image))
+pub area_is : (area area' image : List ℕ) (left : Option (List ℕ)) → area ≡ [] → TookBehind area area' image left (min (592 - length area) (length image))
+    → (area' ≡ take (cost_of image) image) × Took image left (cost_of image)
 unfolding cost_of
-area_is area area' image left none grows =
-    let at_first : Grows [] area' image left (min 592 (length image)) = subst (λ l. Grows l area' image left (min (592 - length l) (length image))) none grows in
-    (at_first.holds, at_first.leaves)
+area_is area area' image left none took =
+    let at_first : TookBehind [] area' image left (min 592 (length image)) =
+    subst (λ l. TookBehind l area' image left (min (592 - length l) (length image))) none took in
+    (at_first.1, at_first.0)
 
 -- an area that begins as one of LUKS1 and is whole has this header
 pub header_of-whole : (area : List ℕ) (header : Header1) → is_luks1 area ≡ true → length area ≡ 592 → header ≡ header1_of area → header_of area ≡ Ok (V1 header)
@@ -52,25 +54,35 @@ header_of-cut area is short =
     let yes : nat_lt (length area) 592 ≡ true = lt-ltb (length area) 592 short in
     rw (is, yes) refl
 
--- what stops an empty area from growing stops the reading of a header
-pub stops_reading : (area area' image : List ℕ) (left : Option (List ℕ)) (fault : HeaderFault) → area ≡ [] → StopsGrowing (592 - length area) area area' image left fault
-    → StopsReading image left fault
+-- what stops an empty area from taking bytes stops the reading of a header
+pub breaks_reading : (area area' image : List ℕ) (left : Option (List ℕ)) (fault : HeaderFault) → area ≡ []
+    → BreaksTaking (592 - length area) area area' image left fault → BreaksReading image left fault
 unfolding cost_of
-stops_reading area area' image left Read none (count, below, grows) = (count, omega (arith, grows.there), grows.leaves)
-stops_reading area area' image left Memory none grows = (0, omega arith, grows.leaves)
-stops_reading area area' image left NotLuks none h = absurd h
-stops_reading area area' image left Cut none h = absurd h
-stops_reading area area' image left Json none h = absurd h
+breaks_reading area area' image left Read none (count, below, took) = (count, omega (arith, took.0.within), took.0)
+breaks_reading area area' image left Memory none took = took.0
+breaks_reading area area' image left NotLuks none h = absurd h
+breaks_reading area area' image left Cut none h = absurd h
+breaks_reading area area' image left Json none h = absurd h
 
 -- an image whose first bytes have no header has none
-pub none_read : (area image : List ℕ) (left : Option (List ℕ)) (fault : HeaderFault) → (area ≡ take (cost_of image) image) × (left ≡ Some (drop (cost_of image) image))
-    → header_of area ≡ Err fault → (header_of image ≡ Err fault) × (left ≡ Some (drop (cost_of image) image))
+pub none_read : (area image : List ℕ) (left : Option (List ℕ)) (fault : HeaderFault)
+    → (area ≡ take (cost_of image) image) × Took image left (cost_of image) → header_of area ≡ Err fault
+    → (header_of image ≡ Err fault) × Took image left (cost_of image)
 none_read area image left fault is none = (sym (header_of-take image) ∙ ap header_of (sym is.0) ∙ none, is.1)
 
 -- an image whose first bytes have a header has it
-pub one_read : (area image : List ℕ) (left : Option (List ℕ)) (header : Header) → (area ≡ take (cost_of image) image) × (left ≡ Some (drop (cost_of image) image))
-    → header_of area ≡ Ok header → (header_of image ≡ Ok header) × (area ≡ take (cost_of image) image) × (left ≡ Some (drop (cost_of image) image))
+pub one_read : (area image : List ℕ) (left : Option (List ℕ)) (header : Header)
+    → (area ≡ take (cost_of image) image) × Took image left (cost_of image) → header_of area ≡ Ok header
+    → (header_of image ≡ Ok header) × (area ≡ take (cost_of image) image) × Took image left (cost_of image)
 one_read area image left header is one = (sym (header_of-take image) ∙ ap header_of (sym is.0) ∙ one, is.0, is.1)
+
+-- the same in words of before
+pub stops_reading : (image : List ℕ) (left : Option (List ℕ)) (fault : HeaderFault) → BreaksReading image left fault → StopsReading image left fault
+stops_reading image left Read (count, below, took) = (count, below, took.left)
+stops_reading image left Memory took = (0, omega arith, took.left)
+stops_reading image left NotLuks breaks = (breaks.0, breaks.1.left)
+stops_reading image left Cut breaks = (breaks.0, breaks.1.left)
+stops_reading image left Json breaks = (breaks.0, breaks.1.left)
 
 -- an area that is not whole is short
 pub short_from_not_whole : (whole : Bool) (end len : ℕ) → (IsTrue whole ↔ (end ≤ len)) → whole ≡ false → len < end

@@ -1,6 +1,2 @@
-pub mod AreaLemmas
-pub mod FieldLemmas
 pub mod HeaderLemmas
-pub mod NameLemmas
-pub mod SegmentLemmas
-pub mod SlotLemmas
+pub mod KnownLemmas

@@ -1,11 +1,12 @@
 -- Which header an image has, and how many of its bytes are read for it.
 use Rattle.std.specs.Prelude.{◌≡◌, ℕ, ◌≤◌, List, Option, Some, Result, Ok, Err, drop, length, min, nat_lt, if◌then◌else◌}
-use Rattle.luks_header.specs.Field.{at}
-use Rattle.luks_header.specs.Luks1.{header1_len, header1_of, is_luks1}
+use Rattle.luks_io.specs.Bytes.{Took, TookUpTo}
+use Rattle.luks_area.specs.Field.{at}
+use Rattle.luks1_header.specs.Header1.{header1_len, header1_of, is_luks1}
 use Rattle.luks_header.specs.declared.header.Header.{Header}
 use Rattle.luks_header.specs.declared.header.Header.TheVariants.{V1}
-use Rattle.luks_header.specs.declared.fault.HeaderFault.{HeaderFault}
-use Rattle.luks_header.specs.declared.fault.HeaderFault.TheVariants.{NotLuks, Cut, Read, Memory}
+use Rattle.luks_area.specs.declared.fault.HeaderFault.{HeaderFault}
+use Rattle.luks_area.specs.declared.fault.HeaderFault.TheVariants.{NotLuks, Cut, Read, Memory}
 
 -- the header of an image, or why there is none
 unfoldable pub header_of : List ℕ → Result Header HeaderFault
@@ -16,6 +17,15 @@ header_of image =
 -- how many bytes of the image are read to learn which header it has
 unfoldable pub cost_of : List ℕ → ℕ
 cost_of image = min header1_len (length image)
+
+-- reading the header ended without one: a failed read ended it somewhere, want of memory before any byte was taken, and any other
+-- fault is the image's, of which as many bytes are taken as the header costs
+abbrev pub BreaksReading : List ℕ → Option (List ℕ) → HeaderFault → Type 0
+BreaksReading image left Read = TookUpTo image left (cost_of image)
+BreaksReading image left Memory = Took image left 0
+BreaksReading image left fault = (header_of image ≡ Err fault) × Took image left (cost_of image)
+
+-- Words of before, which go once nothing cites them:
 
 -- an image is left with all but some of its first bytes, of which at most so many are gone
 abbrev pub LosesUpTo : List ℕ → Option (List ℕ) → ℕ → Type 0

@@ -1,10 +1,11 @@
-pub mod Area
-pub mod Field
+pub mod Digest
 pub mod Header
-pub mod Luks1
-pub mod SectorSize
 pub mod Segment
-pub mod SegmentFault
-pub mod SkipReason
 pub mod Slot
-pub mod Table
+
+pub use Rattle.luks_area.specs.Area
+pub use Rattle.luks_area.specs.Field
+pub use Rattle.luks_verdict.specs.Rule
+pub use Rattle.luks_verdict.specs.SectorSize
+pub use Rattle.luks_verdict.specs.SegmentFault
+pub use Rattle.luks_verdict.specs.SkipReason

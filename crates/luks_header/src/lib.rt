@@ -1,20 +1,20 @@
 //! LUKS headers: what they say of a volume's cipher, key slots and payload.
 //!
-//! [`read_header`](header::read_header) reads the header at the front of an image, [`slots`](slot::slots) tells which of its
-//! key slots can be tried, and [`segment`](payload::segment) where the payload lies.
+//! [`read_header`](header::read_header) reads the header at the front of an image,
+//! [`slots`](slot::slots) tells which of its key slots can be tried,
+//! [`digest_for`](digest::digest_for) against which digest, and [`segment`](payload::segment) where
+//! the payload lies.
+//!
+//! What belongs to one format stands in a crate of its own beneath this one, and so does what both
+//! have in common.
 #![tactic(auto)]
 
-pub mod area;
-pub mod fault;
-mod field;
+pub mod digest;
 pub mod header;
-pub mod luks1;
 pub mod payload;
-pub mod refusal;
-pub mod salt;
-pub mod sector_size;
-pub mod segment;
 pub mod slot;
 #[cfg(test)]
 mod tests;
-pub mod text;
+
+pub use luks_area::{area, fault, text};
+pub use luks_verdict::{bytes, refusal, rule, sector_size, segment};

@@ -4,9 +4,8 @@ ghost use Rattle.std.specs.Prelude.{◌≡◌};
 ghost use Rattle.luks_header.specs.Segment.{segment_of};
 
 use crate::header::Header;
-use crate::luks1;
-use crate::refusal::SegmentFault;
-use crate::segment::Segment;
+use luks_verdict::refusal::SegmentFault;
+use luks_verdict::segment::Segment;
 
 /// The segment that holds a volume's payload, or why it cannot be read. This takes no memory.
 #[tactic(auto, unfolding(crate::specs::Segment::segment_of))]
@@ -14,6 +13,6 @@ pub fn segment(header: &Header) -> Result<Segment, SegmentFault>
     ensures { result ≡ segment_of header.now }
 {
     match header {
-        Header::V1(header) => luks1::segment(header),
+        Header::V1(header) => luks1_header::judging::segment(header),
     }
 }

@@ -1,81 +1,73 @@
 //! Key slots and what becomes of them.
 
-ghost use Rattle.std.specs.Prelude.{◌≡◌, ◌≤◌, IfOk, vec_len};
-ghost use Rattle.luks_header.specs.Slot.{need_of, verdicts_of};
+ghost use Rattle.std.specs.Prelude.{◌≡◌, ◌≤◌, IfOk, option_map, vec_len};
+ghost use Rattle.luks_verdict.specs.Rule.{most_slots};
+ghost use Rattle.luks_verdict.specs.Slot.{judgement_of};
+ghost use Rattle.luks_header.specs.Slot.{slot_at, verdict_at, verdicts_of};
 
 use crate::header::Header;
-use crate::luks1;
-use crate::refusal::SkipReason;
-use crate::salt::Salt;
-use luks_kdf::Hash;
+use luks_verdict::refusal::SkipReason;
+use luks_verdict::rule::MOST_SLOTS;
+pub use luks_verdict::slot::{Judgement, Slot, Verdict};
 use std::alloc::{AllocError, Global};
 
-/// What it takes to open a key slot.
-#[derive(Drop, Debug)]
-pub struct Slot {
-    /// How soon it is tried: 2 before 1, and 0 only where it is named.
-    pub priority: u8,
-    /// The hash function by which the key material's key comes of a passphrase. `None` is for LUKS1 alone, where the
-    /// hash function's name is not known.
-    pub kdf_hash: Option<Hash>,
-    /// The iterations by which it does.
-    pub iterations: u32,
-    /// The salt by which it does.
-    pub salt: Salt,
-    /// The hash function of the stripes. `None` is for LUKS1 alone, where the hash function's name is not known.
-    pub af_hash: Option<Hash>,
-    /// How many stripes the key material has.
-    pub stripes: u32,
-    /// The length of the volume key in bytes.
-    pub key_bytes: u32,
-    /// The length in bytes of the key by which the key material is encrypted.
-    pub area_key_bytes: u32,
-    /// The first byte of the key material.
-    pub area_offset: u64,
-    /// How many bytes are set aside for the key material.
-    pub area_size: u64,
-}
-
-impl Slot {
-    /// How many bytes of key material there are: one key for each stripe, in whole sectors of 512 bytes.
-    pub fn need(&self) -> u64
-        ensures { result ≡ need_of self.now.key_bytes self.now.stripes }
-    {
-        need(self.key_bytes, self.stripes)
+/// What becomes of the key slot of this number, where the header has one, without what it takes to
+/// open it. No more iterations than the limit are made. This takes no memory.
+#[tactic(auto, unfolding(crate::specs::Slot::verdict_at))]
+pub fn judge(header: &Header, limit: Option<u32>, number: u8) -> Option<Judgement>
+    ensures { result ≡ option_map judgement_of (verdict_at header.now limit number) }
+{
+    match header {
+        Header::V1(header) => luks1_header::judging::judge(header, limit, number),
     }
 }
 
-/// The need of a slot with keys of so many bytes and so many stripes.
-#[tactic(auto, unfolding(crate::specs::Slot::need_of))]
-pub(crate) fn need(key_bytes: u32, stripes: u32) -> u64
-    ensures { result ≡ need_of key_bytes stripes }
+/// What it takes to open the key slot of this number, where it is there and its numbers are in
+/// range.
+#[tactic(auto, unfolding(crate::specs::Slot::slot_at))]
+pub fn slot(alloc: Global, header: &Header, number: u8) -> Result<Option<Slot>, AllocError>
+    ensures { IfOk result (λ slot. slot ≡ slot_at header.now number) }
 {
-    (u64::from(key_bytes) * u64::from(stripes)).div_ceil(512) * 512
+    match header {
+        Header::V1(header) => luks1_header::judging::slot(alloc, header, number),
+    }
 }
 
-/// What becomes of a key slot.
-#[derive(Drop, Debug)]
-pub enum Verdict {
-    /// It can be tried.
-    Usable(Slot),
-    /// It is not in use.
-    Disabled,
-    /// It cannot be tried.
-    Skipped(SkipReason),
+// What becomes of the key slot of this number.
+fn verdict(
+    alloc: Global,
+    header: &Header,
+    limit: Option<u32>,
+    number: u8,
+) -> Result<Option<Verdict>, AllocError>
+    ensures { IfOk result (λ verdict. verdict ≡ verdict_at header.now limit number) }
+{
+    match judge(header, limit, number) {
+        None => Ok(None),
+        Some(Judgement::Disabled) => Ok(Some(Verdict::Disabled)),
+        Some(Judgement::Skipped(reason)) => Ok(Some(Verdict::Skipped(reason))),
+        Some(Judgement::Usable(_)) => match slot(alloc, header, number)? {
+            Some(slot) => Ok(Some(Verdict::Usable(slot))),
+            None => unreachable!(),
+        },
+    }
 }
 
-/// The key slots of a header by rising number, and what becomes of each: at most 32 slots. No more iterations than the limit
-/// are made.
-#[tactic(auto, unfolding(crate::specs::Slot::verdicts_of))]
+/// The key slots of a header by rising number, and what becomes of each: at most 32 slots. No more
+/// iterations than the limit are made.
 pub fn slots(
     alloc: Global,
     header: &Header,
     limit: Option<u32>,
 ) -> Result<Vec<(u8, Verdict)>, AllocError>
     ensures value { IfOk result (λ verdicts. verdicts.items ≡ verdicts_of header.now limit) }
-    ensures few { IfOk result (λ verdicts. vec_len verdicts ≤ 32) }
+    ensures few { IfOk result (λ verdicts. vec_len verdicts ≤ most_slots) }
 {
-    match header {
-        Header::V1(header) => luks1::verdicts(alloc, header, limit),
+    let mut verdicts = Vec::new(alloc);
+    for number in 0..MOST_SLOTS {
+        if let Some(verdict) = verdict(alloc, header, limit, number)? {
+            verdicts.push((number, verdict))?;
+        }
     }
+    Ok(verdicts)
 }

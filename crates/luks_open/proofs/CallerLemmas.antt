@@ -6,29 +6,32 @@ use Rattle.luks_cipher.specs.Xts.{joined, xts_decrypted}
 use Rattle.luks_kdf.specs.Pbkdf2.{derived_key}
 use Rattle.luks_kdf.specs.Stripes.{merged}
 use Rattle.luks_kdf.specs.declared.hash.Hash.{Hash}
-use Rattle.luks_header.specs.Field.{at}
-use Rattle.luks_header.specs.Segment.{segment_of, segment1_of}
-use Rattle.luks_header.specs.Slot.{need_of}
+use Rattle.luks_area.specs.Field.{at}
+use Rattle.luks_header.specs.Segment.{segment_of}
+use Rattle.luks_verdict.specs.Rule.{need_of}
+use Rattle.luks_verdict.specs.Slot.{end_of}
 use Rattle.luks_header.specs.declared.header.Header.{Header}
-use Rattle.luks_header.specs.declared.header.Header.TheVariants.{V1}
-use Rattle.luks_header.specs.declared.segment.Segment.{Segment}
-use Rattle.luks_header.specs.declared.slot.Slot.{Slot}
-use Rattle.luks_header.proofs.SegmentLemmas.{IsReadable-ok}
-use Rattle.luks_open.specs.Candidate.{KeyDigest, candidate_by, candidate_of, digest_of, material_of, material_sector, unlocked}
+use Rattle.luks_verdict.specs.declared.segment.Segment.{Segment}
+use Rattle.luks_verdict.specs.declared.slot.Slot.{Slot}
+use Rattle.luks_header.proofs.KnownLemmas.{before_payload}
+use Rattle.luks_open.specs.Candidate.{candidate_by, candidate_of, material_of, material_sector, unlocked}
 use Rattle.luks_open.specs.Opening.{first_opening, if_meets, key_of, opened_or, opening_of, answer_of}
-use Rattle.luks_open.specs.Order.{Tries, end_of, held_of, order_of}
+use Rattle.luks_open.specs.Order.{Tries, held_of, order_of}
+use Rattle.luks_open.specs.declared.entry.Entry.{Entry}
 use Rattle.luks_open.specs.declared.opening.Opened.{Opened}
-use Rattle.luks_open.proofs.OrderLemmas.{All-held_of, All-tries, All-verdicts1, held_of-le}
+use Rattle.luks_open.proofs.OrderLemmas.{All-held_of, All-tries, IsOf, held_of-le}
 
 -- the key material of all key slots that are tried ends at or before the payload's start
 pub held_before_payload : (header : Header) (segment : Segment) (named limit : Option ℕ) (tries : Tries) → segment_of header ≡ Ok segment
     → order_of header named limit ≡ Ok tries → held_of tries.slots ≤ segment.offset
-unfolding segment1_of
-held_before_payload (V1 header) segment named limit tries is_segment is_order =
-    let start : segment.offset ≡ 512 * header.payload_offset = ap (λ (s : Segment). s.offset) (IsReadable-ok header segment is_segment).0 in
-    held_of-le segment.offset tries.slots
-    (All-tries (λ slot. end_of slot ≤ segment.offset) (V1 header) named limit tries
-    (All-verdicts1 (λ slot. end_of slot ≤ segment.offset) header limit (λ slot range. omega (arith, range.before_payload))) is_order)
+held_before_payload header segment named limit tries is_segment is_order =
+    held_of-le segment.offset tries.slots (of_entries tries.slots (All-tries header named limit tries is_order))
+  where
+    of_entries : (entries : List Entry) → AllByRecursion (IsOf header limit) entries
+        → AllByRecursion (λ (entry : Entry). end_of entry.slot ≤ segment.offset) entries
+    of_entries [] all = tt
+    of_entries (entry ∷ entries) all =
+        (before_payload header segment limit entry.number entry.slot is_segment all.0.usable, of_entries entries all.1)
 
 -- bytes that stand before place n stand in the first n bytes
 at_beginning : (place len n : ℕ) (image : List ℕ) → place + len ≤ n → at place len (take n image) ≡ at place len image
@@ -53,30 +56,27 @@ unlocked_beginning af key image offset key_bytes stripes n before =
     ap (λ material. merged af key_bytes (take (key_bytes * stripes) material)) (joined_same _ _ (need_of key_bytes stripes / 512) sectors)
 
 -- and so do the candidate and the volume key that it gives
-key_beginning : (digest : KeyDigest) (slot : Slot) (n : ℕ) (image pass : List ℕ) → end_of slot ≤ n
-    → key_of digest slot (take n image) pass ≡ key_of digest slot image pass
+key_beginning : (entry : Entry) (n : ℕ) (image pass : List ℕ) → end_of entry.slot ≤ n → key_of entry (take n image) pass ≡ key_of entry image pass
 unfolding key_of candidate_of
-key_beginning digest slot n image pass before = ap (if_meets digest) (of_hashes slot.kdf_hash slot.af_hash)
+key_beginning entry n image pass before = ap (if_meets entry.digest) (of_hashes entry.slot.kdf_hash entry.slot.af_hash)
   where
-    of_hashes : (kdf af : Option Hash) → candidate_by kdf af slot (take n image) pass ≡ candidate_by kdf af slot image pass
+    of_hashes : (kdf af : Option Hash) → candidate_by kdf af entry.slot (take n image) pass ≡ candidate_by kdf af entry.slot image pass
     of_hashes (Some kdf) (Some af) =
+        let slot = entry.slot in
         ap Some (unlocked_beginning af (derived_key kdf pass slot.salt slot.iterations slot.area_key_bytes) image slot.area_offset slot.key_bytes slot.stripes n before)
     of_hashes (Some kdf) None = refl
     of_hashes None af = refl
 
 -- what a passphrase opens depends on no byte of the image behind the key material
-pub opening_beginning : (header : Header) (tries : Tries) (n : ℕ) (image pass : List ℕ) → held_of tries.slots ≤ n
-    → opening_of header tries (take n image) pass ≡ opening_of header tries image pass
+pub opening_beginning : (tries : Tries) (n : ℕ) (image pass : List ℕ) → held_of tries.slots ≤ n
+    → opening_of tries (take n image) pass ≡ opening_of tries image pass
 unfolding opening_of first_opening
-opening_beginning header tries n image pass held =
-    ap (λ (first : Option Opened). answer_of first tries.skipped) (of_slots tries.slots (All-held_of n tries.slots held))
+opening_beginning tries n image pass held =
+    ap (λ (first : Option Opened). answer_of first tries.skipped) (of_entries tries.slots (All-held_of n tries.slots held))
   where
-    digest : KeyDigest
-    digest = digest_of header
-
-    of_slots : (slots : List (ℕ × Slot)) → AllByRecursion (λ (entry : ℕ × Slot). end_of entry.1 ≤ n) slots
-        → first_opening digest slots (take n image) pass ≡ first_opening digest slots image pass
-    of_slots [] ends = refl
-    of_slots ((number, slot) ∷ slots) ends =
-        ap (λ (key : Option (List ℕ)). opened_or number key (first_opening digest slots (take n image) pass)) (key_beginning digest slot n image pass ends.0)
-        ∙ ap (opened_or number (key_of digest slot image pass)) (of_slots slots ends.1)
+    of_entries : (entries : List Entry) → AllByRecursion (λ (entry : Entry). end_of entry.slot ≤ n) entries
+        → first_opening entries (take n image) pass ≡ first_opening entries image pass
+    of_entries [] ends = refl
+    of_entries (entry ∷ entries) ends =
+        ap (λ (key : Option (List ℕ)). opened_or entry.number key (first_opening entries (take n image) pass)) (key_beginning entry n image pass ends.0)
+        ∙ ap (opened_or entry.number (key_of entry image pass)) (of_entries entries ends.1)

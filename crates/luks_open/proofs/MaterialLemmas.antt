@@ -8,7 +8,7 @@ use Rattle.luks_kdf.specs.declared.hash.Hash.{Hash}
 use Rattle.luks_kdf.specs.Bytes.{xor}
 use Rattle.luks_kdf.specs.Stripes.{Chain, chain_after, extended, merged}
 use Rattle.luks_kdf.proofs.StripesLemmas.{chain_push, chain_start, merged_push}
-use Rattle.luks_header.specs.Slot.{need_of}
+use Rattle.luks_verdict.specs.Rule.{need_of}
 use Rattle.luks_open.specs.Candidate.{material_of, material_sector, unlocked}
 
 -- a length of keys is one of two

@@ -1,178 +1,168 @@
 -- What holds of the key slots that are tried, and where the last of their key material ends.
-use Rattle.std.proofs.Common.{◌≡◌, ◌∙◌, ℕ, ◌+◌, ◌==◌, ◌<◌, ◌≤◌, max, Bool, true, false, List, [], ◌∷◌, ◌++◌, length, map, drop, get_or, find, Option, Some, None, Ok, IfSome, refl, sym, ap, subst, append_assoc, arith, length-append}
-use Rattle.std.specs.Prelude.{if◌then◌else◌}
-use Rattle.std.specs.List.{All, AllByRecursion, cons_option, enumerate_from, filter_map}
-use Rattle.std.proofs.lemmas.List.Elements.{All-from_recursion, recursion_from_All}
+use Rattle.std.proofs.Common.{◌≡◌, ◌∙◌, ℕ, ◌+◌, ◌==◌, ◌<◌, ◌≤◌, max, Bool, true, false, List, [], ◌∷◌, ◌++◌, length, drop, get_or, Option, Some, None, Result, Ok, Err, IsOk, IsSome, refl, sym, ap, subst, arith}
+use Rattle.std.specs.Prelude.{if◌then◌else◌, option_map}
+use Rattle.std.specs.List.{AllByRecursion}
+use Rattle.std.proofs.lemmas.Bool.{eq-eqb}
 use Rattle.std.proofs.lemmas.List.{drop_more}
-use Rattle.luks_header.specs.Slot.{verdict1_of, verdicts_of}
+use Rattle.std.proofs.lemmas.Option.{same_Some}
+use Rattle.luks_verdict.specs.Rule.{most_slots}
+use Rattle.luks_verdict.specs.Slot.{end_of, judgement_of}
+use Rattle.luks_verdict.specs.Table.{rising}
+use Rattle.luks_verdict.specs.declared.digest.KeyDigest.{KeyDigest}
+use Rattle.luks_verdict.specs.declared.refusal.SkipReason.{SkipReason}
+use Rattle.luks_verdict.specs.declared.slot.Slot.{Slot}
+use Rattle.luks_verdict.specs.declared.slot.Verdict.{Verdict}
+use Rattle.luks_verdict.specs.declared.slot.Verdict.TheVariants.{Usable, Disabled, Skipped}
+use Rattle.luks_verdict.specs.declared.slot.Judgement.TheVariants.{Usable as Open}
+use Rattle.luks_verdict.proofs.JudgedLemmas.{usable_from_open}
+use Rattle.luks_verdict.proofs.TableLemmas.{AllByRecursion-append, All-rising}
+use Rattle.luks_header.specs.Digest.{digest_for}
+use Rattle.luks_header.specs.Slot.{slot_at, verdict_at}
 use Rattle.luks_header.specs.declared.header.Header.{Header}
-use Rattle.luks_header.specs.declared.header.Header.TheVariants.{V1}
-use Rattle.luks_header.specs.declared.luks1.Header1.{Header1}
-use Rattle.luks_header.specs.declared.luks1.KeySlot.{KeySlot}
-use Rattle.luks_header.specs.declared.refusal.SkipReason.{SkipReason}
-use Rattle.luks_header.specs.declared.slot.Slot.{Slot}
-use Rattle.luks_header.specs.declared.slot.Verdict.{Verdict}
-use Rattle.luks_header.specs.declared.slot.Verdict.TheVariants.{Usable, Disabled, Skipped}
-use Rattle.luks_header.proofs.SlotLemmas.{InRange, InRange-usable}
-use Rattle.luks_open.specs.Order.{Tries, end_of, held_of, order_of, skipped_at, tries_of_all, tries_of_named, unless_none, usable_at}
-use Rattle.luks_open.specs.Trial.{IfUsable, IsWithin}
+use Rattle.luks_header.proofs.KnownLemmas.{digest_of_usable, slot_of_usable}
+use Rattle.luks_open.specs.Order.{Tries, entry_at, entry_of, held_of, order_of, skipped_at, tried_alone, tries_of_all, tries_of_named, unless_none, usable_at, where_usable}
+use Rattle.luks_open.specs.declared.entry.Entry.{Entry}
+use Rattle.luks_open.specs.declared.fault.OpenFault.{OpenFault}
 
--- what holds of each of two lists holds of both together
-pub AllByRecursion-append : {X : Type 0} (P : X → Type 0) (xs ys : List X) → AllByRecursion P xs → AllByRecursion P ys → AllByRecursion P (xs ++ ys)
-AllByRecursion-append P [] ys all others = others
-AllByRecursion-append P (x ∷ xs) ys all others = (all.0, AllByRecursion-append P xs ys all.1 others)
+-- what is tried of a key slot is of this header: it can be tried, and this is its digest
+pub record IsOf (header : Header) (limit : Option ℕ) (entry : Entry) : Type 0 where
+  pub usable : verdict_at header limit entry.number ≡ Some (Usable entry.slot)
+  pub digest : digest_for header entry.number ≡ Some entry.digest
 
--- what holds of the usable key slots holds of those of one priority
-pub All-usable_at : (P : Slot → Type 0) (priority : ℕ) (verdicts : List (ℕ × Verdict)) → AllByRecursion (IfUsable P) verdicts
-    → AllByRecursion (λ (entry : ℕ × Slot). P entry.1) (filter_map (usable_at priority) verdicts)
-All-usable_at P priority [] all = tt
-All-usable_at P priority ((number, Usable slot) ∷ verdicts) all =
-    of_test (slot.priority == priority) (All-usable_at P priority verdicts all.1)
+-- what it is made of
+entry_of-some : (number : ℕ) (slot : Option Slot) (digest : Option KeyDigest) (entry : Entry) → entry_of number slot digest ≡ Some entry
+    → (entry.number ≡ number) × (slot ≡ Some entry.slot) × (digest ≡ Some entry.digest)
+entry_of-some number (Some slot) (Some digest) entry is =
+    let same : entry ≡ record { number = number; slot = slot; digest = digest } = same_Some _ _ (sym is) in (
+      ap (λ (e : Entry). e.number) same,
+      sym (ap (λ (e : Entry). Some e.slot) same),
+      sym (ap (λ (e : Entry). Some e.digest) same),
+    )
+entry_of-some number (Some slot) None entry is = absurd cc
+entry_of-some number None digest entry is = absurd cc
+
+-- of a key slot that can be tried
+usable_entry : (header : Header) (limit : Option ℕ) (number : ℕ) (slot : Slot) (entry : Entry) → verdict_at header limit number ≡ Some (Usable slot)
+    → entry_at header number ≡ Some entry → IsOf header limit entry
+unfolding entry_at
+usable_entry header limit number slot entry usable is =
+    let made = entry_of-some number (slot_at header number) (digest_for header number) entry is in
+    let same : slot ≡ entry.slot = same_Some _ _ (sym (slot_of_usable header limit number slot usable) ∙ made.1) in
+    record {
+      usable = ap (verdict_at header limit) made.0 ∙ (usable ∙ ap (λ (s : Slot). Some (Usable s)) same);
+      digest = ap (digest_for header) made.0 ∙ made.2;
+    }
+
+-- there is what it takes to open it, and a digest
+pub entry_there : (header : Header) (limit : Option ℕ) (number : ℕ) (slot : Slot) → verdict_at header limit number ≡ Some (Usable slot)
+    → (entry : Entry) × (entry_at header number ≡ Some entry)
+unfolding entry_at
+entry_there header limit number slot usable =
+    let its_slot = slot_of_usable header limit number slot usable in
+    let its_digest = digest_of_usable header limit number slot usable in
+    (record { number = number; slot = slot; digest = its_digest.0 }, rw (its_slot, its_digest.1) refl)
+
+-- of one that can be tried and has a priority
+usable_at-some : (header : Header) (limit : Option ℕ) (priority number : ℕ) (entry : Entry) → usable_at header limit priority number ≡ Some entry → IsOf header limit entry
+usable_at-some header limit priority number entry is = of_verdict (verdict_at header limit number) refl is
   where
-    of_test : (is : Bool) → AllByRecursion (λ (entry : ℕ × Slot). P entry.1) (filter_map (usable_at priority) verdicts)
-        → AllByRecursion (λ (entry : ℕ × Slot). P entry.1) (cons_option (if is then Some (number, slot) else None) (filter_map (usable_at priority) verdicts))
-    of_test true others = (all.0, others)
-    of_test false others = others
-All-usable_at P priority ((number, Disabled) ∷ verdicts) all = All-usable_at P priority verdicts all.1
-All-usable_at P priority ((number, Skipped reason) ∷ verdicts) all = All-usable_at P priority verdicts all.1
+    of_test : (slot : Slot) → verdict_at header limit number ≡ Some (Usable slot) → (test : Bool)
+        → (if test then entry_at header number else None) ≡ Some entry → IsOf header limit entry
+    of_test slot v true h = usable_entry header limit number slot entry v h
+    of_test slot v false h = absurd cc
 
--- and of one that is looked for
-pub IfUsable-find : (P : Slot → Type 0) (test : ℕ × Verdict → Bool) (verdicts : List (ℕ × Verdict)) (found : ℕ × Verdict)
-    → AllByRecursion (IfUsable P) verdicts → find test verdicts ≡ Some found → IfUsable P found
-IfUsable-find P test [] found all is = absurd cc
-IfUsable-find P test (verdict ∷ verdicts) found all is = of_test (test verdict) is (IfUsable-find P test verdicts found all.1)
-  where
-    of_test : (b : Bool) → (if b then Some verdict else find test verdicts) ≡ Some found → (find test verdicts ≡ Some found → IfUsable P found) → IfUsable P found
-    of_test true h further = let same : verdict ≡ found = cc in subst (IfUsable P) same all.0
-    of_test false h further = further h
+    of_verdict : (verdict : Option Verdict) → verdict_at header limit number ≡ verdict → where_usable priority (entry_at header number) verdict ≡ Some entry
+        → IsOf header limit entry
+    of_verdict None v h = absurd cc
+    of_verdict (Some Disabled) v h = absurd cc
+    of_verdict (Some (Skipped reason)) v h = absurd cc
+    of_verdict (Some (Usable slot)) v h = of_test slot v (slot.priority == priority) h
 
 -- what is tried where no key slot is named
-tries-unless_none : (slots : List (ℕ × Slot)) (skipped : List (ℕ × SkipReason)) (tries : Tries) → unless_none slots skipped ≡ Ok tries → slots ≡ tries.slots
+tries-unless_none : (entries : List Entry) (skipped : List (ℕ × SkipReason)) (tries : Tries) → unless_none entries skipped ≡ Ok tries → entries ≡ tries.slots
 tries-unless_none [] skipped tries is = absurd cc
-tries-unless_none (slot ∷ slots) skipped tries is = let same : record { slots = slot ∷ slots; skipped = skipped } ≡ tries = cc in ap (λ (t : Tries). t.slots) same
+tries-unless_none (entry ∷ entries) skipped tries is =
+    let same : record { slots = entry ∷ entries; skipped = skipped } ≡ tries = cc in ap (λ (t : Tries). t.slots) same
 
--- what holds of the usable key slots of a header holds of those that are tried
-pub All-tries : (P : Slot → Type 0) (header : Header) (named limit : Option ℕ) (tries : Tries) → AllByRecursion (IfUsable P) (verdicts_of header limit)
-    → order_of header named limit ≡ Ok tries → AllByRecursion (λ (entry : ℕ × Slot). P entry.1) tries.slots
-unfolding order_of tries_of_all tries_of_named
-All-tries P header None limit tries all is =
-    let verdicts = verdicts_of header limit in
-    subst (AllByRecursion (λ (entry : ℕ × Slot). P entry.1)) (tries-unless_none _ (filter_map skipped_at verdicts) tries is)
-    (AllByRecursion-append (λ (entry : ℕ × Slot). P entry.1) _ _ (All-usable_at P 2 verdicts all) (All-usable_at P 1 verdicts all))
-All-tries P header (Some number) limit tries all is =
-    of_found (find (λ (verdict : ℕ × Verdict). verdict.0 == number) (verdicts_of header limit)) refl is
+-- all that is tried is of the header
+pub All-tries : (header : Header) (named limit : Option ℕ) (tries : Tries) → order_of header named limit ≡ Ok tries → AllByRecursion (IsOf header limit) tries.slots
+unfolding order_of tries_of_all
+All-tries header None limit tries is =
+    subst (AllByRecursion (IsOf header limit)) (tries-unless_none _ (rising (skipped_at header limit) most_slots) tries is)
+    (AllByRecursion-append (IsOf header limit) _ _
+    (All-rising (IsOf header limit) (usable_at header limit 2) most_slots (usable_at-some header limit 2))
+    (All-rising (IsOf header limit) (usable_at header limit 1) most_slots (usable_at-some header limit 1)))
+All-tries header (Some number) limit tries is = of_verdict (verdict_at header limit number) refl is
   where
-    of_found : (found : Option (ℕ × Verdict)) → find (λ (verdict : ℕ × Verdict). verdict.0 == number) (verdicts_of header limit) ≡ found
-        → tries_of_named number found ≡ Ok tries → AllByRecursion (λ (entry : ℕ × Slot). P entry.1) tries.slots
-    of_found None there h = absurd cc
-    of_found (Some (other, Disabled)) there h = absurd cc
-    of_found (Some (other, Skipped reason)) there h = absurd cc
-    of_found (Some (other, Usable slot)) there h =
-        let holds : P slot = IfUsable-find P (λ (verdict : ℕ × Verdict). verdict.0 == number) (verdicts_of header limit) (other, Usable slot) all there in
-        let same : record { slots = (number, slot) ∷ []; skipped = [] } ≡ tries = cc in
-        subst (λ (t : Tries). AllByRecursion (λ (entry : ℕ × Slot). P entry.1) t.slots) same (holds, tt)
+    of_entry : (slot : Slot) → verdict_at header limit number ≡ Some (Usable slot) → (entry : Option Entry) → entry_at header number ≡ entry
+        → tried_alone entry ≡ Ok tries → AllByRecursion (IsOf header limit) tries.slots
+    of_entry slot v None e h = absurd cc
+    of_entry slot v (Some entry) e h =
+        let same : record { slots = entry ∷ []; skipped = [] } ≡ tries = cc in
+        subst (λ (t : Tries). AllByRecursion (IsOf header limit) t.slots) same (usable_entry header limit number slot entry v e, tt)
 
--- some key slot is tried
-pub some_tries : (header : Header) (named limit : Option ℕ) (tries : Tries) → order_of header named limit ≡ Ok tries → 1 ≤ length tries.slots
-unfolding order_of tries_of_all tries_of_named
-some_tries header None limit tries is = of_slots _ is
-  where
-    of_slots : (slots : List (ℕ × Slot)) → unless_none slots (filter_map skipped_at (verdicts_of header limit)) ≡ Ok tries → 1 ≤ length tries.slots
-    of_slots [] h = absurd cc
-    of_slots (slot ∷ slots) h =
-        let same : record { slots = slot ∷ slots; skipped = filter_map skipped_at (verdicts_of header limit) } ≡ tries = cc in
-        let count = ap (λ (t : Tries). length t.slots) same in
-        omega (arith, count)
-some_tries header (Some number) limit tries is = of_found (find (λ (verdict : ℕ × Verdict). verdict.0 == number) (verdicts_of header limit)) is
-  where
-    of_found : (found : Option (ℕ × Verdict)) → tries_of_named number found ≡ Ok tries → 1 ≤ length tries.slots
-    of_found None h = absurd cc
-    of_found (Some (other, Disabled)) h = absurd cc
-    of_found (Some (other, Skipped reason)) h = absurd cc
-    of_found (Some (other, Usable slot)) h =
-        let same : record { slots = (number, slot) ∷ []; skipped = [] } ≡ tries = cc in
-        let count = ap (λ (t : Tries). length t.slots) same in
-        omega (arith, count)
+    of_verdict : (verdict : Option Verdict) → verdict_at header limit number ≡ verdict → tries_of_named (entry_at header number) verdict ≡ Ok tries
+        → AllByRecursion (IsOf header limit) tries.slots
+    of_verdict None v h = absurd cc
+    of_verdict (Some Disabled) v h = absurd cc
+    of_verdict (Some (Skipped reason)) v h = absurd cc
+    of_verdict (Some (Usable slot)) v h = of_entry slot v (entry_at header number) refl h
 
--- LUKS1: what holds of each key slot in range holds of the usable ones
-pub All-verdicts1 : (P : Slot → Type 0) (header : Header1) (limit : Option ℕ) → ((slot : Slot) → InRange header slot → P slot)
-    → AllByRecursion (IfUsable P) (verdicts_of (V1 header) limit)
-unfolding verdicts_of
-All-verdicts1 P header limit from = of_slots 0 header.slots
-  where
-    of_verdict : (slot : KeySlot) (verdict : Verdict) (number : ℕ) → verdict1_of header limit slot ≡ verdict → IfUsable P (number, verdict)
-    of_verdict slot (Usable usable) number is = from usable (InRange-usable header limit slot usable is).1
-    of_verdict slot Disabled number is = tt
-    of_verdict slot (Skipped reason) number is = tt
+-- ---- where there is something to try
 
-    of_slots : (number : ℕ) (slots : List KeySlot) → AllByRecursion (IfUsable P) (enumerate_from number (map (verdict1_of header limit) slots))
-    of_slots number [] = tt
-    of_slots number (slot ∷ slots) = (of_verdict slot (verdict1_of header limit slot) number refl, of_slots (number + 1) slots)
+-- where some key slots can be tried, they are
+pub some_tried : (entries : List Entry) (skipped : List (ℕ × SkipReason)) → 1 ≤ length entries → IsOk (unless_none entries skipped)
+some_tried [] skipped some = absurd (omega arith)
+some_tried (entry ∷ entries) skipped some = refl
+
+-- of a key slot that is judged one of this priority
+pub usable_there : (header : Header) (limit : Option ℕ) (priority number : ℕ) → option_map judgement_of (verdict_at header limit number) ≡ Some (Open priority)
+    → IsSome (usable_at header limit priority number)
+usable_there header limit priority number is =
+    let usable = usable_from_open (verdict_at header limit number) priority is in
+    let there = entry_there header limit number usable.0 usable.1 in
+    rw (usable.1, eq-eqb usable.0.priority priority usable.2, there.1) refl
+
+-- where the one that is named can be tried, it is
+pub named_tried : (header : Header) (limit : Option ℕ) (number : ℕ) (slot : Slot) → verdict_at header limit number ≡ Some (Usable slot)
+    → IsOk (tries_of_named (entry_at header number) (verdict_at header limit number))
+named_tried header limit number slot usable =
+    let there = entry_there header limit number slot usable in
+    rw (usable, there.1) refl
+
+-- the one that is named is judged one that can be tried
+pub named_open : (header : Header) (limit : Option ℕ) (priority number : ℕ) → option_map judgement_of (verdict_at header limit number) ≡ Some (Open priority)
+    → IsOk (tries_of_named (entry_at header number) (verdict_at header limit number))
+named_open header limit priority number is =
+    let usable = usable_from_open (verdict_at header limit number) priority is in
+    named_tried header limit number usable.0 usable.1
+
+-- ---- where the last of the key material ends
 
 -- what ends there one by one ends there together, and the other way round
-pub held_of-le : (most : ℕ) (slots : List (ℕ × Slot)) → AllByRecursion (λ (entry : ℕ × Slot). end_of entry.1 ≤ most) slots → held_of slots ≤ most
+pub held_of-le : (most : ℕ) (entries : List Entry) → AllByRecursion (λ (entry : Entry). end_of entry.slot ≤ most) entries → held_of entries ≤ most
 unfolding held_of
 held_of-le most [] all = omega arith
-held_of-le most ((number, slot) ∷ slots) all = omega (arith, held_of-le most slots all.1, all.0)
+held_of-le most (entry ∷ entries) all = omega (arith, held_of-le most entries all.1, all.0)
 
-pub All-held_of : (most : ℕ) (slots : List (ℕ × Slot)) → held_of slots ≤ most → AllByRecursion (λ (entry : ℕ × Slot). end_of entry.1 ≤ most) slots
+pub All-held_of : (most : ℕ) (entries : List Entry) → held_of entries ≤ most → AllByRecursion (λ (entry : Entry). end_of entry.slot ≤ most) entries
 unfolding held_of
 All-held_of most [] all = tt
-All-held_of most ((number, slot) ∷ slots) all = (omega arith, All-held_of most slots (omega arith))
+All-held_of most (entry ∷ entries) all = (omega arith, All-held_of most entries (omega arith))
 
--- the key material of all usable key slots ends within what can be held
-pub All-IsWithin : (header : Header) (limit : Option ℕ) → All IsWithin (verdicts_of header limit)
-All-IsWithin (V1 header) limit =
-    All-from_recursion IsWithin (verdicts_of (V1 header) limit) (All-verdicts1 (λ slot. end_of slot ≤ 33554432) header limit (λ slot range. range.within_area))
-
--- the key slots of two priorities end within what can be held, where all usable ones do
-pub held_of_two : (first second : ℕ) (verdicts : List (ℕ × Verdict)) → All IsWithin verdicts
-    → held_of (filter_map (usable_at first) verdicts ++ filter_map (usable_at second) verdicts) ≤ 33554432
-held_of_two first second verdicts all =
-    let each = recursion_from_All IsWithin verdicts all in
-    held_of-le 33554432 _
-    (AllByRecursion-append (λ (entry : ℕ × Slot). end_of entry.1 ≤ 33554432) _ _ (All-usable_at (λ slot. end_of slot ≤ 33554432) first verdicts each)
-    (All-usable_at (λ slot. end_of slot ≤ 33554432) second verdicts each))
-
--- and so does the one that is named
-pub IfSome-find : (header : Header) (limit : Option ℕ) (named : ℕ)
-    → IfSome (find (λ (verdict : ℕ × Verdict). verdict.0 == named) (verdicts_of header limit)) IsWithin
-IfSome-find header limit named = of_found (find test (verdicts_of header limit)) refl
-  where
-    test : ℕ × Verdict → Bool
-    test verdict = verdict.0 == named
-
-    of_found : (found : Option (ℕ × Verdict)) → find test (verdicts_of header limit) ≡ found → IfSome found IsWithin
-    of_found None is = tt
-    of_found (Some verdict) is =
-        IfUsable-find (λ slot. end_of slot ≤ 33554432) test (verdicts_of header limit) verdict
-        (recursion_from_All IsWithin (verdicts_of header limit) (All-IsWithin header limit)) is
+-- key material that can be used ends within what can be held of an image
+pub held_of-within : (entries : List Entry) → held_of entries ≤ 33554432
+unfolding held_of
+held_of-within [] = omega arith
+held_of-within (entry ∷ entries) = omega (arith, held_of-within entries, entry.slot.in_range.held)
 
 -- one key slot after the other
-pub held_of-drop : (slots : List (ℕ × Slot)) (i : ℕ) (entry : ℕ × Slot) → i < length slots → entry ≡ get_or slots i entry
-    → held_of (drop i slots) ≡ max (end_of entry.1) (held_of (drop (i + 1) slots))
+pub held_of-drop : (entries : List Entry) (i : ℕ) (entry : Entry) → i < length entries → entry ≡ get_or entries i entry
+    → held_of (drop i entries) ≡ max (end_of entry.slot) (held_of (drop (i + 1) entries))
 unfolding held_of
-held_of-drop slots i entry there is =
-    ap held_of (drop_more slots i entry there) ∙ ap (λ (e : ℕ × Slot). held_of (e ∷ drop (i + 1) slots)) (sym is)
+held_of-drop entries i entry there is =
+    ap held_of (drop_more entries i entry there) ∙ ap (λ (e : Entry). held_of (e ∷ drop (i + 1) entries)) (sym is)
 
 pub held_of-nil : held_of [] ≡ 0
 unfolding held_of
 held_of-nil = refl
-
--- one verdict further: what was made of those before is longer by what is made of it
-pub sorted_more : {X : Type 0} (f : ℕ × Verdict → Option X) (now new : List X) (entry : ℕ × Verdict) (rest left all : List (ℕ × Verdict))
-    → now ++ filter_map f rest ≡ filter_map f all → rest ≡ entry ∷ left → new ≡ now ++ cons_option (f entry) []
-    → new ++ filter_map f left ≡ filter_map f all
-sorted_more {X = X} f now new entry rest left all before is_rest is_new =
-    ap (λ (l : List X). l ++ filter_map f left) is_new
-    ∙ (append_assoc now (cons_option (f entry) []) (filter_map f left)
-    ∙ (ap (λ (l : List X). now ++ l) (one (f entry) (filter_map f left)) ∙ (sym (ap (λ (l : List (ℕ × Verdict)). now ++ filter_map f l) is_rest) ∙ before)))
-  where
-    one : (o : Option X) (xs : List X) → cons_option o [] ++ xs ≡ cons_option o xs
-    one None xs = refl
-    one (Some x) xs = refl
-
--- and it is longer by one at most
-pub length_more : {X : Type 0} (now new : List X) (o : Option X) → new ≡ now ++ cons_option o [] → length new ≤ length now + 1
-length_more now new None is = omega (arith, ap length is, length-append now [])
-length_more now new (Some x) is = omega (arith, ap length is, length-append now (x ∷ []))

@@ -2,7 +2,7 @@
 use Rattle.std.proofs.Common.{◌≡◌, ◌∙◌, ℕ, suc, ◌+◌, ◌-◌, ◌<◌, List, [], ◌∷◌, ◌++◌, length, take, replicate, set, ap, sym, append_assoc, arith, length-append}
 use Rattle.std.proofs.Math.Seq.{set-append_seam}
 use Rattle.std.proofs.lemmas.List.{length-replicate, take_more_set}
-use Rattle.luks_header.specs.declared.refusal.SkipReason.{SkipReason}
+use Rattle.luks_verdict.specs.declared.refusal.SkipReason.{SkipReason}
 use Rattle.luks_open.specs.Skipped.{IsFilled, nothing}
 
 pub filled_more : (places : List (ℕ × SkipReason)) (taken : ℕ) (entry : ℕ × SkipReason) → IsFilled places taken → taken < 32

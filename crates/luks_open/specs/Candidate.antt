@@ -5,11 +5,10 @@ use Rattle.luks_cipher.specs.Xts.{joined, xts_decrypted}
 use Rattle.luks_kdf.specs.Pbkdf2.{derived_key}
 use Rattle.luks_kdf.specs.Stripes.{merged}
 use Rattle.luks_kdf.specs.declared.hash.Hash.{Hash}
-use Rattle.luks_header.specs.Field.{at}
-use Rattle.luks_header.specs.Slot.{hash1_of, need_of}
-use Rattle.luks_header.specs.declared.header.Header.{Header}
-use Rattle.luks_header.specs.declared.header.Header.TheVariants.{V1}
-use Rattle.luks_header.specs.declared.slot.Slot.{Slot}
+use Rattle.luks_area.specs.Field.{at}
+use Rattle.luks_verdict.specs.Rule.{need_of}
+use Rattle.luks_verdict.specs.declared.digest.KeyDigest.{KeyDigest}
+use Rattle.luks_verdict.specs.declared.slot.Slot.{Slot}
 
 -- sector i of key material from `offset` on, decrypted: the sectors have 512 bytes and are numbered from the material's start
 abbrev pub material_sector : List ℕ → List ℕ → ℕ → ℕ → List ℕ
@@ -34,22 +33,6 @@ candidate_by None af slot image pass = None
 -- the key that a key slot's material holds under a passphrase. There is none where a hash function's name is not known
 unfoldable pub candidate_of : Slot → List ℕ → List ℕ → Option (List ℕ)
 candidate_of slot image pass = candidate_by slot.kdf_hash slot.af_hash slot image pass
-
--- by what a volume key is known: PBKDF2 of it gives this value
-pub record KeyDigest : Type 0 where
-  pub hash : Option Hash
-  pub salt : List ℕ
-  pub iterations : ℕ
-  pub value : List ℕ
-
--- the digest of a header. In LUKS1 there is one for all key slots
-unfoldable pub digest_of : Header → KeyDigest
-digest_of (V1 header) = record {
-  hash = hash1_of header;
-  salt = header.digest_salt;
-  iterations = header.digest_iterations;
-  value = header.digest;
-}
 
 -- by this hash function PBKDF2 of the key gives the whole value
 abbrev pub meets_by : Option Hash → KeyDigest → List ℕ → Bool

@@ -3,11 +3,11 @@ use Rattle.std.specs.Prelude.{ℕ, ◌+◌, ◌*◌, sum_by, if◌then◌else◌
 use Rattle.std.specs.Int.{div_ceil}
 use Rattle.luks_kdf.specs.Hash.{size_of}
 use Rattle.luks_kdf.specs.declared.hash.Hash.{Hash}
-use Rattle.luks_header.specs.declared.header.Header.{Header}
-use Rattle.luks_header.specs.declared.refusal.SkipReason.{SkipReason}
-use Rattle.luks_header.specs.declared.slot.Slot.{Slot}
-use Rattle.luks_open.specs.Candidate.{KeyDigest, candidate_of, digest_of, meets}
+use Rattle.luks_verdict.specs.declared.digest.KeyDigest.{KeyDigest}
+use Rattle.luks_verdict.specs.declared.refusal.SkipReason.{SkipReason}
+use Rattle.luks_open.specs.Candidate.{candidate_of, meets}
 use Rattle.luks_open.specs.Order.{Tries}
+use Rattle.luks_open.specs.declared.entry.Entry.{Entry}
 use Rattle.luks_open.specs.declared.fault.OpenFault.{OpenFault}
 use Rattle.luks_open.specs.declared.fault.OpenFault.TheVariants.{NoKey}
 use Rattle.luks_open.specs.declared.opening.Opened.{Opened}
@@ -18,8 +18,8 @@ if_meets digest None = None
 if_meets digest (Some key) = if meets digest key then Some key else None
 
 -- the volume key that a key slot gives under a passphrase, where it opens
-unfoldable pub key_of : KeyDigest → Slot → List ℕ → List ℕ → Option (List ℕ)
-key_of digest slot image pass = if_meets digest (candidate_of slot image pass)
+unfoldable pub key_of : Entry → List ℕ → List ℕ → Option (List ℕ)
+key_of entry image pass = if_meets entry.digest (candidate_of entry.slot image pass)
 
 -- a key slot that opens, or else what is found further on
 abbrev pub opened_or : ℕ → Option (List ℕ) → Option Opened → Option Opened
@@ -27,10 +27,9 @@ opened_or number (Some key) further = Some record { slot = number; key = key }
 opened_or number None further = further
 
 -- the first of these key slots that opens, and the volume key that it gives
-unfoldable pub first_opening : KeyDigest → List (ℕ × Slot) → List ℕ → List ℕ → Option Opened
-first_opening digest [] image pass = None
-first_opening digest ((number, slot) ∷ slots) image pass =
-    opened_or number (key_of digest slot image pass) (first_opening digest slots image pass)
+unfoldable pub first_opening : List Entry → List ℕ → List ℕ → Option Opened
+first_opening [] image pass = None
+first_opening (entry ∷ entries) image pass = opened_or entry.number (key_of entry image pass) (first_opening entries image pass)
 
 -- what is opened, where something is
 abbrev pub answer_of : Option Opened → List (ℕ × SkipReason) → Result Opened OpenFault
@@ -38,8 +37,8 @@ answer_of (Some opened) skipped = Ok opened
 answer_of None skipped = Err (NoKey skipped)
 
 -- what a passphrase opens: the first of the key slots that are tried
-unfoldable pub opening_of : Header → Tries → List ℕ → List ℕ → Result Opened OpenFault
-opening_of header tries image pass = answer_of (first_opening (digest_of header) tries.slots image pass) tries.skipped
+unfoldable pub opening_of : Tries → List ℕ → List ℕ → Result Opened OpenFault
+opening_of tries image pass = answer_of (first_opening tries.slots image pass) tries.skipped
 
 -- the evaluations of HMAC by which PBKDF2 gives so many bytes
 abbrev pub evaluations : Option Hash → ℕ → ℕ → ℕ
@@ -47,16 +46,16 @@ evaluations (Some hash) iterations bytes = iterations * div_ceil bytes (size_of 
 evaluations None iterations bytes = 0
 
 -- those that a trial of a key slot takes: for the key of its key material, and for the digest of the candidate
-unfoldable pub evaluations_of : KeyDigest → ℕ × Slot → ℕ
-evaluations_of digest (number, slot) =
-    evaluations slot.kdf_hash slot.iterations slot.area_key_bytes + evaluations digest.hash digest.iterations (length digest.value)
+unfoldable pub evaluations_of : Entry → ℕ
+evaluations_of entry =
+    evaluations entry.slot.kdf_hash entry.slot.iterations entry.slot.area_key_bytes
+    + evaluations entry.digest.hash entry.digest.iterations (length entry.digest.value)
 
 -- the key slots that are tried: up to the first that opens, or all
-unfoldable pub tried_of : KeyDigest → List (ℕ × Slot) → List ℕ → List ℕ → List (ℕ × Slot)
-tried_of digest [] image pass = []
-tried_of digest ((number, slot) ∷ slots) image pass =
-    (number, slot) ∷ (if is_some (key_of digest slot image pass) then [] else tried_of digest slots image pass)
+unfoldable pub tried_of : List Entry → List ℕ → List ℕ → List Entry
+tried_of [] image pass = []
+tried_of (entry ∷ entries) image pass = entry ∷ (if is_some (key_of entry image pass) then [] else tried_of entries image pass)
 
 -- the evaluations of HMAC that opening takes: those of all key slots that are tried
-unfoldable pub work_of : Header → Tries → List ℕ → List ℕ → ℕ
-work_of header tries image pass = sum_by (evaluations_of (digest_of header)) (tried_of (digest_of header) tries.slots image pass)
+unfoldable pub work_of : Tries → List ℕ → List ℕ → ℕ
+work_of tries image pass = sum_by evaluations_of (tried_of tries.slots image pass)

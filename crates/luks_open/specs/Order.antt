@@ -1,62 +1,88 @@
 -- Which key slots are tried, and in which order.
-use Rattle.std.specs.Prelude.{ℕ, ◌+◌, ◌==◌, max, find, if◌then◌else◌, List, [], ◌∷◌, ◌++◌, Option, Some, None, Result, Ok, Err}
-use Rattle.std.specs.List.{filter_map}
-use Rattle.luks_header.specs.Slot.{need_of, verdicts_of}
+use Rattle.std.specs.Prelude.{ℕ, ◌==◌, max, if◌then◌else◌, List, [], ◌∷◌, ◌++◌, Option, Some, None, Result, Ok, Err}
+use Rattle.luks_verdict.specs.Rule.{most_slots}
+use Rattle.luks_verdict.specs.Slot.{end_of}
+use Rattle.luks_verdict.specs.Table.{rising}
+use Rattle.luks_verdict.specs.declared.digest.KeyDigest.{KeyDigest}
+use Rattle.luks_verdict.specs.declared.refusal.SkipReason.{SkipReason}
+use Rattle.luks_verdict.specs.declared.refusal.SkipReason.TheVariants.{Digest}
+use Rattle.luks_verdict.specs.declared.slot.Slot.{Slot}
+use Rattle.luks_verdict.specs.declared.slot.Verdict.{Verdict}
+use Rattle.luks_verdict.specs.declared.slot.Verdict.TheVariants.{Usable, Skipped}
+use Rattle.luks_verdict.specs.declared.slot.Verdict.TheVariants.{Disabled as Unused}
+use Rattle.luks_header.specs.Digest.{digest_for}
+use Rattle.luks_header.specs.Slot.{slot_at, verdict_at}
 use Rattle.luks_header.specs.declared.header.Header.{Header}
-use Rattle.luks_header.specs.declared.refusal.SkipReason.{SkipReason}
-use Rattle.luks_header.specs.declared.slot.Slot.{Slot}
-use Rattle.luks_header.specs.declared.slot.Verdict.{Verdict}
-use Rattle.luks_header.specs.declared.slot.Verdict.TheVariants.{Usable, Skipped}
-use Rattle.luks_header.specs.declared.slot.Verdict.TheVariants.{Disabled as Unused}
+use Rattle.luks_open.specs.declared.entry.Entry.{Entry}
 use Rattle.luks_open.specs.declared.fault.OpenFault.{OpenFault}
 use Rattle.luks_open.specs.declared.fault.OpenFault.TheVariants.{NoSuchSlot, Disabled, NamedSkipped, NothingTried}
 
 -- what is tried
 pub record Tries : Type 0 where
-  -- the key slots with their numbers, in the order in which they are tried
-  pub slots : List (ℕ × Slot)
+  -- the key slots with their numbers and digests, in the order in which they are tried
+  pub slots : List Entry
   -- the key slots that were skipped, by rising number; empty where a key slot was named
   pub skipped : List (ℕ × SkipReason)
 
--- a key slot that can be tried and has this priority
-abbrev pub usable_at : ℕ → ℕ × Verdict → Option (ℕ × Slot)
-usable_at priority (number, Usable slot) = if slot.priority == priority then Some (number, slot) else None
-usable_at priority (number, Unused) = None
-usable_at priority (number, Skipped reason) = None
+-- what is tried of a key slot, where there is a digest
+abbrev pub entry_of : ℕ → Option Slot → Option KeyDigest → Option Entry
+entry_of number (Some slot) (Some digest) = Some record { number = number; slot = slot; digest = digest }
+entry_of number (Some slot) None = None
+entry_of number None digest = None
 
--- a key slot that is skipped
-abbrev pub skipped_at : ℕ × Verdict → Option (ℕ × SkipReason)
-skipped_at (number, Usable slot) = None
-skipped_at (number, Unused) = None
-skipped_at (number, Skipped reason) = Some (number, reason)
+-- what is tried of the key slot of this number
+unfoldable pub entry_at : Header → ℕ → Option Entry
+entry_at header number = entry_of number (slot_at header number) (digest_for header number)
+
+-- where that is a key slot which can be tried and has this priority
+abbrev pub where_usable : ℕ → Option Entry → Option Verdict → Option Entry
+where_usable priority entry (Some (Usable slot)) = if slot.priority == priority then entry else None
+where_usable priority entry (Some Unused) = None
+where_usable priority entry (Some (Skipped reason)) = None
+where_usable priority entry None = None
+
+abbrev pub usable_at : Header → Option ℕ → ℕ → ℕ → Option Entry
+usable_at header limit priority number = where_usable priority (entry_at header number) (verdict_at header limit number)
+
+-- a key slot that is skipped, and why
+abbrev pub where_skipped : ℕ → Option Verdict → Option (ℕ × SkipReason)
+where_skipped number (Some (Usable slot)) = None
+where_skipped number (Some Unused) = None
+where_skipped number (Some (Skipped reason)) = Some (number, reason)
+where_skipped number None = None
+
+abbrev pub skipped_at : Header → Option ℕ → ℕ → Option (ℕ × SkipReason)
+skipped_at header limit number = where_skipped number (verdict_at header limit number)
 
 -- these key slots are tried, where there are any
-abbrev pub unless_none : List (ℕ × Slot) → List (ℕ × SkipReason) → Result Tries OpenFault
+abbrev pub unless_none : List Entry → List (ℕ × SkipReason) → Result Tries OpenFault
 unless_none [] skipped = Err (NothingTried skipped)
-unless_none (slot ∷ slots) skipped = Ok record { slots = slot ∷ slots; skipped = skipped }
+unless_none (entry ∷ entries) skipped = Ok record { slots = entry ∷ entries; skipped = skipped }
 
 -- no key slot is named: those of priority 2 are tried, then those of priority 1, each by rising number
-unfoldable pub tries_of_all : List (ℕ × Verdict) → Result Tries OpenFault
-tries_of_all verdicts =
-    unless_none (filter_map (usable_at 2) verdicts ++ filter_map (usable_at 1) verdicts) (filter_map skipped_at verdicts)
+unfoldable pub tries_of_all : Header → Option ℕ → Result Tries OpenFault
+tries_of_all header limit =
+    unless_none (rising (usable_at header limit 2) most_slots ++ rising (usable_at header limit 1) most_slots)
+    (rising (skipped_at header limit) most_slots)
 
--- the key slot of this number is named, of which this became: it alone is tried, whatever its priority
-unfoldable pub tries_of_named : ℕ → Option (ℕ × Verdict) → Result Tries OpenFault
-tries_of_named named None = Err NoSuchSlot
-tries_of_named named (Some (number, Usable slot)) = Ok record { slots = (named, slot) ∷ []; skipped = [] }
-tries_of_named named (Some (number, Unused)) = Err Disabled
-tries_of_named named (Some (number, Skipped reason)) = Err (NamedSkipped reason)
+-- it is tried alone. (Where it can be tried, there is what it takes, and a digest.)
+abbrev pub tried_alone : Option Entry → Result Tries OpenFault
+tried_alone (Some entry) = Ok record { slots = entry ∷ []; skipped = [] }
+tried_alone None = Err (NamedSkipped Digest)
+
+-- a key slot is named, of which this became: it alone is tried, whatever its priority
+abbrev pub tries_of_named : Option Entry → Option Verdict → Result Tries OpenFault
+tries_of_named entry None = Err NoSuchSlot
+tries_of_named entry (Some (Usable slot)) = tried_alone entry
+tries_of_named entry (Some Unused) = Err Disabled
+tries_of_named entry (Some (Skipped reason)) = Err (NamedSkipped reason)
 
 -- what is tried of a header's key slots, by the key slot that is named and the limit on iterations, or why nothing is
 unfoldable pub order_of : Header → Option ℕ → Option ℕ → Result Tries OpenFault
-order_of header None limit = tries_of_all (verdicts_of header limit)
-order_of header (Some named) limit = tries_of_named named (find (λ verdict. verdict.0 == named) (verdicts_of header limit))
-
--- where the key material of a key slot ends in the image
-abbrev pub end_of : Slot → ℕ
-end_of slot = slot.area_offset + need_of slot.key_bytes slot.stripes
+order_of header None limit = tries_of_all header limit
+order_of header (Some named) limit = tries_of_named (entry_at header named) (verdict_at header limit named)
 
 -- where the key material ends of all these key slots
-unfoldable pub held_of : List (ℕ × Slot) → ℕ
+unfoldable pub held_of : List Entry → ℕ
 held_of [] = 0
-held_of ((number, slot) ∷ slots) = max (end_of slot) (held_of slots)
+held_of (entry ∷ entries) = max (end_of entry.slot) (held_of entries)

@@ -1,8 +1,8 @@
 -- How a list of at most 32 key slots stands in 32 places.
 use Rattle.std.specs.Prelude.{◌≡◌, ℕ, ◌-◌, ◌≤◌, List, ◌++◌, length, take, replicate}
 use Rattle.std.proofs.Common.{◌∙◌, ap, sym}
-use Rattle.luks_header.specs.declared.refusal.SkipReason.{SkipReason}
-use Rattle.luks_header.specs.declared.refusal.SkipReason.TheVariants.{State}
+use Rattle.luks_verdict.specs.declared.refusal.SkipReason.{SkipReason}
+use Rattle.luks_verdict.specs.declared.refusal.SkipReason.TheVariants.{State}
 
 -- what stands in a place that is left
 abbrev pub nothing : ℕ × SkipReason

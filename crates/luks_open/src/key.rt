@@ -5,7 +5,7 @@ ghost use Rattle.std.specs.Int.{div_ceil};
 ghost use Rattle.luks_cipher.specs.Xts.{is_xts_key_length};
 ghost use Rattle.luks_kdf.specs.Hash.{size_of};
 ghost use Rattle.luks_kdf.specs.Pbkdf2.{capped, derived_key};
-ghost use Rattle.luks_header.specs.Slot.{need_of};
+ghost use Rattle.luks_verdict.specs.Rule.{need_of};
 ghost use Rattle.luks_open.specs.Candidate.{unlocked};
 
 use crate::material;
@@ -48,7 +48,8 @@ impl Key {
         requires turns { 1 ≤ iterations }
         requires some { 1 ≤ length self.old }
         ensures key { self.new ≡ derived_key hash secret.now salt.now iterations (length self.old) }
-        ensures work { work.new ≡ capped (work.old + iterations * div_ceil (length self.old) (size_of hash)) }
+        ensures work { work.new ≡ capped (work.old
+            + iterations * div_ceil (length self.old) (size_of hash)) }
     {
         let len = self.len;
         let bytes = &mut self.bytes[..len];

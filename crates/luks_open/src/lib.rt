@@ -1,10 +1,12 @@
 //! Opening a volume: which key slots are tried, in which order, and what key a passphrase gives.
 //!
-//! [`order`](order::order) says which key slots of a header are tried, [`held_end`](tries::held_end) how much of the image has to
-//! be held for that, and [`open`](opening::open) tries them.
+//! [`order`](order::order) says which key slots of a header are tried,
+//! [`held_end`](tries::held_end) how much of the image has to be held for that, and
+//! [`open`](opening::open) tries them.
 #![tactic(auto)]
 
 mod digest;
+mod entry;
 pub mod fault;
 pub mod key;
 mod material;

@@ -1,10 +1,11 @@
-//! Key material: the stripes of a volume key, encrypted in sectors of 512 bytes that are numbered from the material's start.
+//! Key material: the stripes of a volume key, encrypted in sectors of 512 bytes that are numbered
+//! from the material's start.
 
 ghost use Rattle.std.specs.Prelude.{◌≡◌, ◌+◌, ◌*◌, ◌≤◌, ◌++◌, List, ℕ, true, length, take};
 ghost use Rattle.luks_cipher.specs.Xts.{is_xts_key_length};
 ghost use Rattle.luks_kdf.specs.declared.hash.Hash.{Hash as AnyHash};
 ghost use Rattle.luks_kdf.specs.Stripes.{chain_after};
-ghost use Rattle.luks_header.specs.Slot.{need_of};
+ghost use Rattle.luks_verdict.specs.Rule.{need_of};
 ghost use Rattle.luks_open.specs.Candidate.{material_sector, unlocked};
 
 use luks_cipher::XtsKey;
@@ -30,7 +31,8 @@ fn take_in(splitter: &mut AfSplitter, stripes: &[u8], len: usize, count: usize)
     requires there { count * len ≤ length stripes.now }
     ensures taken { (hash : AnyHash) (before : List ℕ) (number : ℕ) → length before ≡ number * len
         → splitter.old ≡ chain_after hash len before number
-        → splitter.new ≡ chain_after hash len (before ++ take (count * len) stripes.now) (number + count) }
+        → splitter.new
+        ≡ chain_after hash len (before ++ take (count * len) stripes.now) (number + count) }
     ensures len { length splitter.new.block ≡ len }
 {
     'stripes: for i in 0..count {
@@ -70,7 +72,8 @@ fn unlock_by(
     splitter.last(&sector[rest * len..rest * len + len], out);
 }
 
-/// Decrypts the key material from `offset` on, and writes the key that its stripes hold. They are as long as `out`.
+/// Decrypts the key material from `offset` on, and writes the key that its stripes hold. They are
+/// as long as `out`.
 pub(crate) fn unlock(
     af: Hash,
     key: &XtsKey,

@@ -4,13 +4,14 @@ ghost use Rattle.std.specs.Prelude.{◌≡◌, ◌+◌, ◌≤◌, ℕ, Option, 
 ghost use Rattle.luks_cipher.specs.Xts.{is_xts_key_length};
 ghost use Rattle.luks_kdf.specs.Pbkdf2.{capped};
 ghost use Rattle.luks_header.specs.Segment.{segment_of};
-ghost use Rattle.luks_header.specs.declared.segment.Segment.{Segment};
+ghost use Rattle.luks_verdict.specs.declared.segment.Segment.{Segment};
 ghost use Rattle.luks_open.specs.Candidate.{candidate_of};
 ghost use Rattle.luks_open.specs.Opening.{evaluations, evaluations_of, first_opening, key_of, opening_of, tried_of, work_of};
 ghost use Rattle.luks_open.specs.Order.{held_of, order_of};
-ghost use Rattle.luks_open.specs.Trial.{IsTriable, IsUsable};
+ghost use Rattle.luks_open.specs.Trial.{IsTriable};
 
-use crate::digest::KeyDigest;
+use crate::digest::is_met;
+use crate::entry::Entry;
 use crate::fault::OpenFault;
 use crate::key::Key;
 use crate::tries::Order;
@@ -35,7 +36,8 @@ fn candidate(slot: &Slot, image: &[u8], pass: &[u8], work: &mut Work) -> Option<
     requires { IsTriable (length image.now) slot.now }
     ensures value { result ≡ candidate_of slot.now image.now pass.now }
     ensures some { IsSome result }
-    ensures work { work.new ≡ capped (work.old + evaluations slot.now.kdf_hash slot.now.iterations slot.now.area_key_bytes) }
+    ensures work { work.new ≡ capped (work.old
+        + evaluations slot.now.kdf_hash slot.now.iterations slot.now.area_key_bytes) }
     ensures len { IfSome result (λ key. is_xts_key_length (length key) ≡ true) }
 {
     let kdf = slot.kdf_hash?;
@@ -61,21 +63,14 @@ fn candidate(slot: &Slot, image: &[u8], pass: &[u8], work: &mut Work) -> Option<
 
 // The volume key that a key slot gives under a passphrase.
 #[tactic(auto, unfolding(crate::specs::Opening::key_of, crate::specs::Opening::evaluations_of))]
-fn key(
-    digest: &KeyDigest<'_>,
-    entry: &(u8, Slot),
-    image: &[u8],
-    pass: &[u8],
-    work: &mut Work,
-) -> Option<Key>
-    requires triable { IsTriable (length image.now) entry.now.1 }
-    requires usable { IsUsable digest.now }
-    ensures value { result ≡ key_of digest.now entry.now.1 image.now pass.now }
-    ensures work { work.new ≡ capped (work.old + evaluations_of digest.now entry.now) }
+fn key(entry: &Entry, image: &[u8], pass: &[u8], work: &mut Work) -> Option<Key>
+    requires { IsTriable (length image.now) entry.now.slot }
+    ensures value { result ≡ key_of entry.now image.now pass.now }
+    ensures work { work.new ≡ capped (work.old + evaluations_of entry.now) }
     ensures len { IfSome result (λ key. is_xts_key_length (length key) ≡ true) }
 {
-    let key = candidate(&entry.1, image, pass, work)?;
-    if digest.is_met(key.as_slice(), work) {
+    let key = candidate(&entry.slot, image, pass, work)?;
+    if is_met(&entry.digest, key.as_slice(), work) {
         Some(key)
     } else {
         None
@@ -84,34 +79,37 @@ fn key(
 
 // The first of these key slots that opens.
 fn first_opening(
-    digest: &KeyDigest<'_>,
-    slots: &[(u8, Slot)],
+    entries: &[Entry],
     image: &[u8],
     pass: &[u8],
     work: &mut Work,
 ) -> Option<Opened>
-    requires triable { All (λ entry. IsTriable (length image.now) entry.1) slots.now }
-    requires usable { IsUsable digest.now }
-    ensures value { result ≡ first_opening digest.now slots.now image.now pass.now }
-    ensures work { work.new ≡ capped (work.old + sum_by (evaluations_of digest.now) (tried_of digest.now slots.now image.now pass.now)) }
+    requires { All (λ entry. IsTriable (length image.now) entry.slot) entries.now }
+    ensures value { result ≡ first_opening entries.now image.now pass.now }
+    ensures work { work.new ≡ capped (work.old
+        + sum_by evaluations_of (tried_of entries.now image.now pass.now)) }
     ensures len { IfSome result (λ opened. is_xts_key_length (length opened.key) ≡ true) }
 {
     // Where there are no key slots, the count stays as it is: within its range.
     let _before = work.count();
-    'slots: for entry in slots {
-        if let Some(key) = key(digest, entry, image, pass, work) {
-            return Some(Opened { slot: entry.0, key });
+    'entries: for entry in entries {
+        if let Some(key) = key(entry, image, pass, work) {
+            return Some(Opened {
+                slot: entry.number,
+                key,
+            });
         }
     }
     None
 }
 
-/// Tries the key slots of an order under a passphrase, and answers the first that opens with its volume key (LUKS1 On-Disk
-/// Format Specification 1.2.3, "Master key recovery").
+/// Tries the key slots of an order under a passphrase, and answers the first that opens with its
+/// volume key (LUKS1 On-Disk Format Specification 1.2.3, "Master key recovery").
 ///
-/// A key slot opens where PBKDF2 of the key that its material holds equals the whole digest of the header. Where none does, it is
-/// [`OpenFault::NoKey`]; there is no other fault. This takes no memory. The count of work is raised by the evaluations of HMAC
-/// that the key slots take which are tried: up to the first that opens, or all.
+/// A key slot opens where PBKDF2 of the key that its material holds equals the whole digest that it
+/// is opened against. Where none does, it is [`OpenFault::NoKey`]; there is no other fault. This
+/// takes no memory. The count of work is raised by the evaluations of HMAC that the key slots take
+/// which are tried: up to the first that opens, or all.
 #[tactic(auto, unfolding(crate::specs::Opening::opening_of, crate::specs::Opening::work_of))]
 pub fn open(
     header: &Header,
@@ -120,16 +118,16 @@ pub fn open(
     pass: &[u8],
     work: &mut Work,
 ) -> Result<Opened, OpenFault>
-    // The order is that of the header, whose segment is not refused, and the area holds the key material.
+    // The order is that of the header, whose segment is not refused, and the area holds the key
+    // material.
     requires order { (named limit : Option ℕ) × (order_of header.now named limit ≡ Ok order.now) }
     requires segment { (segment : Segment) × (segment_of header.now ≡ Ok segment) }
     requires held { held_of order.now.slots ≤ length area.now }
-    ensures value { result ≡ opening_of header.now order.now area.now pass.now }
-    ensures work { work.new ≡ capped (work.old + work_of header.now order.now area.now pass.now) }
+    ensures value { result ≡ opening_of order.now area.now pass.now }
+    ensures work { work.new ≡ capped (work.old + work_of order.now area.now pass.now) }
     ensures key_length { IfOk result (λ opened. is_xts_key_length (length opened.key) ≡ true) }
 {
-    let digest = KeyDigest::of(header);
-    match first_opening(&digest, order.slots(), area.as_slice(), pass, work) {
+    match first_opening(order.entries(), area.as_slice(), pass, work) {
         Some(opened) => Ok(opened),
         None => Err(OpenFault::NoKey(order.skipped())),
     }

@@ -1,131 +1,152 @@
 //! In which order key slots are tried.
 
-ghost use Rattle.std.specs.Prelude.{◌≡◌, ◌==◌, ◌<◌, ◌≤◌, ◌⊎◌, ◌++◌, [], ◌∷◌, Some, Ok, Err, All, IfOk, IfErr, IfSome, OnOk, find, length, vec_len};
-ghost use Rattle.std.specs.List.{cons_option, filter_map};
-ghost use Rattle.luks_open.specs.Order.{end_of, order_of, skipped_at, tries_of_all, tries_of_named, usable_at};
-ghost use Rattle.luks_open.specs.Trial.{IsWithin};
+ghost use Rattle.std.specs.Prelude.{◌≡◌, ◌⊎◌, ◌++◌, Ok, Err, IfOk, IfErr, IsOk, IsSome, OnOk, OnErr, option_map, [], ◌∷◌, ◌≤◌, length};
+ghost use Rattle.luks_verdict.specs.Rule.{most_slots};
+ghost use Rattle.luks_verdict.specs.Table.{rising};
+ghost use Rattle.luks_open.specs.Order.{order_of, skipped_at, entry_at, tried_alone, tries_of_all, tries_of_named, usable_at};
+ghost use Rattle.luks_header.specs.Slot.{verdict_at};
 
+use crate::entry::{Entry, entry_at};
 use crate::fault::OpenFault;
 use crate::skipped::SkippedSlots;
 use crate::tries::Order;
 use luks_header::header::Header;
-use luks_header::slot::{Slot, Verdict, slots};
+use luks_header::refusal::SkipReason;
+use luks_header::rule::MOST_SLOTS;
+use luks_header::slot::{Judgement, judge};
 use std::alloc::{AllocError, Global};
 
-#[cfg(test)]
-mod tests;
-
-// The key slots that are tried, by their priority, and those that are skipped.
-#[derive(Drop)]
-struct ByPriority {
-    preferred: Vec<(u8, Slot)>,
-    normal: Vec<(u8, Slot)>,
-    skipped: SkippedSlots,
+// What is tried of the key slot of this number, where it can be tried and has this priority.
+fn usable(
+    alloc: Global,
+    header: &Header,
+    limit: Option<u32>,
+    priority: u8,
+    number: u8,
+) -> Result<Option<Entry>, AllocError>
+    ensures ok { IfOk result (λ entry. entry ≡ usable_at header.now limit priority number) }
+    ensures err { OnErr result (IsSome (usable_at header.now limit priority number)) }
+{
+    match judge(header, limit, number) {
+        Some(Judgement::Usable(its)) if its == priority => entry_at(alloc, header, number),
+        _ => Ok(None),
+    }
 }
 
-impl ByPriority {
-    // Puts a key slot to the others of its kind.
-    fn push(&mut self, number: u8, verdict: Verdict) -> Result<(), AllocError>
-        requires { length self.old.skipped < 32 }
-        ensures preferred { OnOk result (self.new.preferred.items ≡ self.old.preferred.items ++ cons_option (usable_at 2 (number, verdict)) []) }
-        ensures normal { OnOk result (self.new.normal.items ≡ self.old.normal.items ++ cons_option (usable_at 1 (number, verdict)) []) }
-        ensures skipped { OnOk result (self.new.skipped ≡ self.old.skipped ++ cons_option (skipped_at (number, verdict)) []) }
-    {
-        match verdict {
-            Verdict::Usable(slot) => match slot.priority {
-                2 => self.preferred.push((number, slot))?,
-                1 => self.normal.push((number, slot))?,
-                _ => {}
-            },
-            Verdict::Disabled => {}
-            Verdict::Skipped(reason) => self.skipped.push(number, reason),
+// Puts the key slots of this priority behind the others, by rising number.
+fn push_usable(
+    alloc: Global,
+    entries: &mut Vec<Entry>,
+    header: &Header,
+    limit: Option<u32>,
+    priority: u8,
+) -> Result<(), AllocError>
+    ensures ok { OnOk result (entries.new.items
+        ≡ entries.old.items ++ rising (usable_at header.now limit priority) most_slots) }
+    ensures err { OnErr result (1
+        ≤ length (rising (usable_at header.now limit priority) most_slots)) }
+{
+    for number in 0..MOST_SLOTS {
+        if let Some(entry) = usable(alloc, header, limit, priority, number)? {
+            entries.push(entry)?;
         }
-        Ok(())
+    }
+    Ok(())
+}
+
+// Why the key slot of this number is skipped, where it is.
+fn skip_reason(header: &Header, limit: Option<u32>, number: u8) -> Option<SkipReason>
+    ensures { option_map (λ reason. (number, reason)) result ≡ skipped_at header.now limit number }
+{
+    match judge(header, limit, number) {
+        Some(Judgement::Skipped(reason)) => Some(reason),
+        _ => None,
     }
 }
 
-// The key slots of a header by their priorities.
-fn sorted(alloc: Global, verdicts: Vec<(u8, Verdict)>) -> Result<ByPriority, AllocError>
-    requires { vec_len verdicts ≤ 32 }
-    ensures preferred { IfOk result (λ sorted. sorted.preferred.items ≡ filter_map (usable_at 2) verdicts.items) }
-    ensures normal { IfOk result (λ sorted. sorted.normal.items ≡ filter_map (usable_at 1) verdicts.items) }
-    ensures skipped { IfOk result (λ sorted. sorted.skipped ≡ filter_map skipped_at verdicts.items) }
+// The key slots that are skipped.
+fn skipped(header: &Header, limit: Option<u32>) -> SkippedSlots
+    ensures { result ≡ rising (skipped_at header.now limit) most_slots }
 {
-    let mut sorted = ByPriority {
-        preferred: Vec::new(alloc),
-        normal: Vec::new(alloc),
-        skipped: SkippedSlots::new(),
-    };
-    for (number, verdict) in verdicts {
-        sorted.push(number, verdict)?;
+    let mut skipped = SkippedSlots::new();
+    for number in 0..MOST_SLOTS {
+        if let Some(reason) = skip_reason(header, limit, number) {
+            skipped.push(number, reason);
+        }
     }
-    Ok(sorted)
-}
-
-// The key slots of one list, and then those of another.
-fn joined(
-    mut first: Vec<(u8, Slot)>,
-    mut second: Vec<(u8, Slot)>,
-) -> Result<Vec<(u8, Slot)>, AllocError>
-    ensures { IfOk result (λ slots. slots.items ≡ first.items ++ second.items) }
-{
-    first.append(&mut second)?;
-    Ok(first)
+    skipped
 }
 
 // No key slot is named.
-#[tactic(auto, using(crate::proofs::OrderLemmas::held_of_two), unfolding(crate::specs::Order::tries_of_all))]
-fn order_all(alloc: Global, verdicts: Vec<(u8, Verdict)>) -> Result<Order, OpenFault>
-    requires few { vec_len verdicts ≤ 32 }
-    requires within { All IsWithin verdicts.items }
-    ensures ok { IfOk result (λ order. tries_of_all verdicts.items ≡ Ok order) }
-    ensures err { IfErr result (λ fault. (fault ≡ OpenFault.Memory) ⊎ (tries_of_all verdicts.items ≡ Err fault)) }
+#[tactic(auto, unfolding(crate::specs::Order::tries_of_all))]
+fn order_all(alloc: Global, header: &Header, limit: Option<u32>) -> Result<Order, OpenFault>
+    ensures ok { IfOk result (λ order. tries_of_all header.now limit ≡ Ok order) }
+    ensures err { IfErr result (λ fault. (fault ≡ OpenFault.Memory)
+        ⊎ (tries_of_all header.now limit ≡ Err fault)) }
+    ensures memory { result ≡ Err OpenFault.Memory → IsOk (tries_of_all header.now limit) }
 {
-    let sorted = sorted(alloc, verdicts)?;
-    let slots = joined(sorted.preferred, sorted.normal)?;
-    if slots.is_empty() {
-        return Err(OpenFault::NothingTried(sorted.skipped));
+    let mut entries = Vec::new(alloc);
+    push_usable(alloc, &mut entries, header, limit, 2)?;
+    push_usable(alloc, &mut entries, header, limit, 1)?;
+    let skipped = skipped(header, limit);
+    if entries.is_empty() {
+        return Err(OpenFault::NothingTried(skipped));
     }
-    Ok(Order::new(slots, sorted.skipped))
+    Ok(Order::new(entries, skipped))
 }
 
 // One key slot alone.
-fn order_one(alloc: Global, number: u8, slot: Slot) -> Result<Order, AllocError>
-    requires { end_of slot ≤ 33554432 }
-    ensures { IfOk result (λ order. order ≡ record { slots = (number, slot) ∷ []; skipped = [] }) }
+fn order_one(alloc: Global, entry: Entry) -> Result<Order, AllocError>
+    ensures { IfOk result (λ order. order ≡ record { slots = entry ∷ []; skipped = [] }) }
 {
-    let slots = vec![in alloc; (number, slot)]?;
-    Ok(Order::new(slots, SkippedSlots::new()))
+    let entries = vec![in alloc; entry]?;
+    Ok(Order::new(entries, SkippedSlots::new()))
 }
 
-// What became of the key slot of this number.
-fn verdict_at(number: u8, verdicts: Vec<(u8, Verdict)>) -> Option<(u8, Verdict)>
-    ensures { result ≡ find (λ verdict. verdict.0 == number) verdicts.items }
+// A key slot that can be tried is named.
+fn order_usable(alloc: Global, header: &Header, named: u8) -> Result<Order, OpenFault>
+    ensures ok { IfOk result (λ order. tried_alone (entry_at header.now named) ≡ Ok order) }
+    ensures err { IfErr result (λ fault. (fault ≡ OpenFault.Memory)
+        ⊎ (tried_alone (entry_at header.now named) ≡ Err fault)) }
 {
-    verdicts.into_iter().find(|verdict| verdict.0 == number)
-}
-
-// The key slot of this number is named, of which this became.
-#[tactic(auto, unfolding(crate::specs::Order::tries_of_named))]
-fn order_named(alloc: Global, named: u8, verdict: Option<(u8, Verdict)>) -> Result<Order, OpenFault>
-    requires within { IfSome verdict IsWithin }
-    ensures ok { IfOk result (λ order. tries_of_named named verdict ≡ Ok order) }
-    ensures err { IfErr result (λ fault. (fault ≡ OpenFault.Memory) ⊎ (tries_of_named named verdict ≡ Err fault)) }
-{
-    match verdict {
-        None => Err(OpenFault::NoSuchSlot),
-        Some((_, Verdict::Disabled)) => Err(OpenFault::Disabled),
-        Some((_, Verdict::Skipped(reason))) => Err(OpenFault::NamedSkipped(reason)),
-        Some((_, Verdict::Usable(slot))) => Ok(order_one(alloc, named, slot)?),
+    match entry_at(alloc, header, named)? {
+        Some(entry) => Ok(order_one(alloc, entry)?),
+        None => Err(OpenFault::NamedSkipped(SkipReason::Digest)),
     }
 }
 
-/// The key slots of a header that are tried, in their order: those of priority 2, then those of priority 1, each by rising
-/// number. Where a key slot is named, it is that one alone, whatever its priority. Key slots that want more iterations than the
-/// limit, or a digest that does, are skipped.
+// A key slot is named.
+fn order_named(
+    alloc: Global,
+    header: &Header,
+    limit: Option<u32>,
+    named: u8,
+) -> Result<Order, OpenFault>
+    ensures ok { IfOk result (λ order.
+        tries_of_named (entry_at header.now named) (verdict_at header.now limit named)
+        ≡ Ok order) }
+    ensures err { IfErr result (λ fault. (fault ≡ OpenFault.Memory)
+        ⊎ (tries_of_named (entry_at header.now named) (verdict_at header.now limit named)
+        ≡ Err fault)) }
+    ensures memory { result ≡ Err OpenFault.Memory
+        → IsOk (tries_of_named (entry_at header.now named) (verdict_at header.now limit named)) }
+{
+    match judge(header, limit, named) {
+        None => Err(OpenFault::NoSuchSlot),
+        Some(Judgement::Disabled) => Err(OpenFault::Disabled),
+        Some(Judgement::Skipped(reason)) => Err(OpenFault::NamedSkipped(reason)),
+        Some(Judgement::Usable(_)) => order_usable(alloc, header, named),
+    }
+}
+
+/// The key slots of a header that are tried, in their order: those of priority 2, then those of
+/// priority 1, each by rising number. Where a key slot is named, it is that one alone, whatever its
+/// priority. Key slots that want more iterations than the limit, or a digest that does, are
+/// skipped.
 ///
-/// [`OpenFault::NoSuchSlot`], [`OpenFault::Disabled`] and [`OpenFault::NamedSkipped`] are for a key slot that is named,
-/// [`OpenFault::NothingTried`] is for a header of which no key slot is tried where none is named.
+/// [`OpenFault::NoSuchSlot`], [`OpenFault::Disabled`] and [`OpenFault::NamedSkipped`] are for a key
+/// slot that is named, [`OpenFault::NothingTried`] is for a header of which no key slot is tried
+/// where none is named. [`OpenFault::Memory`] comes only where there is something to try.
 #[tactic(auto, unfolding(crate::specs::Order::order_of))]
 pub fn order(
     alloc: Global,
@@ -134,11 +155,12 @@ pub fn order(
     limit: Option<u32>,
 ) -> Result<Order, OpenFault>
     ensures ok { IfOk result (λ order. order_of header.now named limit ≡ Ok order) }
-    ensures err { IfErr result (λ fault. (fault ≡ OpenFault.Memory) ⊎ (order_of header.now named limit ≡ Err fault)) }
+    ensures err { IfErr result (λ fault. (fault ≡ OpenFault.Memory)
+        ⊎ (order_of header.now named limit ≡ Err fault)) }
+    ensures memory { result ≡ Err OpenFault.Memory → IsOk (order_of header.now named limit) }
 {
-    let verdicts = slots(alloc, header, limit)?;
     match named {
-        None => order_all(alloc, verdicts),
-        Some(named) => order_named(alloc, named, verdict_at(named, verdicts)),
+        None => order_all(alloc, header, limit),
+        Some(named) => order_named(alloc, header, limit, named),
     }
 }

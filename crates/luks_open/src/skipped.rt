@@ -11,7 +11,8 @@ const MOST: usize = 32;
 /// What stands in the places that are left.
 const NOTHING: (u8, SkipReason) = (0, SkipReason::State);
 
-/// Key slots that were skipped, by rising number, and why: at most 32. A clause sees them as a list.
+/// Key slots that were skipped, by rising number, and why: at most 32. A clause sees them as a
+/// list.
 #[derive(Clone, Copy, PartialEq, Eq, Debug)]
 pub struct SkippedSlots {
     places: [(u8, SkipReason); MOST],
@@ -20,7 +21,7 @@ pub struct SkippedSlots {
 
 impl Model for SkippedSlots {
     ghost use Rattle.std.specs.Prelude.{List, ℕ, take, length};
-    ghost use Rattle.luks_header.specs.declared.refusal.SkipReason.{SkipReason};
+    ghost use Rattle.luks_verdict.specs.declared.refusal.SkipReason.{SkipReason};
     ghost use Rattle.luks_open.specs.Skipped.{IsFilled, filled_up, filled_up_again};
 
     ghost Value = { List (ℕ × SkipReason) };
@@ -31,7 +32,9 @@ impl Model for SkippedSlots {
 
     ghost inverse = { λ slots. record { places = filled_up slots; taken = length slots } };
 
-    ghost inverse_ok = { λ s filled. filled_up_again (λ places taken. record { places = places; taken = taken }) s.places s.taken filled };
+    ghost inverse_ok = { λ s filled.
+        filled_up_again (λ places taken. record { places = places; taken = taken })
+        s.places s.taken filled };
 }
 
 impl SkippedSlots {

@@ -1,10 +1,11 @@
 //! What is tried.
 
 ghost use Rattle.std.specs.Prelude.{◌≡◌, ◌≤◌};
+ghost use Rattle.luks_area.specs.Area.{longest_area};
 ghost use Rattle.luks_open.specs.Order.{held_of};
 
+pub use crate::entry::Entry;
 use crate::skipped::SkippedSlots;
-use luks_header::slot::Slot;
 use std::marker::Model;
 
 /// The key slots that are tried, in their order, and those that were skipped.
@@ -12,36 +13,31 @@ use std::marker::Model;
 /// A clause sees both lists.
 #[derive(Drop, Debug)]
 pub struct Order {
-    slots: Vec<(u8, Slot)>,
+    entries: Vec<Entry>,
     skipped: SkippedSlots,
 }
 
 impl Model for Order {
-    ghost use Rattle.std.specs.Prelude.{◌≤◌};
-    ghost use Rattle.luks_open.specs.Order.{Tries, held_of};
+    ghost use Rattle.luks_open.specs.Order.{Tries};
 
     ghost Value = { Tries };
 
-    ghost view = { λ order. record { slots = order.slots.items; skipped = order.skipped } };
-
-    ghost invariant = { λ order. held_of order.slots.items ≤ 33554432 };
+    ghost view = { λ order. record { slots = order.entries.items; skipped = order.skipped } };
 }
 
 impl Order {
     /// These key slots in their order, and those that were skipped.
-    pub(crate) fn new(slots: Vec<(u8, Slot)>, skipped: SkippedSlots) -> Order
-        requires { held_of slots.items ≤ 33554432 }
-        ensures { result ≡ record { slots = slots.items; skipped = skipped } }
+    pub(crate) fn new(entries: Vec<Entry>, skipped: SkippedSlots) -> Order
+        ensures { result ≡ record { slots = entries.items; skipped = skipped } }
     {
-        Order { slots, skipped }
+        Order { entries, skipped }
     }
 
-    /// The key slots with their numbers.
-    pub(crate) fn slots(&self) -> &[(u8, Slot)]
-        ensures value { result.now ≡ self.now.slots }
-        ensures within { held_of self.now.slots ≤ 33554432 }
+    /// The key slots with their numbers and digests.
+    pub(crate) fn entries(&self) -> &[Entry]
+        ensures { result.now ≡ self.now.slots }
     {
-        self.slots.as_slice()
+        self.entries.as_slice()
     }
 
     /// The key slots that were skipped.
@@ -52,14 +48,15 @@ impl Order {
     }
 }
 
-/// How many of the image's first bytes have to be held to try these key slots: up to the end of the key material that ends last.
+/// How many of the image's first bytes have to be held to try these key slots: up to the end of the
+/// key material that ends last.
 pub fn held_end(order: &Order) -> usize
     ensures value { result ≡ held_of order.now.slots }
-    ensures within { result ≤ 33554432 }
+    ensures within { result ≤ longest_area }
 {
     let mut end = 0;
-    for entry in order.slots() {
-        let slot = &entry.1;
+    for entry in order.entries() {
+        let slot = &entry.slot;
         end = (slot.area_offset + slot.need()).max(end);
     }
     end as usize

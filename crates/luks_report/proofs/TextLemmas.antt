@@ -2,11 +2,11 @@
 use Rattle.std.proofs.Common.{ℕ, ◌≤◌, length, arith}
 use Rattle.luks_header.specs.SegmentFault.{fault_text}
 use Rattle.luks_header.specs.SkipReason.{reason_text}
-use Rattle.luks_header.specs.declared.refusal.SkipReason.{SkipReason}
-use Rattle.luks_header.specs.declared.refusal.SkipReason.TheVariants.{State, Kind, Member, Argon2i, Argon2id, Kdf, Hash, Encryption, KeySize, Stripes, Iterations, Area, Digest}
-use Rattle.luks_header.specs.declared.refusal.SegmentFault.{SegmentFault}
-use Rattle.luks_header.specs.declared.refusal.SegmentFault.TheVariants.{Requirement, Segments, Integrity, KeyBytes, SectorSize, Offset, Size}
-use Rattle.luks_header.specs.declared.refusal.SegmentFault.TheVariants.{Member as BadMember, Kind as OtherKind, Encryption as OtherEncryption, Hash as OtherHash}
+use Rattle.luks_verdict.specs.declared.refusal.SkipReason.{SkipReason}
+use Rattle.luks_verdict.specs.declared.refusal.SkipReason.TheVariants.{State, Kind, Member, Argon2i, Argon2id, Kdf, Hash, Encryption, KeySize, Stripes, Iterations, Area, Digest}
+use Rattle.luks_verdict.specs.declared.refusal.SegmentFault.{SegmentFault}
+use Rattle.luks_verdict.specs.declared.refusal.SegmentFault.TheVariants.{Requirement, Segments, Integrity, KeyBytes, SectorSize, Offset, Size}
+use Rattle.luks_verdict.specs.declared.refusal.SegmentFault.TheVariants.{Member as BadMember, Kind as OtherKind, Encryption as OtherEncryption, Hash as OtherHash}
 
 pub reason_short : (reason : SkipReason) → length (reason_text reason) ≤ 10
 reason_short State = omega arith

@@ -3,10 +3,10 @@ use Rattle.std.specs.Prelude.{ℕ, ◌∷◌, ◌++◌, [], List, codes, suc}
 use Rattle.std.specs.Fmt.{decimal}
 use Rattle.std.specs.Int.{to_be_bytes, w32}
 use Rattle.hex.specs.Hex.{encode_lower}
-use Rattle.luks_header.specs.declared.luks1.Header1.{Header1}
-use Rattle.luks_header.specs.declared.luks1.KeySlot.{KeySlot}
-use Rattle.luks_header.specs.declared.luks1.SlotState.{SlotState}
-use Rattle.luks_header.specs.declared.luks1.SlotState.TheVariants.{Enabled, Disabled, Damaged}
+use Rattle.luks1_header.specs.declared.header.Header1.{Header1}
+use Rattle.luks1_header.specs.declared.header.KeySlot.{KeySlot}
+use Rattle.luks1_header.specs.declared.header.SlotState.{SlotState}
+use Rattle.luks1_header.specs.declared.header.SlotState.TheVariants.{Enabled, Disabled, Damaged}
 use Rattle.luks_report.specs.Escaping.{escaped}
 use Rattle.luks_report.specs.Field.{field}
 

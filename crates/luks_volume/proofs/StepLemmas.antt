@@ -3,7 +3,7 @@ use Rattle.std.proofs.Common.{◌≡◌, ℕ, ◌+◌, ◌-◌, ◌*◌, ◌^◌
 use Rattle.std.specs.Prelude.{nat_lt, OnOk, IfErr}
 use Rattle.std.proofs.lemmas.Bool.{le-ltb, lt-ltb}
 use Rattle.std.proofs.lemmas.List.{drop-drop}
-use Rattle.luks_header.specs.declared.segment.Segment.{Segment}
+use Rattle.luks_verdict.specs.declared.segment.Segment.{Segment}
 use Rattle.luks_io.specs.Bytes.{Took, WhereKnown, counted, raised}
 use Rattle.luks_io.proofs.Taking.{took_all, took_sum}
 use Rattle.luks_volume.specs.Passing.{StopsDiscarding, StopsInSector, is_failed_write, limit_of}

@@ -2,7 +2,7 @@
 use Rattle.std.specs.Prelude.{ℕ, ◌+◌, ◌-◌, ◌*◌, ◌/◌, ◌%◌, ◌^◌, ◌==◌, min, nat_lt, if◌then◌else◌, List, length, take, drop, Option, None, Some, Result, Ok, Err}
 use Rattle.luks_cipher.specs.Xts.{joined, xts_decrypted}
 use Rattle.luks_header.specs.SectorSize.{bytes_of}
-use Rattle.luks_header.specs.declared.segment.Segment.{Segment}
+use Rattle.luks_verdict.specs.declared.segment.Segment.{Segment}
 use Rattle.luks_volume.specs.declared.fault.VolumeFault.{VolumeFault}
 use Rattle.luks_volume.specs.declared.fault.VolumeFault.TheVariants.{CutBeforePayload, Tail, Short}
 use Rattle.luks_volume.specs.declared.state.Step.{Step}

@@ -1,7 +1,7 @@
 -- What a pump is to its caller, and what its calls do.
 use Rattle.std.specs.Prelude.{◌≡◌, ℕ, ◌+◌, ◌*◌, ◌<◌, ◌⊎◌, min, nat_lt, List, length, take, Option, Result, Ok, Err, Bool, true, false, IsTrue}
 use Rattle.luks_io.specs.Bytes.{Adds, Took, TookBetween}
-use Rattle.luks_header.specs.declared.segment.Segment.{Segment}
+use Rattle.luks_verdict.specs.declared.segment.Segment.{Segment}
 use Rattle.luks_volume.specs.Passing.{limit_of}
 use Rattle.luks_volume.specs.Plain.{ending_of, ending_within, payload_end_of, sector_len, sector_of, sector_start, sectors_of}
 use Rattle.luks_volume.specs.declared.fault.VolumeFault.{VolumeFault}

@@ -3,8 +3,7 @@
 use super::fixture::{Device, header_bytes};
 use crate::area::HeaderArea;
 use crate::fault::HeaderFault;
-use crate::header::{Header, read_header};
-use crate::luks1::{Header1, KeySlot, SlotState};
+use crate::header::{Header, Header1, KeySlot, SlotState, read_header};
 use luks_io::adapters::ReadSource;
 use luks_io::memory::MemSource;
 use luks_io::source::Source;

@@ -1,11 +1,12 @@
 //! Which slots can be tried and where the payload lies, each bound from both sides.
 
 use super::fixture::{patch, volume_header};
+use crate::digest::digest_for;
 use crate::header::{Header, read_header};
 use crate::payload::segment;
 use crate::refusal::{SegmentFault, SkipReason};
 use crate::sector_size::SectorSize;
-use crate::slot::{Verdict, slots};
+use crate::slot::{Judgement, Verdict, judge, slot, slots};
 use luks_io::memory::MemSource;
 use luks_kdf::Hash;
 use std::alloc::Global;
@@ -276,4 +277,103 @@ fn refusals_have_their_texts(rt: HostRuntime) {
     assert_eq!(rt; SkipReason::KeySize.text(), "key size");
     assert_eq!(rt; SegmentFault::Kind.text(), "type");
     assert_eq!(rt; SegmentFault::SectorSize.text(), "sector size");
+}
+
+// The next of some numbers that look drawn: a linear congruence of 64 bits, of which the upper half
+// counts.
+fn next(state: &mut u64) -> u32 {
+    *state = state
+        .wrapping_mul(6_364_136_223_846_793_005)
+        .wrapping_add(1_442_695_040_888_963_407);
+    (*state >> 32) as u32
+}
+
+// One of four numbers that a field may well have, or any.
+fn draw(state: &mut u64, usual: [u32; 4]) -> u32 {
+    match next(state) % 5 {
+        0 => usual[0],
+        1 => usual[1],
+        2 => usual[2],
+        3 => usual[3],
+        _ => next(state),
+    }
+}
+
+fn drawn_header(state: &mut u64) -> [u8; 592] {
+    let mut bytes = volume_header();
+    let numbers = [
+        (KEY_BYTES, draw(state, [32, 64, 0, 1])),
+        (PAYLOAD_OFFSET, draw(state, [4096, 65536, 2, 0])),
+        (DIGEST_ITERATIONS, draw(state, [1000, 1, 0, 2000])),
+    ];
+    for (place, number) in numbers {
+        patch(&mut bytes, place, &number.to_be_bytes());
+    }
+    for slot in 0..8 {
+        let numbers = [
+            (STATE, draw(state, [0x00ac_71f3, 0x00ac_71f3, 0xdead, 1])),
+            (ITERATIONS, draw(state, [1000, 1, 0, 1001])),
+            (SLOT_OFFSET, draw(state, [8, 2, 1, 65036])),
+            (STRIPES, draw(state, [4000, 1, 0, 4001])),
+        ];
+        for (place, number) in numbers {
+            patch(&mut bytes, place + 48 * slot, &number.to_be_bytes());
+        }
+    }
+    bytes
+}
+
+// With ample memory want of it is never told: an error ends the test.
+#[test]
+fn slots_and_digests_are_told_of_any_header(rt: HostRuntime) -> Result<(), Fail> {
+    let alloc = rt.alloc();
+    let mut state = 1;
+    let mut usable = 0;
+    for run in 0..2000u32 {
+        let header = parse(alloc, &drawn_header(&mut state))?;
+        let limit = if run % 2 == 0 { None } else { Some(1000) };
+        let verdicts = slots(alloc, &header, limit)?;
+        assert_eq!(rt; verdicts.len(), 8, "run {run}");
+        for (number, verdict) in verdicts.iter() {
+            if matches!(verdict, Verdict::Usable(_)) {
+                usable += 1;
+                assert!(rt; digest_for(alloc, &header, *number)?.is_some(), "run {run}");
+                assert!(rt; slot(alloc, &header, *number)?.is_some(), "run {run}");
+            }
+        }
+    }
+    // There are some of either kind.
+    assert!(rt; usable > 100);
+    assert!(rt; usable < 15_900);
+    Ok(())
+}
+
+#[test]
+fn a_slot_is_judged_by_its_number(rt: HostRuntime) -> Result<(), Fail> {
+    let header = parse(rt.alloc(), &volume_header())?;
+    assert_eq!(rt; judge(&header, None, 0), Some(Judgement::Usable(1)));
+    assert_eq!(rt; judge(&header, Some(999), 0), Some(Judgement::Skipped(SkipReason::Iterations)));
+    assert_eq!(rt; judge(&header, None, 7), Some(Judgement::Disabled));
+    for number in [8, 31, 32, 255] {
+        assert_eq!(rt; judge(&header, None, number), None);
+        assert!(rt; slot(rt.alloc(), &header, number)?.is_none());
+    }
+    Ok(())
+}
+
+#[test]
+fn a_digest_has_its_numbers(rt: HostRuntime) -> Result<(), Fail> {
+    let header = parse(rt.alloc(), &volume_header())?;
+    let Some(digest) = digest_for(rt.alloc(), &header, 0)? else {
+        return Err("no digest".into());
+    };
+    assert_eq!(rt; digest.hash, Some(Hash::Sha256));
+    assert_eq!(rt; digest.iterations, 1000);
+    assert_eq!(rt; digest.salt.as_slice().len(), 32);
+    assert_eq!(rt; digest.salt.as_slice().first(), Some(&0x20));
+    assert_eq!(rt; digest.value.as_slice().len(), 20);
+    assert_eq!(rt; digest.value.as_slice().last(), Some(&0x13));
+    let none = parse(rt.alloc(), &changed(&[(DIGEST_ITERATIONS, 0)]))?;
+    assert!(rt; digest_for(rt.alloc(), &none, 0)?.is_none());
+    Ok(())
 }

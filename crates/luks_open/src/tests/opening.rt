@@ -130,7 +130,8 @@ fn the_whole_digest_counts(rt: HostRuntime) -> Result<(), Fail> {
     Ok(())
 }
 
-// Of the key material one byte is changed, and the slot no longer opens. A byte behind its stripes does not count.
+// Of the key material one byte is changed, and the slot no longer opens. A byte behind its stripes
+// does not count.
 #[test]
 fn the_whole_key_material_counts(rt: HostRuntime) -> Result<(), Fail> {
     let alloc = rt.alloc();
@@ -163,9 +164,9 @@ fn a_full_count_of_work_stays(rt: HostRuntime) -> Result<(), Fail> {
     Ok(())
 }
 
-// An image whose header has the numbers of a usual volume: SHA-256, a key of 64 bytes, 4000 stripes from sector 8 on, the payload from
-// sector 4096 on, and 1000 iterations each for slot 0, which alone is in use, and for the digest. Its key material is not the split of a
-// key.
+// An image whose header has the numbers of a usual volume: SHA-256, a key of 64 bytes, 4000 stripes
+// from sector 8 on, the payload from sector 4096 on, and 1000 iterations each for slot 0, which
+// alone is in use, and for the digest. Its key material is not the split of a key.
 fn with_usual_numbers(alloc: Global) -> Result<Vec<u8>, Fail> {
     let mut image = SHORT_KEY.image(alloc)?;
     image.resize(260_096, 0)?;

@@ -20,8 +20,8 @@ fn header(alloc: Global) -> Result<Header, Fail> {
 // The numbers of the slots of an order.
 fn numbers(alloc: Global, order: &Order) -> Result<Vec<u8>, Fail> {
     let mut numbers = Vec::new(alloc);
-    for entry in order.slots() {
-        numbers.push(entry.0)?;
+    for entry in order.entries() {
+        numbers.push(entry.number)?;
     }
     Ok(numbers)
 }
@@ -96,7 +96,8 @@ fn nothing_may_be_left_to_try(rt: HostRuntime) -> Result<(), Fail> {
     Ok(())
 }
 
-// Runs with less and less memory refused, until one meets no refusal. Each refused run answers want of memory.
+// Runs with less and less memory refused, until one meets no refusal. Each refused run answers want
+// of memory.
 #[test]
 fn answers_memory_where_it_is_refused(rt: HostRuntime) -> Result<(), Fail> {
     let alloc = rt.alloc();
@@ -108,7 +109,7 @@ fn answers_memory_where_it_is_refused(rt: HostRuntime) -> Result<(), Fail> {
         for _ in 0..400 {
             match order(alloc, &header, named, None) {
                 Ok(order) => {
-                    tried = order.slots().len();
+                    tried = order.entries().len();
                     break;
                 }
                 Err(fault) => {

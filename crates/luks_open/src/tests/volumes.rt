@@ -1,8 +1,9 @@
 //! Two volumes of LUKS1, and what a passphrase opens of them.
 //!
-//! Their bytes were written by a Python script with hashlib (`pbkdf2_hmac` and the hash functions) and the package
-//! cryptography (AES in its mode XTS). cryptsetup opens a volume of that script by the passphrases that it was made with,
-//! and by no other. It does not open these two, since they have few stripes.
+//! Their bytes were written by a Python script with hashlib (`pbkdf2_hmac` and the hash functions)
+//! and the package cryptography (AES in its mode XTS). cryptsetup opens a volume of that script by
+//! the passphrases that it was made with, and by no other. It does not open these two, since they
+//! have few stripes.
 
 use crate::fault::OpenFault;
 use crate::opening::{Opened, open};
@@ -39,8 +40,8 @@ pub const SHORT_KEY: Volume = Volume {
     key: "8e8ae659af122b9b679534a9813e4f804495d5d43212c23e2e86fc40470f43f8",
 };
 
-/// SHA-1, a key of 64 bytes, 3 iterations of the digest, the payload from sector 4 on. Slot 0 alone is in use, with 4 iterations
-/// and 9 stripes from sector 2 on. Its passphrase is sesame.
+/// SHA-1, a key of 64 bytes, 3 iterations of the digest, the payload from sector 4 on. Slot 0 alone
+/// is in use, with 4 iterations and 9 stripes from sector 2 on. Its passphrase is sesame.
 pub const LONG_KEY: Volume = Volume {
     len: 2048,
     rows: LONG_KEY_ROWS,

@@ -6,7 +6,7 @@ ghost use Rattle.luks_report.specs.Dump1.{slot_text, text_lines, uuid_line};
 
 use super::push_field;
 use crate::escaping::escape;
-use luks_header::luks1::{Header1, KeySlot, SlotState};
+use luks_header::header::{Header1, KeySlot, SlotState};
 use std::alloc::{AllocError, Global};
 
 /// The line with the UUID alone.

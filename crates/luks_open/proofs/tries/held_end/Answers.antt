@@ -1,20 +1,25 @@
 use Rattle.std.proofs.Common.{ap, arith}
 use Rattle.std.proofs.lemmas.List.{drop_all}
 use Rattle.luks_open.specs.Order.{held_of}
-use Rattle.luks_open.proofs.OrderLemmas.{held_of-drop, held_of-nil}
+use Rattle.luks_open.proofs.OrderLemmas.{held_of-drop, held_of-nil, held_of-within}
 use Rattle.luks_open.proofs.tries.held_end.Goals as goal
 
 pub overflow_add-slot : goal.overflow_add-slot
 overflow_add-slot c =
-    let next = held_of-drop c.slots-entry-items.result.now c.loop-entry.entry-index c.entry-item.result c.loop-entry-test.true c.entry-item.is in
-    omega (arith, next, c.loop-entry.invariant, c.need.ensures, c.slots-entry-items.ensures.within)
+    let next = held_of-drop c.entries-entry-items.result.now c.loop-entry.entry-index c.entry-item.result c.loop-entry-test.true c.entry-item.is in
+    omega (arith, next, c.loop-entry.invariant, c.need.ensures, held_of-within c.args.order.now.slots)
 
 pub loop-entry-preserved : goal.loop-entry-preserved
 loop-entry-preserved c =
-    let next = held_of-drop c.slots-entry-items.result.now c.loop-entry.entry-index c.entry-item.result c.loop-entry-test.true c.entry-item.is in
+    let next = held_of-drop c.entries-entry-items.result.now c.loop-entry.entry-index c.entry-item.result c.loop-entry-test.true c.entry-item.is in
     omega (arith, next, c.loop-entry.invariant, c.need.ensures, c.max-end.ensures)
 
 pub returns-clause-value : goal.returns-clause-value
 returns-clause-value c =
-    let none = drop_all c.loop-entry.entry-index c.slots-entry-items.result.now (omega arith) in
+    let none = drop_all c.loop-entry.entry-index c.entries-entry-items.result.now (omega arith) in
     omega (arith, c.loop-entry.invariant, ap held_of none, held_of-nil)
+
+pub returns-clause-within : goal.returns-clause-within
+returns-clause-within c =
+    let none = drop_all c.loop-entry.entry-index c.entries-entry-items.result.now (omega arith) in
+    omega (arith, c.loop-entry.invariant, ap held_of none, held_of-nil, held_of-within c.args.order.now.slots)

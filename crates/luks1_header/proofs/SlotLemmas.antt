@@ -1,0 +1,132 @@
+-- What is known of a slot that there is no reason to skip.
+use Rattle.std.proofs.Common.{◌≡◌, ◌∙◌, ℕ, ◌+◌, ◌*◌, ◌≤◌, ap, sym, subst, refl, Bool, true, false, List, [], ◌∷◌, Option, Some, None, length, arith}
+use Rattle.std.specs.Prelude.{◌||◌, nat_lt, if◌then◌else◌, option_map, option_and_then, slice_get}
+use Rattle.std.proofs.lemmas.Bool.{ltb-false}
+use Rattle.std.proofs.lemmas.Bool.Decides.{nat_tests}
+use Rattle.std.proofs.lemmas.Option.{same_Some}
+use Rattle.luks_verdict.specs.Digest.{digest_from, is_undigested}
+use Rattle.luks_verdict.specs.Rule.{is_beyond, is_in_range, is_misplaced, is_unstriped, need_of}
+use Rattle.luks_verdict.specs.Slot.{are_in_range, end_of, judged, judgement_of, slot_from, slot_of}
+use Rattle.luks_verdict.specs.Table.{first_holding}
+use Rattle.luks_verdict.proofs.MadeLemmas.{slot_from-yes}
+use Rattle.luks_verdict.proofs.TableLemmas.{first_not}
+use Rattle.luks_verdict.specs.declared.digest.KeyDigest.{KeyDigest}
+use Rattle.luks_verdict.specs.declared.refusal.SkipReason.{SkipReason}
+use Rattle.luks_verdict.specs.declared.refusal.SkipReason.TheVariants.{State, Stripes, Iterations, Area, Digest}
+use Rattle.luks_verdict.specs.declared.slot.Slot.{Slot}
+use Rattle.luks_verdict.specs.declared.slot.Verdict.TheVariants.{Usable}
+use Rattle.luks_verdict.specs.declared.slot.Verdict.TheVariants.{Disabled as Unused}
+use Rattle.luks_verdict.specs.declared.slot.Judgement.TheVariants.{Usable as Open}
+use Rattle.luks1_header.specs.Slot1.{digest1_of, hash1_of, is_damaged, is_disabled, is_misplaced1, reason1_of, slot1_at, slot1_of, slot_parts1_of, verdict1_at, verdict1_of}
+use Rattle.luks1_header.specs.declared.header.Header1.{Header1}
+use Rattle.luks1_header.specs.declared.header.KeySlot.{KeySlot}
+
+-- none of the lines of its table holds
+record NoReason (header : Header1) (limit : Option ℕ) (slot : KeySlot) : Type 0 where
+  stripes : is_unstriped slot.stripes ≡ false
+  iterations : is_beyond limit slot.iterations ≡ false
+  area : is_misplaced1 header slot ≡ false
+  digest : is_undigested limit (digest1_of header) ≡ false
+
+no_reason : (header : Header1) (limit : Option ℕ) (slot : KeySlot) → reason1_of header limit slot ≡ None → NoReason header limit slot
+unfolding reason1_of
+no_reason header limit slot none =
+    let last : List (Bool × SkipReason) = (is_undigested limit (digest1_of header), Digest) ∷ [] in
+    let fourth : List (Bool × SkipReason) = (is_misplaced1 header slot, Area) ∷ last in
+    let third : List (Bool × SkipReason) = (is_beyond limit slot.iterations, Iterations) ∷ fourth in
+    let state = first_not (is_damaged slot.state) State ((is_unstriped slot.stripes, Stripes) ∷ third) none in
+    let stripes = first_not (is_unstriped slot.stripes) Stripes third state.1 in
+    let iterations = first_not (is_beyond limit slot.iterations) Iterations fourth stripes.1 in
+    let area = first_not (is_misplaced1 header slot) Area last iterations.1 in
+    let digest = first_not (is_undigested limit (digest1_of header)) Digest [] area.1 in
+    record { stripes = stripes.0; iterations = iterations.0; area = area.0; digest = digest.0 }
+
+-- its key material is in its place
+placed : (header : Header1) (slot : KeySlot) → is_misplaced1 header slot ≡ false
+    → (512 * slot.offset + need_of header.key_bytes slot.stripes ≤ 512 * header.payload_offset)
+    × (512 * slot.offset + need_of header.key_bytes slot.stripes ≤ 33554432)
+unfolding is_misplaced1 is_misplaced
+placed header slot is = (grind (arith, nat_tests), grind (arith, nat_tests))
+
+-- so its numbers are in range
+range_of : (header : Header1) (limit : Option ℕ) (slot : KeySlot) → NoReason header limit slot → are_in_range (slot_parts1_of header slot) ≡ true
+unfolding is_in_range is_beyond is_unstriped slot_parts1_of
+range_of header limit slot none =
+    let place = placed header slot none.area in
+    let stripes = none.stripes in
+    let iterations = none.iterations in
+    grind (arith, nat_tests)
+
+-- and it can be opened
+pub slot_there : (header : Header1) (limit : Option ℕ) (slot : KeySlot) → reason1_of header limit slot ≡ None
+    → (is : are_in_range (slot_parts1_of header slot) ≡ true) × (slot1_of header slot ≡ Some (slot_of (slot_parts1_of header slot) is))
+unfolding slot1_of
+slot_there header limit slot none =
+    let is = range_of header limit slot (no_reason header limit slot none) in
+    (is, slot_from-yes (slot_parts1_of header slot) is)
+
+-- what becomes of it, without what it takes to open it
+pub judged_usable : (header : Header1) (limit : Option ℕ) (slot : KeySlot) → is_disabled slot.state ≡ false → reason1_of header limit slot ≡ None
+    → judgement_of (verdict1_of header limit slot) ≡ Open 1
+unfolding verdict1_of slot_of slot_parts1_of
+judged_usable header limit slot enabled none =
+    let there = slot_there header limit slot none in
+    rw (enabled, none, there.1) refl
+
+-- ---- what is known of a slot that can be tried
+
+-- what it takes to open it is of this header, its key material ends before the payload, and there is a digest
+pub record IsOf (header : Header1) (usable : Slot) : Type 0 where
+  pub kdf : usable.kdf_hash ≡ hash1_of header
+  pub af : usable.af_hash ≡ hash1_of header
+  pub volume_key : usable.key_bytes ≡ header.key_bytes
+  pub area_key : usable.area_key_bytes ≡ header.key_bytes
+  pub before_payload : end_of usable ≤ 512 * header.payload_offset
+  pub digest : (digest : KeyDigest) × (digest1_of header ≡ Some digest)
+
+digest_there : (limit : Option ℕ) (digest : Option KeyDigest) → is_undigested limit digest ≡ false → (there : KeyDigest) × (digest ≡ Some there)
+unfolding is_undigested
+digest_there limit None is = absurd cc
+digest_there limit (Some digest) is = (digest, refl)
+
+-- a verdict that it can be tried says that there is no reason to skip it, and what it takes to open it
+of_verdict : (header : Header1) (limit : Option ℕ) (slot : KeySlot) (usable : Slot) → verdict1_of header limit slot ≡ Usable usable
+    → (reason1_of header limit slot ≡ None) × (slot1_of header slot ≡ Some usable)
+unfolding verdict1_of
+of_verdict header limit slot usable is = of_all (is_disabled slot.state) (reason1_of header limit slot) refl (slot1_of header slot) refl is
+  where
+    of_all : (disabled : Bool) (reason : Option SkipReason) → reason1_of header limit slot ≡ reason → (made : Option Slot) → slot1_of header slot ≡ made
+        → (if disabled then Unused else judged reason made) ≡ Usable usable → (reason1_of header limit slot ≡ None) × (slot1_of header slot ≡ Some usable)
+    of_all true reason r made m h = absurd cc
+    of_all false (Some reason) r made m h = absurd cc
+    of_all false None r (Some made) m h = (r, cc)
+    of_all false None r None m h = absurd cc
+
+usable_is : (header : Header1) (limit : Option ℕ) (slot : KeySlot) (usable : Slot) → verdict1_of header limit slot ≡ Usable usable → IsOf header usable
+unfolding slot_of slot_parts1_of
+usable_is header limit slot usable is =
+    let verdict = of_verdict header limit slot usable is in
+    let none = no_reason header limit slot verdict.0 in
+    let there = slot_there header limit slot verdict.0 in
+    let same : usable ≡ slot_of (slot_parts1_of header slot) there.0 = same_Some _ _ (sym verdict.1 ∙ there.1) in
+    subst (IsOf header) (sym same) (record {
+      kdf = refl;
+      af = refl;
+      volume_key = refl;
+      area_key = refl;
+      before_payload = (placed header slot none.area).0;
+      digest = digest_there limit (digest1_of header) none.digest;
+    })
+
+-- of the slot of a number
+pub usable_at : (header : Header1) (limit : Option ℕ) (number : ℕ) (usable : Slot) → verdict1_at header limit number ≡ Some (Usable usable)
+    → IsOf header usable × (slot1_at header number ≡ Some usable)
+unfolding verdict1_at slot1_at
+usable_at header limit number usable is = of_slot (slice_get header.slots number) is
+  where
+    of_slot : (slot : Option KeySlot) → option_map (verdict1_of header limit) slot ≡ Some (Usable usable)
+        → IsOf header usable × (option_and_then (slot1_of header) slot ≡ Some usable)
+    of_slot None h = absurd cc
+    of_slot (Some slot) h =
+        let verdict : verdict1_of header limit slot ≡ Usable usable = same_Some _ _ h in
+        (usable_is header limit slot usable verdict, (of_verdict header limit slot usable verdict).1)

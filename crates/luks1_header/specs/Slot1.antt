@@ -1,0 +1,96 @@
+-- What becomes of the key slots of LUKS1.
+use Rattle.std.specs.Prelude.{ℕ, ◌*◌, if◌then◌else◌, Bool, true, false, [], ◌∷◌, Option, Some, None, option_and_then, option_map, slice_get}
+use Rattle.luks_kdf.specs.Hash.{hash_named}
+use Rattle.luks_kdf.specs.declared.hash.Hash.{Hash}
+use Rattle.luks_verdict.specs.Digest.{digest_from, is_undigested}
+use Rattle.luks_verdict.specs.Rule.{is_beyond, is_misplaced, is_unstriped, need_of}
+use Rattle.luks_verdict.specs.Slot.{judged, slot_from}
+use Rattle.luks_verdict.specs.Table.{first_holding}
+use Rattle.luks_verdict.specs.declared.digest.DigestParts.{DigestParts}
+use Rattle.luks_verdict.specs.declared.digest.KeyDigest.{KeyDigest}
+use Rattle.luks_verdict.specs.declared.refusal.SkipReason.{SkipReason}
+use Rattle.luks_verdict.specs.declared.refusal.SkipReason.TheVariants.{State, Stripes, Iterations, Area, Digest}
+use Rattle.luks_verdict.specs.declared.slot.Slot.{Slot}
+use Rattle.luks_verdict.specs.declared.slot.SlotParts.{SlotParts}
+use Rattle.luks_verdict.specs.declared.slot.Verdict.{Verdict}
+use Rattle.luks_verdict.specs.declared.slot.Verdict.TheVariants.{Disabled as Unused}
+use Rattle.luks1_header.specs.Header1.{header1_len}
+use Rattle.luks1_header.specs.declared.header.Header1.{Header1}
+use Rattle.luks1_header.specs.declared.header.KeySlot.{KeySlot}
+use Rattle.luks1_header.specs.declared.header.SlotState.{SlotState}
+use Rattle.luks1_header.specs.declared.header.SlotState.TheVariants.{Enabled, Disabled, Damaged}
+
+-- the state is that of a slot that is not in use
+abbrev pub is_disabled : SlotState → Bool
+is_disabled Enabled = false
+is_disabled Disabled = true
+is_disabled (Damaged _) = false
+
+-- the state is neither that of a slot in use nor that of one that is not
+abbrev pub is_damaged : SlotState → Bool
+is_damaged Enabled = false
+is_damaged Disabled = false
+is_damaged (Damaged _) = true
+
+-- the hash function of the slots, the stripes and the digest, where its name is known
+unfoldable pub hash1_of : Header1 → Option Hash
+hash1_of header = hash_named header.hash_spec
+
+-- what the header says of its digest, which is that of all slots
+unfoldable pub digest_parts1_of : Header1 → DigestParts
+digest_parts1_of header = record {
+  hash = hash1_of header;
+  iterations = header.digest_iterations;
+  salt = header.digest_salt;
+  value = header.digest;
+}
+
+-- the digest, where its numbers are in range
+unfoldable pub digest1_of : Header1 → Option KeyDigest
+digest1_of header = digest_from (digest_parts1_of header)
+
+-- the key material of a slot does not fit. Its area has just the bytes that it needs
+unfoldable pub is_misplaced1 : Header1 → KeySlot → Bool
+is_misplaced1 header slot =
+    is_misplaced header1_len (Some (512 * header.payload_offset)) (512 * slot.offset) (need_of header.key_bytes slot.stripes) (need_of header.key_bytes slot.stripes)
+
+-- the first reason to skip a slot that is not disabled
+unfoldable pub reason1_of : Header1 → Option ℕ → KeySlot → Option SkipReason
+reason1_of header limit slot = first_holding (
+    (is_damaged slot.state, State)
+    ∷ (is_unstriped slot.stripes, Stripes)
+    ∷ (is_beyond limit slot.iterations, Iterations)
+    ∷ (is_misplaced1 header slot, Area)
+    ∷ (is_undigested limit (digest1_of header), Digest)
+    ∷ [])
+
+-- what the header says of a slot. The key material's key is as long as the volume key
+unfoldable pub slot_parts1_of : Header1 → KeySlot → SlotParts
+slot_parts1_of header slot = record {
+  priority = 1;
+  kdf_hash = hash1_of header;
+  iterations = slot.iterations;
+  salt = slot.salt;
+  af_hash = hash1_of header;
+  stripes = slot.stripes;
+  key_bytes = header.key_bytes;
+  area_key_bytes = header.key_bytes;
+  area_offset = 512 * slot.offset;
+  area_size = need_of header.key_bytes slot.stripes;
+}
+
+-- what it takes to open a slot, where its numbers are in range
+unfoldable pub slot1_of : Header1 → KeySlot → Option Slot
+slot1_of header slot = slot_from (slot_parts1_of header slot)
+
+-- what becomes of a slot
+unfoldable pub verdict1_of : Header1 → Option ℕ → KeySlot → Verdict
+verdict1_of header limit slot = if is_disabled slot.state then Unused else judged (reason1_of header limit slot) (slot1_of header slot)
+
+-- what becomes of the slot of this number, 0 to 7
+unfoldable pub verdict1_at : Header1 → Option ℕ → ℕ → Option Verdict
+verdict1_at header limit number = option_map (verdict1_of header limit) (slice_get header.slots number)
+
+-- what it takes to open the slot of this number
+unfoldable pub slot1_at : Header1 → ℕ → Option Slot
+slot1_at header number = option_and_then (slot1_of header) (slice_get header.slots number)

@@ -1,0 +1,219 @@
+//! What becomes of the key slots, the digest and the segment of a header.
+
+ghost use Rattle.std.specs.Prelude.{◌≡◌, ◌*◌, option_map, IfOk};
+ghost use Rattle.luks_kdf.specs.Hash.{hash_named};
+ghost use Rattle.luks_verdict.specs.Digest.{is_undigested};
+ghost use Rattle.luks_verdict.specs.Slot.{judgement_of};
+ghost use Rattle.luks1_header.specs.Segment1.{fault1_of, is_aes_xts1, segment1_of};
+ghost use Rattle.luks1_header.specs.Slot1.{digest1_of, hash1_of, is_disabled, is_misplaced1, reason1_of, slot1_at, slot1_of, verdict1_at, verdict1_of};
+
+use crate::header::{HEADER1_LEN, Header1, KeySlot, SlotState};
+use luks_kdf::Hash;
+use luks_verdict::bytes::HeaderBytes;
+use luks_verdict::digest::{DigestParts, KeyDigest};
+use luks_verdict::refusal::{SegmentFault, SkipReason};
+use luks_verdict::rule::{beyond, misplaced, need, unstriped};
+use luks_verdict::sector_size::SectorSize;
+use luks_verdict::segment::{Segment, SegmentParts};
+use luks_verdict::slot::{Judgement, Slot, SlotParts};
+use std::alloc::{AllocError, Global};
+use std::str;
+
+/// The first byte behind the header.
+const HEADER_END: u64 = HEADER1_LEN as u64;
+
+// The hash function that a text names.
+fn hash_of(name: &[u8]) -> Option<Hash>
+    ensures { result ≡ hash_named name.now }
+{
+    match str::from_utf8(name) {
+        Ok(name) => Hash::from_name(name),
+        Err(_) => None,
+    }
+}
+
+impl Header1 {
+    /// The hash function of the slots, the stripes and the digest, where its name is known.
+    #[tactic(auto, unfolding(crate::specs::Slot1::hash1_of))]
+    pub fn hash(&self) -> Option<Hash>
+        ensures { result ≡ hash1_of self.now }
+    {
+        hash_of(self.hash_spec.as_bytes())
+    }
+}
+
+// The place in bytes of a sector of 512 bytes.
+fn place(sector: u32) -> u64
+    ensures { result ≡ 512 * sector }
+{
+    512 * u64::from(sector)
+}
+
+// The key material of a slot starts inside the header, or it ends past the payload's start or past
+// what is held.
+#[tactic(auto, unfolding(crate::specs::Slot1::is_misplaced1))]
+fn misplaced1(header: &Header1, slot: &KeySlot) -> bool
+    ensures { result ≡ is_misplaced1 header.now slot.now }
+{
+    let need = need(header.key_bytes, slot.stripes);
+    let payload = place(header.payload_offset);
+    misplaced(HEADER_END, Some(payload), place(slot.offset), need, need)
+}
+
+// There is no digest to try a slot against, or its iterations are not made.
+#[tactic(auto, unfolding(crate::specs::Slot1::digest1_of, crate::specs::Slot1::digest_parts1_of))]
+fn undigested1(header: &Header1, limit: Option<u32>) -> bool
+    ensures { result ≡ is_undigested limit (digest1_of header.now) }
+{
+    DigestParts::undigested(limit, header.digest_iterations, header.digest.len())
+}
+
+// The first reason to skip a slot.
+#[tactic(auto, unfolding(crate::specs::Slot1::reason1_of))]
+fn reason(header: &Header1, limit: Option<u32>, slot: &KeySlot) -> Option<SkipReason>
+    ensures { result ≡ reason1_of header.now limit slot.now }
+{
+    if matches!(slot.state, SlotState::Damaged(_)) {
+        Some(SkipReason::State)
+    } else if unstriped(u64::from(slot.stripes)) {
+        Some(SkipReason::Stripes)
+    } else if beyond(limit, u64::from(slot.iterations)) {
+        Some(SkipReason::Iterations)
+    } else if misplaced1(header, slot) {
+        Some(SkipReason::Area)
+    } else if undigested1(header, limit) {
+        Some(SkipReason::Digest)
+    } else {
+        None
+    }
+}
+
+// A slot of this state is not in use.
+fn disabled(state: SlotState) -> bool
+    ensures { result ≡ is_disabled state }
+{
+    matches!(state, SlotState::Disabled)
+}
+
+// What becomes of a slot, without what it takes to open it.
+#[tactic(auto, unfolding(crate::specs::Slot1::verdict1_of))]
+fn judge_slot(header: &Header1, limit: Option<u32>, slot: &KeySlot) -> Judgement
+    ensures { result ≡ judgement_of (verdict1_of header.now limit slot.now) }
+{
+    if disabled(slot.state) {
+        return Judgement::Disabled;
+    }
+    match reason(header, limit, slot) {
+        Some(reason) => Judgement::Skipped(reason),
+        None => Judgement::Usable(1),
+    }
+}
+
+/// What becomes of the slot of this number, without what it takes to open it. This takes no memory.
+#[tactic(auto, unfolding(crate::specs::Slot1::verdict1_at))]
+pub fn judge(header: &Header1, limit: Option<u32>, number: u8) -> Option<Judgement>
+    ensures { result ≡ option_map judgement_of (verdict1_at header.now limit number) }
+{
+    match header.slots.get(usize::from(number)) {
+        Some(slot) => Some(judge_slot(header, limit, slot)),
+        None => None,
+    }
+}
+
+// What it takes to open a slot, where its numbers are in range.
+#[tactic(auto, unfolding(crate::specs::Slot1::slot1_of, crate::specs::Slot1::slot_parts1_of))]
+fn usable(alloc: Global, header: &Header1, slot: &KeySlot) -> Result<Option<Slot>, AllocError>
+    ensures { IfOk result (λ usable. usable ≡ slot1_of header.now slot.now) }
+{
+    let parts = SlotParts {
+        priority: 1,
+        kdf_hash: header.hash(),
+        iterations: slot.iterations,
+        salt: HeaderBytes::new(alloc, &slot.salt)?,
+        af_hash: header.hash(),
+        stripes: slot.stripes,
+        key_bytes: header.key_bytes,
+        area_key_bytes: header.key_bytes,
+        area_offset: place(slot.offset),
+        area_size: need(header.key_bytes, slot.stripes),
+    };
+    Ok(Slot::from_parts(parts))
+}
+
+/// What it takes to open the slot of this number, where it is there and its numbers are in range.
+#[tactic(auto, unfolding(crate::specs::Slot1::slot1_at))]
+pub fn slot(alloc: Global, header: &Header1, number: u8) -> Result<Option<Slot>, AllocError>
+    ensures { IfOk result (λ usable. usable ≡ slot1_at header.now number) }
+{
+    match header.slots.get(usize::from(number)) {
+        Some(slot) => usable(alloc, header, slot),
+        None => Ok(None),
+    }
+}
+
+/// The digest of all slots, where its numbers are in range.
+#[tactic(auto, unfolding(crate::specs::Slot1::digest1_of, crate::specs::Slot1::digest_parts1_of))]
+pub fn digest(alloc: Global, header: &Header1) -> Result<Option<KeyDigest>, AllocError>
+    ensures { IfOk result (λ digest. digest ≡ digest1_of header.now) }
+{
+    let parts = DigestParts {
+        hash: header.hash(),
+        iterations: header.digest_iterations,
+        salt: HeaderBytes::new(alloc, &header.digest_salt)?,
+        value: HeaderBytes::new(alloc, &header.digest)?,
+    };
+    Ok(KeyDigest::from_parts(parts))
+}
+
+// Sectors are encrypted by AES in the mode xts-plain64.
+#[tactic(auto, unfolding(crate::specs::Segment1::is_aes_xts1))]
+fn aes_xts(header: &Header1) -> bool
+    ensures { result ≡ is_aes_xts1 header.now }
+{
+    header.cipher_name.as_bytes() == b"aes".as_slice()
+        && header.cipher_mode.as_bytes() == b"xts-plain64".as_slice()
+}
+
+// The first fault of the segment.
+#[tactic(auto, unfolding(crate::specs::Segment1::fault1_of))]
+fn fault(header: &Header1) -> Option<SegmentFault>
+    ensures { result ≡ fault1_of header.now }
+{
+    if !aes_xts(header) {
+        Some(SegmentFault::Encryption)
+    } else if header.hash().is_none() {
+        Some(SegmentFault::Hash)
+    } else if header.key_bytes != 32 && header.key_bytes != 64 {
+        Some(SegmentFault::KeyBytes)
+    } else if place(header.payload_offset) < HEADER_END {
+        Some(SegmentFault::Offset)
+    } else {
+        None
+    }
+}
+
+/// The segment of a header, or its first fault. This takes no memory.
+#[tactic(
+    auto,
+    unfolding(
+        crate::specs::Segment1::segment1_of,
+        crate::specs::Segment1::segment_parts1_of
+    )
+)]
+pub fn segment(header: &Header1) -> Result<Segment, SegmentFault>
+    ensures { result ≡ segment1_of header.now }
+{
+    if let Some(fault) = fault(header) {
+        return Err(fault);
+    }
+    let parts = SegmentParts {
+        offset: Some(place(header.payload_offset)),
+        size: Some(None),
+        iv_tweak: Some(0),
+        sector_size: Some(SectorSize::B512),
+    };
+    match Segment::from_parts(parts) {
+        Some(segment) => Ok(segment),
+        None => Err(SegmentFault::Member),
+    }
+}

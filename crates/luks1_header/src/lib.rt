@@ -1,0 +1,6 @@
+//! LUKS1 (LUKS1 On-Disk Format Specification 1.2.3): its header, and what becomes of its key slots,
+//! its digest and its segment.
+#![tactic(auto)]
+
+pub mod header;
+pub mod judging;

@@ -1,0 +1,47 @@
+-- The front of an image: how an area that holds it takes further bytes.
+use Rattle.std.specs.Prelude.{◌≡◌, ℕ, ◌<◌, ◌≤◌, ◌++◌, not, Bool, true, false, List, Option, Some, Result, Ok, Err, drop, length, take}
+use Rattle.luks_io.specs.Bytes.{Took, counted}
+use Rattle.luks_area.specs.declared.fault.HeaderFault.{HeaderFault}
+use Rattle.luks_area.specs.declared.fault.HeaderFault.TheVariants.{Read, Memory}
+
+-- the most bytes that an area holds: 32 MiB
+abbrev pub longest_area : ℕ
+longest_area = 33554432
+
+-- of the bytes that a source knew to come the first `count` were taken, and went behind those that were held
+abbrev pub TookBehind : List ℕ → List ℕ → List ℕ → Option (List ℕ) → ℕ → Type 0
+TookBehind held held' known left count = Took known left count × (held' ≡ held ++ take count known)
+
+-- taking up to `most` bytes was broken off: by a failed read before the last of them, or at the start for want of memory
+abbrev pub BreaksTaking : ℕ → List ℕ → List ℕ → List ℕ → Option (List ℕ) → HeaderFault → Type 0
+BreaksTaking most held held' known left Read = (count : ℕ) × (count < most) × TookBehind held held' known left count
+BreaksTaking most held held' known left Memory = TookBehind held held' known left 0
+BreaksTaking most held held' known left _ = ⊥
+
+-- a failed read is told
+abbrev pub is_read : {T : Type 0} → Result T HeaderFault → Bool
+is_read (Err Read) = true
+is_read _ = false
+
+-- an image is told to end before all that was asked of it was there
+abbrev pub is_short : Result Bool HeaderFault → Bool
+is_short (Ok whole) = not whole
+is_short (Err _) = false
+
+-- Words of before, which go once nothing cites them:
+
+-- of the bytes that a source tells, the first `count` went behind those that were held, and the others are left
+pub record Grows (held held' told : List ℕ) (left : Option (List ℕ)) (count : ℕ) : Type 0 where
+  pub there : count ≤ length told
+  pub holds : held' ≡ held ++ take count told
+  pub leaves : left ≡ Some (drop count told)
+
+-- taking up to `most` bytes was broken off
+abbrev pub StopsGrowing : ℕ → List ℕ → List ℕ → List ℕ → Option (List ℕ) → HeaderFault → Type 0
+StopsGrowing most held held' told left Read = (count : ℕ) × (count < most) × Grows held held' told left count
+StopsGrowing most held held' told left Memory = Grows held held' told left 0
+StopsGrowing most held held' told left _ = ⊥
+
+-- a count of failed reads after a call with this result
+abbrev pub failures_after : {T : Type 0} → Result T HeaderFault → ℕ → ℕ
+failures_after result count = counted (is_read result) count

@@ -1,0 +1,143 @@
+//! The front of an image, where its headers and key areas are.
+
+ghost use Rattle.std.specs.Prelude.{◌≡◌, ◌-◌, ◌<◌, ◌≤◌, ◌↔◌, ◌++◌, ◌⊎◌, true, List, ℕ, [], Some, IsTrue, IfOk, IfErr, OnOk, OnErr, Ok, Err, length, max, min, replicate, take, vec_capacity, vec_len};
+ghost use Rattle.luks_io.specs.Bytes.{WhereKnown, counted};
+ghost use Rattle.luks_area.specs.Area.{BreaksTaking, Grows, StopsGrowing, TookBehind, is_read, is_short, longest_area};
+
+use crate::fault::HeaderFault;
+use luks_io::source::{ReadFault, Source, fill};
+use std::alloc::{AllocError, Global};
+use std::marker::Model;
+
+/// The first bytes of an image, at most [`HeaderArea::LONGEST`] of them.
+/// It keeps the allocator that it was made with. A clause sees the bytes.
+#[derive(Drop)]
+pub struct HeaderArea {
+    bytes: Vec<u8>,
+}
+
+impl Model for HeaderArea {
+    ghost Value = { List ℕ };
+
+    ghost view = { λ area. area.bytes.items };
+
+    ghost invariant = { λ area. vec_len area.bytes ≤ longest_area };
+}
+
+impl HeaderArea {
+    /// How many bytes an area can hold: 32 MiB.
+    pub const LONGEST: usize = 33_554_432;
+
+    /// An area that holds no bytes yet.
+    pub fn new(alloc: Global) -> HeaderArea
+        ensures { result ≡ [] }
+    {
+        HeaderArea {
+            bytes: Vec::new(alloc),
+        }
+    }
+
+    /// The bytes that are held.
+    pub fn as_slice(&self) -> &[u8]
+        ensures value { result.now ≡ self.now }
+        ensures within { length self.now ≤ longest_area }
+    {
+        self.bytes.as_slice()
+    }
+
+    /// Takes further bytes of the image from the source until `end` are held, and answers whether
+    /// they are: `Ok(false)` says that the image ended first and is held whole. Where as many are
+    /// held already, nothing is read.
+    ///
+    /// After [`HeaderFault::Read`] the area holds what was taken before a read failed, after
+    /// [`HeaderFault::Memory`] nothing was taken. There are no other faults.
+    pub fn extend_to<S: Source>(&mut self, source: &mut S, end: usize) -> Result<bool, HeaderFault>
+        requires { end ≤ longest_area }
+        ensures taken { IfOk result (λ whole. WhereKnown (S.to_come source.old) (λ known.
+            TookBehind self.old self.new known (S.to_come source.new)
+            (min (end - length self.old) (length known)))) }
+        ensures broken { IfErr result (λ fault. WhereKnown (S.to_come source.old) (λ known.
+            BreaksTaking (end - length self.old) self.old self.new known (S.to_come source.new)
+            fault)) }
+
+        // Whether or not the source knows its bytes:
+        ensures whole { IfOk result (λ whole. IsTrue whole ↔ (end ≤ length self.new)) }
+        ensures within { length self.new ≤ max (length self.old) end }
+        ensures held { take (length self.old) self.new ≡ self.old }
+        ensures already { end ≤ length self.old
+            → (result ≡ Ok true) × (self.new ≡ self.old) × (source.new ≡ source.old) }
+        ensures memory { result ≡ Err HeaderFault.Memory
+            → (self.new ≡ self.old) × (source.new ≡ source.old) }
+        ensures refusals { IfErr result (λ fault.
+            (fault ≡ HeaderFault.Read) ⊎ (fault ≡ HeaderFault.Memory)) }
+        ensures reads { S.failures source.new ≡ counted (is_read result) (S.failures source.old) }
+        ensures ends { S.ends source.new ≡ counted (is_short result) (S.ends source.old) }
+
+        // In words of before, which go once nothing cites them:
+        ensures ok { IfOk result (λ whole. (told : List ℕ) → S.to_come source.old ≡ Some told →
+            Grows self.old self.new told (S.to_come source.new)
+            (min (end - length self.old) (length told))) }
+        ensures err { IfErr result (λ fault. (told : List ℕ) → S.to_come source.old ≡ Some told →
+            StopsGrowing (end - length self.old) self.old self.new told (S.to_come source.new)
+            fault) }
+    {
+        if end <= self.bytes.len() {
+            return Ok(true);
+        }
+        extend(&mut self.bytes, source, end)
+    }
+}
+
+// Gives the bytes room for `end` of them in all, and no more.
+fn reserve(bytes: &mut Vec<u8>, end: usize) -> Result<(), AllocError>
+    requires { vec_len bytes.old ≤ end }
+    ensures items { bytes.new.items ≡ bytes.old.items }
+    ensures room { OnOk result (vec_capacity bytes.new ≡ max (vec_capacity bytes.old) end) }
+    ensures none { OnErr result (vec_capacity bytes.new ≡ vec_capacity bytes.old) }
+{
+    bytes.reserve_exact(end - bytes.len())
+}
+
+// Puts so many zeros behind the bytes that there are `end` of them.
+fn make_room(bytes: &mut Vec<u8>, end: usize) -> Result<(), AllocError>
+    requires { vec_len bytes.old ≤ end }
+    ensures ok { OnOk result (bytes.new.items
+        ≡ bytes.old.items ++ replicate (end - vec_len bytes.old) 0) }
+    ensures err { OnErr result (bytes.new.items ≡ bytes.old.items) }
+{
+    reserve(bytes, end)?;
+    bytes.resize(end, 0)
+}
+
+// Puts the next bytes of the source behind these, up to `end` in all.
+fn extend<S: Source>(bytes: &mut Vec<u8>, source: &mut S, end: usize) -> Result<bool, HeaderFault>
+    requires { vec_len bytes.old < end }
+    ensures taken { IfOk result (λ whole. WhereKnown (S.to_come source.old) (λ known.
+        TookBehind bytes.old.items bytes.new.items known (S.to_come source.new)
+        (min (end - vec_len bytes.old) (length known)))) }
+    ensures broken { IfErr result (λ fault. WhereKnown (S.to_come source.old) (λ known.
+        BreaksTaking (end - vec_len bytes.old) bytes.old.items bytes.new.items known
+        (S.to_come source.new) fault)) }
+    ensures whole { IfOk result (λ whole. IsTrue whole ↔ (end ≤ vec_len bytes.new)) }
+    ensures within { vec_len bytes.new ≤ end }
+    ensures held { take (vec_len bytes.old) bytes.new.items ≡ bytes.old.items }
+    ensures memory { result ≡ Err HeaderFault.Memory
+        → (bytes.new.items ≡ bytes.old.items) × (source.new ≡ source.old) }
+    ensures refusals { IfErr result (λ fault.
+        (fault ≡ HeaderFault.Read) ⊎ (fault ≡ HeaderFault.Memory)) }
+    ensures reads { S.failures source.new ≡ counted (is_read result) (S.failures source.old) }
+    ensures ends { S.ends source.new ≡ counted (is_short result) (S.ends source.old) }
+{
+    let held = bytes.len();
+    make_room(bytes, end)?;
+    match fill(source, &mut bytes[held..]) {
+        Ok(count) => {
+            bytes.truncate(held + count);
+            Ok(held + count == end)
+        }
+        Err(ReadFault { got }) => {
+            bytes.truncate(held + got);
+            Err(HeaderFault::Read)
+        }
+    }
+}

@@ -1,0 +1,12 @@
+use Rattle.std.proofs.Common.{rules, ◌≡◌, ◌∙◌, Some, ap, sym, IsSome}
+use Rattle.luks_verdict.specs.declared.slot.Judgement.TheVariants.{Usable as Open}
+use Rattle.luks_open.specs.Order.{usable_at}
+use Rattle.luks_open.proofs.OrderLemmas.{usable_there}
+use Rattle.luks_open.proofs.order.usable.Goals as goal
+
+pub returns-in-Some-Usable-clause-err : goal.returns-in-Some-Usable-clause-err
+returns-in-Some-Usable-clause-err c =
+    let judged = sym c.judge.ensures ∙ (c.in-Some-Usable.is ∙ ap Some c.in-Some-Usable.field-0-is) in
+    let some : IsSome (usable_at c.args.header.now c.args.limit c.args.priority c.args.number) =
+    usable_there c.args.header.now c.args.limit c.args.priority c.args.number (rw c.if-its-priority.true at judged) in
+    search (rules, some)

@@ -1,0 +1,43 @@
+//! What is tried of a key slot.
+
+ghost use Rattle.std.specs.Prelude.{◌≡◌, IfOk};
+ghost use Rattle.luks_open.specs.Order.{entry_at};
+
+use luks_header::digest::{KeyDigest, digest_for};
+use luks_header::header::Header;
+use luks_header::slot::{Slot, slot};
+use std::alloc::{AllocError, Global};
+
+/// A key slot that is tried, and the digest that it is opened against.
+#[derive(Drop, Debug)]
+pub struct Entry {
+    /// The number of the key slot.
+    pub number: u8,
+    /// What it takes to open it.
+    pub slot: Slot,
+    /// The digest.
+    pub digest: KeyDigest,
+}
+
+/// What is tried of the key slot of this number, where the header has what it takes to open it, and
+/// a digest.
+#[tactic(auto, unfolding(crate::specs::Order::entry_at))]
+pub(crate) fn entry_at(
+    alloc: Global,
+    header: &Header,
+    number: u8,
+) -> Result<Option<Entry>, AllocError>
+    ensures { IfOk result (λ entry. entry ≡ entry_at header.now number) }
+{
+    let Some(slot) = slot(alloc, header, number)? else {
+        return Ok(None);
+    };
+    let Some(digest) = digest_for(alloc, header, number)? else {
+        return Ok(None);
+    };
+    Ok(Some(Entry {
+        number,
+        slot,
+        digest,
+    }))
+}

@@ -1,0 +1,136 @@
+-- What is made of what was read, where it is in range.
+use Rattle.std.proofs.Common.{◌≡◌, ◌∙◌, ◌%◌, ℕ, Bool, true, false, Option, Some, None, ap, sym, refl, length}
+use Rattle.std.specs.Prelude.{option_map}
+use Rattle.std.specs.Coded.{le_prop}
+use Rattle.std.proofs.Math.Bool.{Bool-set}
+use Rattle.std.proofs.Math.Nat.{ℕ_set}
+use Rattle.std.proofs.lemmas.Option.{none-some, same_Some}
+use Rattle.std.specs.Option.{ForSome}
+use Rattle.luks_kdf.specs.declared.hash.Hash.{Hash}
+use Rattle.luks_verdict.specs.Digest.{digest_from, digest_of, is_undigested, is_usable}
+use Rattle.luks_verdict.specs.Evidence.{where_true}
+use Rattle.luks_verdict.specs.Rule.{InRange, IsDigest, in_range, is_beyond, usable_digest}
+use Rattle.luks_verdict.specs.SectorSize.{are_sectors, bytes_of, whole_sectors}
+use Rattle.luks_verdict.specs.Segment.{segment_of_all, segment_with}
+use Rattle.luks_verdict.specs.Slot.{are_in_range, parts_end, slot_from, slot_of}
+use Rattle.luks_verdict.specs.declared.digest.DigestParts.{DigestParts}
+use Rattle.luks_verdict.specs.declared.digest.KeyDigest.{KeyDigest}
+use Rattle.luks_verdict.specs.declared.sector_size.SectorSize.{SectorSize}
+use Rattle.luks_verdict.specs.declared.segment.Segment.{Segment}
+use Rattle.luks_verdict.specs.declared.slot.Slot.{Slot}
+use Rattle.luks_verdict.specs.declared.slot.SlotParts.{SlotParts}
+
+-- where a test holds there is evidence, and there is but one
+pub where_true-yes : (test : Bool) (is : test ≡ true) → where_true test ≡ Some is
+where_true-yes true is = let all : IsProp (true ≡ true) = hlevel (Bool-set) in ap Some (all refl is)
+where_true-yes false is = absurd cc
+
+pub where_true-no : (test : Bool) → test ≡ false → where_true test ≡ None
+where_true-no true is = absurd cc
+where_true-no false is = refl
+
+pub slot_from-yes : (parts : SlotParts) (is : are_in_range parts ≡ true) → slot_from parts ≡ Some (slot_of parts is)
+unfolding slot_from
+slot_from-yes parts is = ap (option_map (slot_of parts)) (where_true-yes (are_in_range parts) is)
+
+pub slot_from-no : (parts : SlotParts) → are_in_range parts ≡ false → slot_from parts ≡ None
+unfolding slot_from
+slot_from-no parts is = ap (option_map (slot_of parts)) (where_true-no (are_in_range parts) is)
+
+-- the slot with these numbers, whatever the evidence that they are in range
+made : (parts : SlotParts) → InRange parts.iterations parts.stripes (parts_end parts) → Slot
+made parts range = record {
+  priority = parts.priority;
+  kdf_hash = parts.kdf_hash;
+  iterations = parts.iterations;
+  salt = parts.salt;
+  af_hash = parts.af_hash;
+  stripes = parts.stripes;
+  key_bytes = parts.key_bytes;
+  area_key_bytes = parts.area_key_bytes;
+  area_offset = parts.area_offset;
+  area_size = parts.area_size;
+  in_range = range;
+}
+
+pub slot_made : (parts : SlotParts) (range : InRange parts.iterations parts.stripes (parts_end parts)) → are_in_range parts ≡ true
+    → Some record {
+      priority = parts.priority;
+      kdf_hash = parts.kdf_hash;
+      iterations = parts.iterations;
+      salt = parts.salt;
+      af_hash = parts.af_hash;
+      stripes = parts.stripes;
+      key_bytes = parts.key_bytes;
+      area_key_bytes = parts.area_key_bytes;
+      area_offset = parts.area_offset;
+      area_size = parts.area_size;
+      in_range = range;
+    } ≡ slot_from parts
+unfolding made slot_of
+slot_made parts range is =
+    let all : IsProp (InRange parts.iterations parts.stripes (parts_end parts)) = hlevel (le_prop) in
+    ap (λ (r : InRange parts.iterations parts.stripes (parts_end parts)). Some (made parts r)) (all range (in_range parts.iterations parts.stripes (parts_end parts) is))
+    ∙ sym (slot_from-yes parts is)
+
+pub digest_from-yes : (parts : DigestParts) (is : is_usable parts ≡ true) → digest_from parts ≡ Some (digest_of parts is)
+unfolding digest_from
+digest_from-yes parts is = ap (option_map (digest_of parts)) (where_true-yes (is_usable parts) is)
+
+pub digest_from-no : (parts : DigestParts) → is_usable parts ≡ false → digest_from parts ≡ None
+unfolding digest_from
+digest_from-no parts is = ap (option_map (digest_of parts)) (where_true-no (is_usable parts) is)
+
+made_digest : (parts : DigestParts) → IsDigest parts.iterations (length parts.value) → KeyDigest
+made_digest parts usable = record { hash = parts.hash; iterations = parts.iterations; salt = parts.salt; value = parts.value; usable = usable }
+
+pub digest_made : (parts : DigestParts) (usable : IsDigest parts.iterations (length parts.value)) → is_usable parts ≡ true
+    → Some record { hash = parts.hash; iterations = parts.iterations; salt = parts.salt; value = parts.value; usable = usable } ≡ digest_from parts
+unfolding made_digest digest_of
+digest_made parts usable is =
+    let all : IsProp (IsDigest parts.iterations (length parts.value)) = hlevel (le_prop) in
+    ap (λ (u : IsDigest parts.iterations (length parts.value)). Some (made_digest parts u)) (all usable (usable_digest parts.iterations (length parts.value) is))
+    ∙ sym (digest_from-yes parts is)
+
+pub segment_of_all-yes : (offset : ℕ) (size : Option ℕ) (iv_tweak : ℕ) (sector_size : SectorSize) (is : are_sectors size sector_size ≡ true)
+    → segment_of_all (Some offset) (Some size) (Some iv_tweak) (Some sector_size) ≡ Some (segment_with offset size iv_tweak sector_size is)
+unfolding segment_of_all
+segment_of_all-yes offset size iv_tweak sector_size is =
+    ap (option_map (segment_with offset size iv_tweak sector_size)) (where_true-yes (are_sectors size sector_size) is)
+
+pub segment_of_all-no : (offset : ℕ) (size : Option ℕ) (iv_tweak : ℕ) (sector_size : SectorSize) → are_sectors size sector_size ≡ false
+    → segment_of_all (Some offset) (Some size) (Some iv_tweak) (Some sector_size) ≡ None
+unfolding segment_of_all
+segment_of_all-no offset size iv_tweak sector_size is =
+    ap (option_map (segment_with offset size iv_tweak sector_size)) (where_true-no (are_sectors size sector_size) is)
+
+made_segment : (offset : ℕ) (size : Option ℕ) (iv_tweak : ℕ) (sector_size : SectorSize) → ForSome size (λ bytes. bytes % bytes_of sector_size ≡ 0) → Segment
+made_segment offset size iv_tweak sector_size whole =
+    record { offset = offset; size = size; iv_tweak = iv_tweak; sector_size = sector_size; whole_sectors = whole }
+
+pub segment_made : (offset : ℕ) (size : Option ℕ) (iv_tweak : ℕ) (sector_size : SectorSize) (whole : ForSome size (λ bytes. bytes % bytes_of sector_size ≡ 0))
+    → are_sectors size sector_size ≡ true
+    → Some record { offset = offset; size = size; iv_tweak = iv_tweak; sector_size = sector_size; whole_sectors = whole }
+    ≡ segment_of_all (Some offset) (Some size) (Some iv_tweak) (Some sector_size)
+unfolding made_segment segment_with
+segment_made offset size iv_tweak sector_size whole is =
+    let all : IsProp (ForSome size (λ bytes. bytes % bytes_of sector_size ≡ 0)) = hlevel (ℕ_set) in
+    ap (λ (w : ForSome size (λ bytes. bytes % bytes_of sector_size ≡ 0)). Some (made_segment offset size iv_tweak sector_size w)) (all whole (whole_sectors size sector_size is))
+    ∙ sym (segment_of_all-yes offset size iv_tweak sector_size is)
+
+-- whether a slot is tried against the digest of which this was read
+pub undigested-yes : (limit : Option ℕ) (parts : DigestParts) → is_usable parts ≡ true → is_undigested limit (digest_from parts) ≡ is_beyond limit parts.iterations
+unfolding is_undigested digest_of
+undigested-yes limit parts is = ap (is_undigested limit) (digest_from-yes parts is)
+
+pub undigested-no : (limit : Option ℕ) (parts : DigestParts) → is_usable parts ≡ false → is_undigested limit (digest_from parts) ≡ true
+unfolding is_undigested
+undigested-no limit parts is = ap (is_undigested limit) (digest_from-no parts is)
+
+-- a digest that was made has the numbers that were read
+pub digest_from-some : (parts : DigestParts) (digest : KeyDigest) → digest_from parts ≡ Some digest → (is : is_usable parts ≡ true) × (digest ≡ digest_of parts is)
+digest_from-some parts digest made = of_test (is_usable parts) refl
+  where
+    of_test : (test : Bool) → is_usable parts ≡ test → (is : is_usable parts ≡ true) × (digest ≡ digest_of parts is)
+    of_test true is = (is, same_Some digest (digest_of parts is) (sym made ∙ digest_from-yes parts is))
+    of_test false is = absurd (none-some digest (sym (digest_from-no parts is) ∙ made))

@@ -1,0 +1,70 @@
+-- Tables of which the first line that holds counts, and lists by rising number.
+use Rattle.std.proofs.Common.{◌≡◌, ◌∙◌, ℕ, zero, suc, ◌+◌, ◌<◌, ◌≤◌, ap, sym, refl, Bool, true, false, List, [], ◌∷◌, ◌++◌, Option, Some, None, IsSome, ◌⊎◌, inl, inr, subst, length, length-append, add-one, arith}
+use Rattle.std.specs.List.{AllByRecursion, cons_option}
+use Rattle.std.proofs.lemmas.Bool.{cases_lt}
+use Rattle.std.proofs.lemmas.List.{append-nil}
+use Rattle.std.proofs.lemmas.Option.{none-some}
+use Rattle.luks_verdict.specs.Table.{first_holding, rising}
+
+-- the first line does not hold where none does
+pub first_not : {T : Type 0} (b : Bool) (name : T) (lines : List (Bool × T)) → first_holding ((b, name) ∷ lines) ≡ None
+    → (b ≡ false) × (first_holding lines ≡ None)
+first_not true name lines h = absurd (none-some name (sym h))
+first_not false name lines h = (refl, h)
+
+-- nothing is made of no number
+pub rising_none : {T : Type 0} (f : ℕ → Option T) → rising f 0 ≡ []
+unfolding rising
+rising_none f = refl
+
+-- one number more
+pub rising_more : {T : Type 0} (f : ℕ → Option T) (n : ℕ) → rising f (n + 1) ≡ rising f n ++ cons_option (f n) []
+unfolding rising
+rising_more f n = rw add-one refl
+
+-- of which nothing is made
+pub rising_not : {T : Type 0} (f : ℕ → Option T) (n : ℕ) → f n ≡ None → rising f (n + 1) ≡ rising f n
+rising_not f n none = rising_more f n ∙ (ap (λ o. rising f n ++ cons_option o []) none ∙ append-nil (rising f n))
+
+-- of which something is made
+pub rising_one : {T : Type 0} (f : ℕ → Option T) (n : ℕ) (x : T) → f n ≡ Some x → rising f (n + 1) ≡ rising f n ++ x ∷ []
+rising_one f n x one = rising_more f n ∙ ap (λ o. rising f n ++ cons_option o []) one
+
+-- no more than there are numbers
+pub length-rising : {T : Type 0} (f : ℕ → Option T) (n : ℕ) → length (rising f n) ≤ n
+unfolding rising
+length-rising f zero = omega arith
+length-rising {T = T} f (suc n) = of_one (f n) (length-rising f n)
+  where
+    of_one : (o : Option T) → length (rising f n) ≤ n → length (rising f n ++ cons_option o []) ≤ suc n
+    of_one None few = omega (arith, length-append (rising f n) [])
+    of_one (Some x) few = omega (arith, length-append (rising f n) (x ∷ []))
+
+-- what holds of each of two lists holds of both together
+pub AllByRecursion-append : {X : Type 0} (P : X → Type 0) (xs ys : List X) → AllByRecursion P xs → AllByRecursion P ys → AllByRecursion P (xs ++ ys)
+AllByRecursion-append P [] ys all others = others
+AllByRecursion-append P (x ∷ xs) ys all others = (all.0, AllByRecursion-append P xs ys all.1 others)
+
+-- what holds of whatever is made holds of all that is made
+pub All-rising : {X : Type 0} (P : X → Type 0) (f : ℕ → Option X) (n : ℕ) → ((i : ℕ) (x : X) → f i ≡ Some x → P x) → AllByRecursion P (rising f n)
+unfolding rising
+All-rising P f zero each = tt
+All-rising {X = X} P f (suc n) each = AllByRecursion-append P (rising f n) (cons_option (f n) []) (All-rising P f n each) (of_one (f n) refl)
+  where
+    of_one : (o : Option X) → f n ≡ o → AllByRecursion P (cons_option o [])
+    of_one None is = tt
+    of_one (Some x) is = (each n x is, tt)
+
+-- where something is made of a number, something is made
+pub some_rising : {X : Type 0} (f : ℕ → Option X) (i n : ℕ) → IsSome (f i) → i < n → 1 ≤ length (rising f n)
+unfolding rising
+some_rising f i zero some below = absurd (omega arith)
+some_rising {X = X} f i (suc n) some below = of_place (cases_lt i n) (some_rising f i n some)
+  where
+    of_last : (o : Option X) → IsSome o → 1 ≤ length (rising f n ++ cons_option o [])
+    of_last None is = absurd cc
+    of_last (Some x) is = omega (arith, length-append (rising f n) (x ∷ []))
+
+    of_place : (i < n) ⊎ (n ≤ i) → (i < n → 1 ≤ length (rising f n)) → 1 ≤ length (rising f n ++ cons_option (f n) [])
+    of_place (inl earlier) before = omega (arith, length-append (rising f n) (cons_option (f n) []), before earlier)
+    of_place (inr last) before = let same : i ≡ n = omega arith in of_last (f n) (subst (λ k. IsSome (f k)) same some)

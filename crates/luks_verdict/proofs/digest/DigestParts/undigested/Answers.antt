@@ -1,0 +1,15 @@
+use Rattle.std.proofs.Common.{◌≡◌, ◌∙◌, ap, sym, refl, length, true, false}
+use Rattle.std.specs.Prelude.{not}
+use Rattle.luks_verdict.specs.Digest.{is_usable}
+use Rattle.luks_verdict.proofs.MadeLemmas.{undigested-no, undigested-yes}
+use Rattle.luks_verdict.proofs.digest.DigestParts.undigested.Goals as goal
+
+pub returns-then-not-usable_digest : goal.returns-then-not-usable_digest
+returns-then-not-usable_digest c parts iterations len =
+    let is : is_usable parts ≡ false = rw (iterations, len, ← c.from.ensures, ← c.usable_digest.ensures) c.if-not-usable_digest.true in
+    ap not c.if-not-usable_digest.true ∙ sym (undigested-no c.args.limit parts is)
+
+pub returns-else-not-usable_digest : goal.returns-else-not-usable_digest
+returns-else-not-usable_digest c parts iterations len =
+    let is : is_usable parts ≡ true = rw (iterations, len, ← c.from.ensures, ← c.usable_digest.ensures) c.if-not-usable_digest.false in
+    rw (c.beyond.ensures, c.from-else-not-usable_digest.ensures, undigested-yes c.args.limit parts is, iterations) refl

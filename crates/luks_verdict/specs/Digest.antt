@@ -1,0 +1,29 @@
+-- Digests, made of what was read of them.
+use Rattle.std.specs.Prelude.{◌≡◌, ℕ, Bool, true, Option, Some, None, length, option_map}
+use Rattle.luks_verdict.specs.Evidence.{where_true}
+use Rattle.luks_verdict.specs.Rule.{is_beyond, is_digest, usable_digest}
+use Rattle.luks_verdict.specs.declared.digest.DigestParts.{DigestParts}
+use Rattle.luks_verdict.specs.declared.digest.KeyDigest.{KeyDigest}
+
+-- what was read of a digest is in range
+abbrev pub is_usable : DigestParts → Bool
+is_usable parts = is_digest parts.iterations (length parts.value)
+
+-- the digest of which this was read: its numbers are in range
+unfoldable pub digest_of : (parts : DigestParts) → is_usable parts ≡ true → KeyDigest
+digest_of parts is = record {
+  hash = parts.hash;
+  iterations = parts.iterations;
+  salt = parts.salt;
+  value = parts.value;
+  usable = usable_digest parts.iterations (length parts.value) is;
+}
+
+-- the digest of which this was read, where its numbers are in range
+unfoldable pub digest_from : DigestParts → Option KeyDigest
+digest_from parts = option_map (digest_of parts) (where_true (is_usable parts))
+
+-- there is no digest to try a key slot against, or its iterations are not made
+unfoldable pub is_undigested : Option ℕ → Option KeyDigest → Bool
+is_undigested limit None = true
+is_undigested limit (Some digest) = is_beyond limit digest.iterations

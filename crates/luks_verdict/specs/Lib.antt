@@ -1,0 +1,9 @@
+pub mod Digest
+pub mod Evidence
+pub mod Rule
+pub mod SectorSize
+pub mod Segment
+pub mod SegmentFault
+pub mod SkipReason
+pub mod Slot
+pub mod Table

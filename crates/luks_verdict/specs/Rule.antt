@@ -1,0 +1,94 @@
+-- Rules that hold for both formats. They speak of numbers: of a limit and a start of the payload that may be missing, and of an
+-- area's own size.
+use Rattle.std.specs.Prelude.{◌≡◌, ℕ, ◌+◌, ◌*◌, ◌/◌, ◌≤◌, ◌==◌, ◌&&◌, ◌||◌, not, nat_lt, Bool, true, false, Option, Some, None}
+use Rattle.std.proofs.Common.{arith}
+use Rattle.std.proofs.lemmas.Bool.Decides.{nat_tests}
+use Rattle.luks_area.specs.Area.{longest_area}
+
+-- the most slots that a header has, numbered from 0
+abbrev pub most_slots : ℕ
+most_slots = 32
+
+-- the most stripes of a slot's key material
+abbrev pub most_stripes : ℕ
+most_stripes = 4000
+
+-- the most iterations of PBKDF2: as many as four bytes can say
+abbrev pub most_iterations : ℕ
+most_iterations = 4294967295
+
+-- the longest key, in bytes, of which four bytes can say the length
+abbrev pub most_key_bytes : ℕ
+most_key_bytes = 4294967295
+
+-- the lengths in bytes of a digest
+abbrev pub least_digest : ℕ
+least_digest = 20
+
+abbrev pub most_digest : ℕ
+most_digest = 64
+
+-- the number is above the limit, where there is one
+abbrev pub exceeds : Option ℕ → ℕ → Bool
+exceeds None n = false
+exceeds (Some limit) n = nat_lt limit n
+
+-- so many iterations are not made: none, more than four bytes can say, or more than the limit
+unfoldable pub is_beyond : Option ℕ → ℕ → Bool
+is_beyond limit iterations = iterations == 0 || nat_lt most_iterations iterations || exceeds limit iterations
+
+-- the stripes are not 1 to 4000
+unfoldable pub is_unstriped : ℕ → Bool
+is_unstriped stripes = stripes == 0 || nat_lt most_stripes stripes
+
+-- how many bytes of key material a slot has: one key for each stripe, in whole sectors of 512 bytes
+unfoldable pub need_of : ℕ → ℕ → ℕ
+need_of key_bytes stripes = (key_bytes * stripes + 511) / 512 * 512
+
+-- key material from `offset` on does not fit: it starts below `start`, its area has fewer bytes than it needs, or it ends past the
+-- payload's start, where that is known, or past what is held of an image
+unfoldable pub is_misplaced : ℕ → Option ℕ → ℕ → ℕ → ℕ → Bool
+is_misplaced start payload offset size need =
+    nat_lt offset start || nat_lt size need || exceeds payload (offset + need) || nat_lt longest_area (offset + need)
+
+-- the numbers of a slot are in range: its iterations, its stripes and where its key material ends
+unfoldable pub is_in_range : ℕ → ℕ → ℕ → Bool
+is_in_range iterations stripes end = not (is_beyond None iterations) && not (is_unstriped stripes) && not (nat_lt longest_area end)
+
+-- a digest of so many iterations and bytes can be used
+unfoldable pub is_digest : ℕ → ℕ → Bool
+is_digest iterations len = not (is_beyond None iterations) && not (nat_lt len least_digest) && not (nat_lt most_digest len)
+
+-- what it says that the numbers of a slot are in range
+pub record InRange (iterations stripes end : ℕ) : Type 0 where
+  pub some_iterations : 1 ≤ iterations
+  pub few_iterations : iterations ≤ most_iterations
+  pub some_stripes : 1 ≤ stripes
+  pub few_stripes : stripes ≤ most_stripes
+  pub held : end ≤ longest_area
+
+pub in_range : (iterations stripes end : ℕ) → is_in_range iterations stripes end ≡ true → InRange iterations stripes end
+unfolding is_in_range is_beyond is_unstriped
+in_range iterations stripes end is = record {
+  some_iterations = grind (arith, nat_tests);
+  few_iterations = grind (arith, nat_tests);
+  some_stripes = grind (arith, nat_tests);
+  few_stripes = grind (arith, nat_tests);
+  held = grind (arith, nat_tests);
+}
+
+-- and that a digest can be used
+pub record IsDigest (iterations len : ℕ) : Type 0 where
+  pub some_iterations : 1 ≤ iterations
+  pub few_iterations : iterations ≤ most_iterations
+  pub enough : least_digest ≤ len
+  pub few : len ≤ most_digest
+
+pub usable_digest : (iterations len : ℕ) → is_digest iterations len ≡ true → IsDigest iterations len
+unfolding is_digest is_beyond
+usable_digest iterations len is = record {
+  some_iterations = grind (arith, nat_tests);
+  few_iterations = grind (arith, nat_tests);
+  enough = grind (arith, nat_tests);
+  few = grind (arith, nat_tests);
+}

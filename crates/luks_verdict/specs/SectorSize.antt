@@ -1,0 +1,27 @@
+-- The lengths of sectors.
+use Rattle.std.specs.Prelude.{◌≡◌, ◌%◌, ◌==◌, ℕ, Bool, true, Option, Some, None}
+use Rattle.std.proofs.Common.{ap, sym, ◌∙◌}
+use Rattle.std.proofs.lemmas.Bool.{eqb-true}
+use Rattle.std.proofs.lemmas.Option.{none-some, same_Some}
+use Rattle.std.specs.Option.{ForSome}
+use Rattle.luks_verdict.specs.declared.sector_size.SectorSize.{SectorSize}
+use Rattle.luks_verdict.specs.declared.sector_size.SectorSize.TheVariants.{B512, B1024, B2048, B4096}
+
+-- in bytes
+abbrev pub bytes_of : SectorSize → ℕ
+bytes_of B512 = 512
+bytes_of B1024 = 1024
+bytes_of B2048 = 2048
+bytes_of B4096 = 4096
+
+-- a payload of this length is cut into whole sectors, as far as its length is fixed
+abbrev pub are_sectors : Option ℕ → SectorSize → Bool
+are_sectors None sector_size = true
+are_sectors (Some bytes) sector_size = bytes % bytes_of sector_size == 0
+
+-- what that says
+pub whole_sectors : (size : Option ℕ) (sector_size : SectorSize) → are_sectors size sector_size ≡ true
+    → ForSome size (λ bytes. bytes % bytes_of sector_size ≡ 0)
+whole_sectors None sector_size is = λ bytes some. absurd (none-some bytes some)
+whole_sectors (Some fixed) sector_size is = λ bytes some.
+    ap (λ n. n % bytes_of sector_size) (sym (same_Some fixed bytes some)) ∙ eqb-true (fixed % bytes_of sector_size) 0 is

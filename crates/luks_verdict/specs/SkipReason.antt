@@ -1,0 +1,20 @@
+-- Why a key slot is skipped, in the words of dumps and messages.
+use Rattle.std.specs.Prelude.{ℕ, List, codes}
+use Rattle.luks_verdict.specs.declared.refusal.SkipReason.{SkipReason}
+use Rattle.luks_verdict.specs.declared.refusal.SkipReason.TheVariants.{State, Kind, Member, Argon2i, Argon2id, Kdf, Hash, Encryption, KeySize, Stripes, Iterations, Area, Digest}
+
+-- the text of a reason
+abbrev pub reason_text : SkipReason → List ℕ
+reason_text State = codes "state"
+reason_text Kind = codes "type"
+reason_text Member = codes "member"
+reason_text Argon2i = codes "argon2i"
+reason_text Argon2id = codes "argon2id"
+reason_text Kdf = codes "kdf"
+reason_text Hash = codes "hash"
+reason_text Encryption = codes "encryption"
+reason_text KeySize = codes "key size"
+reason_text Stripes = codes "stripes"
+reason_text Iterations = codes "iterations"
+reason_text Area = codes "area"
+reason_text Digest = codes "digest"

@@ -1,0 +1,56 @@
+-- Key slots, made of what was read of them, and what becomes of them.
+use Rattle.std.specs.Prelude.{◌≡◌, ℕ, ◌+◌, Bool, true, Option, Some, None, option_map}
+use Rattle.luks_verdict.specs.Evidence.{where_true}
+use Rattle.luks_verdict.specs.Rule.{in_range, is_in_range, need_of}
+use Rattle.luks_verdict.specs.declared.refusal.SkipReason.{SkipReason}
+use Rattle.luks_verdict.specs.declared.refusal.SkipReason.TheVariants.{Member}
+use Rattle.luks_verdict.specs.declared.slot.Slot.{Slot}
+use Rattle.luks_verdict.specs.declared.slot.SlotParts.{SlotParts}
+use Rattle.luks_verdict.specs.declared.slot.Verdict.{Verdict}
+use Rattle.luks_verdict.specs.declared.slot.Verdict.TheVariants.{Usable, Disabled, Skipped}
+use Rattle.luks_verdict.specs.declared.slot.Judgement.{Judgement}
+use Rattle.luks_verdict.specs.declared.slot.Judgement.TheVariants.{Usable as Open, Disabled as Unused, Skipped as Shut}
+
+-- where key material ends in the image
+abbrev pub parts_end : SlotParts → ℕ
+parts_end parts = parts.area_offset + need_of parts.key_bytes parts.stripes
+
+-- where the key material of a key slot ends in the image
+abbrev pub end_of : Slot → ℕ
+end_of slot = slot.area_offset + need_of slot.key_bytes slot.stripes
+
+-- what was read of a key slot is in range
+abbrev pub are_in_range : SlotParts → Bool
+are_in_range parts = is_in_range parts.iterations parts.stripes (parts_end parts)
+
+-- the key slot of which this was read: its numbers are in range
+unfoldable pub slot_of : (parts : SlotParts) → are_in_range parts ≡ true → Slot
+slot_of parts is = record {
+  priority = parts.priority;
+  kdf_hash = parts.kdf_hash;
+  iterations = parts.iterations;
+  salt = parts.salt;
+  af_hash = parts.af_hash;
+  stripes = parts.stripes;
+  key_bytes = parts.key_bytes;
+  area_key_bytes = parts.area_key_bytes;
+  area_offset = parts.area_offset;
+  area_size = parts.area_size;
+  in_range = in_range parts.iterations parts.stripes (parts_end parts) is;
+}
+
+-- the key slot of which this was read, where its numbers are in range
+unfoldable pub slot_from : SlotParts → Option Slot
+slot_from parts = option_map (slot_of parts) (where_true (are_in_range parts))
+
+-- a key slot that there is no reason to skip can be tried. (Where there is none, the parts are there and in range.)
+abbrev pub judged : Option SkipReason → Option Slot → Verdict
+judged (Some reason) slot = Skipped reason
+judged None (Some slot) = Usable slot
+judged None None = Skipped Member
+
+-- what becomes of a key slot, without what it takes to open it
+abbrev pub judgement_of : Verdict → Judgement
+judgement_of (Usable slot) = Open slot.priority
+judgement_of Disabled = Unused
+judgement_of (Skipped reason) = Shut reason

@@ -1,0 +1,74 @@
+//! Digests, by which a volume key is known.
+
+ghost use Rattle.std.specs.Prelude.{◌≡◌, length};
+ghost use Rattle.luks_verdict.specs.Rule.{IsDigest};
+
+use crate::bytes::HeaderBytes;
+use crate::rule::{beyond, usable_digest};
+use luks_kdf::Hash;
+
+/// What is read of a digest, before it is judged.
+#[derive(Drop, Debug)]
+pub struct DigestParts {
+    /// The hash function of PBKDF2. `None` is for LUKS1 alone, where the hash function's name is
+    /// not known.
+    pub hash: Option<Hash>,
+    /// The iterations of PBKDF2.
+    pub iterations: u32,
+    /// The salt of PBKDF2.
+    pub salt: HeaderBytes,
+    /// What PBKDF2 gives.
+    pub value: HeaderBytes,
+}
+
+/// By what a volume key is known: PBKDF2 of it gives this value. It has at least one iteration, and
+/// a value of 20 to 64 bytes.
+#[derive(Drop, Debug)]
+pub struct KeyDigest {
+    /// The hash function of PBKDF2. `None` is for LUKS1 alone, where the hash function's name is
+    /// not known.
+    pub hash: Option<Hash>,
+    /// The iterations of PBKDF2.
+    pub iterations: u32,
+    /// The salt of PBKDF2.
+    pub salt: HeaderBytes,
+    /// What PBKDF2 gives.
+    pub value: HeaderBytes,
+    ghost usable: { IsDigest iterations (length value) },
+}
+
+impl DigestParts {
+    ghost use Rattle.std.specs.Prelude.{◌≡◌, length};
+    ghost use Rattle.luks_verdict.specs.Digest.{digest_from, is_undigested};
+    ghost use Rattle.luks_verdict.specs.declared.digest.DigestParts.{DigestParts};
+
+    /// Whether a key slot is not tried against a digest of so many iterations and bytes: its
+    /// numbers are not in range, or more iterations than the limit would be made.
+    pub fn undigested(limit: Option<u32>, iterations: u32, len: usize) -> bool
+        ensures { (parts : DigestParts) → parts.iterations ≡ iterations → length parts.value ≡ len
+            → result ≡ is_undigested limit (digest_from parts) }
+    {
+        !usable_digest(u64::from(iterations), len) || beyond(limit, u64::from(iterations))
+    }
+}
+
+impl KeyDigest {
+    ghost use Rattle.std.specs.Prelude.{◌≡◌};
+    ghost use Rattle.luks_verdict.specs.Digest.{digest_from};
+
+    /// The digest of which this was read, where its numbers are in range.
+    #[tactic(auto, unfolding(crate::specs::Digest::digest_from))]
+    pub fn from_parts(parts: DigestParts) -> Option<KeyDigest>
+        ensures { result ≡ digest_from parts }
+    {
+        if !usable_digest(u64::from(parts.iterations), parts.value.as_slice().len()) {
+            return None;
+        }
+        Some(KeyDigest {
+            hash: parts.hash,
+            iterations: parts.iterations,
+            salt: parts.salt,
+            value: parts.value,
+        })
+    }
+}

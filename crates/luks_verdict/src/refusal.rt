@@ -1,0 +1,109 @@
+//! Why a key slot is skipped or a segment refused.
+
+ghost use Rattle.std.specs.Prelude.{◌≡◌};
+ghost use Rattle.luks_verdict.specs.SegmentFault.{fault_text};
+ghost use Rattle.luks_verdict.specs.SkipReason.{reason_text};
+
+/// Why a key slot cannot be tried. Where there are several reasons, it is the first in this order.
+#[derive(Clone, Copy, PartialEq, Eq, Debug)]
+pub enum SkipReason {
+    /// LUKS1: the state is neither that of a slot in use nor that of one that is not.
+    State,
+    /// LUKS2: no object of type `luks2`.
+    Kind,
+    /// LUKS2: a member is missing or of a wrong kind.
+    Member,
+    /// LUKS2: the key is derived by Argon2i.
+    Argon2i,
+    /// LUKS2: the key is derived by Argon2id.
+    Argon2id,
+    /// LUKS2: the key is derived by another function that is not PBKDF2.
+    Kdf,
+    /// LUKS2: a hash function's name is not known.
+    Hash,
+    /// LUKS2: the key material is encrypted in another way than `aes-xts-plain64`.
+    Encryption,
+    /// LUKS2: the length of the volume key or of the key material's key is not 32 or 64 bytes.
+    KeySize,
+    /// The number of stripes is not 1 to 4000.
+    Stripes,
+    /// The number of iterations is 0, above 4,294,967,295 or above the limit.
+    Iterations,
+    /// The key material starts inside the header, or it ends past the payload's start or past byte
+    /// 33,554,432.
+    Area,
+    /// LUKS2: no usable digest lists the slot and the segment. Or the digest's iterations are 0 or
+    /// above the limit.
+    Digest,
+}
+
+impl SkipReason {
+    /// The reason in the words of dumps and messages.
+    pub fn text(self) -> &'static str
+        ensures { result.now ≡ reason_text self }
+    {
+        match self {
+            SkipReason::State => "state",
+            SkipReason::Kind => "type",
+            SkipReason::Member => "member",
+            SkipReason::Argon2i => "argon2i",
+            SkipReason::Argon2id => "argon2id",
+            SkipReason::Kdf => "kdf",
+            SkipReason::Hash => "hash",
+            SkipReason::Encryption => "encryption",
+            SkipReason::KeySize => "key size",
+            SkipReason::Stripes => "stripes",
+            SkipReason::Iterations => "iterations",
+            SkipReason::Area => "area",
+            SkipReason::Digest => "digest",
+        }
+    }
+}
+
+/// Why a payload cannot be read. Where there are several faults, it is the first in this order.
+#[derive(Clone, Copy, PartialEq, Eq, Debug)]
+pub enum SegmentFault {
+    /// LUKS2: the configuration has requirements.
+    Requirement,
+    /// LUKS2: there is not exactly one segment, named `0`.
+    Segments,
+    /// LUKS2: a member is missing or of a wrong kind.
+    Member,
+    /// LUKS2: the type is not `crypt`.
+    Kind,
+    /// LUKS2: the segment has integrity tags.
+    Integrity,
+    /// The payload is encrypted in another way than by AES in mode `xts-plain64`.
+    Encryption,
+    /// LUKS1: the hash function's name is not known.
+    Hash,
+    /// LUKS1: the length of the volume key is not 32 or 64 bytes.
+    KeyBytes,
+    /// LUKS2: the length of a sector is not 512, 1024, 2048 or 4096 bytes.
+    SectorSize,
+    /// The payload starts inside the header, or within a sector of 512 bytes.
+    Offset,
+    /// LUKS2: the length of the payload is fixed and no multiple of the sectors' length.
+    Size,
+}
+
+impl SegmentFault {
+    /// The fault in the words of dumps and messages.
+    pub fn text(self) -> &'static str
+        ensures { result.now ≡ fault_text self }
+    {
+        match self {
+            SegmentFault::Requirement => "requirement",
+            SegmentFault::Segments => "segments",
+            SegmentFault::Member => "member",
+            SegmentFault::Kind => "type",
+            SegmentFault::Integrity => "integrity",
+            SegmentFault::Encryption => "encryption",
+            SegmentFault::Hash => "hash",
+            SegmentFault::KeyBytes => "key bytes",
+            SegmentFault::SectorSize => "sector size",
+            SegmentFault::Offset => "offset",
+            SegmentFault::Size => "size",
+        }
+    }
+}

@@ -1,0 +1,32 @@
+//! The lengths that a sector of the payload may have.
+
+ghost use Rattle.std.specs.Prelude.{◌≡◌};
+
+/// The length of a sector of the payload.
+#[derive(Clone, Copy, PartialEq, Eq, Debug)]
+pub enum SectorSize {
+    /// 512 bytes.
+    B512,
+    /// 1,024 bytes.
+    B1024,
+    /// 2,048 bytes.
+    B2048,
+    /// 4,096 bytes.
+    B4096,
+}
+
+impl SectorSize {
+    ghost use Rattle.luks_verdict.specs.SectorSize.{bytes_of};
+
+    /// The length in bytes.
+    pub fn bytes(self) -> usize
+        ensures { result ≡ bytes_of self }
+    {
+        match self {
+            SectorSize::B512 => 512,
+            SectorSize::B1024 => 1024,
+            SectorSize::B2048 => 2048,
+            SectorSize::B4096 => 4096,
+        }
+    }
+}

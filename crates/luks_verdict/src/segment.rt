@@ -1,0 +1,83 @@
+//! Where the payload lies and how it is cut into sectors.
+
+ghost use Rattle.std.specs.Prelude.{◌≡◌, ◌%◌};
+ghost use Rattle.std.specs.Option.{ForSome};
+ghost use Rattle.luks_verdict.specs.SectorSize.{are_sectors, bytes_of};
+
+use crate::sector_size::SectorSize;
+
+/// Where the payload lies in the image, and how its sectors are numbered.
+#[derive(Clone, Copy, Debug)]
+pub struct Segment {
+    /// The first byte of the payload.
+    pub offset: u64,
+    /// The length of the payload in bytes, or `None` where it goes to the image's end.
+    pub size: Option<u64>,
+    /// The unit number of the first sector.
+    pub iv_tweak: u64,
+    /// The length of a sector.
+    pub sector_size: SectorSize,
+    ghost whole_sectors: { ForSome size (λ bytes. bytes % bytes_of sector_size ≡ 0) },
+}
+
+/// What is read of a segment, before it is judged: each part where it could be read.
+#[derive(Clone, Copy, Debug)]
+pub struct SegmentParts {
+    /// The first byte of the payload.
+    pub offset: Option<u64>,
+    /// The length of the payload in bytes, or `Some(None)` where it goes to the image's end.
+    pub size: Option<Option<u64>>,
+    /// The unit number of the first sector.
+    pub iv_tweak: Option<u64>,
+    /// The length of a sector.
+    pub sector_size: Option<SectorSize>,
+}
+
+// The length is a multiple of the sectors' length, where it is fixed.
+fn in_sectors(size: Option<u64>, sector_size: SectorSize) -> bool
+    ensures { result ≡ are_sectors size sector_size }
+{
+    match size {
+        Some(bytes) => bytes % sector_size.bytes() as u64 == 0,
+        None => true,
+    }
+}
+
+impl Segment {
+    ghost use Rattle.std.specs.Prelude.{◌≡◌};
+    ghost use Rattle.luks_verdict.specs.Segment.{segment_from};
+
+    /// The segment of which this was read, where each part is there and in range.
+    #[tactic(
+        auto,
+        unfolding(
+            crate::specs::Segment::segment_from,
+            crate::specs::Segment::segment_of_all
+        )
+    )]
+    pub fn from_parts(parts: SegmentParts) -> Option<Segment>
+        ensures { result ≡ segment_from parts }
+    {
+        let Some(offset) = parts.offset else {
+            return None;
+        };
+        let Some(size) = parts.size else {
+            return None;
+        };
+        let Some(iv_tweak) = parts.iv_tweak else {
+            return None;
+        };
+        let Some(sector_size) = parts.sector_size else {
+            return None;
+        };
+        if !in_sectors(size, sector_size) {
+            return None;
+        }
+        Some(Segment {
+            offset,
+            size,
+            iv_tweak,
+            sector_size,
+        })
+    }
+}

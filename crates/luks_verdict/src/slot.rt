@@ -1,0 +1,129 @@
+//! Key slots and what becomes of them.
+
+ghost use Rattle.std.specs.Prelude.{◌≡◌, ◌+◌};
+ghost use Rattle.luks_verdict.specs.Rule.{InRange, need_of};
+
+use crate::bytes::HeaderBytes;
+use crate::refusal::SkipReason;
+use crate::rule::{in_range, need};
+use luks_kdf::Hash;
+
+/// What is read of a key slot, before it is judged.
+#[derive(Drop, Debug)]
+pub struct SlotParts {
+    /// How soon it is tried: 2 before 1, and 0 only where it is named.
+    pub priority: u8,
+    /// The hash function by which the key material's key comes of a passphrase. `None` is for LUKS1
+    /// alone, where the hash function's name is not known.
+    pub kdf_hash: Option<Hash>,
+    /// The iterations by which it does.
+    pub iterations: u32,
+    /// The salt by which it does.
+    pub salt: HeaderBytes,
+    /// The hash function of the stripes. `None` is for LUKS1 alone, where the hash function's name
+    /// is not known.
+    pub af_hash: Option<Hash>,
+    /// How many stripes the key material has.
+    pub stripes: u32,
+    /// The length of the volume key in bytes.
+    pub key_bytes: u32,
+    /// The length in bytes of the key by which the key material is encrypted.
+    pub area_key_bytes: u32,
+    /// The first byte of the key material.
+    pub area_offset: u64,
+    /// How many bytes are set aside for the key material.
+    pub area_size: u64,
+}
+
+/// What it takes to open a key slot. Its numbers are in range: 1 to 4000 stripes, at least one
+/// iteration, and key material that ends within what an area of an image can hold.
+#[derive(Drop, Debug)]
+pub struct Slot {
+    /// How soon it is tried: 2 before 1, and 0 only where it is named.
+    pub priority: u8,
+    /// The hash function by which the key material's key comes of a passphrase. `None` is for LUKS1
+    /// alone, where the hash function's name is not known.
+    pub kdf_hash: Option<Hash>,
+    /// The iterations by which it does.
+    pub iterations: u32,
+    /// The salt by which it does.
+    pub salt: HeaderBytes,
+    /// The hash function of the stripes. `None` is for LUKS1 alone, where the hash function's name
+    /// is not known.
+    pub af_hash: Option<Hash>,
+    /// How many stripes the key material has.
+    pub stripes: u32,
+    /// The length of the volume key in bytes.
+    pub key_bytes: u32,
+    /// The length in bytes of the key by which the key material is encrypted.
+    pub area_key_bytes: u32,
+    /// The first byte of the key material.
+    pub area_offset: u64,
+    /// How many bytes are set aside for the key material.
+    pub area_size: u64,
+    ghost in_range: { InRange iterations stripes (area_offset + need_of key_bytes stripes) },
+}
+
+impl Slot {
+    ghost use Rattle.std.specs.Prelude.{◌≡◌};
+    ghost use Rattle.luks_verdict.specs.Rule.{need_of};
+    ghost use Rattle.luks_verdict.specs.Slot.{slot_from};
+
+    /// The key slot of which this was read, where its numbers are in range.
+    #[tactic(auto, unfolding(crate::specs::Slot::slot_from))]
+    pub fn from_parts(parts: SlotParts) -> Option<Slot>
+        ensures { result ≡ slot_from parts }
+    {
+        let need = need(parts.key_bytes, parts.stripes);
+        if !in_range(
+            u64::from(parts.iterations),
+            u64::from(parts.stripes),
+            parts.area_offset,
+            need,
+        ) {
+            return None;
+        }
+        Some(Slot {
+            priority: parts.priority,
+            kdf_hash: parts.kdf_hash,
+            iterations: parts.iterations,
+            salt: parts.salt,
+            af_hash: parts.af_hash,
+            stripes: parts.stripes,
+            key_bytes: parts.key_bytes,
+            area_key_bytes: parts.area_key_bytes,
+            area_offset: parts.area_offset,
+            area_size: parts.area_size,
+        })
+    }
+
+    /// How many bytes of key material there are: one key for each stripe, in whole sectors of 512
+    /// bytes.
+    pub fn need(&self) -> u64
+        ensures { result ≡ need_of self.now.key_bytes self.now.stripes }
+    {
+        need(self.key_bytes, self.stripes)
+    }
+}
+
+/// What becomes of a key slot.
+#[derive(Drop, Debug)]
+pub enum Verdict {
+    /// It can be tried.
+    Usable(Slot),
+    /// It is not in use.
+    Disabled,
+    /// It cannot be tried.
+    Skipped(SkipReason),
+}
+
+/// What becomes of a key slot, without what it takes to open it.
+#[derive(Clone, Copy, PartialEq, Eq, Debug)]
+pub enum Judgement {
+    /// It can be tried, and has this priority.
+    Usable(u8),
+    /// It is not in use.
+    Disabled,
+    /// It cannot be tried.
+    Skipped(SkipReason),
+}
