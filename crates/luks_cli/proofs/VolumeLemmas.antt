@@ -1,5 +1,6 @@
 -- Finding the volume of an image.
-use Rattle.std.proofs.Common.{◌≡◌, ℕ, ◌⊎◌, inl, inr, List, Option, Some, Ok, Err, refl, drop, arith}
+use Rattle.std.proofs.Common.{◌≡◌, ℕ, ◌⊎◌, inl, inr, List, Option, Some, Ok, Err, false, refl, drop, arith}
+use Rattle.std.specs.Prelude.{is_err}
 use Rattle.luks_header.specs.Header.{StopsReading, cost_of, header_of}
 use Rattle.luks_header.specs.Segment.{segment_of}
 use Rattle.luks_header.specs.declared.header.Header.{Header}
@@ -43,6 +44,10 @@ module _ (o : OpeningRequest) (image : List ℕ) (left : Option (List ℕ)) wher
         → volume_of o image ≡ Ok (record { header = header; segment = segment; tries = tries })
     unfolding volume_of
     volume_is segment tries is ordered = rw (found, is, ordered) refl
+
+    pub volume_found : (segment : Segment) (tries : Tries) → segment_of header ≡ Ok segment → order_of header o.key_slot o.max_iterations ≡ Ok tries
+        → is_err (volume_of o image) ≡ false
+    volume_found segment tries is ordered = rw (volume_is segment tries is ordered) refl
 
     module _ (rest : left ≡ Some (drop (cost_of image) image)) where
       pub stops_without_segment : (fault : SegmentFault) → segment_of header ≡ Err fault → StopsFinding o image left (SegmentRefused fault)

@@ -1,13 +1,17 @@
 -- What a run leaves in its devices, and what it keeps to where it is broken off. Each device is spoken of by itself: a run takes so
 -- many bytes of the image and of the second input, and writes these; what that means for a device is a fact of its own.
-use Rattle.std.specs.Prelude.{◌≡◌, ℕ, ◌<◌, ◌≤◌, ◌^◌, List, length, take, Option, Some, Bool, true, false, MatchBool, ◌⊎◌, Result, Ok, Err}
+use Rattle.std.specs.Prelude.{◌≡◌, ℕ, ◌<◌, ◌≤◌, ◌^◌, List, length, take, Option, Some, Bool, true, false, MatchBool, ◌⊎◌, is_err, Result, Ok, Err}
 use Rattle.luks_io.specs.Bytes.{Adds, Took, WhereKnown, raised}
 use Rattle.luks_cli.specs.Payload.{cat_promptly}
 use Rattle.luks_command.specs.Request.{Request, is_luks, luks_uuid, luks_dump, test_passphrase, luks_cat, af_split, af_merge}
 use Rattle.luks_cli.specs.Outcome.{Outcome, outcome_of}
-use Rattle.luks_cli.specs.Stripe.{split_promptly}
+use Rattle.luks_cli.specs.Stripe.{longest_key, split_promptly}
+use Rattle.luks_cli.specs.Volume.{volume_of}
 use Rattle.luks_report.specs.declared.message.Message.{Message}
-use Rattle.luks_report.specs.declared.message.Message.TheVariants.{Done, OutOfMemory, ReadFailed, WriteFailed}
+use Rattle.luks_report.specs.declared.message.Message.TheVariants.{Done, No, NotLuks, Cut, Json, OutOfMemory, ReadFailed, WriteFailed}
+use Rattle.luks_report.specs.declared.message.Message.TheVariants.{SegmentRefused, NoSuchSlot, SlotDisabled, SlotSkipped, NothingTried}
+use Rattle.luks_report.specs.declared.message.Message.TheVariants.{KeyFileLength, NoKey, CutBeforePayload, Tail, Short}
+use Rattle.luks_report.specs.declared.message.Message.TheVariants.{KeyLength, FewRandomBytes, FewStripes}
 
 -- memory was refused, or a read or a write failed
 abbrev pub breaks_off : Message → Bool
@@ -108,6 +112,93 @@ abbrev pub TakesNoMemory : Request → Type 0
 TakesNoMemory (af_split s) = Unit {0}
 TakesNoMemory (af_merge m) = Unit {0}
 TakesNoMemory _ = ⊥
+
+-- which messages `isLuks` may end with
+abbrev pub IsLuksMessage : Message → Type 0
+IsLuksMessage Done = Unit {0}
+IsLuksMessage No = Unit {0}
+IsLuksMessage Cut = Unit {0}
+IsLuksMessage Json = Unit {0}
+IsLuksMessage OutOfMemory = Unit {0}
+IsLuksMessage ReadFailed = Unit {0}
+IsLuksMessage _ = ⊥
+
+-- a command that prints a text of the header
+abbrev pub PrintMessage : Message → Type 0
+PrintMessage Done = Unit {0}
+PrintMessage NotLuks = Unit {0}
+PrintMessage Cut = Unit {0}
+PrintMessage Json = Unit {0}
+PrintMessage OutOfMemory = Unit {0}
+PrintMessage ReadFailed = Unit {0}
+PrintMessage WriteFailed = Unit {0}
+PrintMessage _ = ⊥
+
+-- opening a volume
+abbrev pub OpeningMessage : Message → Type 0
+OpeningMessage NotLuks = Unit {0}
+OpeningMessage Cut = Unit {0}
+OpeningMessage Json = Unit {0}
+OpeningMessage (SegmentRefused _) = Unit {0}
+OpeningMessage (NoSuchSlot _) = Unit {0}
+OpeningMessage (SlotDisabled _) = Unit {0}
+OpeningMessage (SlotSkipped _ _) = Unit {0}
+OpeningMessage (NothingTried _) = Unit {0}
+OpeningMessage KeyFileLength = Unit {0}
+OpeningMessage (NoKey _) = Unit {0}
+OpeningMessage OutOfMemory = Unit {0}
+OpeningMessage ReadFailed = Unit {0}
+OpeningMessage _ = ⊥
+
+-- passing on a payload
+abbrev pub PayloadMessage : Message → Type 0
+PayloadMessage Done = Unit {0}
+PayloadMessage CutBeforePayload = Unit {0}
+PayloadMessage (Tail _) = Unit {0}
+PayloadMessage (Short _) = Unit {0}
+PayloadMessage ReadFailed = Unit {0}
+PayloadMessage WriteFailed = Unit {0}
+PayloadMessage _ = ⊥
+
+-- `afSplit`
+abbrev pub SplitMessage : Message → Type 0
+SplitMessage Done = Unit {0}
+SplitMessage KeyLength = Unit {0}
+SplitMessage FewRandomBytes = Unit {0}
+SplitMessage ReadFailed = Unit {0}
+SplitMessage WriteFailed = Unit {0}
+SplitMessage _ = ⊥
+
+-- `afMerge`
+abbrev pub MergeMessage : Message → Type 0
+MergeMessage Done = Unit {0}
+MergeMessage FewStripes = Unit {0}
+MergeMessage ReadFailed = Unit {0}
+MergeMessage WriteFailed = Unit {0}
+MergeMessage _ = ⊥
+
+-- the messages that a command may end with, whatever its devices do
+abbrev pub MayTell : Request → Message → Type 0
+MayTell (is_luks _) message = IsLuksMessage message
+MayTell (luks_uuid _) message = PrintMessage message
+MayTell (luks_dump _) message = PrintMessage message
+MayTell (test_passphrase o) message = OpeningMessage message ⊎ (message ≡ Done ⊎ message ≡ WriteFailed)
+MayTell (luks_cat o) message = OpeningMessage message ⊎ PayloadMessage message
+MayTell (af_split s) message = SplitMessage message
+MayTell (af_merge m) message = MergeMessage message
+
+-- a command that writes nothing before its last read
+abbrev pub ReadsFirst : Request → Type 0
+ReadsFirst (luks_cat o) = ⊥
+ReadsFirst (af_split s) = ⊥
+ReadsFirst _ = Unit {0}
+
+-- the header, the segment, the order of the key slots or the key's length ends the run: no second input is needed
+abbrev pub NeedsNoSecret : Request → List ℕ → Type 0
+NeedsNoSecret (test_passphrase o) image = is_err (volume_of o image) ≡ true
+NeedsNoSecret (luks_cat o) image = is_err (volume_of o image) ≡ true
+NeedsNoSecret (af_split s) image = (length image ≡ 0) ⊎ (longest_key < length image)
+NeedsNoSecret _ image = Unit {0}
 
 -- the message of a part of a run
 abbrev pub message_of : {T : Type 0} → Result T Message → Message

@@ -5,7 +5,7 @@ ghost use Rattle.luks_io.specs.Bytes.{Adds, Took, WhereKnown};
 ghost use Rattle.luks_cli.specs.Header.{answer_to_is_luks};
 ghost use Rattle.luks_report.specs.Dump.{dump_of, uuid_of};
 ghost use Rattle.luks_cli.specs.Outcome.{is_luks_outcome, print_outcome};
-ghost use Rattle.luks_cli.specs.Run.{Counts, Runs, TookNone, at_any_pace, message_of};
+ghost use Rattle.luks_cli.specs.Run.{Counts, IsLuksMessage, PrintMessage, Runs, TookNone, at_any_pace, message_of};
 
 use luks_header::fault::HeaderFault;
 use luks_header::header::read_header;
@@ -20,6 +20,7 @@ pub(super) fn is_luks<S: Source>(alloc: Global, image: &mut S) -> Result<(), Mes
     ensures run { (written : Option (List ℕ)) → WhereKnown (S.to_come image.old) (λ known.
         Runs at_any_pace (is_luks_outcome known) (message_of result)
         (Took known (S.to_come image.new)) TookNone (Adds written written)) }
+    ensures only { IsLuksMessage (message_of result) }
     ensures counts { (secret written : ℕ) → Counts (message_of result)
         (record { image = S.failures image.old; secret = secret; written = written })
         (record { image = S.failures image.new; secret = secret; written = written }) }
@@ -49,6 +50,8 @@ pub(super) fn print_uuid<S: Source, O: Sink>(
     ensures run { WhereKnown (S.to_come image.old) (λ known.
         Runs at_any_pace (print_outcome uuid_of known) (message_of result)
         (Took known (S.to_come image.new)) TookNone (Adds (O.written out.old) (O.written out.new))) }
+    ensures only { PrintMessage (message_of result) }
+    ensures reads_first { message_of result ≡ Message.ReadFailed → out.new ≡ out.old }
     ensures counts { (secret : ℕ) → Counts (message_of result)
         (record { image = S.failures image.old; secret = secret; written = O.failures out.old })
         (record { image = S.failures image.new; secret = secret; written = O.failures out.new }) }
@@ -68,6 +71,8 @@ pub(super) fn print_dump<S: Source, O: Sink>(
     ensures run { WhereKnown (S.to_come image.old) (λ known.
         Runs at_any_pace (print_outcome dump_of known) (message_of result)
         (Took known (S.to_come image.new)) TookNone (Adds (O.written out.old) (O.written out.new))) }
+    ensures only { PrintMessage (message_of result) }
+    ensures reads_first { message_of result ≡ Message.ReadFailed → out.new ≡ out.old }
     ensures counts { (secret : ℕ) → Counts (message_of result)
         (record { image = S.failures image.old; secret = secret; written = O.failures out.old })
         (record { image = S.failures image.new; secret = secret; written = O.failures out.new }) }

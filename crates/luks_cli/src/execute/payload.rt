@@ -2,7 +2,7 @@
 
 ghost use Rattle.std.specs.Prelude.{◌≡◌, ◌≢◌, ◌<◌, ◌≤◌, ◌^◌, List, ℕ, IfErr, length};
 ghost use Rattle.luks_cli.specs.Payload.{PassesPayload};
-ghost use Rattle.luks_cli.specs.Run.{is_failed_read, is_failed_write, message_of};
+ghost use Rattle.luks_cli.specs.Run.{PayloadMessage, is_failed_read, is_failed_write, message_of};
 ghost use Rattle.luks_io.specs.Bytes.{Took, counted};
 
 use luks_cipher::XtsKey;
@@ -25,6 +25,7 @@ pub(super) fn write_payload<I: Source, O: Sink>(
     ensures run { (whole : List ℕ) → length whole < 2 ^ 64 → Took whole (I.to_come image.old) consumed
         → PassesPayload segment key whole
         (I.to_come image.new) (O.written out.old) (O.written out.new) (message_of result) }
+    ensures only { PayloadMessage (message_of result) }
     ensures memory { IfErr result (λ message. message ≢ Message.OutOfMemory) }
     ensures reads { I.failures image.new ≡ counted (is_failed_read (message_of result)) (I.failures image.old) }
     ensures writes { O.failures out.new ≡ counted (is_failed_write (message_of result)) (O.failures out.old) }

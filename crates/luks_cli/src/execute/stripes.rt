@@ -1,9 +1,9 @@
 //! `afSplit` and `afMerge`: keys and the stripes that hold them.
 
-ghost use Rattle.std.specs.Prelude.{◌≡◌, ◌≢◌, ◌*◌, ◌≤◌, ◌⊎◌, ◌+◌, ℕ, IfOk, IfErr, OnOk, length, take};
+ghost use Rattle.std.specs.Prelude.{◌≡◌, ◌≢◌, ◌*◌, ◌<◌, ◌≤◌, ◌⊎◌, ◌+◌, ℕ, IfOk, IfErr, OnOk, length, take};
 ghost use Rattle.luks_kdf.specs.Stripes.{chain_after};
 ghost use Rattle.luks_io.specs.Bytes.{Adds, Took, WhereKnown, counted};
-ghost use Rattle.luks_cli.specs.Run.{Counts, Runs, TookNone, at_any_pace, is_failed_read, is_failed_write, message_of};
+ghost use Rattle.luks_cli.specs.Run.{Counts, MergeMessage, Runs, SplitMessage, TookNone, at_any_pace, is_failed_read, is_failed_write, message_of};
 ghost use Rattle.luks_cli.specs.Outcome.{merge_outcome, split_outcome};
 ghost use Rattle.luks_cli.specs.Stripe.{NoKeyRead, Passed, StopsAtStripe, StopsTaking, longest_key, split_promptly};
 
@@ -21,6 +21,7 @@ const LONGEST_KEY: usize = 512;
 fn read_key<S: Source>(source: &mut S, buf: &mut [u8]) -> Result<usize, Message>
     requires { length buf.old ≡ longest_key + 1 }
     ensures length { IfOk result (λ len. (1 ≤ len) × (len ≤ longest_key)) }
+    ensures fits { IfOk result (λ len. WhereKnown (S.to_come source.old) (λ key. len ≡ length key)) }
     ensures key { IfOk result (λ len. WhereKnown (S.to_come source.old)
         (λ key. (take len buf.new ≡ key) × Took key (S.to_come source.new) (length key))) }
     ensures err { IfErr result (λ message. WhereKnown (S.to_come source.old)
@@ -55,6 +56,7 @@ fn pass_stripes<R: Source, O: Sink>(
     ensures err { IfErr result (λ message. WhereKnown (R.to_come random.old)
         (λ known. StopsAtStripe count (length stripe.new) known
         (R.to_come random.new) (O.written out.old) (O.written out.new) message)) }
+    ensures only { SplitMessage (message_of result) }
     ensures memory { IfErr result (λ message. message ≢ Message.OutOfMemory) }
     ensures reads { R.failures random.new ≡ counted (is_failed_read (message_of result)) (R.failures random.old) }
     ensures writes { O.failures out.new ≡ counted (is_failed_write (message_of result)) (O.failures out.old) }
@@ -87,6 +89,9 @@ fn write_split<K: Source, R: Source, O: Sink>(
         (split_outcome splitting.now.hash splitting.now.stripes.count known bytes) (message_of result)
         (Took known (K.to_come key.new)) (Took bytes (R.to_come random.new))
         (Adds (O.written out.old) (O.written out.new)))) }
+    ensures only { SplitMessage (message_of result) }
+    ensures unneeded { WhereKnown (K.to_come key.old) (λ known. (length known ≡ 0) ⊎ (longest_key < length known)
+        → random.new ≡ random.old) }
     ensures memory { IfErr result (λ message. message ≢ Message.OutOfMemory) }
     ensures counts { Counts (message_of result)
         (record { image = K.failures key.old; secret = R.failures random.old; written = O.failures out.old })
@@ -149,6 +154,8 @@ fn write_merged<S: Source, O: Sink>(
         Runs at_any_pace (merge_outcome m.hash m.stripes.count m.key_bytes.bytes known) (message_of result)
         (Took known (S.to_come stripes.new)) TookNone (Adds (O.written out.old) (O.written out.new))) }
     ensures memory { IfErr result (λ message. message ≢ Message.OutOfMemory) }
+    ensures only { MergeMessage (message_of result) }
+    ensures reads_first { message_of result ≡ Message.ReadFailed → out.new ≡ out.old }
     ensures counts { (secret : ℕ) → Counts (message_of result)
         (record { image = S.failures stripes.old; secret = secret; written = O.failures out.old })
         (record { image = S.failures stripes.new; secret = secret; written = O.failures out.new }) }
@@ -177,6 +184,9 @@ pub(super) fn split<K: Source, R: Source, O: Sink>(
         (split_outcome splitting.now.hash splitting.now.stripes.count known bytes) (message_of result)
         (Took known (K.to_come key.new)) (Took bytes (R.to_come random.new))
         (Adds (O.written out.old) (O.written out.new)))) }
+    ensures only { SplitMessage (message_of result) }
+    ensures unneeded { WhereKnown (K.to_come key.old) (λ known. (length known ≡ 0) ⊎ (longest_key < length known)
+        → random.new ≡ random.old) }
     ensures memory { IfErr result (λ message. message ≢ Message.OutOfMemory) }
     ensures counts { Counts (message_of result)
         (record { image = K.failures key.old; secret = R.failures random.old; written = O.failures out.old })
@@ -197,6 +207,8 @@ pub(super) fn merge<S: Source, O: Sink>(
         Runs at_any_pace (merge_outcome m.hash m.stripes.count m.key_bytes.bytes known) (message_of result)
         (Took known (S.to_come stripes.new)) TookNone (Adds (O.written out.old) (O.written out.new))) }
     ensures memory { IfErr result (λ message. message ≢ Message.OutOfMemory) }
+    ensures only { MergeMessage (message_of result) }
+    ensures reads_first { message_of result ≡ Message.ReadFailed → out.new ≡ out.old }
     ensures counts { (secret : ℕ) → Counts (message_of result)
         (record { image = S.failures stripes.old; secret = secret; written = O.failures out.old })
         (record { image = S.failures stripes.new; secret = secret; written = O.failures out.new }) }

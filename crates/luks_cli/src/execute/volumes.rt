@@ -1,6 +1,6 @@
 //! `testPassphrase` and `luksCat`: volumes that a passphrase opens.
 
-ghost use Rattle.std.specs.Prelude.{◌≡◌, ◌≢◌, ◌<◌, ◌≤◌, ◌^◌, List, ℕ, Option, Some, Ok, IfOk, IfErr, drop, length, take, true};
+ghost use Rattle.std.specs.Prelude.{◌≡◌, ◌≢◌, ◌<◌, ◌≤◌, ◌⊎◌, ◌^◌, List, ℕ, Option, Ok, IfOk, IfErr, false, is_err, length, take, true};
 ghost use Rattle.luks_cipher.specs.Xts.{is_xts_key_length};
 ghost use Rattle.luks_io.specs.Bytes.{Adds, Took, WhereKnown, counted};
 ghost use Rattle.luks_header.specs.Header.{cost_of, header_of};
@@ -9,9 +9,9 @@ ghost use Rattle.luks_open.specs.Order.{order_of};
 ghost use Rattle.luks_cli.specs.Outcome.{OnOpened, payload_outcome, slot_outcome, volume_outcome};
 ghost use Rattle.luks_cli.specs.Payload.{cat_promptly};
 ghost use Rattle.luks_command.specs.Request.{opening_request};
-ghost use Rattle.luks_cli.specs.Run.{Counts, Runs, at_any_pace, is_failed_read, message_of};
+ghost use Rattle.luks_cli.specs.Run.{Counts, OpeningMessage, PayloadMessage, Runs, at_any_pace, is_failed_read, message_of};
 ghost use Rattle.luks_cli.specs.Unlocking.{TakesHeld, Unlocks};
-ghost use Rattle.luks_cli.specs.Volume.{StopsFinding};
+ghost use Rattle.luks_cli.specs.Volume.{StopsFinding, volume_of};
 
 use super::payload::write_payload;
 use super::secret::read_secret;
@@ -80,9 +80,12 @@ fn find_volume<I: Source>(
         × Took known (I.to_come image.new) (cost_of known))) }
     ensures err { IfErr result (λ message. WhereKnown (I.to_come image.old)
         (λ known. StopsFinding (opening_request opening.now) known (I.to_come image.new) message)) }
+    ensures only { IfErr result OpeningMessage }
     ensures segment { IfOk result (λ volume. segment_of volume.header ≡ Ok volume.segment) }
     ensures order { IfOk result (λ volume. let o = opening_request opening.now in
         order_of volume.header o.key_slot o.max_iterations ≡ Ok volume.order) }
+    ensures volume { IfOk result (λ _. WhereKnown (I.to_come image.old)
+        (λ known. is_err (volume_of (opening_request opening.now) known) ≡ false)) }
     ensures area { IfOk result (λ volume. length volume.area ≡ cost_of volume.area) }
     ensures writes { IfErr result (λ message. message ≢ Message.WriteFailed) }
     ensures reads { I.failures image.new ≡ counted (is_failed_read (message_of result)) (I.failures image.old) }
@@ -116,6 +119,9 @@ fn unlock<I: Source, K: Source>(
         WhereKnown (K.to_come secret.old) (λ pass. (on_opened : OnOpened) → TakesHeld pass on_opened
         → Runs (cat_promptly known) (volume_outcome on_opened (opening_request opening.now) known pass) message
         (Took known (I.to_come image.new)) (Took pass (K.to_come secret.new)) (Adds written written)))) }
+    ensures unneeded { WhereKnown (I.to_come image.old) (λ known.
+        is_err (volume_of (opening_request opening.now) known) ≡ true → secret.new ≡ secret.old) }
+    ensures only { IfErr result OpeningMessage }
     ensures held { IfOk result (λ unlocked. unlocked.held ≤ unlocked.segment.offset) }
     ensures key { IfOk result (λ unlocked. is_xts_key_length (length unlocked.opened.key) ≡ true) }
     ensures counts { (written : ℕ) → Counts (message_of result)
@@ -155,6 +161,11 @@ pub(super) fn test_passphrase<I: Source, K: Source, O: Sink>(
         Runs at_any_pace (volume_outcome (slot_outcome pass) (opening_request opening.now) known pass)
         (message_of result) (Took known (I.to_come image.new)) (Took pass (K.to_come secret.new))
         (Adds (O.written out.old) (O.written out.new)))) }
+    ensures unneeded { WhereKnown (I.to_come image.old) (λ known.
+        is_err (volume_of (opening_request opening.now) known) ≡ true → secret.new ≡ secret.old) }
+    ensures only { OpeningMessage (message_of result)
+        ⊎ (message_of result ≡ Message.Done ⊎ message_of result ≡ Message.WriteFailed) }
+    ensures reads_first { message_of result ≡ Message.ReadFailed → out.new ≡ out.old }
     ensures counts { Counts (message_of result)
         (record { image = I.failures image.old; secret = K.failures secret.old; written = O.failures out.old })
         (record { image = I.failures image.new; secret = K.failures secret.new; written = O.failures out.new }) }
@@ -178,6 +189,9 @@ pub(super) fn cat<I: Source, K: Source, O: Sink>(
         (volume_outcome (payload_outcome known pass) (opening_request opening.now) known pass)
         (message_of result) (Took known (I.to_come image.new)) (Took pass (K.to_come secret.new))
         (Adds (O.written out.old) (O.written out.new)))) }
+    ensures unneeded { WhereKnown (I.to_come image.old) (λ known.
+        is_err (volume_of (opening_request opening.now) known) ≡ true → secret.new ≡ secret.old) }
+    ensures only { OpeningMessage (message_of result) ⊎ PayloadMessage (message_of result) }
     ensures counts { Counts (message_of result)
         (record { image = I.failures image.old; secret = K.failures secret.old; written = O.failures out.old })
         (record { image = I.failures image.new; secret = K.failures secret.new; written = O.failures out.new }) }

@@ -1,8 +1,8 @@
 use Rattle.std.proofs.lemmas.Result.{err_from_is_err_and}
-use Rattle.std.proofs.Common.{sym}
+use Rattle.std.proofs.Common.{None, sym}
 use Rattle.luks_command.specs.Request.{opening_request}
 use Rattle.luks_cli.proofs.HeaderTaking.{took_header}
-use Rattle.luks_cli.proofs.VolumeLemmas.{stops_without_header, stops_without_order, stops_without_segment}
+use Rattle.luks_cli.proofs.VolumeLemmas.{stops_without_header, stops_without_order, stops_without_segment, volume_found}
 use Rattle.luks_cli.proofs.execute.volumes.find_volume.Goals as goal
 
 pub returns-in_err-header-clause-err : goal.returns-in_err-header-clause-err
@@ -28,3 +28,9 @@ pub returns-in-Ok-clause-ok : goal.returns-in-Ok-clause-ok
 returns-in-Ok-clause-ok g c known is =
     let read = c.in_ok-header.ensures.ok known is in
     (read.0, read.1, took_header known _ read.2)
+
+pub returns-in-Ok-clause-volume : goal.returns-in-Ok-clause-volume
+returns-in-Ok-clause-volume g c known is =
+    let read = c.in_ok-header.ensures.ok known is in
+    volume_found (opening_request c.args.opening.now) known None c.in_ok-header.header read.0 c.in_ok-segment.segment c.in-Ok.order (sym c.in_ok-segment.ensures)
+    (rw (c.named_slot-named.ensures, c.limit.ensures) at c.in-Ok.ensures.ok)
