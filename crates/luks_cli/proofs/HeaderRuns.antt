@@ -11,11 +11,13 @@ use Rattle.luks_report.specs.declared.message.Message.{Message}
 use Rattle.luks_report.specs.declared.message.Message.TheVariants.{Done, OutOfMemory, ReadFailed, WriteFailed}
 use Rattle.luks_cli.specs.Header.{answer_to_is_luks}
 use Rattle.luks_report.specs.Faults.{message_for_header}
-use Rattle.luks_cli.specs.Outcome.{Outcome, is_luks_outcome, print_outcome}
+use Rattle.luks_cli.specs.Ending.{Outcome}
+use Rattle.luks_cli.specs.Header.{is_luks_outcome, print_outcome}
 use Rattle.luks_cli.specs.Run.{IsBeginning, IsSilent, Runs, BreaksOff, TookNone, at_any_pace}
 
 -- a run that ended before any output
-early : (o : Outcome) (image : List ℕ) (message : Message) (i w : Option (List ℕ)) (count : ℕ) → IsSilent message 0 → IsBeginning message 0 (length o.output) → count ≤ o.image_taken
+early : (o : Outcome) (image : List ℕ) (message : Message) (i w : Option (List ℕ)) (count : ℕ) → IsSilent message 0
+    → IsBeginning message 0 (length o.output) → count ≤ o.image_taken
     → Took image i count → BreaksOff at_any_pace o message (Took image i) TookNone (Adds w w)
 early o image message i w count silent begins few took = record {
   image_taken = count;
@@ -34,22 +36,29 @@ early o image message i w count silent begins few took = record {
 module _ (text : Header → List ℕ) (image : List ℕ) (i w : Option (List ℕ)) where
   -- the header was read
   module _ (header : Header) (found : header_of image ≡ Ok header) (left : i ≡ Some (drop (cost_of image) image)) where
-    print_found : print_outcome text image ≡ record { output = text header; message = Done; image_taken = cost_of image; secret_taken = 0 }
+    print_found : print_outcome text image
+        ≡ record { output = text header; message = Done; image_taken = cost_of image; secret_taken = 0 }
     unfolding print_outcome
     print_found = rw found refl
 
     -- memory was refused for its text
     pub runs_without_text : Runs at_any_pace (print_outcome text image) OutOfMemory (Took image i) TookNone (Adds w w)
-    runs_without_text = rw print_found (early _ image OutOfMemory i w (cost_of image) refl (omega arith) (omega arith) (took_header image i left))
+    runs_without_text =
+        rw print_found (early _ image OutOfMemory i w (cost_of image) refl (omega arith) (omega arith)
+        (took_header image i left))
 
     -- the text was written
     pub runs_to_end : (page : List ℕ) (w' : Option (List ℕ)) → page ≡ text header → Adds w w' page
         → Runs at_any_pace (print_outcome text image) Done (Took image i) TookNone (Adds w w')
     runs_to_end page w' is_text a =
-        rw (print_found, ← is_text) (record { as_stated = refl; image = took_header image i left; secret = refl; output = a })
+        rw (
+          print_found,
+          ← is_text,
+        ) (record { as_stated = refl; image = took_header image i left; secret = refl; output = a })
 
     -- a write failed within it
-    pub runs_without_rest : (page : List ℕ) (w' : Option (List ℕ)) (n : ℕ) → page ≡ text header → n < length page → Adds w w' (take n page)
+    pub runs_without_rest : (page : List ℕ) (w' : Option (List ℕ)) (n : ℕ) → page ≡ text header → n < length page
+        → Adds w w' (take n page)
         → Runs at_any_pace (print_outcome text image) WriteFailed (Took image i) TookNone (Adds w w')
     runs_without_rest page w' n is_text within a = rw (print_found, ← is_text) (record {
       image_taken = cost_of image;
@@ -70,16 +79,23 @@ module _ (text : Header → List ℕ) (image : List ℕ) (i w : Option (List ℕ
   print_cost = refl
 
   print_none : (fault : HeaderFault) → header_of image ≡ Err fault
-      → print_outcome text image ≡ record { output = []; message = message_for_header fault; image_taken = cost_of image; secret_taken = 0 }
+      → print_outcome text image
+      ≡ record { output = []; message = message_for_header fault; image_taken = cost_of image; secret_taken = 0 }
   unfolding print_outcome
   print_none fault found = rw found refl
 
   -- there was no header, or reading it failed
   pub runs_without_header : (fault : HeaderFault) → StopsReading image i fault
       → Runs at_any_pace (print_outcome text image) (message_for_header fault) (Took image i) TookNone (Adds w w)
-  runs_without_header NoLuks stop = rw (print_none NoLuks stop.0) (record { as_stated = refl; image = took_header image i stop.1; secret = refl; output = adds-none w })
-  runs_without_header IsCut stop = rw (print_none IsCut stop.0) (record { as_stated = refl; image = took_header image i stop.1; secret = refl; output = adds-none w })
-  runs_without_header NoJson stop = rw (print_none NoJson stop.0) (record { as_stated = refl; image = took_header image i stop.1; secret = refl; output = adds-none w })
+  runs_without_header NoLuks stop =
+      rw (print_none NoLuks stop.0) (record
+      { as_stated = refl; image = took_header image i stop.1; secret = refl; output = adds-none w })
+  runs_without_header IsCut stop =
+      rw (print_none IsCut stop.0) (record
+      { as_stated = refl; image = took_header image i stop.1; secret = refl; output = adds-none w })
+  runs_without_header NoJson stop =
+      rw (print_none NoJson stop.0) (record
+      { as_stated = refl; image = took_header image i stop.1; secret = refl; output = adds-none w })
   runs_without_header Read stop =
       let some = took_some image i stop in
       early _ image ReadFailed i w some.0 tt (omega arith) (omega (arith, some.1, print_cost)) some.2
@@ -93,21 +109,30 @@ module _ (image : List ℕ) (i w : Option (List ℕ)) where
   asked_cost = refl
 
   asked : (answer : Result Header HeaderFault) → header_of image ≡ answer
-      → is_luks_outcome image ≡ record { output = []; message = answer_to_is_luks answer; image_taken = cost_of image; secret_taken = 0 }
+      → is_luks_outcome image
+      ≡ record { output = []; message = answer_to_is_luks answer; image_taken = cost_of image; secret_taken = 0 }
   unfolding is_luks_outcome
   asked answer found = rw found refl
 
   -- `isLuks` of an image with a header
   pub is_luks_found : (header : Header) → header_of image ≡ Ok header → i ≡ Some (drop (cost_of image) image)
       → Runs at_any_pace (is_luks_outcome image) Done (Took image i) TookNone (Adds w w)
-  is_luks_found header found left = rw (asked (Ok header) found) (record { as_stated = refl; image = took_header image i left; secret = refl; output = adds-none w })
+  is_luks_found header found left =
+      rw (asked (Ok header) found) (record
+      { as_stated = refl; image = took_header image i left; secret = refl; output = adds-none w })
 
   -- `isLuks` of one without a header that can be read
   pub is_luks_refused : (fault : HeaderFault) → StopsReading image i fault
       → Runs at_any_pace (is_luks_outcome image) (answer_to_is_luks (Err fault)) (Took image i) TookNone (Adds w w)
-  is_luks_refused NoLuks stop = rw (asked (Err NoLuks) stop.0) (record { as_stated = refl; image = took_header image i stop.1; secret = refl; output = adds-none w })
-  is_luks_refused IsCut stop = rw (asked (Err IsCut) stop.0) (record { as_stated = refl; image = took_header image i stop.1; secret = refl; output = adds-none w })
-  is_luks_refused NoJson stop = rw (asked (Err NoJson) stop.0) (record { as_stated = refl; image = took_header image i stop.1; secret = refl; output = adds-none w })
+  is_luks_refused NoLuks stop =
+      rw (asked (Err NoLuks) stop.0) (record
+      { as_stated = refl; image = took_header image i stop.1; secret = refl; output = adds-none w })
+  is_luks_refused IsCut stop =
+      rw (asked (Err IsCut) stop.0) (record
+      { as_stated = refl; image = took_header image i stop.1; secret = refl; output = adds-none w })
+  is_luks_refused NoJson stop =
+      rw (asked (Err NoJson) stop.0) (record
+      { as_stated = refl; image = took_header image i stop.1; secret = refl; output = adds-none w })
   is_luks_refused Read stop =
       let some = took_some image i stop in
       early _ image ReadFailed i w some.0 tt (omega arith) (omega (arith, some.1, asked_cost)) some.2

@@ -10,11 +10,12 @@ use Rattle.luks_open.specs.declared.opening.Opened.{Opened}
 use Rattle.luks_volume.specs.Plain.{end_within, payload_end_of, sector_len, sector_start, sectors_of}
 use Rattle.luks_cli.proofs.PayloadLemmas.{plain_len}
 use Rattle.luks_cli.proofs.VolumeRuns.{same_segment}
-use Rattle.luks_cli.specs.Outcome.{Outcome, payload_outcome, slot_outcome, volume_outcome}
-use Rattle.luks_cli.specs.Payload.{PassesPayload, cat_promptly}
+use Rattle.luks_cli.specs.Ending.{Outcome}
+use Rattle.luks_cli.specs.Volume.{payload_outcome, slot_outcome, volume_outcome}
+use Rattle.luks_cli.specs.VolumeParts.{PassesPayload, cat_promptly}
 use Rattle.luks_command.specs.Request.{OpeningRequest}
 use Rattle.luks_cli.specs.Run.{BreaksOff, Completes, Counts, Failures, Promptness, Runs, at_any_pace, breaks_off, is_failed_read, is_failed_write, message_of}
-use Rattle.luks_cli.specs.Unlocking.{TakesHeld, Unlocks}
+use Rattle.luks_cli.specs.VolumeParts.{TakesHeld, Unlocks}
 use Rattle.luks_report.specs.Texts.{opened_line}
 use Rattle.luks_report.specs.declared.message.Message.{Message}
 use Rattle.luks_report.specs.declared.message.Message.TheVariants.{Done, OutOfMemory, ReadFailed, WriteFailed}
@@ -26,12 +27,16 @@ pub takes_payload : (image secret : List ℕ) → TakesHeld secret (payload_outc
 takes_payload image secret = record { held = λ segment opened held. omega arith; whole = λ segment opened held. refl }
 
 -- a run that is prompt has the outcome that is stated
-pub runs_at_any_pace : (is_prompt : Promptness) (out : Outcome) (message : Message) (TookImage TookSecret : ℕ → Type 0) (Wrote : List ℕ → Type 0)
+pub runs_at_any_pace : (is_prompt : Promptness) (out : Outcome) (message : Message) (TookImage TookSecret : ℕ → Type 0)
+    (Wrote : List ℕ → Type 0)
     → Runs is_prompt out message TookImage TookSecret Wrote → Runs at_any_pace out message TookImage TookSecret Wrote
 runs_at_any_pace is_prompt out message TookImage TookSecret Wrote = either (breaks_off message)
   where
-    either : (b : Bool) → MatchBool b (BreaksOff is_prompt out message TookImage TookSecret Wrote) (Completes out message TookImage TookSecret Wrote)
-        → MatchBool b (BreaksOff at_any_pace out message TookImage TookSecret Wrote) (Completes out message TookImage TookSecret Wrote)
+    either : (b : Bool)
+        → MatchBool b (BreaksOff is_prompt out message TookImage TookSecret Wrote)
+        (Completes out message TookImage TookSecret Wrote)
+        → MatchBool b (BreaksOff at_any_pace out message TookImage TookSecret Wrote)
+        (Completes out message TookImage TookSecret Wrote)
     either true run = record {
       image_taken = run.image_taken;
       secret_taken = run.secret_taken;
@@ -47,13 +52,15 @@ runs_at_any_pace is_prompt out message TookImage TookSecret Wrote = either (brea
     }
     either false run = run
 
-module _ (o : OpeningRequest) (image pass : List ℕ) (segment : Segment) (opened : Opened) (held : ℕ) (i s : Option (List ℕ))
+module _ (o : OpeningRequest) (image pass : List ℕ) (segment : Segment) (opened : Opened) (held : ℕ)
+    (i s : Option (List ℕ))
     (u : Unlocks o image pass segment opened held i s) where
   -- ---- `testPassphrase`
 
   -- memory was refused for the line
   pub runs_without_line : (w : Option (List ℕ))
-      → Runs at_any_pace (volume_outcome (slot_outcome pass) o image pass) OutOfMemory (Took image i) (Took pass s) (Adds w w)
+      → Runs at_any_pace (volume_outcome (slot_outcome pass) o image pass) OutOfMemory (Took image i) (Took pass s)
+      (Adds w w)
   runs_without_line w = rw (u.outcome (slot_outcome pass)) (record {
     image_taken = held;
     secret_taken = length pass;
@@ -70,12 +77,19 @@ module _ (o : OpeningRequest) (image pass : List ℕ) (segment : Segment) (opene
 
   module _ (page : List ℕ) (is : page ≡ opened_line opened.slot) (w w' : Option (List ℕ)) where
     -- the line was written
-    pub runs_told : Adds w w' page → Runs at_any_pace (volume_outcome (slot_outcome pass) o image pass) Done (Took image i) (Took pass s) (Adds w w')
-    runs_told added = rw (u.outcome (slot_outcome pass), ← is) (record { as_stated = refl; image = u.image_taken; secret = u.secret_taken; output = added })
+    pub runs_told : Adds w w' page
+        → Runs at_any_pace (volume_outcome (slot_outcome pass) o image pass) Done (Took image i) (Took pass s)
+        (Adds w w')
+    runs_told added =
+        rw (
+          u.outcome (slot_outcome pass),
+          ← is,
+        ) (record { as_stated = refl; image = u.image_taken; secret = u.secret_taken; output = added })
 
     -- a write failed within it
     pub runs_without_rest : (n : ℕ) → n < length page → Adds w w' (take n page)
-        → Runs at_any_pace (volume_outcome (slot_outcome pass) o image pass) WriteFailed (Took image i) (Took pass s) (Adds w w')
+        → Runs at_any_pace (volume_outcome (slot_outcome pass) o image pass) WriteFailed (Took image i) (Took pass s)
+        (Adds w w')
     runs_without_rest n within added = rw (u.outcome (slot_outcome pass), ← is) (record {
       image_taken = held;
       secret_taken = length pass;
@@ -101,14 +115,17 @@ module _ (o : OpeningRequest) (image pass : List ℕ) (segment : Segment) (opene
         before_end (Some size) = omega (arith, u.image_taken.within)
 
     -- the payload was passed on, to its end or not
-    pub runs_passed : (message : Message) → message ≢ OutOfMemory → PassesPayload segment opened.key image i' w w' message
-        → Runs (cat_promptly image) (volume_outcome (payload_outcome image pass) o image pass) message (Took image i') (Took pass s) (Adds w w')
+    pub runs_passed : (message : Message) → message ≢ OutOfMemory
+        → PassesPayload segment opened.key image i' w w' message
+        → Runs (cat_promptly image) (volume_outcome (payload_outcome image pass) o image pass) message (Took image i')
+        (Took pass s) (Adds w w')
     runs_passed OutOfMemory never passed = absurd (never refl)
     runs_passed ReadFailed never passed =
         let place = passed.0 in
         let count = passed.1 in
         let whole = passed.3 in
-        let span : count * sector_len segment ≤ sectors_of segment image * sector_len segment = mul-le-mul_right (sector_len segment) whole in
+        let span : count * sector_len segment
+        ≤ sectors_of segment image * sector_len segment = mul-le-mul_right (sector_len segment) whole in
         rw (u.outcome (payload_outcome image pass)) (record {
           image_taken = place;
           secret_taken = length pass;
@@ -117,7 +134,8 @@ module _ (o : OpeningRequest) (image pass : List ℕ) (segment : Segment) (opene
           secret_within = omega arith;
           output_within = omega (arith, plain_len segment image opened.key);
           is_silent = tt;
-          is_prompt = λ other is past. rw (same_segment image segment other u.has is) (ap (λ n. n * sector_len segment) passed.2);
+          is_prompt = λ other is past.
+              rw (same_segment image segment other u.has is) (ap (λ n. n * sector_len segment) passed.2);
           image = passed.5;
           secret = u.secret_taken;
           output = passed.6;
@@ -127,8 +145,10 @@ module _ (o : OpeningRequest) (image pass : List ℕ) (segment : Segment) (opene
         let written = passed.1 in
         let below : count + 1 ≤ sectors_of segment image = omega (arith, passed.2) in
         let more : (count + 1) * sector_len segment ≡ count * sector_len segment + sector_len segment = omega arith in
-        let span : (count + 1) * sector_len segment ≤ sectors_of segment image * sector_len segment = mul-le-mul_right (sector_len segment) below in
-        let row : (count * sector_len segment + written) / sector_len segment ≡ count = div-eq_of_lt-le (sector_len segment) (omega arith) (omega (arith, passed.3)) in
+        let span : (count + 1) * sector_len segment
+        ≤ sectors_of segment image * sector_len segment = mul-le-mul_right (sector_len segment) below in
+        let row : (count * sector_len segment + written) / sector_len segment
+        ≡ count = div-eq_of_lt-le (sector_len segment) (omega arith) (omega (arith, passed.3)) in
         rw (u.outcome (payload_outcome image pass)) (record {
           image_taken = sector_start segment (count + 1);
           secret_taken = length pass;
@@ -144,25 +164,32 @@ module _ (o : OpeningRequest) (image pass : List ℕ) (segment : Segment) (opene
         })
     runs_passed message never passed =
         let end : max held (payload_end_of segment image) ≡ payload_end_of segment image = omega (arith, to_end) in
-        rw (u.outcome (payload_outcome image pass)) (record { as_stated = passed.0; image = rw end passed.1; secret = u.secret_taken; output = passed.2 })
+        rw (u.outcome (payload_outcome image pass)) (record
+        { as_stated = passed.0; image = rw end passed.1; secret = u.secret_taken; output = passed.2 })
 
 -- the key of the volume is a key of the cipher
-pub key_is : (key bytes : List ℕ) → is_xts_key_length (length bytes) ≡ true → Some key ≡ (if is_xts_key_length (length bytes) then Some bytes else None) → key ≡ bytes
+pub key_is : (key bytes : List ℕ) → is_xts_key_length (length bytes) ≡ true
+    → Some key ≡ (if is_xts_key_length (length bytes) then Some bytes else None) → key ≡ bytes
 key_is key bytes long is = let made : Some key ≡ Some bytes = is ∙ (rw long refl) in cc
 
 -- ---- counts of failures
 
 -- the counts after a payload was passed on, where nothing had failed before
 pub counts_passed : (message : Message) (image image' image'' secret secret' written written' : ℕ)
-    → ((count : ℕ) → Counts Done (record { image = image; secret = secret; written = count }) (record { image = image'; secret = secret'; written = count }))
+    → ((count : ℕ) → Counts Done (record { image = image; secret = secret; written = count })
+    (record { image = image'; secret = secret'; written = count }))
     → image'' ≡ counted (is_failed_read message) image' → written' ≡ counted (is_failed_write message) written
-    → Counts message (record { image = image; secret = secret; written = written }) (record { image = image''; secret = secret'; written = written' })
+    → Counts message (record { image = image; secret = secret; written = written })
+    (record { image = image''; secret = secret'; written = written' })
 counts_passed ReadFailed image image' image'' secret secret' written written' same reads writes =
     inl (rw (reads, writes) (ap (λ (f : Failures). record f { image = raised f.image }) (same written)))
-counts_passed WriteFailed image image' image'' secret secret' written written' same reads writes = rw (reads, writes) (same (raised written))
-counts_passed _ image image' image'' secret secret' written written' same reads writes = rw (reads, writes) (same written)
+counts_passed WriteFailed image image' image'' secret secret' written written' same reads writes =
+    rw (reads, writes) (same (raised written))
+counts_passed _ image image' image'' secret secret' written written' same reads writes =
+    rw (reads, writes) (same written)
 
 -- a part of a run that was not refused memory does not end so
-pub never_memory : {T : Type 0} (r : Result T Message) → IfErr r (λ message. message ≢ OutOfMemory) → message_of r ≢ OutOfMemory
+pub never_memory : {T : Type 0} (r : Result T Message) → IfErr r (λ message. message ≢ OutOfMemory)
+    → message_of r ≢ OutOfMemory
 never_memory (Ok x) never = λ e. cc
 never_memory (Err message) never = never

@@ -1,17 +1,17 @@
--- What a run leaves in its devices, and what it keeps to where it is broken off. Each device is spoken of by itself: a run takes so
--- many bytes of the image and of the second input, and writes these; what that means for a device is a fact of its own.
+-- What a run leaves in its devices, and what it keeps to where it is broken off. Each device is spoken of by itself: a
+-- run takes so many bytes of the image and of the second input, and writes these; what that means for a device is a
+-- fact of its own.
 use Rattle.std.specs.Prelude.{◌≡◌, ℕ, ◌<◌, ◌≤◌, ◌^◌, List, length, take, Option, Some, Bool, true, false, MatchBool, ◌⊎◌, is_err, Result, Ok, Err}
 use Rattle.luks_io.specs.Bytes.{Adds, Took, WhereKnown, raised}
-use Rattle.luks_cli.specs.Payload.{cat_promptly}
+use Rattle.luks_cli.specs.VolumeParts.{cat_promptly}
 use Rattle.luks_command.specs.Request.{Request, is_luks, luks_uuid, luks_dump, test_passphrase, luks_cat, af_split, af_merge}
-use Rattle.luks_cli.specs.Outcome.{Outcome, outcome_of}
-use Rattle.luks_cli.specs.Stripe.{longest_key, split_promptly}
+use Rattle.luks_cli.specs.Ending.{Outcome}
+use Rattle.luks_cli.specs.Outcome.{outcome_of}
+use Rattle.luks_cli.specs.Stripe.{longest_key}
+use Rattle.luks_cli.specs.StripeParts.{split_promptly}
 use Rattle.luks_cli.specs.Volume.{volume_of}
 use Rattle.luks_report.specs.declared.message.Message.{Message}
-use Rattle.luks_report.specs.declared.message.Message.TheVariants.{Done, No, NotLuks, Cut, Json, OutOfMemory, ReadFailed, WriteFailed}
-use Rattle.luks_report.specs.declared.message.Message.TheVariants.{SegmentRefused, NoSuchSlot, SlotDisabled, SlotSkipped, NothingTried}
-use Rattle.luks_report.specs.declared.message.Message.TheVariants.{KeyFileLength, NoKey, CutBeforePayload, Tail, Short}
-use Rattle.luks_report.specs.declared.message.Message.TheVariants.{KeyLength, FewRandomBytes, FewStripes}
+use Rattle.luks_report.specs.declared.message.Message.TheVariants.{Done, OutOfMemory, ReadFailed, WriteFailed}
 
 -- memory was refused, or a read or a write failed
 abbrev pub breaks_off : Message → Bool
@@ -20,8 +20,8 @@ breaks_off ReadFailed = true
 breaks_off WriteFailed = true
 breaks_off _ = false
 
--- how prompt a run is that is broken off: a fact on its message, the bytes of the image and of the second input that it took, and
--- the length of what it wrote
+-- how prompt a run is that is broken off: a fact on its message, the bytes of the image and of the second input that it
+-- took, and the length of what it wrote
 abbrev pub Promptness : Type 1
 Promptness = Message → ℕ → ℕ → ℕ → Type 0
 
@@ -45,8 +45,10 @@ abbrev pub IsBeginning : Message → ℕ → ℕ → Type 0
 IsBeginning WriteFailed output stated = output < stated
 IsBeginning _ output stated = output ≤ stated
 
--- a run that was broken off: what it wrote is a beginning of the stated output, and no input was taken further than stated
-pub record BreaksOff (is_prompt' : Promptness) (o : Outcome) (message : Message) (TookImage TookSecret : ℕ → Type 0) (Wrote : List ℕ → Type 0) : Type 0 where
+-- a run that was broken off: what it wrote is a beginning of the stated output, and no input was taken further than
+-- stated
+pub record BreaksOff (is_prompt' : Promptness) (o : Outcome) (message : Message) (TookImage TookSecret : ℕ → Type 0)
+    (Wrote : List ℕ → Type 0) : Type 0 where
   pub image_taken : ℕ
   pub secret_taken : ℕ
   pub output_len : ℕ
@@ -60,7 +62,8 @@ pub record BreaksOff (is_prompt' : Promptness) (o : Outcome) (message : Message)
   pub output : Wrote (take output_len o.output)
 
 -- a run that was not: the stated message, output and bytes taken
-pub record Completes (o : Outcome) (message : Message) (TookImage TookSecret : ℕ → Type 0) (Wrote : List ℕ → Type 0) : Type 0 where
+pub record Completes (o : Outcome) (message : Message) (TookImage TookSecret : ℕ → Type 0)
+    (Wrote : List ℕ → Type 0) : Type 0 where
   pub as_stated : message ≡ o.message
   pub image : TookImage o.image_taken
   pub secret : TookSecret o.secret_taken
@@ -69,7 +72,8 @@ pub record Completes (o : Outcome) (message : Message) (TookImage TookSecret : �
 -- a run with the stated outcome, as far as it came
 abbrev pub Runs : Promptness → Outcome → Message → (ℕ → Type 0) → (ℕ → Type 0) → (List ℕ → Type 0) → Type 0
 Runs is_prompt o message TookImage TookSecret Wrote =
-    MatchBool (breaks_off message) (BreaksOff is_prompt o message TookImage TookSecret Wrote) (Completes o message TookImage TookSecret Wrote)
+    MatchBool (breaks_off message) (BreaksOff is_prompt o message TookImage TookSecret Wrote)
+    (Completes o message TookImage TookSecret Wrote)
 
 -- of a second input that a command does not have, nothing is taken
 abbrev pub TookNone : ℕ → Type 0
@@ -101,9 +105,11 @@ IsCounted (luks_cat o) image = length image < 2 ^ 64
 IsCounted _ image = Unit {0}
 
 -- the headline: where the inputs of a command know their bytes, its run has the outcome that is stated for these
-abbrev pub RunsAsStated : Request → Message → Option (List ℕ) → Option (List ℕ) → Option (List ℕ) → Option (List ℕ) → Option (List ℕ) → Option (List ℕ) → Type 0
+abbrev pub RunsAsStated : Request → Message → Option (List ℕ) → Option (List ℕ) → Option (List ℕ) → Option (List ℕ)
+    → Option (List ℕ) → Option (List ℕ) → Type 0
 RunsAsStated request message image image' secret secret' written written' =
-    WhereKnown image (λ known. (known_secret : List ℕ) → KnowsSecret request secret known_secret → IsCounted request known
+    WhereKnown image
+    (λ known. (known_secret : List ℕ) → KnowsSecret request secret known_secret → IsCounted request known
     → Runs (promptness_of request known) (outcome_of request known known_secret) message
     (Took known image') (TookSecret request known_secret secret') (Adds written written'))
 
@@ -112,80 +118,6 @@ abbrev pub TakesNoMemory : Request → Type 0
 TakesNoMemory (af_split s) = Unit {0}
 TakesNoMemory (af_merge m) = Unit {0}
 TakesNoMemory _ = ⊥
-
--- which messages `isLuks` may end with
-abbrev pub IsLuksMessage : Message → Type 0
-IsLuksMessage Done = Unit {0}
-IsLuksMessage No = Unit {0}
-IsLuksMessage Cut = Unit {0}
-IsLuksMessage Json = Unit {0}
-IsLuksMessage OutOfMemory = Unit {0}
-IsLuksMessage ReadFailed = Unit {0}
-IsLuksMessage _ = ⊥
-
--- a command that prints a text of the header
-abbrev pub PrintMessage : Message → Type 0
-PrintMessage Done = Unit {0}
-PrintMessage NotLuks = Unit {0}
-PrintMessage Cut = Unit {0}
-PrintMessage Json = Unit {0}
-PrintMessage OutOfMemory = Unit {0}
-PrintMessage ReadFailed = Unit {0}
-PrintMessage WriteFailed = Unit {0}
-PrintMessage _ = ⊥
-
--- opening a volume
-abbrev pub OpeningMessage : Message → Type 0
-OpeningMessage NotLuks = Unit {0}
-OpeningMessage Cut = Unit {0}
-OpeningMessage Json = Unit {0}
-OpeningMessage (SegmentRefused _) = Unit {0}
-OpeningMessage (NoSuchSlot _) = Unit {0}
-OpeningMessage (SlotDisabled _) = Unit {0}
-OpeningMessage (SlotSkipped _ _) = Unit {0}
-OpeningMessage (NothingTried _) = Unit {0}
-OpeningMessage KeyFileLength = Unit {0}
-OpeningMessage (NoKey _) = Unit {0}
-OpeningMessage OutOfMemory = Unit {0}
-OpeningMessage ReadFailed = Unit {0}
-OpeningMessage _ = ⊥
-
--- passing on a payload
-abbrev pub PayloadMessage : Message → Type 0
-PayloadMessage Done = Unit {0}
-PayloadMessage CutBeforePayload = Unit {0}
-PayloadMessage (Tail _) = Unit {0}
-PayloadMessage (Short _) = Unit {0}
-PayloadMessage ReadFailed = Unit {0}
-PayloadMessage WriteFailed = Unit {0}
-PayloadMessage _ = ⊥
-
--- `afSplit`
-abbrev pub SplitMessage : Message → Type 0
-SplitMessage Done = Unit {0}
-SplitMessage KeyLength = Unit {0}
-SplitMessage FewRandomBytes = Unit {0}
-SplitMessage ReadFailed = Unit {0}
-SplitMessage WriteFailed = Unit {0}
-SplitMessage _ = ⊥
-
--- `afMerge`
-abbrev pub MergeMessage : Message → Type 0
-MergeMessage Done = Unit {0}
-MergeMessage FewStripes = Unit {0}
-MergeMessage ReadFailed = Unit {0}
-MergeMessage WriteFailed = Unit {0}
-MergeMessage _ = ⊥
-
--- the messages that a command may end with, whatever its devices do
-abbrev pub MayTell : Request → Message → Type 0
-MayTell (is_luks _) message = IsLuksMessage message
-MayTell (luks_uuid _) message = PrintMessage message
-MayTell (luks_dump _) message = PrintMessage message
-MayTell (test_passphrase o) message = OpeningMessage message ⊎ (message ≡ Done ⊎ message ≡ WriteFailed)
-MayTell (luks_cat o) message = OpeningMessage message ⊎ PayloadMessage message
-MayTell (af_split s) message = SplitMessage message
-MayTell (af_merge m) message = MergeMessage message
 
 -- a command that writes nothing before its last read
 abbrev pub ReadsFirst : Request → Type 0

@@ -4,8 +4,9 @@ ghost use Rattle.std.specs.Prelude.{◌≡◌, List, ℕ, Option};
 ghost use Rattle.luks_io.specs.Bytes.{Adds, Took, WhereKnown};
 ghost use Rattle.luks_cli.specs.Header.{answer_to_is_luks};
 ghost use Rattle.luks_report.specs.Dump.{dump_of, uuid_of};
-ghost use Rattle.luks_cli.specs.Outcome.{is_luks_outcome, print_outcome};
-ghost use Rattle.luks_cli.specs.Run.{Counts, IsLuksMessage, PrintMessage, Runs, TookNone, at_any_pace, message_of};
+ghost use Rattle.luks_cli.specs.Header.{is_luks_outcome, print_outcome};
+ghost use Rattle.luks_cli.specs.Run.{Counts, Runs, TookNone, at_any_pace, message_of};
+ghost use Rattle.luks_cli.specs.MayEnd.{IsLuksMessage, PrintMessage};
 
 use luks_header::fault::HeaderFault;
 use luks_header::header::read_header;
@@ -49,7 +50,8 @@ pub(super) fn print_uuid<S: Source, O: Sink>(
 ) -> Result<(), Message>
     ensures run { WhereKnown (S.to_come image.old) (λ known.
         Runs at_any_pace (print_outcome uuid_of known) (message_of result)
-        (Took known (S.to_come image.new)) TookNone (Adds (O.written out.old) (O.written out.new))) }
+        (Took known (S.to_come image.new)) TookNone
+        (Adds (O.written out.old) (O.written out.new))) }
     ensures only { PrintMessage (message_of result) }
     ensures reads_first { message_of result ≡ Message.ReadFailed → out.new ≡ out.old }
     ensures counts { (secret : ℕ) → Counts (message_of result)
@@ -70,7 +72,8 @@ pub(super) fn print_dump<S: Source, O: Sink>(
 ) -> Result<(), Message>
     ensures run { WhereKnown (S.to_come image.old) (λ known.
         Runs at_any_pace (print_outcome dump_of known) (message_of result)
-        (Took known (S.to_come image.new)) TookNone (Adds (O.written out.old) (O.written out.new))) }
+        (Took known (S.to_come image.new)) TookNone
+        (Adds (O.written out.old) (O.written out.new))) }
     ensures only { PrintMessage (message_of result) }
     ensures reads_first { message_of result ≡ Message.ReadFailed → out.new ≡ out.old }
     ensures counts { (secret : ℕ) → Counts (message_of result)

@@ -3,9 +3,11 @@
 ghost use Rattle.std.specs.Prelude.{◌≡◌, ◌≢◌, ◌*◌, ◌<◌, ◌≤◌, ◌⊎◌, ◌+◌, ℕ, IfOk, IfErr, OnOk, length, take};
 ghost use Rattle.luks_kdf.specs.Stripes.{chain_after};
 ghost use Rattle.luks_io.specs.Bytes.{Adds, Took, WhereKnown, counted};
-ghost use Rattle.luks_cli.specs.Run.{Counts, MergeMessage, Runs, SplitMessage, TookNone, at_any_pace, is_failed_read, is_failed_write, message_of};
-ghost use Rattle.luks_cli.specs.Outcome.{merge_outcome, split_outcome};
-ghost use Rattle.luks_cli.specs.Stripe.{NoKeyRead, Passed, StopsAtStripe, StopsTaking, longest_key, split_promptly};
+ghost use Rattle.luks_cli.specs.Run.{Counts, Runs, TookNone, at_any_pace, is_failed_read, is_failed_write, message_of};
+ghost use Rattle.luks_cli.specs.MayEnd.{MergeMessage, SplitMessage};
+ghost use Rattle.luks_cli.specs.Stripe.{merge_outcome, split_outcome};
+ghost use Rattle.luks_cli.specs.StripeParts.{NoKeyRead, Passed, StopsAtStripe, StopsTaking, split_promptly};
+ghost use Rattle.luks_cli.specs.Stripe.{longest_key};
 
 use luks_command::command::{Merging, Splitting};
 use luks_io::sink::{Sink, put_all};
@@ -16,19 +18,21 @@ use luks_report::message::Message;
 /// The length of the longest key.
 const LONGEST_KEY: usize = 512;
 
-/// Reads a key, which is all that the source gives, into the front of the buffer. Answers its length.
-/// The buffer has room for one byte more than the longest key.
+/// Reads a key, which is all that the source gives, into the front of the buffer. Answers its
+/// length. The buffer has room for one byte more than the longest key.
 fn read_key<S: Source>(source: &mut S, buf: &mut [u8]) -> Result<usize, Message>
     requires { length buf.old ≡ longest_key + 1 }
     ensures length { IfOk result (λ len. (1 ≤ len) × (len ≤ longest_key)) }
-    ensures fits { IfOk result (λ len. WhereKnown (S.to_come source.old) (λ key. len ≡ length key)) }
+    ensures fits { IfOk result
+        (λ len. WhereKnown (S.to_come source.old) (λ key. len ≡ length key)) }
     ensures key { IfOk result (λ len. WhereKnown (S.to_come source.old)
         (λ key. (take len buf.new ≡ key) × Took key (S.to_come source.new) (length key))) }
     ensures err { IfErr result (λ message. WhereKnown (S.to_come source.old)
         (λ key. NoKeyRead key (S.to_come source.new) message)) }
     ensures only { IfErr result (λ message.
         (message ≡ Message.KeyLength) ⊎ (message ≡ Message.ReadFailed)) }
-    ensures reads { S.failures source.new ≡ counted (is_failed_read (message_of result)) (S.failures source.old) }
+    ensures reads { S.failures source.new
+        ≡ counted (is_failed_read (message_of result)) (S.failures source.old) }
 {
     let len = fill(source, buf)?;
     if len == 0 || len > LONGEST_KEY {
@@ -37,7 +41,8 @@ fn read_key<S: Source>(source: &mut S, buf: &mut [u8]) -> Result<usize, Message>
     Ok(len)
 }
 
-/// Writes so many random stripes, each as it is whole, and answers the splitter that has taken them.
+/// Writes so many random stripes, each as it is whole, and answers the splitter that has taken
+/// them.
 fn pass_stripes<R: Source, O: Sink>(
     hash: Hash,
     count: usize,
@@ -58,8 +63,10 @@ fn pass_stripes<R: Source, O: Sink>(
         (R.to_come random.new) (O.written out.old) (O.written out.new) message)) }
     ensures only { SplitMessage (message_of result) }
     ensures memory { IfErr result (λ message. message ≢ Message.OutOfMemory) }
-    ensures reads { R.failures random.new ≡ counted (is_failed_read (message_of result)) (R.failures random.old) }
-    ensures writes { O.failures out.new ≡ counted (is_failed_write (message_of result)) (O.failures out.old) }
+    ensures reads { R.failures random.new
+        ≡ counted (is_failed_read (message_of result)) (R.failures random.old) }
+    ensures writes { O.failures out.new
+        ≡ counted (is_failed_write (message_of result)) (O.failures out.old) }
 {
     let mut splitter = AfSplitter::new(hash, stripe.len());
     'stripes: for _ in 0..count {
@@ -72,8 +79,8 @@ fn pass_stripes<R: Source, O: Sink>(
     Ok(splitter)
 }
 
-/// Splits the key that the first source gives into stripes, the random ones first. The buffers are for the key, with a byte
-/// more than the longest has, and for one stripe.
+/// Splits the key that the first source gives into stripes, the random ones first. The buffers are
+/// for the key, with a byte more than the longest has, and for one stripe.
 fn write_split<K: Source, R: Source, O: Sink>(
     splitting: &Splitting<'_>,
     key_buf: &mut [u8],
@@ -84,9 +91,11 @@ fn write_split<K: Source, R: Source, O: Sink>(
 ) -> Result<(), Message>
     requires key_room { length key_buf.old ≡ longest_key + 1 }
     requires stripe_room { length stripe_buf.old ≡ longest_key }
-    ensures run { WhereKnown (K.to_come key.old) (λ known. WhereKnown (R.to_come random.old) (λ bytes.
+    ensures run { WhereKnown (K.to_come key.old)
+        (λ known. WhereKnown (R.to_come random.old) (λ bytes.
         Runs (split_promptly (length known))
-        (split_outcome splitting.now.hash splitting.now.stripes.count known bytes) (message_of result)
+        (split_outcome splitting.now.hash splitting.now.stripes.count known bytes)
+        (message_of result)
         (Took known (K.to_come key.new)) (Took bytes (R.to_come random.new))
         (Adds (O.written out.old) (O.written out.new)))) }
     ensures only { SplitMessage (message_of result) }
@@ -94,8 +103,18 @@ fn write_split<K: Source, R: Source, O: Sink>(
         → random.new ≡ random.old) }
     ensures memory { IfErr result (λ message. message ≢ Message.OutOfMemory) }
     ensures counts { Counts (message_of result)
-        (record { image = K.failures key.old; secret = R.failures random.old; written = O.failures out.old })
-        (record { image = K.failures key.new; secret = R.failures random.new; written = O.failures out.new }) }
+        (record {
+          image = K.failures key.old;
+          secret = R.failures random.old;
+          written =
+              O.failures out.old;
+        })
+        (record {
+          image = K.failures key.new;
+          secret = R.failures random.new;
+          written =
+              O.failures out.new;
+        }) }
 {
     let len = read_key(key, key_buf)?;
     let stripe = &mut stripe_buf[..len];
@@ -128,7 +147,8 @@ fn take_stripes<S: Source>(
         (λ known. StopsTaking count (length stripe.new) known (S.to_come stripes.new) message)) }
     ensures only { IfErr result (λ message.
         (message ≡ Message.FewStripes) ⊎ (message ≡ Message.ReadFailed)) }
-    ensures reads { S.failures stripes.new ≡ counted (is_failed_read (message_of result)) (S.failures stripes.old) }
+    ensures reads { S.failures stripes.new
+        ≡ counted (is_failed_read (message_of result)) (S.failures stripes.old) }
 {
     let mut splitter = AfSplitter::new(hash, stripe.len());
     'stripes: for _ in 0..count {
@@ -152,7 +172,8 @@ fn write_merged<S: Source, O: Sink>(
     requires key_room { length key_buf.old ≡ longest_key }
     ensures run { WhereKnown (S.to_come stripes.old) (λ known. let m = merging.now in
         Runs at_any_pace (merge_outcome m.hash m.stripes.count m.key_bytes.bytes known) (message_of result)
-        (Took known (S.to_come stripes.new)) TookNone (Adds (O.written out.old) (O.written out.new))) }
+        (Took known (S.to_come stripes.new)) TookNone
+        (Adds (O.written out.old) (O.written out.new))) }
     ensures memory { IfErr result (λ message. message ≢ Message.OutOfMemory) }
     ensures only { MergeMessage (message_of result) }
     ensures reads_first { message_of result ≡ Message.ReadFailed → out.new ≡ out.old }
@@ -179,9 +200,11 @@ pub(super) fn split<K: Source, R: Source, O: Sink>(
     random: &mut R,
     out: &mut O,
 ) -> Result<(), Message>
-    ensures run { WhereKnown (K.to_come key.old) (λ known. WhereKnown (R.to_come random.old) (λ bytes.
+    ensures run { WhereKnown (K.to_come key.old)
+        (λ known. WhereKnown (R.to_come random.old) (λ bytes.
         Runs (split_promptly (length known))
-        (split_outcome splitting.now.hash splitting.now.stripes.count known bytes) (message_of result)
+        (split_outcome splitting.now.hash splitting.now.stripes.count known bytes)
+        (message_of result)
         (Took known (K.to_come key.new)) (Took bytes (R.to_come random.new))
         (Adds (O.written out.old) (O.written out.new)))) }
     ensures only { SplitMessage (message_of result) }
@@ -189,8 +212,18 @@ pub(super) fn split<K: Source, R: Source, O: Sink>(
         → random.new ≡ random.old) }
     ensures memory { IfErr result (λ message. message ≢ Message.OutOfMemory) }
     ensures counts { Counts (message_of result)
-        (record { image = K.failures key.old; secret = R.failures random.old; written = O.failures out.old })
-        (record { image = K.failures key.new; secret = R.failures random.new; written = O.failures out.new }) }
+        (record {
+          image = K.failures key.old;
+          secret = R.failures random.old;
+          written =
+              O.failures out.old;
+        })
+        (record {
+          image = K.failures key.new;
+          secret = R.failures random.new;
+          written =
+              O.failures out.new;
+        }) }
 {
     let mut key_buf = [0; LONGEST_KEY + 1];
     let mut stripe_buf = [0; LONGEST_KEY];
@@ -205,7 +238,8 @@ pub(super) fn merge<S: Source, O: Sink>(
 ) -> Result<(), Message>
     ensures run { WhereKnown (S.to_come stripes.old) (λ known. let m = merging.now in
         Runs at_any_pace (merge_outcome m.hash m.stripes.count m.key_bytes.bytes known) (message_of result)
-        (Took known (S.to_come stripes.new)) TookNone (Adds (O.written out.old) (O.written out.new))) }
+        (Took known (S.to_come stripes.new)) TookNone
+        (Adds (O.written out.old) (O.written out.new))) }
     ensures memory { IfErr result (λ message. message ≢ Message.OutOfMemory) }
     ensures only { MergeMessage (message_of result) }
     ensures reads_first { message_of result ≡ Message.ReadFailed → out.new ≡ out.old }

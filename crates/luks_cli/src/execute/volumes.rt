@@ -6,12 +6,14 @@ ghost use Rattle.luks_io.specs.Bytes.{Adds, Took, WhereKnown, counted};
 ghost use Rattle.luks_header.specs.Header.{cost_of, header_of};
 ghost use Rattle.luks_header.specs.Segment.{segment_of};
 ghost use Rattle.luks_open.specs.Order.{order_of};
-ghost use Rattle.luks_cli.specs.Outcome.{OnOpened, payload_outcome, slot_outcome, volume_outcome};
-ghost use Rattle.luks_cli.specs.Payload.{cat_promptly};
+ghost use Rattle.luks_cli.specs.Volume.{OnOpened, payload_outcome, slot_outcome, volume_outcome};
+ghost use Rattle.luks_cli.specs.VolumeParts.{cat_promptly};
 ghost use Rattle.luks_command.specs.Request.{opening_request};
-ghost use Rattle.luks_cli.specs.Run.{Counts, OpeningMessage, PayloadMessage, Runs, at_any_pace, is_failed_read, message_of};
-ghost use Rattle.luks_cli.specs.Unlocking.{TakesHeld, Unlocks};
-ghost use Rattle.luks_cli.specs.Volume.{StopsFinding, volume_of};
+ghost use Rattle.luks_cli.specs.Run.{Counts, Runs, at_any_pace, is_failed_read, message_of};
+ghost use Rattle.luks_cli.specs.MayEnd.{OpeningMessage, PayloadMessage};
+ghost use Rattle.luks_cli.specs.VolumeParts.{TakesHeld, Unlocks};
+ghost use Rattle.luks_cli.specs.VolumeParts.{StopsFinding};
+ghost use Rattle.luks_cli.specs.Volume.{volume_of};
 
 use super::payload::write_payload;
 use super::secret::read_secret;
@@ -88,7 +90,8 @@ fn find_volume<I: Source>(
         (λ known. is_err (volume_of (opening_request opening.now) known) ≡ false)) }
     ensures area { IfOk result (λ volume. length volume.area ≡ cost_of volume.area) }
     ensures writes { IfErr result (λ message. message ≢ Message.WriteFailed) }
-    ensures reads { I.failures image.new ≡ counted (is_failed_read (message_of result)) (I.failures image.old) }
+    ensures reads { I.failures image.new
+        ≡ counted (is_failed_read (message_of result)) (I.failures image.old) }
 {
     let (header, area) = read_header(alloc, image)?;
     let segment = segment(&header)?;
@@ -115,10 +118,13 @@ fn unlock<I: Source, K: Source>(
         WhereKnown (K.to_come secret.old) (λ pass.
         Unlocks (opening_request opening.now) known pass unlocked.segment unlocked.opened unlocked.held
         (I.to_come image.new) (K.to_come secret.new)))) }
-    ensures err { IfErr result (λ message. (written : Option (List ℕ)) → WhereKnown (I.to_come image.old) (λ known.
+    ensures err { IfErr result
+        (λ message. (written : Option (List ℕ)) → WhereKnown (I.to_come image.old) (λ known.
         WhereKnown (K.to_come secret.old) (λ pass. (on_opened : OnOpened) → TakesHeld pass on_opened
-        → Runs (cat_promptly known) (volume_outcome on_opened (opening_request opening.now) known pass) message
-        (Took known (I.to_come image.new)) (Took pass (K.to_come secret.new)) (Adds written written)))) }
+        → Runs (cat_promptly known)
+        (volume_outcome on_opened (opening_request opening.now) known pass) message
+        (Took known (I.to_come image.new)) (Took pass (K.to_come secret.new))
+        (Adds written written)))) }
     ensures unneeded { WhereKnown (I.to_come image.old) (λ known.
         is_err (volume_of (opening_request opening.now) known) ≡ true → secret.new ≡ secret.old) }
     ensures only { IfErr result OpeningMessage }
@@ -126,7 +132,12 @@ fn unlock<I: Source, K: Source>(
     ensures key { IfOk result (λ unlocked. is_xts_key_length (length unlocked.opened.key) ≡ true) }
     ensures counts { (written : ℕ) → Counts (message_of result)
         (record { image = I.failures image.old; secret = K.failures secret.old; written = written })
-        (record { image = I.failures image.new; secret = K.failures secret.new; written = written }) }
+        (record {
+          image = I.failures image.new;
+          secret = K.failures secret.new;
+          written =
+              written;
+        }) }
 {
     let volume = find_volume(alloc, opening, image)?;
     let pass = read_secret(alloc, secret)?;
@@ -157,7 +168,8 @@ pub(super) fn test_passphrase<I: Source, K: Source, O: Sink>(
     secret: &mut K,
     out: &mut O,
 ) -> Result<(), Message>
-    ensures run { WhereKnown (I.to_come image.old) (λ known. WhereKnown (K.to_come secret.old) (λ pass.
+    ensures run { WhereKnown (I.to_come image.old)
+        (λ known. WhereKnown (K.to_come secret.old) (λ pass.
         Runs at_any_pace (volume_outcome (slot_outcome pass) (opening_request opening.now) known pass)
         (message_of result) (Took known (I.to_come image.new)) (Took pass (K.to_come secret.new))
         (Adds (O.written out.old) (O.written out.new)))) }
@@ -167,8 +179,18 @@ pub(super) fn test_passphrase<I: Source, K: Source, O: Sink>(
         ⊎ (message_of result ≡ Message.Done ⊎ message_of result ≡ Message.WriteFailed) }
     ensures reads_first { message_of result ≡ Message.ReadFailed → out.new ≡ out.old }
     ensures counts { Counts (message_of result)
-        (record { image = I.failures image.old; secret = K.failures secret.old; written = O.failures out.old })
-        (record { image = I.failures image.new; secret = K.failures secret.new; written = O.failures out.new }) }
+        (record {
+          image = I.failures image.old;
+          secret = K.failures secret.old;
+          written =
+              O.failures out.old;
+        })
+        (record {
+          image = I.failures image.new;
+          secret = K.failures secret.new;
+          written =
+              O.failures out.new;
+        }) }
 {
     let unlocked = unlock(alloc, opening, image, secret)?;
     let page = opened_page(alloc, unlocked.opened.slot)?;
@@ -184,7 +206,8 @@ pub(super) fn cat<I: Source, K: Source, O: Sink>(
     secret: &mut K,
     out: &mut O,
 ) -> Result<(), Message>
-    ensures run { WhereKnown (I.to_come image.old) (λ known. WhereKnown (K.to_come secret.old) (λ pass.
+    ensures run { WhereKnown (I.to_come image.old)
+        (λ known. WhereKnown (K.to_come secret.old) (λ pass.
         length known < 2 ^ 64 → Runs (cat_promptly known)
         (volume_outcome (payload_outcome known pass) (opening_request opening.now) known pass)
         (message_of result) (Took known (I.to_come image.new)) (Took pass (K.to_come secret.new))
@@ -193,8 +216,18 @@ pub(super) fn cat<I: Source, K: Source, O: Sink>(
         is_err (volume_of (opening_request opening.now) known) ≡ true → secret.new ≡ secret.old) }
     ensures only { OpeningMessage (message_of result) ⊎ PayloadMessage (message_of result) }
     ensures counts { Counts (message_of result)
-        (record { image = I.failures image.old; secret = K.failures secret.old; written = O.failures out.old })
-        (record { image = I.failures image.new; secret = K.failures secret.new; written = O.failures out.new }) }
+        (record {
+          image = I.failures image.old;
+          secret = K.failures secret.old;
+          written =
+              O.failures out.old;
+        })
+        (record {
+          image = I.failures image.new;
+          secret = K.failures secret.new;
+          written =
+              O.failures out.new;
+        }) }
 {
     let unlocked = unlock(alloc, opening, image, secret)?;
     let Some(key) = XtsKey::new(unlocked.opened.key.as_slice()) else {

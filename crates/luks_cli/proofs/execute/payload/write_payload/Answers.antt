@@ -40,21 +40,24 @@ returns-in_err-step-clause-run g c =
     let step = c.in_err-step.ensures in
     rw (p.1, p.2, ← so_far.segment, ← so_far.key) (λ whole few took.
     let passing = so_far.passing whole few took in
-    passing_breaks _ whole _ _ _ _ _ passing _ _ (λ same. ap g.O.Sink.written same) step.writes_sectors (step.run whole few passing.stands))
+    passing_breaks _ whole _ _ _ _ _ passing _ _ (λ same. ap g.O.Sink.written same) step.writes_sectors
+    (step.run whole few passing.stands))
 
 pub returns-in_err-step-clause-reads : goal.returns-in_err-step-clause-reads
 returns-in_err-step-clause-reads g c =
     let p = err_from_is_err_and c.from_residual.result c.from_residual.ensures.1 in
     let so_far = c.sectors.invariant in
     let fault = c.in_err-step.field-0.0 in
-    rw (p.1, p.2) (c.in_err-step.ensures.reads so_far.running ∙ reads_are fault (g.I.Source.failures c.sectors.image) ∙ ap (counted (is_failed_read (message_for_payload fault))) so_far.reads)
+    rw (p.1, p.2) (c.in_err-step.ensures.reads so_far.running ∙ reads_are fault (g.I.Source.failures c.sectors.image)
+    ∙ ap (counted (is_failed_read (message_for_payload fault))) so_far.reads)
 
 pub returns-in_err-step-clause-writes : goal.returns-in_err-step-clause-writes
 returns-in_err-step-clause-writes g c =
     let p = err_from_is_err_and c.from_residual.result c.from_residual.ensures.1 in
     let so_far = c.sectors.invariant in
     let fault = c.in_err-step.field-0.0 in
-    rw (p.1, p.2) (c.in_err-step.ensures.writes so_far.running ∙ writes_are fault (g.O.Sink.failures c.sectors.out) ∙ ap (counted (is_failed_write (message_for_payload fault))) so_far.writes)
+    rw (p.1, p.2) (c.in_err-step.ensures.writes so_far.running ∙ writes_are fault (g.O.Sink.failures c.sectors.out)
+    ∙ ap (counted (is_failed_write (message_for_payload fault))) so_far.writes)
 
 pub returns-in_err-step-clause-memory : goal.returns-in_err-step-clause-memory
 returns-in_err-step-clause-memory g c =
@@ -67,7 +70,8 @@ returns-in-End-clause-run g c =
     let step = rw c.in-End.is at c.in_ok-step.ensures in
     rw (← so_far.segment, ← so_far.key) (λ whole few took.
     let passing = so_far.passing whole few took in
-    passing_ends _ whole _ _ _ _ _ passing (step.run whole few passing.stands) (ap g.O.Sink.written step.writes_sectors))
+    passing_ends _ whole _ _ _ _ _ passing (step.run whole few passing.stands)
+    (ap g.O.Sink.written step.writes_sectors))
 
 pub returns-clause-run : goal.returns-clause-run
 returns-clause-run g c whole few took =

@@ -8,6 +8,7 @@ abbrev pub invariant-stripes : goal.invariant-stripes
 invariant-stripes g l = record {
   reads : g.S.Source.failures l.stripes ≡ g.S.Source.failures l.initial.stripes;
   len : length l.splitter.block ≡ length l.stripe;
-  taken : WhereKnown (g.S.Source.to_come l.initial.stripes) (λ known. (l.splitter ≡ chain_after l.fn.hash (length l.stripe) known l.counter)
+  taken : WhereKnown (g.S.Source.to_come l.initial.stripes)
+      (λ known. (l.splitter ≡ chain_after l.fn.hash (length l.stripe) known l.counter)
       × Took known (g.S.Source.to_come l.stripes) (l.counter * length l.stripe));
 }

@@ -1,6 +1,6 @@
 use Rattle.std.proofs.lemmas.Result.{err_from_is_err_and}
 use Rattle.std.proofs.Common.{◌∙◌}
-use Rattle.luks_cli.specs.Outcome.{slot_outcome}
+use Rattle.luks_cli.specs.Volume.{slot_outcome}
 use Rattle.luks_cli.proofs.OpenedRuns.{runs_at_any_pace, runs_told, runs_without_line, runs_without_rest, takes_slot}
 use Rattle.luks_cli.proofs.execute.volumes.test_passphrase.Goals as goal
 
@@ -8,7 +8,8 @@ pub returns-in_err-unlocked-clause-run : goal.returns-in_err-unlocked-clause-run
 returns-in_err-unlocked-clause-run g c =
     let p = err_from_is_err_and c.from_residual.result c.from_residual.ensures.1 in
     rw (p.1, p.2) (λ known is pass has.
-    runs_at_any_pace _ _ _ _ _ _ (c.in_err-unlocked.ensures.err _ known is pass has (slot_outcome pass) (takes_slot pass)))
+    runs_at_any_pace _ _ _ _ _ _
+    (c.in_err-unlocked.ensures.err _ known is pass has (slot_outcome pass) (takes_slot pass)))
 
 pub returns-in_err-page-clause-run : goal.returns-in_err-page-clause-run
 returns-in_err-page-clause-run g c =
