@@ -153,6 +153,9 @@ pub record Failures : Type 0 where
   pub secret : ℕ
   pub written : ℕ
 
+abbrev pub failures_of : ℕ → ℕ → ℕ → Failures
+failures_of image secret written = record { image = image; secret = secret; written = written }
+
 -- the counts after a run with this message: one of them rose by one where a read or a write failed, and else none did
 abbrev pub Counts : Message → Failures → Failures → Type 0
 Counts ReadFailed before after =

@@ -4,7 +4,7 @@ ghost use Rattle.std.specs.Prelude.{◌≡◌, ◌≢◌, IfErr, None};
 ghost use Rattle.luks_io.specs.Bytes.{WhereKnown};
 ghost use Rattle.luks_report.specs.Report.{report_of};
 ghost use Rattle.luks_command.specs.Request.{request_of, secret_of};
-ghost use Rattle.luks_cli.specs.Run.{Counts, NeedsNoSecret, ReadsFirst, RunsAsStated, TakesNoMemory, message_of};
+ghost use Rattle.luks_cli.specs.Run.{Counts, failures_of, NeedsNoSecret, ReadsFirst, RunsAsStated, TakesNoMemory, message_of};
 ghost use Rattle.luks_cli.specs.MayEnd.{MayTell};
 
 use luks_command::command::Command;
@@ -54,18 +54,8 @@ pub fn execute<I: Source, K: Source, O: Sink>(
     ensures reads_first { ReadsFirst (request_of command.now) → result.message ≡ Message.ReadFailed
         → out.new ≡ out.old }
     ensures counts { Counts result.message
-        (record {
-          image = I.failures image.old;
-          secret = K.failures secret.old;
-          written =
-              O.failures out.old;
-        })
-        (record {
-          image = I.failures image.new;
-          secret = K.failures secret.new;
-          written =
-              O.failures out.new;
-        }) }
+        (failures_of (I.failures image.old) (K.failures secret.old) (O.failures out.old))
+        (failures_of (I.failures image.new) (K.failures secret.new) (O.failures out.new)) }
 {
     match perform(alloc, command, image, secret, out) {
         Ok(()) => Report::of(Message::Done),
@@ -93,18 +83,8 @@ fn perform<I: Source, K: Source, O: Sink>(
     ensures reads_first { ReadsFirst (request_of command.now) → message_of result ≡ Message.ReadFailed
         → out.new ≡ out.old }
     ensures counts { Counts (message_of result)
-        (record {
-          image = I.failures image.old;
-          secret = K.failures secret.old;
-          written =
-              O.failures out.old;
-        })
-        (record {
-          image = I.failures image.new;
-          secret = K.failures secret.new;
-          written =
-              O.failures out.new;
-        }) }
+        (failures_of (I.failures image.old) (K.failures secret.old) (O.failures out.old))
+        (failures_of (I.failures image.new) (K.failures secret.new) (O.failures out.new)) }
 {
     match command {
         Command::IsLuks { .. } => headers::is_luks(alloc, image),

@@ -5,7 +5,7 @@ ghost use Rattle.luks_io.specs.Bytes.{Adds, Took, WhereKnown};
 ghost use Rattle.luks_cli.specs.Header.{answer_to_is_luks};
 ghost use Rattle.luks_report.specs.Dump.{dump_of, uuid_of};
 ghost use Rattle.luks_cli.specs.Header.{is_luks_outcome, print_outcome};
-ghost use Rattle.luks_cli.specs.Run.{Counts, Runs, TookNone, at_any_pace, message_of};
+ghost use Rattle.luks_cli.specs.Run.{Counts, failures_of, Runs, TookNone, at_any_pace, message_of};
 ghost use Rattle.luks_cli.specs.MayEnd.{IsLuksMessage, PrintMessage};
 
 use luks_header::fault::HeaderFault;
@@ -23,8 +23,8 @@ pub(super) fn is_luks<S: Source>(alloc: Global, image: &mut S) -> Result<(), Mes
         (Took known (S.to_come image.new)) TookNone (Adds written written)) }
     ensures only { IsLuksMessage (message_of result) }
     ensures counts { (secret written : ℕ) → Counts (message_of result)
-        (record { image = S.failures image.old; secret = secret; written = written })
-        (record { image = S.failures image.new; secret = secret; written = written }) }
+        (failures_of (S.failures image.old) secret written)
+        (failures_of (S.failures image.new) secret written) }
 {
     match read_header(alloc, image) {
         Ok(_) => Ok(()),
@@ -55,8 +55,8 @@ pub(super) fn print_uuid<S: Source, O: Sink>(
     ensures only { PrintMessage (message_of result) }
     ensures reads_first { message_of result ≡ Message.ReadFailed → out.new ≡ out.old }
     ensures counts { (secret : ℕ) → Counts (message_of result)
-        (record { image = S.failures image.old; secret = secret; written = O.failures out.old })
-        (record { image = S.failures image.new; secret = secret; written = O.failures out.new }) }
+        (failures_of (S.failures image.old) secret (O.failures out.old))
+        (failures_of (S.failures image.new) secret (O.failures out.new)) }
 {
     let (header, _held) = read_header(alloc, image)?;
     let page = uuid_page(alloc, &header)?;
@@ -77,8 +77,8 @@ pub(super) fn print_dump<S: Source, O: Sink>(
     ensures only { PrintMessage (message_of result) }
     ensures reads_first { message_of result ≡ Message.ReadFailed → out.new ≡ out.old }
     ensures counts { (secret : ℕ) → Counts (message_of result)
-        (record { image = S.failures image.old; secret = secret; written = O.failures out.old })
-        (record { image = S.failures image.new; secret = secret; written = O.failures out.new }) }
+        (failures_of (S.failures image.old) secret (O.failures out.old))
+        (failures_of (S.failures image.new) secret (O.failures out.new)) }
 {
     let (header, _held) = read_header(alloc, image)?;
     let page = dump_page(alloc, &header)?;

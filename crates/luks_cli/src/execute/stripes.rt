@@ -3,7 +3,7 @@
 ghost use Rattle.std.specs.Prelude.{◌≡◌, ◌≢◌, ◌*◌, ◌<◌, ◌≤◌, ◌⊎◌, ◌+◌, ℕ, IfOk, IfErr, OnOk, length, take};
 ghost use Rattle.luks_kdf.specs.Stripes.{chain_after};
 ghost use Rattle.luks_io.specs.Bytes.{Adds, Took, WhereKnown, counted};
-ghost use Rattle.luks_cli.specs.Run.{Counts, Runs, TookNone, at_any_pace, is_failed_read, is_failed_write, message_of};
+ghost use Rattle.luks_cli.specs.Run.{Counts, failures_of, Runs, TookNone, at_any_pace, is_failed_read, is_failed_write, message_of};
 ghost use Rattle.luks_cli.specs.MayEnd.{MergeMessage, SplitMessage};
 ghost use Rattle.luks_cli.specs.Stripe.{merge_outcome, split_outcome};
 ghost use Rattle.luks_cli.specs.StripeParts.{NoKeyRead, Passed, StopsAtStripe, StopsTaking, split_promptly};
@@ -103,18 +103,8 @@ fn write_split<K: Source, R: Source, O: Sink>(
         → random.new ≡ random.old) }
     ensures memory { IfErr result (λ message. message ≢ Message.OutOfMemory) }
     ensures counts { Counts (message_of result)
-        (record {
-          image = K.failures key.old;
-          secret = R.failures random.old;
-          written =
-              O.failures out.old;
-        })
-        (record {
-          image = K.failures key.new;
-          secret = R.failures random.new;
-          written =
-              O.failures out.new;
-        }) }
+        (failures_of (K.failures key.old) (R.failures random.old) (O.failures out.old))
+        (failures_of (K.failures key.new) (R.failures random.new) (O.failures out.new)) }
 {
     let len = read_key(key, key_buf)?;
     let stripe = &mut stripe_buf[..len];
@@ -178,8 +168,8 @@ fn write_merged<S: Source, O: Sink>(
     ensures only { MergeMessage (message_of result) }
     ensures reads_first { message_of result ≡ Message.ReadFailed → out.new ≡ out.old }
     ensures counts { (secret : ℕ) → Counts (message_of result)
-        (record { image = S.failures stripes.old; secret = secret; written = O.failures out.old })
-        (record { image = S.failures stripes.new; secret = secret; written = O.failures out.new }) }
+        (failures_of (S.failures stripes.old) secret (O.failures out.old))
+        (failures_of (S.failures stripes.new) secret (O.failures out.new)) }
 {
     let len = merging.key_bytes.get();
     let stripe = &mut stripe_buf[..len];
@@ -212,18 +202,8 @@ pub(super) fn split<K: Source, R: Source, O: Sink>(
         → random.new ≡ random.old) }
     ensures memory { IfErr result (λ message. message ≢ Message.OutOfMemory) }
     ensures counts { Counts (message_of result)
-        (record {
-          image = K.failures key.old;
-          secret = R.failures random.old;
-          written =
-              O.failures out.old;
-        })
-        (record {
-          image = K.failures key.new;
-          secret = R.failures random.new;
-          written =
-              O.failures out.new;
-        }) }
+        (failures_of (K.failures key.old) (R.failures random.old) (O.failures out.old))
+        (failures_of (K.failures key.new) (R.failures random.new) (O.failures out.new)) }
 {
     let mut key_buf = [0; LONGEST_KEY + 1];
     let mut stripe_buf = [0; LONGEST_KEY];
@@ -244,8 +224,8 @@ pub(super) fn merge<S: Source, O: Sink>(
     ensures only { MergeMessage (message_of result) }
     ensures reads_first { message_of result ≡ Message.ReadFailed → out.new ≡ out.old }
     ensures counts { (secret : ℕ) → Counts (message_of result)
-        (record { image = S.failures stripes.old; secret = secret; written = O.failures out.old })
-        (record { image = S.failures stripes.new; secret = secret; written = O.failures out.new }) }
+        (failures_of (S.failures stripes.old) secret (O.failures out.old))
+        (failures_of (S.failures stripes.new) secret (O.failures out.new)) }
 {
     let mut stripe_buf = [0; LONGEST_KEY];
     let mut key_buf = [0; LONGEST_KEY];

@@ -9,7 +9,7 @@ ghost use Rattle.luks_open.specs.Order.{order_of};
 ghost use Rattle.luks_cli.specs.Volume.{OnOpened, payload_outcome, slot_outcome, volume_outcome};
 ghost use Rattle.luks_cli.specs.VolumeParts.{cat_promptly};
 ghost use Rattle.luks_command.specs.Request.{opening_request};
-ghost use Rattle.luks_cli.specs.Run.{Counts, Runs, at_any_pace, is_failed_read, message_of};
+ghost use Rattle.luks_cli.specs.Run.{Counts, failures_of, Runs, at_any_pace, is_failed_read, message_of};
 ghost use Rattle.luks_cli.specs.MayEnd.{OpeningMessage, PayloadMessage};
 ghost use Rattle.luks_cli.specs.VolumeParts.{TakesHeld, Unlocks};
 ghost use Rattle.luks_cli.specs.VolumeParts.{StopsFinding};
@@ -131,13 +131,8 @@ fn unlock<I: Source, K: Source>(
     ensures held { IfOk result (λ unlocked. unlocked.held ≤ unlocked.segment.offset) }
     ensures key { IfOk result (λ unlocked. is_xts_key_length (length unlocked.opened.key) ≡ true) }
     ensures counts { (written : ℕ) → Counts (message_of result)
-        (record { image = I.failures image.old; secret = K.failures secret.old; written = written })
-        (record {
-          image = I.failures image.new;
-          secret = K.failures secret.new;
-          written =
-              written;
-        }) }
+        (failures_of (I.failures image.old) (K.failures secret.old) written)
+        (failures_of (I.failures image.new) (K.failures secret.new) written) }
 {
     let volume = find_volume(alloc, opening, image)?;
     let pass = read_secret(alloc, secret)?;
@@ -179,18 +174,8 @@ pub(super) fn test_passphrase<I: Source, K: Source, O: Sink>(
         ⊎ (message_of result ≡ Message.Done ⊎ message_of result ≡ Message.WriteFailed) }
     ensures reads_first { message_of result ≡ Message.ReadFailed → out.new ≡ out.old }
     ensures counts { Counts (message_of result)
-        (record {
-          image = I.failures image.old;
-          secret = K.failures secret.old;
-          written =
-              O.failures out.old;
-        })
-        (record {
-          image = I.failures image.new;
-          secret = K.failures secret.new;
-          written =
-              O.failures out.new;
-        }) }
+        (failures_of (I.failures image.old) (K.failures secret.old) (O.failures out.old))
+        (failures_of (I.failures image.new) (K.failures secret.new) (O.failures out.new)) }
 {
     let unlocked = unlock(alloc, opening, image, secret)?;
     let page = opened_page(alloc, unlocked.opened.slot)?;
@@ -216,18 +201,8 @@ pub(super) fn cat<I: Source, K: Source, O: Sink>(
         is_err (volume_of (opening_request opening.now) known) ≡ true → secret.new ≡ secret.old) }
     ensures only { OpeningMessage (message_of result) ⊎ PayloadMessage (message_of result) }
     ensures counts { Counts (message_of result)
-        (record {
-          image = I.failures image.old;
-          secret = K.failures secret.old;
-          written =
-              O.failures out.old;
-        })
-        (record {
-          image = I.failures image.new;
-          secret = K.failures secret.new;
-          written =
-              O.failures out.new;
-        }) }
+        (failures_of (I.failures image.old) (K.failures secret.old) (O.failures out.old))
+        (failures_of (I.failures image.new) (K.failures secret.new) (O.failures out.new)) }
 {
     let unlocked = unlock(alloc, opening, image, secret)?;
     let Some(key) = XtsKey::new(unlocked.opened.key.as_slice()) else {
