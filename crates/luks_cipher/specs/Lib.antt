@@ -1,5 +1,2 @@
-pub mod Bytes
-pub mod Field
-pub mod Aes
 pub mod Xts
-pub mod Schedule
+pub mod KeyPair

@@ -1,19 +1,12 @@
-//! AES and XTS, as FIPS 197 and IEEE 1619 write them.
+//! Data units of disks under AES: XTS, as IEEE 1619 writes it.
 //!
-//! [`AesKey`] encrypts and decrypts one block of 16 bytes, [`XtsKey`] a data unit of up to 4096 bytes
-//! under the unit's number. Both are computed byte by byte, and neither takes memory. They hide nothing
-//! from whoever can measure time, and wipe no secret.
+//! [`XtsKey`] encrypts and decrypts a data unit of up to 4096 bytes under the unit's number. It takes no
+//! memory, hides nothing from whoever can measure time, and wipes no secret.
 #![tactic(auto)]
 
-mod aes;
-mod cipher;
-mod field;
-mod sbox;
-mod schedule;
-mod state;
 #[cfg(test)]
 mod tests;
 mod xts;
 
-pub use aes::AesKey;
+pub use luks_aes::AesKey;
 pub use xts::XtsKey;

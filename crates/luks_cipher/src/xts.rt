@@ -2,10 +2,10 @@
 
 ghost use Rattle.std.specs.Prelude.{◌≡◌, ◌+◌, ◌*◌, ◌%◌, ◌≤◌, List, ℕ, ◌++◌, length, Some, None, if◌then◌else◌};
 ghost use Rattle.luks_cipher.specs.Xts.{doubled, block_sum, tweak_of, block_encrypted, block_decrypted, xts_encrypted, xts_decrypted, is_xts_key_length};
-ghost use Rattle.luks_cipher.specs.Bytes.{IsBytes};
-ghost use Rattle.luks_cipher.specs.Schedule.{IsKeyPair};
+ghost use Rattle.luks_aes.specs.Bytes.{IsBytes};
+ghost use Rattle.luks_cipher.specs.KeyPair.{IsKeyPair};
 
-use crate::aes::AesKey;
+use luks_aes::AesKey;
 use std::marker::Model;
 
 // The tweak times the primitive element (5.2).

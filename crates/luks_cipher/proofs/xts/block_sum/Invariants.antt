@@ -1,6 +1,6 @@
-use Rattle.luks_cipher.specs.Field.{◌⊕◌}
-use Rattle.luks_cipher.specs.Aes.{cell}
-use Rattle.luks_cipher.proofs.StateLemmas.{IsFilled}
+use Rattle.luks_aes.specs.Field.{◌⊕◌}
+use Rattle.luks_aes.specs.Aes.{cell}
+use Rattle.luks_aes.proofs.StateLemmas.{IsFilled}
 use Rattle.luks_cipher.proofs.xts.block_sum.Given as goal
 
 abbrev pub invariant-loop-i : goal.invariant-loop-i

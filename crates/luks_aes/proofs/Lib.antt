@@ -1,0 +1,9 @@
+pub mod Bytes
+pub mod FieldLemmas
+pub mod SboxLemmas
+pub mod StateLemmas
+pub mod CipherLemmas
+pub mod ScheduleLemmas
+pub mod ByteLists
+pub mod Mixing
+pub mod Undone
