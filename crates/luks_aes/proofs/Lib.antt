@@ -5,5 +5,10 @@ pub mod StateLemmas
 pub mod CipherLemmas
 pub mod ScheduleLemmas
 pub mod ByteLists
-pub mod Mixing
+pub mod MixingLemmas
 pub mod Undone
+pub mod WordLemmas
+pub mod TableLemmas
+pub mod ColumnLemmas
+pub mod UnmixedLemmas
+pub mod Redone

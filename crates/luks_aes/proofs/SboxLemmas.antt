@@ -12,7 +12,7 @@ unfolding sbox inverse ◌•◌ product_of_bits times_x
 sbox_entry = same_below (slice_index SBOX) sbox 256 refl
 
 -- the two tables undo each other
-there_and_back : (b : ℕ) → b < 256 → slice_index SBOX (slice_index INV_SBOX b) ≡ b
+pub there_and_back : (b : ℕ) → b < 256 → slice_index SBOX (slice_index INV_SBOX b) ≡ b
 there_and_back = same_below (λ b. slice_index SBOX (slice_index INV_SBOX b)) (λ b. b) 256 refl
 
 pub back_and_there : (a : ℕ) → a < 256 → slice_index INV_SBOX (slice_index SBOX a) ≡ a
@@ -32,3 +32,6 @@ inv_sbox_entry b low =
     (λ k fits same.
     let e : slice_index SBOX k ≡ b = sbox_entry k fits ∙ eqb-true (sbox k) b same in
     sym (back_and_there k fits) ∙ ap (slice_index INV_SBOX) e))
+
+pub inv_sbox_byte : (b : ℕ) → b < 256 → inv_sbox b < 256
+inv_sbox_byte b low = rw (← inv_sbox_entry b low) (inv_entry_below b)

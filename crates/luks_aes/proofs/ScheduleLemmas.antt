@@ -1,11 +1,12 @@
 -- The key schedule as the code keeps it.
-use Rattle.std.proofs.Common.{◌≡◌, ℕ, zero, suc, ◌+◌, ◌-◌, ◌*◌, ◌/◌, ◌≤◌, ◌⊎◌, List, length, take, inl, inr, ◌||◌, arith, refl, sym, ap, ◌∙◌}
+use Rattle.std.proofs.Common.{◌≡◌, ℕ, zero, suc, ◌+◌, ◌-◌, ◌*◌, ◌/◌, ◌≤◌, ◌⊎◌, List, [], ◌∷◌, length, take, inl, inr, ◌||◌, arith, refl, sym, ap, ◌∙◌}
 use Rattle.std.specs.Prelude.{IsTrue, ◌==◌}
 use Rattle.std.proofs.lemmas.Bool.{or_cases, eqb-true}
 use Rattle.std.proofs.lemmas.List.{length-take-le, length-append, take_all, take-take, take-append-le}
 use Rattle.luks_aes.specs.Aes.{is_aes_key_length, next_word, words_after, with_next_word, rounds_of, words_of, key_expansion, cipher, inv_cipher, encrypted, decrypted}
 use Rattle.luks_aes.specs.Bytes.{IsBytes}
 use Rattle.luks_aes.specs.Schedule.{IsSchedule}
+use Rattle.luks_aes.specs.Columns.{IsMultiplied}
 
 -- the lengths of keys
 aes_lengths : (n : ℕ) → IsTrue (is_aes_key_length n) → (n ≡ 16) ⊎ ((n ≡ 24) ⊎ (n ≡ 32))
@@ -77,41 +78,43 @@ expansion_begins key schedule is expanded =
     ∙ ap (take (4 * nk)) expanded
     ∙ rw (lengths.whole) (words_begin nk key (4 * (rounds_of key + 1) - nk))
 
-pub expanded_is : (key schedule : List ℕ) → IsTrue (is_aes_key_length (length key)) → IsBytes schedule
-    → take (16 * (rounds_of key + 1)) schedule ≡ key_expansion key → IsSchedule (words_of key) schedule
-expanded_is key schedule is bytes expanded =
+pub expanded_is : (key schedule unmixed : List ℕ) → IsTrue (is_aes_key_length (length key)) → IsBytes schedule
+    → IsMultiplied (14 ∷ 11 ∷ 13 ∷ 9 ∷ []) schedule unmixed 60
+    → take (16 * (rounds_of key + 1)) schedule ≡ key_expansion key → IsSchedule (words_of key) schedule unmixed
+expanded_is key schedule unmixed is bytes products expanded =
     let lengths = key_length (length key) is in
     let same : words_of key + 7 ≡ rounds_of key + 1 = omega arith in
     record {
       key_length = rw lengths.whole is;
       expanded = rw same (expanded ∙ ap key_expansion (sym (expansion_begins key schedule is expanded)));
       bytes = bytes;
+      products = products;
     }
 
 -- the words of the key that a schedule begins with
-words_of_schedule : (words : ℕ) (schedule : List ℕ) → length schedule ≡ 240 → IsSchedule words schedule
+words_of_schedule : (words : ℕ) (schedule unmixed : List ℕ) → length schedule ≡ 240 → IsSchedule words schedule unmixed
     → words_of (take (4 * words) schedule) ≡ words
-words_of_schedule words schedule len is =
+words_of_schedule words schedule unmixed len is =
     let lengths = key_length (4 * words) is.key_length in
     let least = lengths.least in
     let most = lengths.most in
     rw (length-take-le (4 * words) schedule (omega arith)) (omega arith)
 
 -- the cipher over the schedule is that of the key
-pub encrypted_is : (words : ℕ) (schedule key block : List ℕ) → length schedule ≡ 240 → IsSchedule words schedule
+pub encrypted_is : (words : ℕ) (schedule unmixed key block : List ℕ) → length schedule ≡ 240 → IsSchedule words schedule unmixed
     → take (4 * words) schedule ≡ key
     → cipher block (words + 6) (take (16 * (words + 6 + 1)) schedule) ≡ encrypted key block
 unfolding encrypted
-encrypted_is words schedule key block len is view =
-    let nk = words_of_schedule words schedule len is in
+encrypted_is words schedule unmixed key block len is view =
+    let nk = words_of_schedule words schedule unmixed len is in
     let same : words + 6 + 1 ≡ words + 7 = omega arith in
     rw (← view, nk, same, is.expanded) refl
 
-pub decrypted_is : (words : ℕ) (schedule key block : List ℕ) → length schedule ≡ 240 → IsSchedule words schedule
+pub decrypted_is : (words : ℕ) (schedule unmixed key block : List ℕ) → length schedule ≡ 240 → IsSchedule words schedule unmixed
     → take (4 * words) schedule ≡ key
     → inv_cipher block (words + 6) (take (16 * (words + 6 + 1)) schedule) ≡ decrypted key block
 unfolding decrypted
-decrypted_is words schedule key block len is view =
-    let nk = words_of_schedule words schedule len is in
+decrypted_is words schedule unmixed key block len is view =
+    let nk = words_of_schedule words schedule unmixed len is in
     let same : words + 6 + 1 ≡ words + 7 = omega arith in
     rw (← view, nk, same, is.expanded) refl

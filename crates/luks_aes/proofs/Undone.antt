@@ -8,7 +8,7 @@ use Rattle.luks_aes.specs.Bytes.{IsBytes}
 use Rattle.luks_aes.proofs.SboxLemmas.{sbox_entry, inv_sbox_entry, back_and_there}
 use Rattle.luks_aes.proofs.StateLemmas.{filled_all, cell_at}
 use Rattle.luks_aes.proofs.ByteLists.{IsState, sbox_byte, sub_bytes_state, shift_rows_state, columns_state, after_state, expansion_bytes}
-use Rattle.luks_aes.proofs.Mixing.{mixed, unmixed, unmixed_is}
+use Rattle.luks_aes.proofs.MixingLemmas.{mixed, unmixed, unmixed_is}
 
 -- ---- the steps
 
@@ -23,7 +23,7 @@ same_states f g same = λ i. state_of (λ r c. same r c i)
 pub xor_twice : (a k : ℕ) → (a ⊕ k) ⊕ k ≡ a
 xor_twice a k = xor_assoc a k k ∙ ap (bit_xor a) (xor_self k) ∙ xor_zero_r a
 
-sbox_undone : (b : ℕ) → b < 256 → inv_sbox (sbox b) ≡ b
+pub sbox_undone : (b : ℕ) → b < 256 → inv_sbox (sbox b) ≡ b
 sbox_undone b low =
     let there = sbox_entry b low in
     rw (← inv_sbox_entry (sbox b) (sbox_byte b low), ← there) (back_and_there b low)
@@ -53,7 +53,7 @@ mix_columns_undone s is =
     unmixed_is _ _ _ _ (byte r) (byte ((r + 1) % 4)) (byte ((r + 2) % 4)) (byte ((r + 3) % 4)))
     ∙ sym (whole_state s is.len)
 
-add_round_key_undone : (s w : List ℕ) (round : ℕ) → length s ≡ 16 → add_round_key (add_round_key s w round) w round ≡ s
+pub add_round_key_undone : (s w : List ℕ) (round : ℕ) → length s ≡ 16 → add_round_key (add_round_key s w round) w round ≡ s
 unfolding add_round_key
 add_round_key_undone s w round len =
     same_states (λ r c. (cell s r c ⊕ slice_index w (r + 4 * (4 * round + c))) ⊕ slice_index w (r + 4 * (4 * round + c))) (cell s)

@@ -2,3 +2,4 @@ pub mod Bytes
 pub mod Field
 pub mod Aes
 pub mod Schedule
+pub mod Columns

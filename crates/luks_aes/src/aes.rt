@@ -2,10 +2,12 @@
 
 ghost use Rattle.std.specs.Prelude.{◌≡◌, ◌+◌, ◌*◌, List, ℕ, take, length, Some, None, if◌then◌else◌};
 ghost use Rattle.luks_aes.specs.Aes.{encrypted, decrypted, is_aes_key_length};
+ghost use Rattle.luks_aes.specs.Bytes.{IsBytes};
 ghost use Rattle.luks_aes.specs.Schedule.{IsSchedule};
 
 use crate::cipher::{cipher, inv_cipher};
 use crate::schedule::{LONGEST, key_expansion};
+use crate::unmixed::unmixed_words;
 use std::marker::Model;
 
 /// A key of AES-128, AES-192 or AES-256 (FIPS 197). Contracts see it as its bytes.
@@ -15,6 +17,8 @@ pub struct AesKey {
     words: usize,
     // The key schedule, which begins with the key, and zeros.
     schedule: [u8; LONGEST],
+    // Its words after InvMixColumns, for the inverse cipher.
+    unmixed: [u8; LONGEST],
 }
 
 impl Model for AesKey {
@@ -22,7 +26,7 @@ impl Model for AesKey {
 
     ghost view = { λ k. take (4 * k.words) k.schedule };
 
-    ghost invariant = { λ k. IsSchedule k.words k.schedule };
+    ghost invariant = { λ k. IsSchedule k.words k.schedule k.unmixed };
 }
 
 impl AesKey {
@@ -31,10 +35,15 @@ impl AesKey {
         ensures { result ≡ (if is_aes_key_length (length key.now) then Some key.now else None) }
     {
         match key.len() {
-            16 | 24 | 32 => Some(AesKey {
-                words: key.len() / 4,
-                schedule: key_expansion(key),
-            }),
+            16 | 24 | 32 => {
+                let schedule = key_expansion(key);
+                let unmixed = unmixed_words(&schedule);
+                Some(AesKey {
+                    words: key.len() / 4,
+                    schedule,
+                    unmixed,
+                })
+            }
             _ => None,
         }
     }
@@ -51,10 +60,11 @@ impl AesKey {
 
     /// Decrypts the block (FIPS 197, 5.3).
     pub fn decrypt_block(&self, block: &mut [u8; 16])
-        ensures { block.new ≡ decrypted self.now block.old }
+        ensures value { block.new ≡ decrypted self.now block.old }
+        ensures undone { encrypted self.now block.new ≡ block.old }
     {
         let rounds = self.words + 6;
-        let schedule = &self.schedule[..16 * (rounds + 1)];
-        *block = inv_cipher(*block, rounds, schedule);
+        let end = 16 * (rounds + 1);
+        *block = inv_cipher(*block, rounds, &self.schedule[..end], &self.unmixed[..end]);
     }
 }

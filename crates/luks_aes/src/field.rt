@@ -1,31 +1,13 @@
 //! The field of 256 elements in which AES computes (FIPS 197, section 4).
 
 ghost use Rattle.std.specs.Prelude.{◌≡◌};
-ghost use Rattle.luks_aes.specs.Field.{◌•◌, times_x, power_of_x};
+ghost use Rattle.luks_aes.specs.Field.{times_x, power_of_x};
 
 /// `b` times x.
 pub fn times_x(b: u8) -> u8
     ensures { result ≡ times_x b }
 {
     if b < 0x80 { b << 1 } else { (b << 1) ^ 0x1b }
-}
-
-/// The product of `a` and `b`.
-#[inline(always)]
-pub fn product(a: u8, b: u8) -> u8
-    ensures { result ≡ a • b }
-{
-    let mut sum = 0;
-    let mut bits = a;
-    let mut shifted = b;
-    for _ in 0..8u32 {
-        if bits % 2 == 1 {
-            sum ^= shifted;
-        }
-        bits /= 2;
-        shifted = times_x(shifted);
-    }
-    sum
 }
 
 /// x to the power `n`.

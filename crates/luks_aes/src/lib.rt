@@ -6,11 +6,14 @@
 
 mod aes;
 mod cipher;
+mod columns;
 mod field;
+mod mixing;
 mod sbox;
 mod schedule;
 mod state;
 #[cfg(test)]
 mod tests;
+mod unmixed;
 
 pub use aes::AesKey;

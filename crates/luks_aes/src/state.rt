@@ -1,10 +1,9 @@
-//! The transformations of a state (FIPS 197, 5.1 and 5.3). Byte `i` of a state stands in row `i % 4` and
+//! The transformations of a state in the last round (FIPS 197, 5.1 and 5.3). Byte `i` of a state stands in row `i % 4` and
 //! column `i / 4`.
 
 ghost use Rattle.std.specs.Prelude.{◌≡◌, ◌+◌, ◌*◌, ◌<◌, ◌≤◌, [], ◌∷◌, length};
-ghost use Rattle.luks_aes.specs.Aes.{sub_bytes, shift_rows, multiplied_columns, mix_columns, add_round_key, inv_shift_rows, inv_sub_bytes, inv_mix_columns};
+ghost use Rattle.luks_aes.specs.Aes.{sub_bytes, shift_rows, add_round_key, inv_shift_rows, inv_sub_bytes};
 
-use crate::field::product;
 use crate::sbox::{inv_sbox, sbox};
 
 /// SubBytes (5.1.1).
@@ -53,37 +52,6 @@ pub fn inv_shift_rows(s: [u8; 16]) -> [u8; 16]
         next[i] = s[row + 4 * column];
     }
     next
-}
-
-// Each column multiplied by the matrix whose first row is `a`, each next row being turned right by one (4.3).
-#[inline(always)]
-fn multiplied_columns(a: [u8; 4], s: [u8; 16]) -> [u8; 16]
-    ensures { result ≡ multiplied_columns a s }
-{
-    let mut next = [0; 16];
-    for i in 0..16 {
-        let row = i % 4;
-        let column = 4 * (i / 4);
-        next[i] = product(a[0], s[row + column])
-            ^ product(a[1], s[(row + 1) % 4 + column])
-            ^ product(a[2], s[(row + 2) % 4 + column])
-            ^ product(a[3], s[(row + 3) % 4 + column]);
-    }
-    next
-}
-
-/// MixColumns (5.1.3).
-pub fn mix_columns(s: [u8; 16]) -> [u8; 16]
-    ensures { result ≡ mix_columns s }
-{
-    multiplied_columns([2, 3, 1, 1], s)
-}
-
-/// InvMixColumns (5.3.3).
-pub fn inv_mix_columns(s: [u8; 16]) -> [u8; 16]
-    ensures { result ≡ inv_mix_columns s }
-{
-    multiplied_columns([14, 11, 13, 9], s)
 }
 
 /// AddRoundKey: the state with round key `round` of the schedule added (5.1.4).

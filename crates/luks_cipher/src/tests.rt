@@ -1,5 +1,7 @@
 //! Published vectors. Each is a line of words, and bytes are written as hexadecimal digits.
 
+mod bytewise;
+mod comparison;
 mod xts;
 mod xts_vectors;
 

@@ -123,6 +123,7 @@ impl XtsKey {
         // A unit that is some plain one encrypted becomes that one.
         ensures undoes { (plain : List ℕ) → IsBytes plain → length plain ≡ length unit.old
             → unit.old ≡ xts_encrypted self.now number plain → unit.new ≡ plain }
+        ensures undone { xts_encrypted self.now number unit.new ≡ unit.old }
     {
         let mut tweak = self.first_tweak(number);
         for j in 0..unit.len() / 16 {

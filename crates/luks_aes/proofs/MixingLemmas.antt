@@ -37,11 +37,11 @@ bits_sum (suc n) c a b p q =
     (exchanged (cond (eqb (c % 2) 1) a 0) (cond (eqb (c % 2) 1) b 0) (product_of_bits n (c / 2) (times_x a)) (product_of_bits n (c / 2) (times_x b)))
 
 -- a product of a sum
-product_sum : (c a b : ℕ) → a < 256 → b < 256 → c • (a ⊕ b) ≡ c • a ⊕ c • b
+pub product_sum : (c a b : ℕ) → a < 256 → b < 256 → c • (a ⊕ b) ≡ c • a ⊕ c • b
 unfolding ◌•◌
 product_sum c a b p q = bits_sum 8 c a b p q
 
-product_sum4 : (k a b c d : ℕ) → a < 256 → b < 256 → c < 256 → d < 256
+pub product_sum4 : (k a b c d : ℕ) → a < 256 → b < 256 → c < 256 → d < 256
     → k • (a ⊕ b ⊕ c ⊕ d) ≡ k • a ⊕ k • b ⊕ k • c ⊕ k • d
 product_sum4 k a b c d p q r s =
     let ab = xor_byte a b p q in
@@ -65,7 +65,7 @@ unfolding ◌•◌ product_of_bits times_x
 third_row = same_below (λ x. 14 • (1 • x) ⊕ 11 • (1 • x) ⊕ 13 • (3 • x) ⊕ 9 • (2 • x)) (λ x. 0) 256 refl
 
 -- sixteen terms, gathered by their letters
-gathered : (a1 a2 a3 a4 b1 b2 b3 b4 c1 c2 c3 c4 d1 d2 d3 d4 : ℕ)
+pub gathered : (a1 a2 a3 a4 b1 b2 b3 b4 c1 c2 c3 c4 d1 d2 d3 d4 : ℕ)
     → (a1 ⊕ b1 ⊕ c1 ⊕ d1) ⊕ (b2 ⊕ c2 ⊕ d2 ⊕ a2) ⊕ (c3 ⊕ d3 ⊕ a3 ⊕ b3) ⊕ (d4 ⊕ a4 ⊕ b4 ⊕ c4)
     ≡ (a1 ⊕ a2 ⊕ a3 ⊕ a4) ⊕ (b1 ⊕ b2 ⊕ b3 ⊕ b4) ⊕ (c1 ⊕ c2 ⊕ c3 ⊕ c4) ⊕ (d1 ⊕ d2 ⊕ d3 ⊕ d4)
 gathered a1 a2 a3 a4 b1 b2 b3 b4 c1 c2 c3 c4 d1 d2 d3 d4 = same_from_bits _ _ (λ i. simp bit_at_xor (omega arith))
