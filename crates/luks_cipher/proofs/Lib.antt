@@ -1,2 +1,3 @@
 pub mod TweakLemmas
 pub mod UnitsUndone
+pub mod ChainsUndone

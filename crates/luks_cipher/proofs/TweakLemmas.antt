@@ -73,7 +73,7 @@ done_more f old new piece j before room size is =
       left = drop-put_mid at (at + 16 - at) new piece next (omega arith) (omega arith) (omega arith) ∙ rest;
     }
 
-done_all : (f : ℕ → List ℕ) (old new : List ℕ) (j n : ℕ) → IsDoneBefore f old new j → length new ≡ 16 * j → j ≡ n
+pub done_all : (f : ℕ → List ℕ) (old new : List ℕ) (j n : ℕ) → IsDoneBefore f old new j → length new ≡ 16 * j → j ≡ n
     → new ≡ joined f n
 done_all f old new j n before size at_end =
     sym (take_all (16 * j) new (omega arith)) ∙ before.done ∙ ap (joined f) at_end

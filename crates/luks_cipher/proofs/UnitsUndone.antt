@@ -14,13 +14,13 @@ use Rattle.luks_aes.proofs.Redone.{decrypted_state, encrypted-decrypted}
 
 -- ---- a block
 
-sum_state : (a b : List ℕ) → IsState a → IsState b → IsState (block_sum a b)
+pub sum_state : (a b : List ℕ) → IsState a → IsState b → IsState (block_sum a b)
 unfolding block_sum
 sum_state a b first second =
     made_state (λ r c. cell a r c ⊕ cell b r c)
     (λ r c. xor_byte (cell a r c) (cell b r c) (first.bytes.each (r + 4 * c)) (second.bytes.each (r + 4 * c)))
 
-sum_twice : (a b : List ℕ) → length a ≡ 16 → block_sum (block_sum a b) b ≡ a
+pub sum_twice : (a b : List ℕ) → length a ≡ 16 → block_sum (block_sum a b) b ≡ a
 unfolding block_sum
 sum_twice a b len =
     same_states (λ r c. (cell a r c ⊕ cell b r c) ⊕ cell b r c) (cell a) (λ r c. xor_twice (cell a r c) (cell b r c))
@@ -46,7 +46,7 @@ block_redone key tweak block keys masks is =
 
 -- ---- the tweaks
 
-le_state : (n : ℕ) → IsState (to_le_bytes w128 n)
+pub le_state : (n : ℕ) → IsState (to_le_bytes w128 n)
 le_state n = record {
   len = refl;
   bytes =
@@ -64,14 +64,14 @@ tweak_state key number (suc j) keys = le_state (doubled_number (from_le_bytes w1
 
 -- ---- blocks joined
 
-joined_length : (f : ℕ → List ℕ) (n : ℕ) → ((j : ℕ) → j < n → length (f j) ≡ 16) → length (joined f n) ≡ 16 * n
+pub joined_length : (f : ℕ → List ℕ) (n : ℕ) → ((j : ℕ) → j < n → length (f j) ≡ 16) → length (joined f n) ≡ 16 * n
 unfolding joined
 joined_length f zero sizes = refl
 joined_length f (suc n) sizes =
     let before = joined_length f n (λ j low. sizes j (omega arith)) in
     rw (length-append (joined f n) (f n), before, sizes n (omega arith)) (omega arith)
 
-joined_at : (f : ℕ → List ℕ) (n j : ℕ) → ((j : ℕ) → j < n → length (f j) ≡ 16) → j < n → block_at (joined f n) j ≡ f j
+pub joined_at : (f : ℕ → List ℕ) (n j : ℕ) → ((j : ℕ) → j < n → length (f j) ≡ 16) → j < n → block_at (joined f n) j ≡ f j
 unfolding joined
 joined_at f zero j sizes low = absurd (omega arith)
 joined_at f (suc n) j sizes low =
@@ -88,20 +88,20 @@ joined_at f (suc n) j sizes low =
           rw e (ap (take 16) (drop_at (joined f n) (f n) (16 * n) before) ∙ take_all 16 (f n) (omega (arith, sizes n (omega arith))))
     ]
 
-joined_same : (f g : ℕ → List ℕ) (n : ℕ) → ((j : ℕ) → j < n → f j ≡ g j) → joined f n ≡ joined g n
+pub joined_same : (f g : ℕ → List ℕ) (n : ℕ) → ((j : ℕ) → j < n → f j ≡ g j) → joined f n ≡ joined g n
 unfolding joined
 joined_same f g zero same = refl
 joined_same f g (suc n) same =
     rw (joined_same f g n (λ j low. same j (omega arith)), same n (omega arith)) refl
 
-joined_blocks : (unit : List ℕ) (n : ℕ) → joined (block_at unit) n ≡ take (16 * n) unit
+pub joined_blocks : (unit : List ℕ) (n : ℕ) → joined (block_at unit) n ≡ take (16 * n) unit
 unfolding joined
 joined_blocks unit zero = refl
 joined_blocks unit (suc n) =
     let more : 16 * suc n ≡ 16 * n + 16 = omega arith in
     rw (more, joined_blocks unit n) (sym (take-add (16 * n) 16 unit))
 
-block_state : (unit : List ℕ) (n j : ℕ) → length unit ≡ 16 * n → j < n → IsBytes unit → IsState (block_at unit j)
+pub block_state : (unit : List ℕ) (n j : ℕ) → length unit ≡ 16 * n → j < n → IsBytes unit → IsState (block_at unit j)
 block_state unit n j size low all = record {
   len =
       let room : 16 ≤ length (drop (16 * j) unit) = rw (length-drop (16 * j) unit) (omega arith) in
@@ -139,7 +139,7 @@ block_decrypted_len : (key tweak block : List ℕ) → length (block_decrypted k
 unfolding block_decrypted block_sum
 block_decrypted_len key tweak block = refl
 
-joined_count : (f : ℕ → List ℕ) (n : ℕ) → ((j : ℕ) → length (f j) ≡ 16) → length (joined f n) / 16 ≡ n
+pub joined_count : (f : ℕ → List ℕ) (n : ℕ) → ((j : ℕ) → length (f j) ≡ 16) → length (joined f n) / 16 ≡ n
 joined_count f n sizes = rw (joined_length f n (λ j low. sizes j)) (omega arith)
 
 -- decryption undoes encryption

@@ -1,2 +1,5 @@
 pub mod Xts
+pub mod Cbc
+pub mod Sector
 pub mod KeyPair
+pub mod SectorKey

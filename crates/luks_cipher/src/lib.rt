@@ -4,9 +4,15 @@
 //! memory, hides nothing from whoever can measure time, and wipes no secret.
 #![tactic(auto)]
 
+mod block;
+mod cbc;
+mod mode;
+mod sector;
 #[cfg(test)]
 mod tests;
 mod xts;
 
 pub use luks_aes::AesKey;
+pub use mode::Mode;
+pub use sector::SectorCipher;
 pub use xts::XtsKey;

@@ -1,7 +1,7 @@
 use Rattle.std.proofs.Common.{arith, refl}
 use Rattle.luks_cipher.specs.Xts.{block_sum}
 use Rattle.luks_aes.proofs.StateLemmas.{filled_none, filled_more, filled_all, cell_at}
-use Rattle.luks_cipher.proofs.xts.block_sum.Goals as goal
+use Rattle.luks_cipher.proofs.block.block_sum.Goals as goal
 
 pub loop-i-init : goal.loop-i-init
 loop-i-init c = filled_none _ _ refl
