@@ -1,0 +1,6 @@
+//! 32 blocks of AES at once, without tables.
+#![tactic(auto)]
+
+mod circuit;
+mod gates;
+mod rows;
