@@ -12,7 +12,7 @@ times_x_pair : (n : ℕ) → n < 65536 → times_x ((n / 256) ⊕ (n % 256)) ≡
 unfolding times_x
 times_x_pair = same_below (λ n. times_x ((n / 256) ⊕ (n % 256))) (λ n. times_x (n / 256) ⊕ times_x (n % 256)) 65536 refl
 
-times_x_sum : (a b : ℕ) → a < 256 → b < 256 → times_x (a ⊕ b) ≡ times_x a ⊕ times_x b
+pub times_x_sum : (a b : ℕ) → a < 256 → b < 256 → times_x (a ⊕ b) ≡ times_x a ⊕ times_x b
 times_x_sum a b p q =
     let n = a * 256 + b in
     let high : n / 256 ≡ a = div-mul-add a 256 b q in

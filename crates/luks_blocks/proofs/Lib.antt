@@ -1,2 +1,4 @@
 pub mod Tables
 pub mod RowLemmas
+pub mod MixLemmas
+pub mod StateLemmas

@@ -1,6 +1,8 @@
 -- How vectors of 128 bits stand for 128 bytes: eight planes, of which plane j has bit j of each byte.
 use Rattle.std.specs.Prelude.{◌≡◌, ℕ, ◌+◌, ◌-◌, ◌*◌, ◌<◌, ◌/◌, ◌%◌, List, [], ◌∷◌, length, slice_index, slice_index_or}
 use Rattle.std.specs.Int.{bit_at}
+use Rattle.luks_aes.specs.Field.{◌⊕◌}
+use Rattle.luks_aes.specs.Aes.{cell}
 
 -- the bit at place q of a vector of 16 bytes
 abbrev pub plane_bit : List ℕ → ℕ → ℕ
@@ -44,3 +46,19 @@ pub record IsPlane (y : ℕ → ℕ) (j : ℕ) (v : List ℕ) : Type 0 where
 pub record Stands (y : ℕ → ℕ) (planes : List (List ℕ)) : Type 0 where
   pub bytes : (q : ℕ) → y q < 256
   pub at : (j : ℕ) → j < 8 → IsPlane y j (slice_index_or planes j [])
+
+-- four rows, the bytes y r q of row r
+pub record StandAll (y : ℕ → ℕ → ℕ) (rows : List (List (List ℕ))) : Type 0 where
+  pub at : (r : ℕ) → r < 4 → Stands (y r) (slice_index_or rows r [])
+
+-- the bytes of the states s n of the blocks n, with k added to each
+abbrev pub laid : (ℕ → List ℕ) → ℕ → ℕ → ℕ → ℕ
+laid s k r q = cell (s (block_of q)) r (column_of q) ⊕ k
+
+-- the four rows hold the states of 32 blocks, k added to each byte
+pub record HoldStates (s : ℕ → List ℕ) (k : ℕ) (rows : List (List (List ℕ))) : Type 0 where
+  pub stand : StandAll (laid s k) rows
+
+-- the rows have a round key for each block, k added to each byte
+pub record HoldKey (key : List ℕ) (k : ℕ) (rows : List (List (List ℕ))) : Type 0 where
+  pub stand : StandAll (λ r q. cell key r (column_of q) ⊕ k) rows

@@ -4,3 +4,4 @@
 mod circuit;
 mod gates;
 mod rows;
+mod states;
