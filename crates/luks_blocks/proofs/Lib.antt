@@ -2,3 +2,4 @@ pub mod Tables
 pub mod RowLemmas
 pub mod MixLemmas
 pub mod StateLemmas
+pub mod ExchangeLemmas

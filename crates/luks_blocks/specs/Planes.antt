@@ -1,5 +1,5 @@
 -- How vectors of 128 bits stand for 128 bytes: eight planes, of which plane j has bit j of each byte.
-use Rattle.std.specs.Prelude.{◌≡◌, ℕ, ◌+◌, ◌-◌, ◌*◌, ◌<◌, ◌/◌, ◌%◌, List, [], ◌∷◌, length, slice_index, slice_index_or}
+use Rattle.std.specs.Prelude.{◌≡◌, ◌==◌, if◌then◌else◌, ℕ, ◌+◌, ◌-◌, ◌*◌, ◌<◌, ◌/◌, ◌%◌, List, [], ◌∷◌, length, slice_index, slice_index_or}
 use Rattle.std.specs.Int.{bit_at}
 use Rattle.luks_aes.specs.Field.{◌⊕◌}
 use Rattle.luks_aes.specs.Aes.{cell}
@@ -62,3 +62,17 @@ pub record HoldStates (s : ℕ → List ℕ) (k : ℕ) (rows : List (List (List 
 -- the rows have a round key for each block, k added to each byte
 pub record HoldKey (key : List ℕ) (k : ℕ) (rows : List (List (List ℕ))) : Type 0 where
   pub stand : StandAll (λ r q. cell key r (column_of q) ⊕ k) rows
+
+-- bit k of byte p of the vector is f p k
+pub record Shows (f : ℕ → ℕ → ℕ) (v : List ℕ) : Type 0 where
+  pub len : length v ≡ 16
+  pub fits : (p : ℕ) → slice_index v p < 256
+  pub at : (p k : ℕ) → p < 16 → k < 8 → bit_at (slice_index v p) k ≡ f p k
+
+-- every other run of n bits is a's; between them are b's bits of n places lower
+abbrev pub low_of : ℕ → (ℕ → ℕ → ℕ) → (ℕ → ℕ → ℕ) → ℕ → ℕ → ℕ
+low_of n f g p k = if k / n % 2 == 0 then f p k else g p (k - n)
+
+-- every other run of n bits is a's of n places higher; between them are b's bits
+abbrev pub high_of : ℕ → (ℕ → ℕ → ℕ) → (ℕ → ℕ → ℕ) → ℕ → ℕ → ℕ
+high_of n f g p k = if k / n % 2 == 0 then f p (k + n) else g p k

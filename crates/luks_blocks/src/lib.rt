@@ -2,6 +2,7 @@
 #![tactic(auto)]
 
 mod circuit;
+mod exchange;
 mod gates;
 mod rows;
 mod states;
