@@ -39,20 +39,6 @@ sum_len : (f g : ℕ → ℕ) (v w r : List ℕ) → length v ≡ 16 → length 
 sum_len f g v w r long also is =
     ap length is ∙ length-zip2 bit_xor (map f v) (map g w) (length-map v f ∙ long ∙ sym (length-map w g ∙ also)) ∙ length-map v f ∙ long
 
-sum_fits : (f g : ℕ → ℕ) (v w r : List ℕ) → length v ≡ 16 → length w ≡ 16 → r ≡ zip2 bit_xor (map f v) (map g w)
-    → ((x : ℕ) → x < 256 → f x < 256) → ((x : ℕ) → x < 256 → g x < 256) → ((p : ℕ) → slice_index v p < 256) → ((p : ℕ) → slice_index w p < 256)
-    → (p : ℕ) → slice_index r p < 256
-sum_fits f g v w r long also is f_fits g_fits first second p =
-    elim (cases_lt p 16) [
-      | inl low ↦
-          rw (at_sum f g v w r p long also low is) (xor_byte _ _ (f_fits _ (first p)) (g_fits _ (second p)))
-      | inr past ↦
-          let end = sum_len f g v w r long also is in
-          let outside : length r ≤ p = omega arith in
-          rw (get_or-eq_default r 0 outside) (omega arith)
-    ]
-
-
 -- ---- runs of 1
 
 keep_1 : (x k : ℕ) → x < 256 → k < 8 → bit_at (bit_and x 0x55) k ≡ cond (eqb (k / 1 % 2) 0) (bit_at x k) 0
@@ -71,52 +57,40 @@ stay_1 : (x k : ℕ) → x < 256 → k < 8 → bit_at (bit_and x 0xaa) k ≡ con
 stay_1 = at_bits (λ x k. bit_at (bit_and x 0xaa) k) (λ x k. cond (eqb (k / 1 % 2) 0) 0 (bit_at x k))
     (same_below (λ n. bit_at (bit_and (n / 8) 0xaa) (n % 8)) (λ n. cond (eqb (n % 8 / 1 % 2) 0) 0 (bit_at (n / 8) (n % 8))) 2048 refl)
 
-keep_byte_1 : (x : ℕ) → x < 256 → bit_and x 0x55 < 256
-keep_byte_1 x low = ltb-true (bit_and x 0x55) 256 (agree_below_at (λ x. ltb (bit_and x 0x55) 256) (λ x. true) 256 x refl low)
-
-rise_byte_1 : (x : ℕ) → x < 256 → bit_and (x * 2 ^ 1 % 256) 0xaa < 256
-rise_byte_1 x low = ltb-true (bit_and (x * 2 ^ 1 % 256) 0xaa) 256 (agree_below_at (λ x. ltb (bit_and (x * 2 ^ 1 % 256) 0xaa) 256) (λ x. true) 256 x refl low)
-
-fall_byte_1 : (x : ℕ) → x < 256 → bit_and (x / 2 ^ 1) 0x55 < 256
-fall_byte_1 x low = ltb-true (bit_and (x / 2 ^ 1) 0x55) 256 (agree_below_at (λ x. ltb (bit_and (x / 2 ^ 1) 0x55) 256) (λ x. true) 256 x refl low)
-
-stay_byte_1 : (x : ℕ) → x < 256 → bit_and x 0xaa < 256
-stay_byte_1 x low = ltb-true (bit_and x 0xaa) 256 (agree_below_at (λ x. ltb (bit_and x 0xaa) 256) (λ x. true) 256 x refl low)
-
 pub shows_low_1 : (f g : ℕ → ℕ → ℕ) (v w r : List ℕ) → Shows f v → Shows g w
+    → ((p : ℕ) → p < 16 → slice_index v p < 256) → ((p : ℕ) → p < 16 → slice_index w p < 256)
     → r ≡ zip2 bit_xor (map (λ x. bit_and x 0x55) v) (map (λ x. bit_and (x * 2 ^ 1 % 256) 0xaa) w) → Shows (low_of 1 f g) r
-shows_low_1 f g v w r first second is =
+shows_low_1 f g v w r first second v_fits w_fits is =
     let lower : ℕ → ℕ = λ x. bit_and x 0x55 in
     let upper : ℕ → ℕ = λ x. bit_and (x * 2 ^ 1 % 256) 0xaa in
     record {
       len = sum_len lower upper v w r first.len second.len is;
-      fits = sum_fits lower upper v w r first.len second.len is keep_byte_1 rise_byte_1 first.fits second.fits;
       at = λ p k low small.
           let t = eqb (k / 1 % 2) 0 in
           let a = slice_index v p in
           let b = slice_index w p in
           ap (λ x. bit_at x k) (at_sum lower upper v w r p first.len second.len low is)
           ∙ bit_at_xor (lower a) (upper b) k
-          ∙ (λ i. (keep_1 a k (first.fits p) small i + rise_1 b k (second.fits p) small i) % 2)
+          ∙ (λ i. (keep_1 a k (v_fits p low) small i + rise_1 b k (w_fits p low) small i) % 2)
           ∙ chosen t (bit_at a k) (bit_at b (k - 1)) (bit_at-lt a k) (bit_at-lt b (k - 1))
           ∙ (λ i. cond t (first.at p k low small i) (second.at p (k - 1) low (omega arith) i));
     }
 
 pub shows_high_1 : (f g : ℕ → ℕ → ℕ) (v w r : List ℕ) → Shows f v → Shows g w
+    → ((p : ℕ) → p < 16 → slice_index v p < 256) → ((p : ℕ) → p < 16 → slice_index w p < 256)
     → r ≡ zip2 bit_xor (map (λ x. bit_and (x / 2 ^ 1) 0x55) v) (map (λ x. bit_and x 0xaa) w) → Shows (high_of 1 f g) r
-shows_high_1 f g v w r first second is =
+shows_high_1 f g v w r first second v_fits w_fits is =
     let lower : ℕ → ℕ = λ x. bit_and (x / 2 ^ 1) 0x55 in
     let upper : ℕ → ℕ = λ x. bit_and x 0xaa in
     record {
       len = sum_len lower upper v w r first.len second.len is;
-      fits = sum_fits lower upper v w r first.len second.len is fall_byte_1 stay_byte_1 first.fits second.fits;
       at = λ p k low small.
           let t = eqb (k / 1 % 2) 0 in
           let a = slice_index v p in
           let b = slice_index w p in
           ap (λ x. bit_at x k) (at_sum lower upper v w r p first.len second.len low is)
           ∙ bit_at_xor (lower a) (upper b) k
-          ∙ (λ i. (fall_1 a k (first.fits p) small i + stay_1 b k (second.fits p) small i) % 2)
+          ∙ (λ i. (fall_1 a k (v_fits p low) small i + stay_1 b k (w_fits p low) small i) % 2)
           ∙ chosen t (bit_at a (k + 1)) (bit_at b k) (bit_at-lt a (k + 1)) (bit_at-lt b k)
           ∙ elim (cases_Bool t) [
             | inl even ↦
@@ -144,52 +118,40 @@ stay_2 : (x k : ℕ) → x < 256 → k < 8 → bit_at (bit_and x 0xcc) k ≡ con
 stay_2 = at_bits (λ x k. bit_at (bit_and x 0xcc) k) (λ x k. cond (eqb (k / 2 % 2) 0) 0 (bit_at x k))
     (same_below (λ n. bit_at (bit_and (n / 8) 0xcc) (n % 8)) (λ n. cond (eqb (n % 8 / 2 % 2) 0) 0 (bit_at (n / 8) (n % 8))) 2048 refl)
 
-keep_byte_2 : (x : ℕ) → x < 256 → bit_and x 0x33 < 256
-keep_byte_2 x low = ltb-true (bit_and x 0x33) 256 (agree_below_at (λ x. ltb (bit_and x 0x33) 256) (λ x. true) 256 x refl low)
-
-rise_byte_2 : (x : ℕ) → x < 256 → bit_and (x * 2 ^ 2 % 256) 0xcc < 256
-rise_byte_2 x low = ltb-true (bit_and (x * 2 ^ 2 % 256) 0xcc) 256 (agree_below_at (λ x. ltb (bit_and (x * 2 ^ 2 % 256) 0xcc) 256) (λ x. true) 256 x refl low)
-
-fall_byte_2 : (x : ℕ) → x < 256 → bit_and (x / 2 ^ 2) 0x33 < 256
-fall_byte_2 x low = ltb-true (bit_and (x / 2 ^ 2) 0x33) 256 (agree_below_at (λ x. ltb (bit_and (x / 2 ^ 2) 0x33) 256) (λ x. true) 256 x refl low)
-
-stay_byte_2 : (x : ℕ) → x < 256 → bit_and x 0xcc < 256
-stay_byte_2 x low = ltb-true (bit_and x 0xcc) 256 (agree_below_at (λ x. ltb (bit_and x 0xcc) 256) (λ x. true) 256 x refl low)
-
 pub shows_low_2 : (f g : ℕ → ℕ → ℕ) (v w r : List ℕ) → Shows f v → Shows g w
+    → ((p : ℕ) → p < 16 → slice_index v p < 256) → ((p : ℕ) → p < 16 → slice_index w p < 256)
     → r ≡ zip2 bit_xor (map (λ x. bit_and x 0x33) v) (map (λ x. bit_and (x * 2 ^ 2 % 256) 0xcc) w) → Shows (low_of 2 f g) r
-shows_low_2 f g v w r first second is =
+shows_low_2 f g v w r first second v_fits w_fits is =
     let lower : ℕ → ℕ = λ x. bit_and x 0x33 in
     let upper : ℕ → ℕ = λ x. bit_and (x * 2 ^ 2 % 256) 0xcc in
     record {
       len = sum_len lower upper v w r first.len second.len is;
-      fits = sum_fits lower upper v w r first.len second.len is keep_byte_2 rise_byte_2 first.fits second.fits;
       at = λ p k low small.
           let t = eqb (k / 2 % 2) 0 in
           let a = slice_index v p in
           let b = slice_index w p in
           ap (λ x. bit_at x k) (at_sum lower upper v w r p first.len second.len low is)
           ∙ bit_at_xor (lower a) (upper b) k
-          ∙ (λ i. (keep_2 a k (first.fits p) small i + rise_2 b k (second.fits p) small i) % 2)
+          ∙ (λ i. (keep_2 a k (v_fits p low) small i + rise_2 b k (w_fits p low) small i) % 2)
           ∙ chosen t (bit_at a k) (bit_at b (k - 2)) (bit_at-lt a k) (bit_at-lt b (k - 2))
           ∙ (λ i. cond t (first.at p k low small i) (second.at p (k - 2) low (omega arith) i));
     }
 
 pub shows_high_2 : (f g : ℕ → ℕ → ℕ) (v w r : List ℕ) → Shows f v → Shows g w
+    → ((p : ℕ) → p < 16 → slice_index v p < 256) → ((p : ℕ) → p < 16 → slice_index w p < 256)
     → r ≡ zip2 bit_xor (map (λ x. bit_and (x / 2 ^ 2) 0x33) v) (map (λ x. bit_and x 0xcc) w) → Shows (high_of 2 f g) r
-shows_high_2 f g v w r first second is =
+shows_high_2 f g v w r first second v_fits w_fits is =
     let lower : ℕ → ℕ = λ x. bit_and (x / 2 ^ 2) 0x33 in
     let upper : ℕ → ℕ = λ x. bit_and x 0xcc in
     record {
       len = sum_len lower upper v w r first.len second.len is;
-      fits = sum_fits lower upper v w r first.len second.len is fall_byte_2 stay_byte_2 first.fits second.fits;
       at = λ p k low small.
           let t = eqb (k / 2 % 2) 0 in
           let a = slice_index v p in
           let b = slice_index w p in
           ap (λ x. bit_at x k) (at_sum lower upper v w r p first.len second.len low is)
           ∙ bit_at_xor (lower a) (upper b) k
-          ∙ (λ i. (fall_2 a k (first.fits p) small i + stay_2 b k (second.fits p) small i) % 2)
+          ∙ (λ i. (fall_2 a k (v_fits p low) small i + stay_2 b k (w_fits p low) small i) % 2)
           ∙ chosen t (bit_at a (k + 2)) (bit_at b k) (bit_at-lt a (k + 2)) (bit_at-lt b k)
           ∙ elim (cases_Bool t) [
             | inl even ↦
@@ -217,52 +179,40 @@ stay_4 : (x k : ℕ) → x < 256 → k < 8 → bit_at (bit_and x 0xf0) k ≡ con
 stay_4 = at_bits (λ x k. bit_at (bit_and x 0xf0) k) (λ x k. cond (eqb (k / 4 % 2) 0) 0 (bit_at x k))
     (same_below (λ n. bit_at (bit_and (n / 8) 0xf0) (n % 8)) (λ n. cond (eqb (n % 8 / 4 % 2) 0) 0 (bit_at (n / 8) (n % 8))) 2048 refl)
 
-keep_byte_4 : (x : ℕ) → x < 256 → bit_and x 0x0f < 256
-keep_byte_4 x low = ltb-true (bit_and x 0x0f) 256 (agree_below_at (λ x. ltb (bit_and x 0x0f) 256) (λ x. true) 256 x refl low)
-
-rise_byte_4 : (x : ℕ) → x < 256 → bit_and (x * 2 ^ 4 % 256) 0xf0 < 256
-rise_byte_4 x low = ltb-true (bit_and (x * 2 ^ 4 % 256) 0xf0) 256 (agree_below_at (λ x. ltb (bit_and (x * 2 ^ 4 % 256) 0xf0) 256) (λ x. true) 256 x refl low)
-
-fall_byte_4 : (x : ℕ) → x < 256 → bit_and (x / 2 ^ 4) 0x0f < 256
-fall_byte_4 x low = ltb-true (bit_and (x / 2 ^ 4) 0x0f) 256 (agree_below_at (λ x. ltb (bit_and (x / 2 ^ 4) 0x0f) 256) (λ x. true) 256 x refl low)
-
-stay_byte_4 : (x : ℕ) → x < 256 → bit_and x 0xf0 < 256
-stay_byte_4 x low = ltb-true (bit_and x 0xf0) 256 (agree_below_at (λ x. ltb (bit_and x 0xf0) 256) (λ x. true) 256 x refl low)
-
 pub shows_low_4 : (f g : ℕ → ℕ → ℕ) (v w r : List ℕ) → Shows f v → Shows g w
+    → ((p : ℕ) → p < 16 → slice_index v p < 256) → ((p : ℕ) → p < 16 → slice_index w p < 256)
     → r ≡ zip2 bit_xor (map (λ x. bit_and x 0x0f) v) (map (λ x. bit_and (x * 2 ^ 4 % 256) 0xf0) w) → Shows (low_of 4 f g) r
-shows_low_4 f g v w r first second is =
+shows_low_4 f g v w r first second v_fits w_fits is =
     let lower : ℕ → ℕ = λ x. bit_and x 0x0f in
     let upper : ℕ → ℕ = λ x. bit_and (x * 2 ^ 4 % 256) 0xf0 in
     record {
       len = sum_len lower upper v w r first.len second.len is;
-      fits = sum_fits lower upper v w r first.len second.len is keep_byte_4 rise_byte_4 first.fits second.fits;
       at = λ p k low small.
           let t = eqb (k / 4 % 2) 0 in
           let a = slice_index v p in
           let b = slice_index w p in
           ap (λ x. bit_at x k) (at_sum lower upper v w r p first.len second.len low is)
           ∙ bit_at_xor (lower a) (upper b) k
-          ∙ (λ i. (keep_4 a k (first.fits p) small i + rise_4 b k (second.fits p) small i) % 2)
+          ∙ (λ i. (keep_4 a k (v_fits p low) small i + rise_4 b k (w_fits p low) small i) % 2)
           ∙ chosen t (bit_at a k) (bit_at b (k - 4)) (bit_at-lt a k) (bit_at-lt b (k - 4))
           ∙ (λ i. cond t (first.at p k low small i) (second.at p (k - 4) low (omega arith) i));
     }
 
 pub shows_high_4 : (f g : ℕ → ℕ → ℕ) (v w r : List ℕ) → Shows f v → Shows g w
+    → ((p : ℕ) → p < 16 → slice_index v p < 256) → ((p : ℕ) → p < 16 → slice_index w p < 256)
     → r ≡ zip2 bit_xor (map (λ x. bit_and (x / 2 ^ 4) 0x0f) v) (map (λ x. bit_and x 0xf0) w) → Shows (high_of 4 f g) r
-shows_high_4 f g v w r first second is =
+shows_high_4 f g v w r first second v_fits w_fits is =
     let lower : ℕ → ℕ = λ x. bit_and (x / 2 ^ 4) 0x0f in
     let upper : ℕ → ℕ = λ x. bit_and x 0xf0 in
     record {
       len = sum_len lower upper v w r first.len second.len is;
-      fits = sum_fits lower upper v w r first.len second.len is fall_byte_4 stay_byte_4 first.fits second.fits;
       at = λ p k low small.
           let t = eqb (k / 4 % 2) 0 in
           let a = slice_index v p in
           let b = slice_index w p in
           ap (λ x. bit_at x k) (at_sum lower upper v w r p first.len second.len low is)
           ∙ bit_at_xor (lower a) (upper b) k
-          ∙ (λ i. (fall_4 a k (first.fits p) small i + stay_4 b k (second.fits p) small i) % 2)
+          ∙ (λ i. (fall_4 a k (v_fits p low) small i + stay_4 b k (w_fits p low) small i) % 2)
           ∙ chosen t (bit_at a (k + 4)) (bit_at b k) (bit_at-lt a (k + 4)) (bit_at-lt b k)
           ∙ elim (cases_Bool t) [
             | inl even ↦
@@ -275,7 +225,7 @@ shows_high_4 f g v w r first second is =
 -- ---- eight vectors
 
 pub shows_also : (f g : ℕ → ℕ → ℕ) (v : List ℕ) → Shows f v → ((p k : ℕ) → k < 8 → f p k ≡ g p k) → Shows g v
-shows_also f g v is same = record { len = is.len; fits = is.fits; at = λ p k low small. is.at p k low small ∙ same p k small }
+shows_also f g v is same = record { len = is.len; at = λ p k low small. is.at p k low small ∙ same p k small }
 
 pub each_below_8 : (f g : ℕ → ℕ) → f 0 ≡ g 0 → f 1 ≡ g 1 → f 2 ≡ g 2 → f 3 ≡ g 3 → f 4 ≡ g 4 → f 5 ≡ g 5 → f 6 ≡ g 6 → f 7 ≡ g 7
     → (k : ℕ) → k < 8 → f k ≡ g k

@@ -66,7 +66,6 @@ pub record HoldKey (key : List ℕ) (k : ℕ) (rows : List (List (List ℕ))) : 
 -- bit k of byte p of the vector is f p k
 pub record Shows (f : ℕ → ℕ → ℕ) (v : List ℕ) : Type 0 where
   pub len : length v ≡ 16
-  pub fits : (p : ℕ) → slice_index v p < 256
   pub at : (p k : ℕ) → p < 16 → k < 8 → bit_at (slice_index v p) k ≡ f p k
 
 -- every other run of n bits is a's; between them are b's bits of n places lower

@@ -4,5 +4,6 @@
 mod circuit;
 mod exchange;
 mod gates;
+mod lanes;
 mod rows;
 mod states;
