@@ -4,3 +4,4 @@ pub mod MixLemmas
 pub mod StateLemmas
 pub mod LaneLemmas
 pub mod ExchangeLemmas
+pub mod WayLemmas

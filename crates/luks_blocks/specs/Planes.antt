@@ -1,5 +1,5 @@
 -- How vectors of 128 bits stand for 128 bytes: eight planes, of which plane j has bit j of each byte.
-use Rattle.std.specs.Prelude.{◌≡◌, ◌==◌, if◌then◌else◌, ℕ, ◌+◌, ◌-◌, ◌*◌, ◌<◌, ◌/◌, ◌%◌, List, [], ◌∷◌, length, slice_index, slice_index_or}
+use Rattle.std.specs.Prelude.{◌≡◌, ◌==◌, if◌then◌else◌, ℕ, ◌+◌, ◌-◌, ◌*◌, ◌<◌, ◌/◌, ◌%◌, List, [], ◌∷◌, length, take, drop, slice_index, slice_index_or}
 use Rattle.std.specs.Int.{bit_at}
 use Rattle.luks_aes.specs.Field.{◌⊕◌}
 use Rattle.luks_aes.specs.Aes.{cell}
@@ -58,6 +58,10 @@ laid s k r q = cell (s (block_of q)) r (column_of q) ⊕ k
 -- the four rows hold the states of 32 blocks, k added to each byte
 pub record HoldStates (s : ℕ → List ℕ) (k : ℕ) (rows : List (List (List ℕ))) : Type 0 where
   pub stand : StandAll (laid s k) rows
+
+-- block n of a slice
+abbrev pub block_in : List ℕ → ℕ → List ℕ
+block_in slice n = take 16 (drop (16 * n) slice)
 
 -- the rows have a round key for each block, k added to each byte
 pub record HoldKey (key : List ℕ) (k : ℕ) (rows : List (List (List ℕ))) : Type 0 where

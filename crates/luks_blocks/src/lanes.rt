@@ -1,7 +1,8 @@
 //! Four blocks and four rows of bytes, exchanged.
 
 ghost use Rattle.std.specs.Prelude.{◌≡◌, ◌+◌, ◌*◌, ◌/◌, ◌%◌, ◌<◌, ℕ, List, [], ◌∷◌, slice_index, slice_index_or};
-ghost use Rattle.luks_blocks.specs.Planes.{ordered};
+ghost use Rattle.std.specs.Int.{bit_at};
+ghost use Rattle.luks_blocks.specs.Planes.{ordered, Shows};
 ghost use Rattle.luks_blocks.specs.Lanes.{words_low, words_high, firsts, lasts, by_rows, by_columns};
 
 use std::simd::prelude::*;
@@ -54,8 +55,8 @@ fn by_columns(a: u8x16) -> u8x16
 /// The bytes of four blocks that stand in each row.
 #[inline(always)]
 pub fn gathered(a: u8x16, b: u8x16, c: u8x16, d: u8x16) -> [u8x16; 4]
-    ensures { (r p : ℕ) → r < 4 → p < 16
-        → slice_index (slice_index_or result r []) p ≡ slice_index (slice_index_or (a ∷ b ∷ c ∷ d ∷ []) (p / 4) []) (r + 4 * ordered (p % 4)) }
+    ensures { (r : ℕ) → r < 4
+        → Shows (λ p k. bit_at (slice_index (slice_index_or (a ∷ b ∷ c ∷ d ∷ []) (p / 4) []) (r + 4 * ordered (p % 4))) k) (slice_index_or result r []) }
 {
     let first = by_rows(a);
     let second = by_rows(b);

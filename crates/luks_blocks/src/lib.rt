@@ -7,3 +7,4 @@ mod gates;
 mod lanes;
 mod rows;
 mod states;
+mod ways;
