@@ -1,7 +1,8 @@
-//! Data units of disks under AES: XTS, as IEEE 1619 writes it.
+//! Sectors of disks under AES: XTS, as IEEE 1619 writes it, and the older modes of dm-crypt.
 //!
-//! [`XtsKey`] encrypts and decrypts a data unit of up to 4096 bytes under the unit's number. It takes no
-//! memory, hides nothing from whoever can measure time, and wipes no secret.
+//! [`SectorCipher`] encrypts and decrypts a sector of up to 4096 bytes under its number, in one of the modes
+//! that [`Mode`] names; [`XtsKey`] is XTS alone. Neither takes memory. They hide nothing from whoever can
+//! measure time, and wipe no secret.
 #![tactic(auto)]
 
 mod block;

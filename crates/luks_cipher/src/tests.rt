@@ -2,6 +2,8 @@
 
 mod bytewise;
 mod comparison;
+mod mode_vectors;
+mod modes;
 mod xts;
 mod xts_vectors;
 

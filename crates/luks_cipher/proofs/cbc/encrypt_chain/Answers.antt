@@ -1,6 +1,4 @@
-use Rattle.std.proofs.Common.{◌≡◌, ◌/◌, suc, ap, arith, ◌∙◌, add-one, refl, rules, length}
-use Rattle.luks_aes.specs.Aes.{encrypted}
-use Rattle.luks_cipher.specs.Xts.{block_sum, block_at}
+use Rattle.std.proofs.Common.{◌/◌, ap, arith, ◌∙◌, add-one, refl, rules, length}
 use Rattle.luks_cipher.specs.Cbc.{chained, cbc_encrypted, cbc_decrypted}
 use Rattle.luks_cipher.proofs.TweakLemmas.{done_none, done_more, done_all, block_is}
 use Rattle.luks_cipher.proofs.ChainsUndone.{cbc_decrypted-cbc_encrypted}

@@ -1,4 +1,4 @@
-use Rattle.std.proofs.Common.{◌≡◌, ◌∙◌}
+use Rattle.std.proofs.Common.{◌∙◌}
 use Rattle.luks_aes.specs.Aes.{encrypted}
 use Rattle.luks_cipher.specs.Cbc.{cbc_decrypted, cbc_encrypted}
 use Rattle.luks_cipher.proofs.ChainsUndone.{to_vector, from_vector}
