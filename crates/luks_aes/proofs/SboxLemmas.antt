@@ -35,7 +35,3 @@ inv_sbox_entry b low =
 
 pub inv_sbox_byte : (b : ℕ) → b < 256 → inv_sbox b < 256
 inv_sbox_byte b low = rw (← inv_sbox_entry b low) (inv_entry_below b)
-
--- the inverse S-box by its table, for what is computed at each byte
-abbrev pub inv_sbox_in_table : ℕ → ℕ
-inv_sbox_in_table b = slice_index INV_SBOX b
