@@ -1,9 +1,10 @@
-//! Times AES-256-XTS: `bench_xts BYTES COUNT` decrypts COUNT data units of BYTES bytes under the numbers
-//! from 0, and writes to standard error how many bytes that were, how many nanoseconds it took, and the
-//! first byte that is left. With no arguments it does nothing. `bench/xts` runs it beside others.
+//! Times sectors: `bench_xts MODE WAY BYTES COUNT` encrypts or decrypts (WAY is `encrypt` or `decrypt`) COUNT
+//! sectors of BYTES bytes under the numbers from 0 and a key of AES-256 (two for XTS) in the mode of this
+//! name, and writes to standard error how many bytes that were, how many nanoseconds it took, and the first
+//! byte that is left. With no arguments it does nothing. `bench/xts` runs it beside others.
 #![tactic(auto)]
 
-use luks_cipher::XtsKey;
+use luks_cipher::{Mode, SectorCipher};
 use std::rt::Runtime;
 use std::time::Instant;
 use std::{env, io};
@@ -16,38 +17,70 @@ const KEY: [u8; 64] = [
     0x02, 0x88, 0x41, 0x97, 0x16, 0x93, 0x99, 0x37, 0x51, 0x05, 0x82, 0x09, 0x74, 0x94, 0x45, 0x92,
 ];
 
-fn decrypt_units(key: &XtsKey, unit: &mut [u8], count: u64) {
-    let length = unit.len();
+// Which way the sectors go.
+#[derive(Clone, Copy, PartialEq, Eq)]
+enum Way {
+    Encrypt,
+    Decrypt,
+}
+
+fn way_of(word: &str) -> Option<Way> {
+    match word {
+        "encrypt" => Some(Way::Encrypt),
+        "decrypt" => Some(Way::Decrypt),
+        _ => None,
+    }
+}
+
+fn cipher_of(mode: Mode) -> Option<SectorCipher> {
+    match mode {
+        Mode::XtsPlain64 | Mode::XtsPlain => SectorCipher::new(mode, &KEY),
+        Mode::CbcEssivSha256 | Mode::CbcPlain64 => SectorCipher::new(mode, &KEY[..32]),
+    }
+}
+
+fn work(cipher: &SectorCipher, way: Way, sector: &mut [u8], count: u64) {
+    let length = sector.len();
     if length % 16 == 0 && length >= 16 && length <= 4096 {
         for number in 0..count {
-            key.decrypt_unit(number, unit);
+            match way {
+                Way::Encrypt => cipher.encrypt_unit(number, sector),
+                Way::Decrypt => cipher.decrypt_unit(number, sector),
+            }
         }
     }
 }
 
-fn time<R: Runtime>(rt: &R, length: usize, count: u64) -> io::Result<()> {
-    let Some(key) = XtsKey::new(&KEY) else {
+fn time<R: Runtime>(rt: &R, mode: Mode, way: Way, length: usize, count: u64) -> io::Result<()> {
+    let Some(cipher) = cipher_of(mode) else {
         return Ok(());
     };
-    let mut unit = vec![in rt.alloc(); 0u8; length]?;
+    let mut sector = vec![in rt.alloc(); 0u8; length]?;
     let start = Instant::now(rt)?;
-    decrypt_units(&key, &mut unit, count);
+    work(&cipher, way, &mut sector, count);
     let took = start.elapsed(rt)?.as_nanos();
     let total = (length as u128).saturating_mul(u128::from(count));
-    let left = unit.first().copied().unwrap_or(0);
+    let left = sector.first().copied().unwrap_or(0);
     eprintln!(rt; "{total} {took} {left}")
 }
 
 fn main(rt: HostRuntime) -> io::Result<()> {
     let mut words = env::args(&rt)?;
     let _program = words.next();
+    let Some(mode) = words.next() else {
+        return Ok(());
+    };
+    let mode = Mode::from_name(&mode);
+    let way = words.next();
     let length = words.next();
     let count = words.next();
-    match (length, count) {
-        (Some(length), Some(count)) => match (length.parse(), count.parse()) {
-            (Ok(length), Ok(count)) => time(&rt, length, count),
-            _ => eprintln!(&rt; "usage: bench_xts BYTES COUNT"),
-        },
-        _ => Ok(()),
+    match (mode, way, length, count) {
+        (Some(mode), Some(way), Some(length), Some(count)) => {
+            match (way_of(&way), length.parse(), count.parse()) {
+                (Some(way), Ok(length), Ok(count)) => time(&rt, mode, way, length, count),
+                _ => eprintln!(&rt; "usage: bench_xts MODE WAY BYTES COUNT"),
+            }
+        }
+        _ => eprintln!(&rt; "usage: bench_xts MODE WAY BYTES COUNT"),
     }
 }
