@@ -2,8 +2,8 @@
 use Rattle.std.proofs.Common.{◌≡◌, ℕ, ◌<◌, ◌≤◌, List, [], Option, Some, Result, Ok, Err, refl, take, drop, length, arith}
 use Rattle.luks_io.specs.Bytes.{Adds, Took}
 use Rattle.luks_io.proofs.Taking.{adds-none}
-use Rattle.luks_cli.proofs.HeaderTaking.{took_header, took_some}
-use Rattle.luks_header.specs.Header.{StopsReading, cost_of, header_of}
+use Rattle.luks_cli.proofs.HeaderTaking.{took_nothing}
+use Rattle.luks_header.specs.Header.{BreaksReading, cost_of, header_of}
 use Rattle.luks_header.specs.declared.header.Header.{Header}
 use Rattle.luks_area.specs.declared.fault.HeaderFault.{HeaderFault}
 use Rattle.luks_area.specs.declared.fault.HeaderFault.TheVariants.{NotLuks as NoLuks, Cut as IsCut, Json as NoJson, Read, Memory}
@@ -35,7 +35,7 @@ early o image message i w count silent begins few took = record {
 
 module _ (text : Header → List ℕ) (image : List ℕ) (i w : Option (List ℕ)) where
   -- the header was read
-  module _ (header : Header) (found : header_of image ≡ Ok header) (left : i ≡ Some (drop (cost_of image) image)) where
+  module _ (header : Header) (found : header_of image ≡ Ok header) (left : Took image i (cost_of image)) where
     print_found : print_outcome text image
         ≡ record { output = text header; message = Done; image_taken = cost_of image; secret_taken = 0 }
     unfolding print_outcome
@@ -45,7 +45,7 @@ module _ (text : Header → List ℕ) (image : List ℕ) (i w : Option (List ℕ
     pub runs_without_text : Runs at_any_pace (print_outcome text image) OutOfMemory (Took image i) TookNone (Adds w w)
     runs_without_text =
         rw print_found (early _ image OutOfMemory i w (cost_of image) refl (omega arith) (omega arith)
-        (took_header image i left))
+        (left))
 
     -- the text was written
     pub runs_to_end : (page : List ℕ) (w' : Option (List ℕ)) → page ≡ text header → Adds w w' page
@@ -54,7 +54,7 @@ module _ (text : Header → List ℕ) (image : List ℕ) (i w : Option (List ℕ
         rw (
           print_found,
           ← is_text,
-        ) (record { as_stated = refl; image = took_header image i left; secret = refl; output = a })
+        ) (record { as_stated = refl; image = left; secret = refl; output = a })
 
     -- a write failed within it
     pub runs_without_rest : (page : List ℕ) (w' : Option (List ℕ)) (n : ℕ) → page ≡ text header → n < length page
@@ -69,7 +69,7 @@ module _ (text : Header → List ℕ) (image : List ℕ) (i w : Option (List ℕ
       output_within = omega arith;
       is_silent = tt;
       is_prompt = tt;
-      image = took_header image i left;
+      image = left;
       secret = refl;
       output = a;
     })
@@ -85,22 +85,22 @@ module _ (text : Header → List ℕ) (image : List ℕ) (i w : Option (List ℕ
   print_none fault found = rw found refl
 
   -- there was no header, or reading it failed
-  pub runs_without_header : (fault : HeaderFault) → StopsReading image i fault
+  pub runs_without_header : (fault : HeaderFault) → BreaksReading image i fault
       → Runs at_any_pace (print_outcome text image) (message_for_header fault) (Took image i) TookNone (Adds w w)
   runs_without_header NoLuks stop =
       rw (print_none NoLuks stop.0) (record
-      { as_stated = refl; image = took_header image i stop.1; secret = refl; output = adds-none w })
+      { as_stated = refl; image = stop.1; secret = refl; output = adds-none w })
   runs_without_header IsCut stop =
       rw (print_none IsCut stop.0) (record
-      { as_stated = refl; image = took_header image i stop.1; secret = refl; output = adds-none w })
+      { as_stated = refl; image = stop.1; secret = refl; output = adds-none w })
   runs_without_header NoJson stop =
       rw (print_none NoJson stop.0) (record
-      { as_stated = refl; image = took_header image i stop.1; secret = refl; output = adds-none w })
+      { as_stated = refl; image = stop.1; secret = refl; output = adds-none w })
   runs_without_header Read stop =
-      let some = took_some image i stop in
+      let some = stop in
       early _ image ReadFailed i w some.0 tt (omega arith) (omega (arith, some.1, print_cost)) some.2
   runs_without_header Memory stop =
-      let some = took_some image i stop in
+      let some = took_nothing image i stop in
       early _ image OutOfMemory i w some.0 refl (omega arith) (omega (arith, some.1, print_cost)) some.2
 
 module _ (image : List ℕ) (i w : Option (List ℕ)) where
@@ -115,27 +115,27 @@ module _ (image : List ℕ) (i w : Option (List ℕ)) where
   asked answer found = rw found refl
 
   -- `isLuks` of an image with a header
-  pub is_luks_found : (header : Header) → header_of image ≡ Ok header → i ≡ Some (drop (cost_of image) image)
+  pub is_luks_found : (header : Header) → header_of image ≡ Ok header → Took image i (cost_of image)
       → Runs at_any_pace (is_luks_outcome image) Done (Took image i) TookNone (Adds w w)
   is_luks_found header found left =
       rw (asked (Ok header) found) (record
-      { as_stated = refl; image = took_header image i left; secret = refl; output = adds-none w })
+      { as_stated = refl; image = left; secret = refl; output = adds-none w })
 
   -- `isLuks` of one without a header that can be read
-  pub is_luks_refused : (fault : HeaderFault) → StopsReading image i fault
+  pub is_luks_refused : (fault : HeaderFault) → BreaksReading image i fault
       → Runs at_any_pace (is_luks_outcome image) (answer_to_is_luks (Err fault)) (Took image i) TookNone (Adds w w)
   is_luks_refused NoLuks stop =
       rw (asked (Err NoLuks) stop.0) (record
-      { as_stated = refl; image = took_header image i stop.1; secret = refl; output = adds-none w })
+      { as_stated = refl; image = stop.1; secret = refl; output = adds-none w })
   is_luks_refused IsCut stop =
       rw (asked (Err IsCut) stop.0) (record
-      { as_stated = refl; image = took_header image i stop.1; secret = refl; output = adds-none w })
+      { as_stated = refl; image = stop.1; secret = refl; output = adds-none w })
   is_luks_refused NoJson stop =
       rw (asked (Err NoJson) stop.0) (record
-      { as_stated = refl; image = took_header image i stop.1; secret = refl; output = adds-none w })
+      { as_stated = refl; image = stop.1; secret = refl; output = adds-none w })
   is_luks_refused Read stop =
-      let some = took_some image i stop in
+      let some = stop in
       early _ image ReadFailed i w some.0 tt (omega arith) (omega (arith, some.1, asked_cost)) some.2
   is_luks_refused Memory stop =
-      let some = took_some image i stop in
+      let some = took_nothing image i stop in
       early _ image OutOfMemory i w some.0 refl (omega arith) (omega (arith, some.1, asked_cost)) some.2

@@ -1,7 +1,7 @@
 -- What reading a header takes of an image.
 use Rattle.std.proofs.Common.{◌≡◌, ℕ, ◌≤◌, List, Option, Some, drop, length, arith}
 use Rattle.luks_io.specs.Bytes.{Took, TookUpTo}
-use Rattle.luks_header.specs.Header.{LosesUpTo, cost_of}
+use Rattle.luks_header.specs.Header.{cost_of}
 
 pub cost_there : (image : List ℕ) → cost_of image ≤ length image
 unfolding cost_of
@@ -12,7 +12,6 @@ pub took_header : (image : List ℕ) (left : Option (List ℕ)) → left ≡ Som
     → Took image left (cost_of image)
 took_header image left is = record { within = cost_there image; left = is }
 
--- reading it was broken off
-pub took_some : (image : List ℕ) (left : Option (List ℕ)) → LosesUpTo image left (cost_of image)
-    → TookUpTo image left (cost_of image)
-took_some image left lost = (lost.0, lost.1, record { within = omega (arith, lost.1, cost_there image); left = lost.2 })
+-- memory was refused for it
+pub took_nothing : (image : List ℕ) (left : Option (List ℕ)) → Took image left 0 → TookUpTo image left (cost_of image)
+took_nothing image left none = (0, omega arith, none)

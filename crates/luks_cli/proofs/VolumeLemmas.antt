@@ -1,7 +1,8 @@
 -- Finding the volume of an image.
 use Rattle.std.proofs.Common.{◌≡◌, ℕ, ◌⊎◌, inl, inr, List, Option, Some, Ok, Err, false, refl, drop, arith}
 use Rattle.std.specs.Prelude.{is_err}
-use Rattle.luks_header.specs.Header.{StopsReading, cost_of, header_of}
+use Rattle.luks_io.specs.Bytes.{Took}
+use Rattle.luks_header.specs.Header.{BreaksReading, cost_of, header_of}
 use Rattle.luks_header.specs.Segment.{segment_of}
 use Rattle.luks_header.specs.declared.header.Header.{Header}
 use Rattle.luks_area.specs.declared.fault.HeaderFault.{HeaderFault}
@@ -13,7 +14,7 @@ use Rattle.luks_open.specs.declared.fault.OpenFault.{OpenFault}
 use Rattle.luks_open.specs.declared.fault.OpenFault.TheVariants.{NoSuchSlot as NotThere, Disabled, NamedSkipped, NothingTried as NoneTried, NoKey as NoneOpens, Memory}
 use Rattle.luks_report.specs.Faults.{message_for_header}
 use Rattle.luks_command.specs.Request.{OpeningRequest}
-use Rattle.luks_cli.proofs.HeaderTaking.{took_header, took_some}
+use Rattle.luks_cli.proofs.HeaderTaking.{took_nothing}
 use Rattle.luks_cli.specs.VolumeParts.{StopsFinding}
 use Rattle.luks_cli.specs.Volume.{volume_of}
 use Rattle.luks_report.specs.Faults.{message_for_opening}
@@ -24,13 +25,13 @@ module _ (o : OpeningRequest) (image : List ℕ) (left : Option (List ℕ)) wher
   unfolding volume_of
   no_header fault none = rw none refl
 
-  pub stops_without_header : (fault : HeaderFault) → StopsReading image left fault
+  pub stops_without_header : (fault : HeaderFault) → BreaksReading image left fault
       → StopsFinding o image left (message_for_header fault)
-  stops_without_header NoLuks stop = (no_header NoLuks stop.0, took_header image left stop.1)
-  stops_without_header IsCut stop = (no_header IsCut stop.0, took_header image left stop.1)
-  stops_without_header NoJson stop = (no_header NoJson stop.0, took_header image left stop.1)
-  stops_without_header LostRead stop = took_some image left stop
-  stops_without_header NoMemory stop = took_some image left stop
+  stops_without_header NoLuks stop = (no_header NoLuks stop.0, stop.1)
+  stops_without_header IsCut stop = (no_header IsCut stop.0, stop.1)
+  stops_without_header NoJson stop = (no_header NoJson stop.0, stop.1)
+  stops_without_header LostRead stop = stop
+  stops_without_header NoMemory stop = took_nothing image left stop
 
   module _ (header : Header) (found : header_of image ≡ Ok header) where
     no_segment : (fault : SegmentFault) → segment_of header ≡ Err fault → volume_of o image ≡ Err (SegmentRefused fault)
@@ -54,23 +55,23 @@ module _ (o : OpeningRequest) (image : List ℕ) (left : Option (List ℕ)) wher
         → is_err (volume_of o image) ≡ false
     volume_found segment tries is ordered = rw (volume_is segment tries is ordered) refl
 
-    module _ (rest : left ≡ Some (drop (cost_of image) image)) where
+    module _ (rest : Took image left (cost_of image)) where
       pub stops_without_segment : (fault : SegmentFault) → segment_of header ≡ Err fault
           → StopsFinding o image left (SegmentRefused fault)
-      stops_without_segment fault none = (no_segment fault none, took_header image left rest)
+      stops_without_segment fault none = (no_segment fault none, rest)
 
       pub stops_without_order : (segment : Segment) (fault : OpenFault) → segment_of header ≡ Ok segment
           → (fault ≡ Memory) ⊎ (order_of header o.key_slot o.max_iterations ≡ Err fault)
           → StopsFinding o image left (message_for_opening o.key_slot fault)
-      stops_without_order segment Memory is why = (cost_of image, omega arith, took_header image left rest)
+      stops_without_order segment Memory is why = (cost_of image, omega arith, rest)
       stops_without_order segment NotThere is (inr why) =
-          (no_order segment NotThere is why, took_header image left rest)
+          (no_order segment NotThere is why, rest)
       stops_without_order segment Disabled is (inr why) =
-          (no_order segment Disabled is why, took_header image left rest)
+          (no_order segment Disabled is why, rest)
       stops_without_order segment (NamedSkipped reason) is (inr why) =
-          (no_order segment (NamedSkipped reason) is why, took_header image left rest)
+          (no_order segment (NamedSkipped reason) is why, rest)
       stops_without_order segment (NoneTried skipped) is (inr why) =
-          (no_order segment (NoneTried skipped) is why, took_header image left rest)
+          (no_order segment (NoneTried skipped) is why, rest)
       stops_without_order segment (NoneOpens skipped) is (inr why) =
-          (no_order segment (NoneOpens skipped) is why, took_header image left rest)
+          (no_order segment (NoneOpens skipped) is why, rest)
       stops_without_order segment _ is (inl memory) = cc

@@ -7,7 +7,7 @@ use Rattle.std.proofs.Math.Nat.{zero-div}
 use Rattle.std.proofs.Math.Seq.{take-add}
 use Rattle.std.specs.Prelude.{◌≢◌, nat_lt}
 use Rattle.luks_header.proofs.KnownLemmas.{behind_header}
-use Rattle.luks_header.specs.Area.{Grows, StopsGrowing}
+use Rattle.luks_header.specs.Area.{BreaksTaking, TookBehind}
 use Rattle.luks_header.specs.Header.{cost_of, header_of}
 use Rattle.luks_header.specs.Segment.{segment_of}
 use Rattle.luks_header.specs.declared.header.Header.{Header}
@@ -177,17 +177,17 @@ module _ (image area area' : List ℕ) (i : Option (List ℕ)) (held : ℕ) (fro
   front_len = ap length front ∙ length-take-le (cost_of image) image (cost_there image)
 
   -- so many bytes more are held
-  area_more : (n : ℕ) → Grows area area' (drop (cost_of image) image) i n
+  area_more : (n : ℕ) → TookBehind area area' (drop (cost_of image) image) i n
       → (area' ≡ take (cost_of image + n) image) × Took image i (cost_of image + n)
   area_more n grows = (
-    grows.holds ∙ ap (λ l. l ++ take n (drop (cost_of image) image)) front ∙ sym (take-add (cost_of image) n image),
+    grows.1 ∙ ap (λ l. l ++ take n (drop (cost_of image) image)) front ∙ sym (take-add (cost_of image) n image),
     record {
-      within = omega (arith, grows.there, length-drop (cost_of image) image, cost_there image);
-      left = grows.leaves ∙ ap Some (drop-drop n (cost_of image) image);
+      within = omega (arith, grows.0.within, length-drop (cost_of image) image, cost_there image);
+      left = grows.0.left ∙ ap Some (drop-drop n (cost_of image) image);
     },
   )
 
-  module _ (grows : Grows area area' (drop (cost_of image) image) i
+  module _ (grows : TookBehind area area' (drop (cost_of image) image) i
       (min (held - length area) (length (drop (cost_of image) image)))) where
     reached : ℕ
     reached = cost_of image + min (held - length area) (length (drop (cost_of image) image))
@@ -307,7 +307,7 @@ module _ (o : OpeningRequest) (image pass : List ℕ) (i s w : Option (List ℕ)
         (front : area ≡ take (cost_of image) image) where
       -- the key areas were not taken
       pub runs_without_area : (on_opened : OnOpened) (takes : TakesHeld pass on_opened) (fault : HeaderFault)
-          → StopsGrowing (held_of tries.slots - length area) area area' (drop (cost_of image) image) i fault
+          → BreaksTaking (held_of tries.slots - length area) area area' (drop (cost_of image) image) i fault
           → Runs (cat_promptly image) (volume_outcome on_opened o image pass) (message_for_header fault) (Took image i)
           (Took pass s) (Adds w w)
       unfolding volume
@@ -327,10 +327,10 @@ module _ (o : OpeningRequest) (image pass : List ℕ) (i s w : Option (List ℕ)
           let whole = area_within on_opened o.key_slot volume image pass takes short in
           rw (outcome_found on_opened)
           (early _ image pass OutOfMemory i s w (cost_of image) (length pass) refl (omega arith) (λ segment has. tt)
-          within.0 whole.1 (took_header image i stop.leaves) gone)
+          within.0 whole.1 (took_header image i stop.0.left) gone)
       runs_without_area on_opened takes _ stop = absurd stop
 
-      module _ (grows : Grows area area' (drop (cost_of image) image) i
+      module _ (grows : TookBehind area area' (drop (cost_of image) image) i
           (min (held_of tries.slots - length area) (length (drop (cost_of image) image)))) where
         -- the image ended within them
         pub runs_cut : (on_opened : OnOpened) → length area' < held_of tries.slots
@@ -356,7 +356,7 @@ module _ (o : OpeningRequest) (image pass : List ℕ) (i s w : Option (List ℕ)
               ∙ ap (opened_outcome on_opened o.key_slot volume image pass) whole
 
       -- no key slot opens
-      pub runs_unopened : (grows : Grows area area' (drop (cost_of image) image) i
+      pub runs_unopened : (grows : TookBehind area area' (drop (cost_of image) image) i
           (min (held_of tries.slots - length area) (length (drop (cost_of image) image))))
           → (enough : held_of tries.slots ≤ length area') (fault : OpenFault)
           (tried : opening_of tries area' pass ≡ Err fault) (on_opened : OnOpened)
@@ -373,7 +373,7 @@ module _ (o : OpeningRequest) (image pass : List ℕ) (i s w : Option (List ℕ)
           held.3 gone)
 
       -- a key slot opens
-      pub unlocks : (grows : Grows area area' (drop (cost_of image) image) i
+      pub unlocks : (grows : TookBehind area area' (drop (cost_of image) image) i
           (min (held_of tries.slots - length area) (length (drop (cost_of image) image))))
           → (enough : held_of tries.slots ≤ length area') (opened : Opened)
           (tried : opening_of tries area' pass ≡ Ok opened)

@@ -36,7 +36,7 @@ returns-in_err-extend_to-clause-err g c =
     ≤ longest_key_file = omega (arith, ap length whole.0, c.in_ok-pass.pass.ok.0, c.in_ok-pass.ensures.few) in
     runs_without_area (opening_request c.args.opening.now) known pass _ _ _ _ _ _ read.0 volume.segment volume.order
     short whole.1 _ _ read.1 on_opened takes
-    c.in_err-extend_to.field-0.0 (rw c.held_end.ensures.value at (c.in_err-extend_to.ensures.err _ read.2.left)))
+    c.in_err-extend_to.field-0.0 (rw c.held_end.ensures.value at (c.in_err-extend_to.ensures.broken _ read.2.left)))
 
 pub returns-then-not-branch-clause-err : goal.returns-then-not-branch-clause-err
 returns-then-not-branch-clause-err g c written known is pass has on_opened takes =
@@ -49,7 +49,7 @@ returns-then-not-branch-clause-err g c written known is pass has on_opened takes
     let few = short_from_not_whole c.in_ok-extend_to.field-0 _ _ c.in_ok-extend_to.ensures.whole c.if-not-branch.true in
     runs_cut (opening_request c.args.opening.now) known pass _ _ _ _ _ _ read.0 volume.segment volume.order short
     whole.1 _ _ read.1
-    (rw end at (c.in_ok-extend_to.ensures.ok _ read.2.left)) on_opened (rw end at few)
+    (rw end at (c.in_ok-extend_to.ensures.taken _ read.2.left)) on_opened (rw end at few)
 
 pub returns-in-Ok-clause-ok : goal.returns-in-Ok-clause-ok
 returns-in-Ok-clause-ok g c known is pass has =
@@ -64,7 +64,7 @@ returns-in-Ok-clause-ok g c known is pass has =
     rw c.as_slice.ensures.value
     (unlocks (opening_request c.args.opening.now) known pass _ _ (Some []) _ _ _ read.0 volume.segment volume.order
     short whole.1 _ _ read.1
-    (rw end at (c.in_ok-extend_to.ensures.ok _ read.2.left)) (rw end at enough) c.in-Ok.opened tried)
+    (rw end at (c.in_ok-extend_to.ensures.taken _ read.2.left)) (rw end at enough) c.in-Ok.opened tried)
 
 pub returns-in-Ok-clause-held : goal.returns-in-Ok-clause-held
 returns-in-Ok-clause-held g c =
@@ -96,4 +96,4 @@ returns-clause-err g c written known is pass has on_opened takes =
     rw (c.of_opening.ensures, c.named_slot.ensures)
     (runs_unopened (opening_request c.args.opening.now) known pass _ _ _ _ _ _ read.0 volume.segment volume.order short
     whole.1 _ _ read.1
-    (rw end at (c.in_ok-extend_to.ensures.ok _ read.2.left)) (rw end at enough) c.in-Err.fault tried on_opened)
+    (rw end at (c.in_ok-extend_to.ensures.taken _ read.2.left)) (rw end at enough) c.in-Err.fault tried on_opened)
