@@ -328,7 +328,7 @@ fn drawn_header(state: &mut u64) -> [u8; 592] {
 fn slots_and_digests_are_told_of_any_header(rt: HostRuntime) -> Result<(), Fail> {
     let alloc = rt.alloc();
     let mut state = 1;
-    let mut usable = 0;
+    let mut usable = 0u32;
     for run in 0..2000u32 {
         let header = parse(alloc, &drawn_header(&mut state))?;
         let limit = if run % 2 == 0 { None } else { Some(1000) };
@@ -336,7 +336,7 @@ fn slots_and_digests_are_told_of_any_header(rt: HostRuntime) -> Result<(), Fail>
         assert_eq!(rt; verdicts.len(), 8, "run {run}");
         for (number, verdict) in verdicts.iter() {
             if matches!(verdict, Verdict::Usable(_)) {
-                usable += 1;
+                usable = usable.saturating_add(1);
                 assert!(rt; digest_for(alloc, &header, *number)?.is_some(), "run {run}");
                 assert!(rt; slot(alloc, &header, *number)?.is_some(), "run {run}");
             }
