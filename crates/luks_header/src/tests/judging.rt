@@ -352,7 +352,10 @@ fn slots_and_digests_are_told_of_any_header(rt: HostRuntime) -> Result<(), Fail>
 fn a_slot_is_judged_by_its_number(rt: HostRuntime) -> Result<(), Fail> {
     let header = parse(rt.alloc(), &volume_header())?;
     assert_eq!(rt; judge(&header, None, 0), Some(Judgement::Usable(1)));
-    assert_eq!(rt; judge(&header, Some(999), 0), Some(Judgement::Skipped(SkipReason::Iterations)));
+    assert_eq!(rt;
+        judge(&header, Some(999), 0),
+        Some(Judgement::Skipped(SkipReason::Iterations))
+    );
     assert_eq!(rt; judge(&header, None, 7), Some(Judgement::Disabled));
     for number in [8, 31, 32, 255] {
         assert_eq!(rt; judge(&header, None, number), None);
