@@ -1,11 +1,3 @@
-pub mod Bytes
-pub mod FieldLemmas
-pub mod SboxLemmas
-pub mod StateLemmas
-pub mod CipherLemmas
-pub mod ScheduleLemmas
 pub mod TweakLemmas
-pub mod ByteLists
-pub mod Mixing
-pub mod Undone
 pub mod UnitsUndone
+pub mod ChainsUndone

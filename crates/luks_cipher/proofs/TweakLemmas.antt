@@ -6,7 +6,7 @@ use Rattle.std.specs.Int.{w128, to_le_bytes}
 use Rattle.std.proofs.lemmas.List.{take_at, drop_at, take_all, drop-drop}
 use Rattle.std.proofs.lemmas.Slice.{take-put_mid, drop-put_mid}
 use borrow.Rule.Slice.PartMut.{put_mid}
-use Rattle.luks_cipher.specs.Aes.{encrypted, decrypted}
+use Rattle.luks_aes.specs.Aes.{encrypted, decrypted}
 use Rattle.luks_cipher.specs.Xts.{data_key, tweak_key, doubled_number, tweak_of, block_at, joined, block_sum, block_encrypted, block_decrypted, xts_encrypted, xts_decrypted}
 
 -- below 2^127 nothing is carried out
@@ -73,7 +73,7 @@ done_more f old new piece j before room size is =
       left = drop-put_mid at (at + 16 - at) new piece next (omega arith) (omega arith) (omega arith) ∙ rest;
     }
 
-done_all : (f : ℕ → List ℕ) (old new : List ℕ) (j n : ℕ) → IsDoneBefore f old new j → length new ≡ 16 * j → j ≡ n
+pub done_all : (f : ℕ → List ℕ) (old new : List ℕ) (j n : ℕ) → IsDoneBefore f old new j → length new ≡ 16 * j → j ≡ n
     → new ≡ joined f n
 done_all f old new j n before size at_end =
     sym (take_all (16 * j) new (omega arith)) ∙ before.done ∙ ap (joined f) at_end

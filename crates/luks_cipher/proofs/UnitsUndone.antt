@@ -4,22 +4,23 @@ use Rattle.std.specs.Int.{w128, to_le_bytes, from_le_bytes}
 use Rattle.std.proofs.lemmas.Bool.{cases_lt}
 use Rattle.std.proofs.lemmas.List.{length-take-le, take-append-le, drop-append-le, take_all, drop_at}
 use Rattle.std.proofs.Math.Seq.{take-add}
-use Rattle.luks_cipher.specs.Field.{◌⊕◌}
-use Rattle.luks_cipher.specs.Aes.{cell, encrypted}
+use Rattle.luks_aes.specs.Field.{◌⊕◌}
+use Rattle.luks_aes.specs.Aes.{cell, encrypted, decrypted}
 use Rattle.luks_cipher.specs.Xts.{data_key, doubled_number, doubled, tweak_of, block_sum, block_at, block_encrypted, block_decrypted, joined, xts_encrypted, xts_decrypted}
-use Rattle.luks_cipher.specs.Bytes.{IsBytes}
-use Rattle.luks_cipher.proofs.ByteLists.{IsState, made_state, xor_byte, bytes_nil, bytes_cons, bytes_take, bytes_drop, encrypted_state}
-use Rattle.luks_cipher.proofs.Undone.{whole_state, same_states, xor_twice, decrypted-encrypted}
+use Rattle.luks_aes.specs.Bytes.{IsBytes}
+use Rattle.luks_aes.proofs.ByteLists.{IsState, made_state, xor_byte, bytes_nil, bytes_cons, bytes_take, bytes_drop, encrypted_state}
+use Rattle.luks_aes.proofs.Undone.{whole_state, same_states, xor_twice, decrypted-encrypted}
+use Rattle.luks_aes.proofs.Redone.{decrypted_state, encrypted-decrypted}
 
 -- ---- a block
 
-sum_state : (a b : List ℕ) → IsState a → IsState b → IsState (block_sum a b)
+pub sum_state : (a b : List ℕ) → IsState a → IsState b → IsState (block_sum a b)
 unfolding block_sum
 sum_state a b first second =
     made_state (λ r c. cell a r c ⊕ cell b r c)
     (λ r c. xor_byte (cell a r c) (cell b r c) (first.bytes.each (r + 4 * c)) (second.bytes.each (r + 4 * c)))
 
-sum_twice : (a b : List ℕ) → length a ≡ 16 → block_sum (block_sum a b) b ≡ a
+pub sum_twice : (a b : List ℕ) → length a ≡ 16 → block_sum (block_sum a b) b ≡ a
 unfolding block_sum
 sum_twice a b len =
     same_states (λ r c. (cell a r c ⊕ cell b r c) ⊕ cell b r c) (cell a) (λ r c. xor_twice (cell a r c) (cell b r c))
@@ -34,9 +35,18 @@ block_undone key tweak block keys masks is =
     let inside = sum_twice (encrypted (data_key key) (block_sum block tweak)) tweak (encrypted_state _ _ k1 masked).len in
     rw (inside, decrypted-encrypted (data_key key) (block_sum block tweak) k1 masked) (sum_twice block tweak is.len)
 
+block_redone : (key tweak block : List ℕ) → IsBytes key → IsState tweak → IsState block
+    → block_encrypted key tweak (block_decrypted key tweak block) ≡ block
+unfolding block_encrypted block_decrypted
+block_redone key tweak block keys masks is =
+    let k1 = bytes_take (length key / 2) key keys in
+    let masked = sum_state block tweak is masks in
+    let inside = sum_twice (decrypted (data_key key) (block_sum block tweak)) tweak (decrypted_state _ _ k1 masked).len in
+    rw (inside, encrypted-decrypted (data_key key) (block_sum block tweak) k1 masked) (sum_twice block tweak is.len)
+
 -- ---- the tweaks
 
-le_state : (n : ℕ) → IsState (to_le_bytes w128 n)
+pub le_state : (n : ℕ) → IsState (to_le_bytes w128 n)
 le_state n = record {
   len = refl;
   bytes =
@@ -54,14 +64,14 @@ tweak_state key number (suc j) keys = le_state (doubled_number (from_le_bytes w1
 
 -- ---- blocks joined
 
-joined_length : (f : ℕ → List ℕ) (n : ℕ) → ((j : ℕ) → j < n → length (f j) ≡ 16) → length (joined f n) ≡ 16 * n
+pub joined_length : (f : ℕ → List ℕ) (n : ℕ) → ((j : ℕ) → j < n → length (f j) ≡ 16) → length (joined f n) ≡ 16 * n
 unfolding joined
 joined_length f zero sizes = refl
 joined_length f (suc n) sizes =
     let before = joined_length f n (λ j low. sizes j (omega arith)) in
     rw (length-append (joined f n) (f n), before, sizes n (omega arith)) (omega arith)
 
-joined_at : (f : ℕ → List ℕ) (n j : ℕ) → ((j : ℕ) → j < n → length (f j) ≡ 16) → j < n → block_at (joined f n) j ≡ f j
+pub joined_at : (f : ℕ → List ℕ) (n j : ℕ) → ((j : ℕ) → j < n → length (f j) ≡ 16) → j < n → block_at (joined f n) j ≡ f j
 unfolding joined
 joined_at f zero j sizes low = absurd (omega arith)
 joined_at f (suc n) j sizes low =
@@ -78,20 +88,20 @@ joined_at f (suc n) j sizes low =
           rw e (ap (take 16) (drop_at (joined f n) (f n) (16 * n) before) ∙ take_all 16 (f n) (omega (arith, sizes n (omega arith))))
     ]
 
-joined_same : (f g : ℕ → List ℕ) (n : ℕ) → ((j : ℕ) → j < n → f j ≡ g j) → joined f n ≡ joined g n
+pub joined_same : (f g : ℕ → List ℕ) (n : ℕ) → ((j : ℕ) → j < n → f j ≡ g j) → joined f n ≡ joined g n
 unfolding joined
 joined_same f g zero same = refl
 joined_same f g (suc n) same =
     rw (joined_same f g n (λ j low. same j (omega arith)), same n (omega arith)) refl
 
-joined_blocks : (unit : List ℕ) (n : ℕ) → joined (block_at unit) n ≡ take (16 * n) unit
+pub joined_blocks : (unit : List ℕ) (n : ℕ) → joined (block_at unit) n ≡ take (16 * n) unit
 unfolding joined
 joined_blocks unit zero = refl
 joined_blocks unit (suc n) =
     let more : 16 * suc n ≡ 16 * n + 16 = omega arith in
     rw (more, joined_blocks unit n) (sym (take-add (16 * n) 16 unit))
 
-block_state : (unit : List ℕ) (n j : ℕ) → length unit ≡ 16 * n → j < n → IsBytes unit → IsState (block_at unit j)
+pub block_state : (unit : List ℕ) (n j : ℕ) → length unit ≡ 16 * n → j < n → IsBytes unit → IsState (block_at unit j)
 block_state unit n j size low all = record {
   len =
       let room : 16 ≤ length (drop (16 * j) unit) = rw (length-drop (16 * j) unit) (omega arith) in
@@ -112,19 +122,48 @@ unfolding xts_encrypted
 length-xts_encrypted key number unit whole =
     joined_length _ (length unit / 16) (λ j low. block_encrypted_len key (tweak_of key number j) (block_at unit j)) ∙ omega arith
 
+-- two ways of work on blocks that undo each other block by block do so on units
+both_ways : (f g : ℕ → List ℕ → List ℕ) (unit : List ℕ) (n : ℕ) → length unit ≡ 16 * n → IsBytes unit
+    → ((j : ℕ) (block : List ℕ) → length (f j block) ≡ 16)
+    → ((j : ℕ) (block : List ℕ) → IsState block → g j (f j block) ≡ block)
+    → joined (λ j. g j (block_at (joined (λ j. f j (block_at unit j)) n) j)) n ≡ unit
+both_ways f g unit n size all sizes undoes =
+    let there : ℕ → List ℕ = λ j. f j (block_at unit j) in
+    joined_same (λ j. g j (block_at (joined there n) j)) (block_at unit) n
+    (λ j low.
+    ap (g j) (joined_at there n j (λ k below. sizes k (block_at unit k)) low)
+    ∙ undoes j (block_at unit j) (block_state unit n j size low all))
+    ∙ joined_blocks unit n ∙ take_all (16 * n) unit (omega arith)
+
+block_decrypted_len : (key tweak block : List ℕ) → length (block_decrypted key tweak block) ≡ 16
+unfolding block_decrypted block_sum
+block_decrypted_len key tweak block = refl
+
+pub joined_count : (f : ℕ → List ℕ) (n : ℕ) → ((j : ℕ) → length (f j) ≡ 16) → length (joined f n) / 16 ≡ n
+joined_count f n sizes = rw (joined_length f n (λ j low. sizes j)) (omega arith)
+
 -- decryption undoes encryption
 pub xts_decrypted-xts_encrypted : (key : List ℕ) (number : ℕ) (unit : List ℕ) → IsBytes key → IsBytes unit
     → length unit % 16 ≡ 0 → xts_decrypted key number (xts_encrypted key number unit) ≡ unit
 unfolding xts_encrypted xts_decrypted
 xts_decrypted-xts_encrypted key number unit keys all whole =
     let n = length unit / 16 in
-    let enc : ℕ → List ℕ = λ j. block_encrypted key (tweak_of key number j) (block_at unit j) in
-    let sizes : (j : ℕ) → j < n → length (enc j) ≡ 16 = λ j low. block_encrypted_len key (tweak_of key number j) (block_at unit j) in
-    let size : length unit ≡ 16 * n = omega arith in
-    let count : length (joined enc n) / 16 ≡ n = rw (joined_length enc n sizes) (omega arith) in
+    let count = joined_count (λ j. block_encrypted key (tweak_of key number j) (block_at unit j)) n
+    (λ j. block_encrypted_len key (tweak_of key number j) (block_at unit j)) in
     rw count
-    (joined_same (λ j. block_decrypted key (tweak_of key number j) (block_at (joined enc n) j)) (block_at unit) n
-    (λ j low.
-    ap (block_decrypted key (tweak_of key number j)) (joined_at enc n j sizes low)
-    ∙ block_undone key (tweak_of key number j) (block_at unit j) keys (tweak_state key number j keys) (block_state unit n j size low all))
-    ∙ joined_blocks unit n ∙ take_all (16 * n) unit (omega arith))
+    (both_ways (λ j. block_encrypted key (tweak_of key number j)) (λ j. block_decrypted key (tweak_of key number j)) unit n (omega arith) all
+    (λ j block. block_encrypted_len key (tweak_of key number j) block)
+    (λ j block is. block_undone key (tweak_of key number j) block keys (tweak_state key number j keys) is))
+
+-- encryption undoes decryption
+pub xts_encrypted-xts_decrypted : (key : List ℕ) (number : ℕ) (unit : List ℕ) → IsBytes key → IsBytes unit
+    → length unit % 16 ≡ 0 → xts_encrypted key number (xts_decrypted key number unit) ≡ unit
+unfolding xts_encrypted xts_decrypted
+xts_encrypted-xts_decrypted key number unit keys all whole =
+    let n = length unit / 16 in
+    let count = joined_count (λ j. block_decrypted key (tweak_of key number j) (block_at unit j)) n
+    (λ j. block_decrypted_len key (tweak_of key number j) (block_at unit j)) in
+    rw count
+    (both_ways (λ j. block_decrypted key (tweak_of key number j)) (λ j. block_encrypted key (tweak_of key number j)) unit n (omega arith) all
+    (λ j block. block_decrypted_len key (tweak_of key number j) block)
+    (λ j block is. block_redone key (tweak_of key number j) block keys (tweak_state key number j keys) is))

@@ -1,5 +1,5 @@
-pub mod Bytes
-pub mod Field
-pub mod Aes
 pub mod Xts
-pub mod Schedule
+pub mod Cbc
+pub mod Sector
+pub mod KeyPair
+pub mod SectorKey

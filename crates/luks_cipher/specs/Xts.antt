@@ -1,8 +1,8 @@
 -- XTS-AES (IEEE 1619) on data units whose length is a multiple of 16 bytes. Section numbers are the standard's.
 use Rattle.std.specs.Prelude.{ℕ, zero, suc, ◌-◌, ◌*◌, ◌/◌, ◌^◌, Bool, ◌||◌, nat_lt, ◌==◌, if◌then◌else◌, List, [], ◌++◌, length, take, drop}
 use Rattle.std.specs.Int.{w128, to_le_bytes, from_le_bytes}
-use Rattle.luks_cipher.specs.Field.{◌⊕◌}
-use Rattle.luks_cipher.specs.Aes.{cell, state_of, encrypted, decrypted}
+use Rattle.luks_aes.specs.Field.{◌⊕◌}
+use Rattle.luks_aes.specs.Aes.{cell, state_of, encrypted, decrypted}
 
 -- Key1, for the data, and Key2, for the tweaks: the two halves of the key (5.3.1)
 abbrev pub data_key : List ℕ → List ℕ

@@ -1,19 +1,19 @@
-//! AES and XTS, as FIPS 197 and IEEE 1619 write them.
+//! Sectors of disks under AES: XTS, as IEEE 1619 writes it, and the older modes of dm-crypt.
 //!
-//! [`AesKey`] encrypts and decrypts one block of 16 bytes, [`XtsKey`] a data unit of up to 4096 bytes
-//! under the unit's number. Both are computed byte by byte, and neither takes memory. They hide nothing
-//! from whoever can measure time, and wipe no secret.
+//! [`SectorCipher`] encrypts and decrypts a sector of up to 4096 bytes under its number, in one of the modes
+//! that [`Mode`] names; [`XtsKey`] is XTS alone. Neither takes memory. They hide nothing from whoever can
+//! measure time, and wipe no secret.
 #![tactic(auto)]
 
-mod aes;
-mod cipher;
-mod field;
-mod sbox;
-mod schedule;
-mod state;
+mod block;
+mod cbc;
+mod mode;
+mod sector;
 #[cfg(test)]
 mod tests;
 mod xts;
 
-pub use aes::AesKey;
+pub use luks_aes::AesKey;
+pub use mode::Mode;
+pub use sector::SectorCipher;
 pub use xts::XtsKey;

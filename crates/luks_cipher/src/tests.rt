@@ -1,7 +1,9 @@
 //! Published vectors. Each is a line of words, and bytes are written as hexadecimal digits.
 
-mod aes;
-mod known_answers;
+mod bytewise;
+mod comparison;
+mod mode_vectors;
+mod modes;
 mod xts;
 mod xts_vectors;
 
@@ -25,15 +27,4 @@ fn bytes(alloc: Global, digits: &str) -> Result<Vec<u8>, Fail> {
         spelt.push((digit(digits[2 * i])? << 4) | digit(digits[2 * i + 1])?)?;
     }
     Ok(spelt)
-}
-
-// The block that the digits spell.
-fn block(alloc: Global, digits: &str) -> Result<[u8; 16], Fail> {
-    let spelt = bytes(alloc, digits)?;
-    if spelt.len() != 16 {
-        return Err("no block".into());
-    }
-    let mut block = [0; 16];
-    block.copy_from_slice(&spelt);
-    Ok(block)
 }

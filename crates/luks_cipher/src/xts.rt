@@ -1,11 +1,12 @@
 //! XTS-AES (IEEE 1619) over data units of whole blocks.
 
 ghost use Rattle.std.specs.Prelude.{◌≡◌, ◌+◌, ◌*◌, ◌%◌, ◌≤◌, List, ℕ, ◌++◌, length, Some, None, if◌then◌else◌};
-ghost use Rattle.luks_cipher.specs.Xts.{doubled, block_sum, tweak_of, block_encrypted, block_decrypted, xts_encrypted, xts_decrypted, is_xts_key_length};
-ghost use Rattle.luks_cipher.specs.Bytes.{IsBytes};
-ghost use Rattle.luks_cipher.specs.Schedule.{IsKeyPair};
+ghost use Rattle.luks_cipher.specs.Xts.{doubled, tweak_of, block_encrypted, block_decrypted, xts_encrypted, xts_decrypted, is_xts_key_length};
+ghost use Rattle.luks_aes.specs.Bytes.{IsBytes};
+ghost use Rattle.luks_cipher.specs.KeyPair.{IsKeyPair};
 
-use crate::aes::AesKey;
+use crate::block::block_sum;
+use luks_aes::AesKey;
 use std::marker::Model;
 
 // The tweak times the primitive element (5.2).
@@ -15,17 +16,6 @@ fn doubled(tweak: [u8; 16]) -> [u8; 16]
     let number = u128::from_le_bytes(tweak);
     let reduction = if number >> 127 == 0 { 0 } else { 0x87 };
     ((number << 1) ^ reduction).to_le_bytes()
-}
-
-// The sum of two blocks, byte by byte.
-fn block_sum(a: [u8; 16], b: [u8; 16]) -> [u8; 16]
-    ensures { result ≡ block_sum a b }
-{
-    let mut sum = [0; 16];
-    for i in 0..16 {
-        sum[i] = a[i] ^ b[i];
-    }
-    sum
 }
 
 /// A key of XTS-AES-128 or XTS-AES-256 (IEEE 1619). Contracts see it as its bytes, of which the first
@@ -123,6 +113,7 @@ impl XtsKey {
         // A unit that is some plain one encrypted becomes that one.
         ensures undoes { (plain : List ℕ) → IsBytes plain → length plain ≡ length unit.old
             → unit.old ≡ xts_encrypted self.now number plain → unit.new ≡ plain }
+        ensures undone { xts_encrypted self.now number unit.new ≡ unit.old }
     {
         let mut tweak = self.first_tweak(number);
         for j in 0..unit.len() / 16 {

@@ -1,4 +1,5 @@
 pub mod HeaderRuns
+pub mod HeaderTaking
 pub mod MergeLemmas
 pub mod OpenedRuns
 pub mod PayloadLemmas

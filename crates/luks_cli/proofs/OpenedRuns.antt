@@ -1,37 +1,42 @@
 -- How the commands on volumes end once their volume is opened.
-use Rattle.std.proofs.Common.{◌≡◌, ◌≢◌, inl, ℕ, ◌+◌, ◌*◌, ◌/◌, ◌<◌, ◌≤◌, List, [], ◌++◌, Option, None, Some, Result, Ok, Err, IfErr, Bool, true, false, ◌∙◌, ap, sym, refl, take, drop, length, append-nil, max, arith}
-use Rattle.std.proofs.lemmas.List.{drop_all}
+use Rattle.std.proofs.Common.{◌≡◌, ◌≢◌, inl, ℕ, ◌+◌, ◌*◌, ◌/◌, ◌<◌, ◌≤◌, List, Option, None, Some, Result, Ok, Err, IfErr, Bool, true, false, ◌∙◌, ap, refl, take, length, max, arith}
 use Rattle.std.proofs.Math.Nat.{div-eq_of_lt-le, mul-le-mul_right}
 use Rattle.std.specs.Prelude.{MatchBool, if◌then◌else◌}
 use Rattle.luks_cipher.specs.Xts.{is_xts_key_length}
 use Rattle.luks_verdict.specs.declared.segment.Segment.{Segment}
-use Rattle.luks_io.specs.Bytes.{Adds, raised}
+use Rattle.luks_io.proofs.Taking.{adds-none}
+use Rattle.luks_io.specs.Bytes.{Adds, Took, counted, raised}
 use Rattle.luks_open.specs.declared.opening.Opened.{Opened}
 use Rattle.luks_volume.specs.Plain.{end_within, payload_end_of, sector_len, sector_start, sectors_of}
 use Rattle.luks_cli.proofs.PayloadLemmas.{plain_len}
 use Rattle.luks_cli.proofs.VolumeRuns.{same_segment}
-use Rattle.luks_cli.specs.Outcome.{Outcome, payload_written, slot_told, volume_outcome}
-use Rattle.luks_cli.specs.Payload.{PassesPayload, cat_promptly}
+use Rattle.luks_cli.specs.Ending.{Outcome}
+use Rattle.luks_cli.specs.Volume.{payload_outcome, slot_outcome, volume_outcome}
+use Rattle.luks_cli.specs.VolumeParts.{PassesPayload, cat_promptly}
 use Rattle.luks_command.specs.Request.{OpeningRequest}
-use Rattle.luks_cli.specs.Run.{BreaksOff, Bytes, Completes, Counts, Failures, Prompt, Runs, breaks_off, count_reads, count_writes, ending_of, none_owed}
-use Rattle.luks_cli.specs.Unlocking.{TakesHeld, Unlocks}
+use Rattle.luks_cli.specs.Run.{BreaksOff, Completes, Counts, Failures, Promptness, Runs, at_any_pace, breaks_off, is_failed_read, is_failed_write, message_of}
+use Rattle.luks_cli.specs.VolumeParts.{TakesHeld, Unlocks}
 use Rattle.luks_report.specs.Texts.{opened_line}
 use Rattle.luks_report.specs.declared.message.Message.{Message}
 use Rattle.luks_report.specs.declared.message.Message.TheVariants.{Done, OutOfMemory, ReadFailed, WriteFailed}
 
-pub takes_slot : (secret : List ℕ) → TakesHeld secret (slot_told secret)
+pub takes_slot : (secret : List ℕ) → TakesHeld secret (slot_outcome secret)
 takes_slot secret = record { held = λ segment opened held. omega arith; whole = λ segment opened held. refl }
 
-pub takes_payload : (image secret : List ℕ) → TakesHeld secret (payload_written image secret)
+pub takes_payload : (image secret : List ℕ) → TakesHeld secret (payload_outcome image secret)
 takes_payload image secret = record { held = λ segment opened held. omega arith; whole = λ segment opened held. refl }
 
--- a run that owes something beside owes the rest
-pub runs_anyhow : (prompt : Prompt) (out : Outcome) (before : Bytes) (message : Message) (i s w : Option (List ℕ))
-    → Runs prompt out before message i s w → Runs none_owed out before message i s w
-runs_anyhow prompt out before message i s w = either (breaks_off message)
+-- a run that is prompt has the outcome that is stated
+pub runs_at_any_pace : (is_prompt : Promptness) (out : Outcome) (message : Message) (TookImage TookSecret : ℕ → Type 0)
+    (Wrote : List ℕ → Type 0)
+    → Runs is_prompt out message TookImage TookSecret Wrote → Runs at_any_pace out message TookImage TookSecret Wrote
+runs_at_any_pace is_prompt out message TookImage TookSecret Wrote = either (breaks_off message)
   where
-    either : (b : Bool) → MatchBool b (BreaksOff prompt out before message i s w) (Completes out before message i s w)
-        → MatchBool b (BreaksOff none_owed out before message i s w) (Completes out before message i s w)
+    either : (b : Bool)
+        → MatchBool b (BreaksOff is_prompt out message TookImage TookSecret Wrote)
+        (Completes out message TookImage TookSecret Wrote)
+        → MatchBool b (BreaksOff at_any_pace out message TookImage TookSecret Wrote)
+        (Completes out message TookImage TookSecret Wrote)
     either true run = record {
       image_taken = run.image_taken;
       secret_taken = run.secret_taken;
@@ -41,128 +46,150 @@ runs_anyhow prompt out before message i s w = either (breaks_off message)
       output_within = run.output_within;
       is_silent = run.is_silent;
       is_prompt = tt;
-      left = run.left;
+      image = run.image;
+      secret = run.secret;
+      output = run.output;
     }
     either false run = run
 
-module _ (o : OpeningRequest) (before : Bytes) (segment : Segment) (opened : Opened) (held : ℕ) (i s : Option (List ℕ))
-    (u : Unlocks o before.image before.secret segment opened held i s) where
-  secret_gone : s ≡ Some (drop (length before.secret) before.secret)
-  secret_gone = u.secret_left ∙ ap Some (sym (drop_all (length before.secret) before.secret (omega arith)))
-
+module _ (o : OpeningRequest) (image pass : List ℕ) (segment : Segment) (opened : Opened) (held : ℕ)
+    (i s : Option (List ℕ))
+    (u : Unlocks o image pass segment opened held i s) where
   -- ---- `testPassphrase`
 
   -- memory was refused for the line
-  pub runs_without_line : (w : Option (List ℕ)) → w ≡ Some before.written
-      → Runs none_owed (volume_outcome (slot_told before.secret) o before.image before.secret) before OutOfMemory i s w
-  runs_without_line w was = rw (u.outcome (slot_told before.secret)) (record {
+  pub runs_without_line : (w : Option (List ℕ))
+      → Runs at_any_pace (volume_outcome (slot_outcome pass) o image pass) OutOfMemory (Took image i) (Took pass s)
+      (Adds w w)
+  runs_without_line w = rw (u.outcome (slot_outcome pass)) (record {
     image_taken = held;
-    secret_taken = length before.secret;
+    secret_taken = length pass;
     output_len = 0;
     image_within = omega arith;
     secret_within = omega arith;
     output_within = omega arith;
     is_silent = refl;
     is_prompt = tt;
-    left = record { image = u.image_left; secret = secret_gone; written = unwritten before.written w was };
+    image = u.image_taken;
+    secret = u.secret_taken;
+    output = adds-none w;
   })
-    where
-      unwritten : (ws : List ℕ) (w : Option (List ℕ)) → w ≡ Some ws → w ≡ Some (ws ++ [])
-      unwritten ws w was = was ∙ ap Some (sym (append-nil ws))
 
-  module _ (page : List ℕ) (is : page ≡ opened_line opened.slot) (w w' : Option (List ℕ)) (was : w ≡ Some before.written) where
+  module _ (page : List ℕ) (is : page ≡ opened_line opened.slot) (w w' : Option (List ℕ)) where
     -- the line was written
-    pub runs_told : Adds w w' page → Runs none_owed (volume_outcome (slot_told before.secret) o before.image before.secret) before Done i s w'
-    runs_told added = rw (u.outcome (slot_told before.secret)) (record {
-      told = refl;
-      left = record { image = u.image_left; secret = secret_gone; written = added before.written was ∙ ap (λ l. Some (before.written ++ l)) is };
-    })
+    pub runs_told : Adds w w' page
+        → Runs at_any_pace (volume_outcome (slot_outcome pass) o image pass) Done (Took image i) (Took pass s)
+        (Adds w w')
+    runs_told added =
+        rw (
+          u.outcome (slot_outcome pass),
+          ← is,
+        ) (record { as_stated = refl; image = u.image_taken; secret = u.secret_taken; output = added })
 
     -- a write failed within it
     pub runs_without_rest : (n : ℕ) → n < length page → Adds w w' (take n page)
-        → Runs none_owed (volume_outcome (slot_told before.secret) o before.image before.secret) before WriteFailed i s w'
-    runs_without_rest n within added = rw (u.outcome (slot_told before.secret), ← is) (record {
+        → Runs at_any_pace (volume_outcome (slot_outcome pass) o image pass) WriteFailed (Took image i) (Took pass s)
+        (Adds w w')
+    runs_without_rest n within added = rw (u.outcome (slot_outcome pass), ← is) (record {
       image_taken = held;
-      secret_taken = length before.secret;
+      secret_taken = length pass;
       output_len = n;
       image_within = omega arith;
       secret_within = omega arith;
       output_within = omega arith;
       is_silent = tt;
       is_prompt = tt;
-      left = record { image = u.image_left; secret = secret_gone; written = added before.written was };
+      image = u.image_taken;
+      secret = u.secret_taken;
+      output = added;
     })
 
   -- ---- `luksCat`
 
-  module _ (few : held ≤ segment.offset) (i' w' : Option (List ℕ)) where
-    to_end : held ≤ payload_end_of segment before.image
+  module _ (few : held ≤ segment.offset) (i' w w' : Option (List ℕ)) where
+    to_end : held ≤ payload_end_of segment image
     to_end = before_end segment.size
       where
-        before_end : (size : Option ℕ) → held ≤ end_within size segment.offset (length before.image)
-        before_end None = u.there
-        before_end (Some size) = omega (arith, u.there)
+        before_end : (size : Option ℕ) → held ≤ end_within size segment.offset (length image)
+        before_end None = u.image_taken.within
+        before_end (Some size) = omega (arith, u.image_taken.within)
 
     -- the payload was passed on, to its end or not
-    pub runs_passed : (message : Message) → message ≢ OutOfMemory → PassesPayload segment opened.key before.image before.written i' w' message
-        → Runs (cat_promptly before.image) (volume_outcome (payload_written before.image before.secret) o before.image before.secret) before message i' s w'
+    pub runs_passed : (message : Message) → message ≢ OutOfMemory
+        → PassesPayload segment opened.key image i' w w' message
+        → Runs (cat_promptly image) (volume_outcome (payload_outcome image pass) o image pass) message (Took image i')
+        (Took pass s) (Adds w w')
     runs_passed OutOfMemory never passed = absurd (never refl)
     runs_passed ReadFailed never passed =
         let place = passed.0 in
         let count = passed.1 in
         let whole = passed.3 in
-        let span : count * sector_len segment ≤ sectors_of segment before.image * sector_len segment = mul-le-mul_right (sector_len segment) whole in
-        rw (u.outcome (payload_written before.image before.secret)) (record {
+        let span : count * sector_len segment
+        ≤ sectors_of segment image * sector_len segment = mul-le-mul_right (sector_len segment) whole in
+        rw (u.outcome (payload_outcome image pass)) (record {
           image_taken = place;
-          secret_taken = length before.secret;
+          secret_taken = length pass;
           output_len = count * sector_len segment;
           image_within = omega (arith, passed.4);
           secret_within = omega arith;
-          output_within = omega (arith, plain_len segment before.image opened.key);
+          output_within = omega (arith, plain_len segment image opened.key);
           is_silent = tt;
-          is_prompt = λ other is past. rw (same_segment before.image segment other u.has is) (ap (λ n. n * sector_len segment) passed.2);
-          left = record { image = passed.5; secret = secret_gone; written = passed.6 };
+          is_prompt = λ other is past.
+              rw (same_segment image segment other u.has is) (ap (λ n. n * sector_len segment) passed.2);
+          image = passed.5;
+          secret = u.secret_taken;
+          output = passed.6;
         })
     runs_passed WriteFailed never passed =
         let count = passed.0 in
         let written = passed.1 in
-        let below : count + 1 ≤ sectors_of segment before.image = omega (arith, passed.2) in
+        let below : count + 1 ≤ sectors_of segment image = omega (arith, passed.2) in
         let more : (count + 1) * sector_len segment ≡ count * sector_len segment + sector_len segment = omega arith in
-        let span : (count + 1) * sector_len segment ≤ sectors_of segment before.image * sector_len segment = mul-le-mul_right (sector_len segment) below in
-        let row : (count * sector_len segment + written) / sector_len segment ≡ count = div-eq_of_lt-le (sector_len segment) (omega arith) (omega (arith, passed.3)) in
-        rw (u.outcome (payload_written before.image before.secret)) (record {
+        let span : (count + 1) * sector_len segment
+        ≤ sectors_of segment image * sector_len segment = mul-le-mul_right (sector_len segment) below in
+        let row : (count * sector_len segment + written) / sector_len segment
+        ≡ count = div-eq_of_lt-le (sector_len segment) (omega arith) (omega (arith, passed.3)) in
+        rw (u.outcome (payload_outcome image pass)) (record {
           image_taken = sector_start segment (count + 1);
-          secret_taken = length before.secret;
+          secret_taken = length pass;
           output_len = count * sector_len segment + written;
           image_within = omega (arith, passed.4);
           secret_within = omega arith;
-          output_within = omega (arith, plain_len segment before.image opened.key, passed.3);
+          output_within = omega (arith, plain_len segment image opened.key, passed.3);
           is_silent = tt;
-          is_prompt = λ other is. rw (same_segment before.image segment other u.has is, row) (omega arith);
-          left = record { image = passed.5; secret = secret_gone; written = passed.6 };
+          is_prompt = λ other is. rw (same_segment image segment other u.has is, row) (omega arith);
+          image = passed.5;
+          secret = u.secret_taken;
+          output = passed.6;
         })
     runs_passed message never passed =
-        let end : max held (payload_end_of segment before.image) ≡ payload_end_of segment before.image = omega (arith, to_end) in
-        rw (u.outcome (payload_written before.image before.secret))
-        (record { told = passed.0; left = record { image = rw end passed.1; secret = secret_gone; written = passed.2 } })
+        let end : max held (payload_end_of segment image) ≡ payload_end_of segment image = omega (arith, to_end) in
+        rw (u.outcome (payload_outcome image pass)) (record
+        { as_stated = passed.0; image = rw end passed.1; secret = u.secret_taken; output = passed.2 })
 
 -- the key of the volume is a key of the cipher
-pub key_is : (key bytes : List ℕ) → is_xts_key_length (length bytes) ≡ true → Some key ≡ (if is_xts_key_length (length bytes) then Some bytes else None) → key ≡ bytes
+pub key_is : (key bytes : List ℕ) → is_xts_key_length (length bytes) ≡ true
+    → Some key ≡ (if is_xts_key_length (length bytes) then Some bytes else None) → key ≡ bytes
 key_is key bytes long is = let made : Some key ≡ Some bytes = is ∙ (rw long refl) in cc
 
 -- ---- counts of failures
 
 -- the counts after a payload was passed on, where nothing had failed before
 pub counts_passed : (message : Message) (image image' image'' secret secret' written written' : ℕ)
-    → ((count : ℕ) → Counts Done (record { image = image; secret = secret; written = count }) (record { image = image'; secret = secret'; written = count }))
-    → image'' ≡ count_reads message image' → written' ≡ count_writes message written
-    → Counts message (record { image = image; secret = secret; written = written }) (record { image = image''; secret = secret'; written = written' })
+    → ((count : ℕ) → Counts Done (record { image = image; secret = secret; written = count })
+    (record { image = image'; secret = secret'; written = count }))
+    → image'' ≡ counted (is_failed_read message) image' → written' ≡ counted (is_failed_write message) written
+    → Counts message (record { image = image; secret = secret; written = written })
+    (record { image = image''; secret = secret'; written = written' })
 counts_passed ReadFailed image image' image'' secret secret' written written' same reads writes =
     inl (rw (reads, writes) (ap (λ (f : Failures). record f { image = raised f.image }) (same written)))
-counts_passed WriteFailed image image' image'' secret secret' written written' same reads writes = rw (reads, writes) (same (raised written))
-counts_passed _ image image' image'' secret secret' written written' same reads writes = rw (reads, writes) (same written)
+counts_passed WriteFailed image image' image'' secret secret' written written' same reads writes =
+    rw (reads, writes) (same (raised written))
+counts_passed _ image image' image'' secret secret' written written' same reads writes =
+    rw (reads, writes) (same written)
 
 -- a part of a run that was not refused memory does not end so
-pub never_memory : {T : Type 0} (r : Result T Message) → IfErr r (λ message. message ≢ OutOfMemory) → ending_of r ≢ OutOfMemory
+pub never_memory : {T : Type 0} (r : Result T Message) → IfErr r (λ message. message ≢ OutOfMemory)
+    → message_of r ≢ OutOfMemory
 never_memory (Ok x) never = λ e. cc
 never_memory (Err message) never = never

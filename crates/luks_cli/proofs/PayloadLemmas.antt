@@ -1,5 +1,5 @@
 -- Passing on a payload sector by sector.
-use Rattle.std.proofs.Common.{◌≡◌, ◌≢◌, ℕ, zero, suc, ◌+◌, ◌-◌, ◌*◌, ◌/◌, ◌%◌, ◌^◌, ◌<◌, ◌≤◌, ◌⊎◌, inl, inr, List, ◌++◌, Option, None, Some, Result, Ok, Err, ◌∙◌, ap, sym, refl, take, drop, length, take_all, length-take-le, length-drop, length-append, append-nil, append_assoc, add-one, arith}
+use Rattle.std.proofs.Common.{◌≡◌, ◌≢◌, ℕ, zero, suc, ◌+◌, ◌-◌, ◌*◌, ◌/◌, ◌%◌, ◌^◌, ◌<◌, ◌≤◌, ◌⊎◌, inl, inr, List, ◌++◌, Option, None, Some, Result, Ok, Err, ◌∙◌, ap, sym, refl, take, drop, length, take_all, length-take-le, length-drop, length-append, append-nil, add-one, arith}
 use Rattle.std.proofs.lemmas.Bool.{cases_lt}
 use Rattle.std.proofs.lemmas.List.{take-append-le}
 use Rattle.std.proofs.Math.Nat.{div-eq_of_lt-le, div-mul-le_self, mul-le-mul_left, mul-le-mul_right}
@@ -9,7 +9,9 @@ use Rattle.luks_header.specs.SectorSize.{bytes_of}
 use Rattle.luks_verdict.specs.declared.sector_size.SectorSize.{SectorSize}
 use Rattle.luks_verdict.specs.declared.sector_size.SectorSize.TheVariants.{B512, B1024, B2048, B4096}
 use Rattle.luks_verdict.specs.declared.segment.Segment.{Segment}
-use Rattle.luks_volume.specs.Passing.{count_reads as volume_reads, count_writes as volume_writes}
+use Rattle.luks_io.proofs.Taking.{adds-more, adds-none}
+use Rattle.luks_io.specs.Bytes.{Adds, Took, counted}
+use Rattle.luks_volume.specs.Passing.{is_failed_read as is_lost, is_failed_write as is_unwritten}
 use Rattle.luks_volume.specs.Plain.{end_within, ending_of, payload_end_of, plain_of, sector_len, sector_of, sector_start, sectors_of, unit_plain, within_size}
 use Rattle.luks_volume.specs.Pumped.{Ends, Pumped, StandsIn, Steps, WritesSectors, after_step, position}
 use Rattle.luks_volume.specs.declared.fault.VolumeFault.{VolumeFault}
@@ -17,9 +19,9 @@ use Rattle.luks_volume.specs.declared.fault.VolumeFault.TheVariants.{CutBeforePa
 use Rattle.luks_volume.specs.declared.state.State.TheVariants.{BeforePayload, InPayload}
 use Rattle.luks_volume.specs.declared.state.Step.{Step}
 use Rattle.luks_volume.specs.declared.state.Step.TheVariants.{Sector, End}
-use Rattle.luks_cli.specs.Payload.{PassesPayload}
+use Rattle.luks_cli.specs.VolumeParts.{PassesPayload}
 use Rattle.luks_report.specs.Faults.{message_at_end, message_for_payload}
-use Rattle.luks_cli.specs.Run.{count_reads, count_writes}
+use Rattle.luks_cli.specs.Run.{is_failed_read, is_failed_write}
 use Rattle.luks_report.specs.declared.message.Message.TheVariants.{Done, OutOfMemory}
 
 -- ---- lengths
@@ -43,7 +45,8 @@ joined_length f z (suc n) sizes =
     rw (length-append (joined f n) (f n), before, sizes n (omega arith)) (omega arith)
 
 -- a beginning of what is joined that ends within piece k
-take_joined : (f : ℕ → List ℕ) (z n k m : ℕ) → ((j : ℕ) → j < n → length (f j) ≡ z) → k < n → m ≤ z → take (k * z + m) (joined f n) ≡ joined f k ++ take m (f k)
+take_joined : (f : ℕ → List ℕ) (z n k m : ℕ) → ((j : ℕ) → j < n → length (f j) ≡ z) → k < n → m ≤ z
+    → take (k * z + m) (joined f n) ≡ joined f k ++ take m (f k)
 unfolding joined
 take_joined f z zero k m sizes below few = absurd (omega arith)
 take_joined f z (suc n) k m sizes below few =
@@ -59,9 +62,11 @@ take_joined f z (suc n) k m sizes below few =
     ]
 
 -- a beginning of what is joined that ends with a piece
-take_whole : (f : ℕ → List ℕ) (z n k : ℕ) → ((j : ℕ) → j < n → length (f j) ≡ z) → k ≤ n → take (k * z) (joined f n) ≡ joined f k
+take_whole : (f : ℕ → List ℕ) (z n k : ℕ) → ((j : ℕ) → j < n → length (f j) ≡ z) → k ≤ n
+    → take (k * z) (joined f n) ≡ joined f k
 take_whole f z n k sizes below = elim (cases_lt k n) [
-  | inl inside ↦ let same : k * z ≡ k * z + 0 = omega arith in rw same (take_joined f z n k 0 sizes inside (omega arith) ∙ append-nil (joined f k))
+  | inl inside ↦ let same : k * z
+      ≡ k * z + 0 = omega arith in rw same (take_joined f z n k 0 sizes inside (omega arith) ∙ append-nil (joined f k))
   | inr all ↦
       let e : k ≡ n = omega arith in
       rw e (take_all (n * z) (joined f n) (omega (arith, joined_length f z n sizes)))
@@ -71,17 +76,20 @@ block_len : (key tweak block : List ℕ) → length (block_decrypted key tweak b
 unfolding block_decrypted block_sum
 block_len key tweak block = refl
 
-unit_len : (key : List ℕ) (number : ℕ) (unit : List ℕ) → length unit % 16 ≡ 0 → length (unit_plain key number unit) ≡ length unit
+unit_len : (key : List ℕ) (number : ℕ) (unit : List ℕ) → length unit % 16 ≡ 0
+    → length (unit_plain key number unit) ≡ length unit
 unfolding unit_plain xts_decrypted
 unit_len key number unit whole =
-    joined_length _ 16 (length unit / 16) (λ j low. block_len key (tweak_of key number j) (block_at unit j)) ∙ omega arith
+    joined_length _ 16 (length unit / 16) (λ j low. block_len key (tweak_of key number j) (block_at unit j))
+    ∙ omega arith
 
 within_len : (size : Option ℕ) (len : ℕ) → within_size size len ≤ len
 within_len None len = omega arith
 within_len (Some size) len = omega arith
 
 -- so many bytes of a payload end with it or before
-within_end : (size : Option ℕ) (offset len n : ℕ) → 0 < n → n ≤ within_size size (len - offset) → offset + n ≤ end_within size offset len
+within_end : (size : Option ℕ) (offset len n : ℕ) → 0 < n → n ≤ within_size size (len - offset)
+    → offset + n ≤ end_within size offset len
 within_end None offset len n some few = omega arith
 within_end (Some size) offset len n some few = omega arith
 
@@ -95,7 +103,8 @@ module _ (s : Segment) (image : List ℕ) where
   sector_before_end i below =
       let z = sector_blocks s.sector_size in
       let whole = div-mul-le_self (within_size s.size (length image - s.offset)) (sector_len s) in
-      let more : (i + 1) * sector_len s ≤ sectors_of s image * sector_len s = mul-le-mul_right (sector_len s) (omega arith) in
+      let more : (i + 1) * sector_len s
+      ≤ sectors_of s image * sector_len s = mul-le-mul_right (sector_len s) (omega arith) in
       let some : 1 * sector_len s ≤ (i + 1) * sector_len s = mul-le-mul_right (sector_len s) (omega arith) in
       within_end s.size s.offset (length image) ((i + 1) * sector_len s) (omega (arith, z.long)) (omega arith)
 
@@ -109,7 +118,8 @@ module _ (s : Segment) (image : List ℕ) where
       let z = sector_blocks s.sector_size in
       let all = within_len s.size (length image - s.offset) in
       let whole = div-mul-le_self (within_size s.size (length image - s.offset)) (sector_len s) in
-      let many : sectors_of s image * 512 ≤ sectors_of s image * sector_len s = mul-le-mul_left (sectors_of s image) z.long in
+      let many : sectors_of s image * 512
+      ≤ sectors_of s image * sector_len s = mul-le-mul_left (sectors_of s image) z.long in
       omega arith
 
   sector_size : (key : List ℕ) (i : ℕ) → i < sectors_of s image → length (sector_of s key image i) ≡ sector_len s
@@ -117,7 +127,8 @@ module _ (s : Segment) (image : List ℕ) where
       let z = sector_blocks s.sector_size in
       let there = sector_there i below in
       let more : (i + 1) * sector_len s ≡ i * sector_len s + sector_len s = omega arith in
-      let unit = length-take-le (sector_len s) (drop (sector_start s i) image) (omega (arith, length-drop (sector_start s i) image)) in
+      let unit = length-take-le (sector_len s) (drop (sector_start s i) image)
+      (omega (arith, length-drop (sector_start s i) image)) in
       unit_len key _ _ (ap (λ n. n % 16) unit ∙ z.blocks) ∙ unit
 
   pub plain_len : (key : List ℕ) → length (plain_of s key image) ≡ sectors_of s image * sector_len s
@@ -126,87 +137,97 @@ module _ (s : Segment) (image : List ℕ) where
 -- ---- a pump on its way
 
 -- a pump stands in an image, and the sectors that it has passed on are written
-pub record Passing (p : Pumped) (image before : List ℕ) (left written : Option (List ℕ)) : Type 0 where
+pub record Passing (p : Pumped) (image : List ℕ) (left before after : Option (List ℕ)) : Type 0 where
   pub stands : StandsIn image p left
   pub at_sector : (p.count ≡ 0) ⊎ (p.state ≡ InPayload)
   pub few : p.count ≤ sectors_of p.segment image
-  pub wrote : written ≡ Some (before ++ joined (sector_of p.segment p.key image) p.count)
+  pub wrote : Adds before after (joined (sector_of p.segment p.key image) p.count)
 
-pub passing_start : (p : Pumped) (image before : List ℕ) (left written : Option (List ℕ)) → p.count ≡ 0 → p.state ≡ BeforePayload → p.consumed ≤ length image
-    → left ≡ Some (drop p.consumed image) → written ≡ Some before → Passing p image before left written
+pub passing_start : (p : Pumped) (image : List ℕ) (left w : Option (List ℕ)) → p.count ≡ 0 → p.state ≡ BeforePayload
+    → Took image left p.consumed
+    → Passing p image left w w
 unfolding joined
-passing_start p image before left written none is there rest was = record {
-  stands = record { running = rw is refl; there = rw is there; left = rw is rest };
+passing_start p image left w none is took = record {
+  stands = record { running = rw is refl; took = rw is took };
   at_sector = inl none;
   few = omega arith;
-  wrote = rw none (was ∙ ap Some (sym (append-nil before)));
+  wrote = rw none (adds-none w);
 }
 
-module _ (p : Pumped) (image before : List ℕ) (l w l' w' : Option (List ℕ)) (so_far : Passing p image before l w) where
-  pub passing_more : Steps p.segment p.key p.count (position p) image (Ok Sector) l' w w' → Passing (after_step p (Ok Sector)) image before l' w'
+module _ (p : Pumped) (image : List ℕ) (l b w l' w' : Option (List ℕ)) (so_far : Passing p image l b w) where
+  pub passing_more : Steps p.segment p.key p.count (position p) image (Ok Sector) l' w w'
+      → Passing (after_step p (Ok Sector)) image l' b w'
   unfolding joined
   passing_more step =
       let taken = step.0 in
-      let added = step.1 (before ++ joined (sector_of p.segment p.key image) p.count) so_far.wrote in
       record {
-        stands = record { running = refl; there = taken.there; left = taken.left };
+        stands = record { running = refl; took = taken.took };
         at_sector = inr refl;
         few = omega (arith, taken.is_one);
-        wrote = rw add-one (added ∙ ap Some (append_assoc before _ (sector_of p.segment p.key image p.count)));
+        wrote = rw add-one
+            (adds-more b w w' (joined (sector_of p.segment p.key image) p.count)
+            (sector_of p.segment p.key image p.count) so_far.wrote step.1);
       }
 
   -- the payload came to its stated end
   ended : (answer : Result Step VolumeFault) → Ends image p.segment p.count answer l' → w' ≡ w
       → (message_at_end answer ≡ message_at_end (ending_of p.segment image))
-      × (l' ≡ Some (drop (payload_end_of p.segment image) image)) × (w' ≡ Some (before ++ plain_of p.segment p.key image))
+      × Took image l' (payload_end_of p.segment image) × Adds b w' (plain_of p.segment p.key image)
   ended answer end same =
-      (ap message_at_end end.as_stated, end.left, same ∙ so_far.wrote ∙ ap (λ n. Some (before ++ joined (sector_of p.segment p.key image) n)) end.all)
+      (ap message_at_end end.as_stated, end.took, rw (same, ← end.all) so_far.wrote)
 
-  pub passing_ends : Steps p.segment p.key p.count (position p) image (Ok End) l' w w' → w' ≡ w → PassesPayload p.segment p.key image before l' w' Done
+  pub passing_ends : Steps p.segment p.key p.count (position p) image (Ok End) l' w w' → w' ≡ w
+      → PassesPayload p.segment p.key image l' b w' Done
   passing_ends step same = ended (Ok End) step same
 
   -- a read failed within the next sector
-  lost : Steps p.segment p.key p.count (position p) image (Err Read) l' w w' → w' ≡ w → PassesPayload p.segment p.key image before l' w' (message_for_payload Read)
+  lost : Steps p.segment p.key p.count (position p) image (Err Read) l' w w' → w' ≡ w
+      → PassesPayload p.segment p.key image l' b w' (message_for_payload Read)
   lost step same =
       let z = sector_blocks p.segment.sector_size in
       let place = step.0 in
-      let more : (p.count + 1) * sector_len p.segment ≡ p.count * sector_len p.segment + sector_len p.segment = omega arith in
+      let more : (p.count + 1) * sector_len p.segment
+      ≡ p.count * sector_len p.segment + sector_len p.segment = omega arith in
       let first : p.count * sector_len p.segment ≤ place - p.segment.offset = elim so_far.at_sector [
         | inl none ↦ rw none (omega arith)
         | inr is ↦ let from : sector_start p.segment p.count ≤ place = rw is at step.1 in omega arith
       ] in
-      let row : (place - p.segment.offset) / sector_len p.segment ≡ p.count = div-eq_of_lt-le (sector_len p.segment) (omega arith) (omega (arith, step.2, z.long)) in (
+      let row : (place - p.segment.offset) / sector_len p.segment
+      ≡ p.count = div-eq_of_lt-le (sector_len p.segment) (omega arith) (omega (arith, step.2, z.long)) in
+      let whole = take_whole (sector_of p.segment p.key image) (sector_len p.segment) (sectors_of p.segment image)
+      p.count (sector_size p.segment image p.key) so_far.few in (
         place,
         p.count,
         sym row,
         so_far.few,
+        omega (arith, step.2),
         step.3,
-        step.4,
-        same ∙ so_far.wrote
-            ∙ ap (λ bytes. Some (before ++ bytes)) (sym (take_whole (sector_of p.segment p.key image) (sector_len p.segment) (sectors_of p.segment image) p.count (sector_size p.segment image p.key) so_far.few)),
+        rw (same, whole) so_far.wrote,
       )
 
   -- a write failed within it
-  unwritten : Steps p.segment p.key p.count (position p) image (Err Write) l' w w' → PassesPayload p.segment p.key image before l' w' (message_for_payload Write)
+  unwritten : Steps p.segment p.key p.count (position p) image (Err Write) l' w w'
+      → PassesPayload p.segment p.key image l' b w' (message_for_payload Write)
   unwritten step =
       let taken = step.0 in
       let written = step.1 in
       let few = written.1 in
-      let added = written.2 (before ++ joined (sector_of p.segment p.key image) p.count) so_far.wrote in (
+      let part = take_joined (sector_of p.segment p.key image) (sector_len p.segment) (sectors_of p.segment image)
+      p.count written.0 (sector_size p.segment image p.key) taken.is_one (omega arith) in (
         p.count,
         written.0,
         taken.is_one,
         few,
         sector_before_end p.segment image p.count taken.is_one,
-        taken.left,
-        added ∙ ap Some (append_assoc before _ (take written.0 (sector_of p.segment p.key image p.count)))
-            ∙ ap (λ bytes. Some (before ++ bytes))
-            (sym (take_joined (sector_of p.segment p.key image) (sector_len p.segment) (sectors_of p.segment image) p.count written.0 (sector_size p.segment image p.key) taken.is_one (omega arith))),
+        taken.took,
+        rw part (adds-more b w w' (joined (sector_of p.segment p.key image) p.count)
+            (take written.0 (sector_of p.segment p.key image p.count)) so_far.wrote written.2),
       )
 
   -- a step was not made
   pub passing_breaks : (fault : VolumeFault) (Same : Type 0) → (Same → w' ≡ w) → WritesSectors (Err fault) Same
-      → Steps p.segment p.key p.count (position p) image (Err fault) l' w w' → PassesPayload p.segment p.key image before l' w' (message_for_payload fault)
+      → Steps p.segment p.key p.count (position p) image (Err fault) l' w w'
+      → PassesPayload p.segment p.key image l' b w' (message_for_payload fault)
   passing_breaks IsCutBefore Same same is step = ended (Err IsCutBefore) step (same is)
   passing_breaks (HasTail bytes) Same same is step = ended (Err (HasTail bytes)) step (same is)
   passing_breaks (IsShort bytes) Same same is step = ended (Err (IsShort bytes)) step (same is)
@@ -215,14 +236,16 @@ module _ (p : Pumped) (image before : List ℕ) (l w l' w' : Option (List ℕ)) 
 
 -- ---- counts of failures
 
-pub reads_are : (fault : VolumeFault) (n : ℕ) → volume_reads {T = Step} (Err fault) n ≡ count_reads (message_for_payload fault) n
+pub reads_are : (fault : VolumeFault) (n : ℕ)
+    → counted (is_lost {T = Step} (Err fault)) n ≡ counted (is_failed_read (message_for_payload fault)) n
 reads_are IsCutBefore n = refl
 reads_are (HasTail bytes) n = refl
 reads_are (IsShort bytes) n = refl
 reads_are Read n = refl
 reads_are Write n = refl
 
-pub writes_are : (fault : VolumeFault) (n : ℕ) → volume_writes {T = Step} (Err fault) n ≡ count_writes (message_for_payload fault) n
+pub writes_are : (fault : VolumeFault) (n : ℕ)
+    → counted (is_unwritten {T = Step} (Err fault)) n ≡ counted (is_failed_write (message_for_payload fault)) n
 writes_are IsCutBefore n = refl
 writes_are (HasTail bytes) n = refl
 writes_are (IsShort bytes) n = refl

@@ -1,5 +1,6 @@
 -- Finding the volume of an image.
-use Rattle.std.proofs.Common.{◌≡◌, ℕ, ◌⊎◌, inl, inr, List, Option, Some, Ok, Err, refl, drop, arith}
+use Rattle.std.proofs.Common.{◌≡◌, ℕ, ◌⊎◌, inl, inr, List, Option, Some, Ok, Err, false, refl, drop, arith}
+use Rattle.std.specs.Prelude.{is_err}
 use Rattle.luks_header.specs.Header.{StopsReading, cost_of, header_of}
 use Rattle.luks_header.specs.Segment.{segment_of}
 use Rattle.luks_header.specs.declared.header.Header.{Header}
@@ -12,7 +13,9 @@ use Rattle.luks_open.specs.declared.fault.OpenFault.{OpenFault}
 use Rattle.luks_open.specs.declared.fault.OpenFault.TheVariants.{NoSuchSlot as NotThere, Disabled, NamedSkipped, NothingTried as NoneTried, NoKey as NoneOpens, Memory}
 use Rattle.luks_report.specs.Faults.{message_for_header}
 use Rattle.luks_command.specs.Request.{OpeningRequest}
-use Rattle.luks_cli.specs.Volume.{StopsFinding, volume_of}
+use Rattle.luks_cli.proofs.HeaderTaking.{took_header, took_some}
+use Rattle.luks_cli.specs.VolumeParts.{StopsFinding}
+use Rattle.luks_cli.specs.Volume.{volume_of}
 use Rattle.luks_report.specs.Faults.{message_for_opening}
 use Rattle.luks_report.specs.declared.message.Message.TheVariants.{SegmentRefused}
 
@@ -21,38 +24,53 @@ module _ (o : OpeningRequest) (image : List ℕ) (left : Option (List ℕ)) wher
   unfolding volume_of
   no_header fault none = rw none refl
 
-  pub stops_without_header : (fault : HeaderFault) → StopsReading image left fault → StopsFinding o image left (message_for_header fault)
-  stops_without_header NoLuks stop = (no_header NoLuks stop.0, stop.1)
-  stops_without_header IsCut stop = (no_header IsCut stop.0, stop.1)
-  stops_without_header NoJson stop = (no_header NoJson stop.0, stop.1)
-  stops_without_header LostRead stop = stop
-  stops_without_header NoMemory stop = stop
+  pub stops_without_header : (fault : HeaderFault) → StopsReading image left fault
+      → StopsFinding o image left (message_for_header fault)
+  stops_without_header NoLuks stop = (no_header NoLuks stop.0, took_header image left stop.1)
+  stops_without_header IsCut stop = (no_header IsCut stop.0, took_header image left stop.1)
+  stops_without_header NoJson stop = (no_header NoJson stop.0, took_header image left stop.1)
+  stops_without_header LostRead stop = took_some image left stop
+  stops_without_header NoMemory stop = took_some image left stop
 
   module _ (header : Header) (found : header_of image ≡ Ok header) where
     no_segment : (fault : SegmentFault) → segment_of header ≡ Err fault → volume_of o image ≡ Err (SegmentRefused fault)
     unfolding volume_of
     no_segment fault none = rw (found, none) refl
 
-    no_order : (segment : Segment) (fault : OpenFault) → segment_of header ≡ Ok segment → order_of header o.key_slot o.max_iterations ≡ Err fault
+    no_order : (segment : Segment) (fault : OpenFault) → segment_of header ≡ Ok segment
+        → order_of header o.key_slot o.max_iterations ≡ Err fault
         → volume_of o image ≡ Err (message_for_opening o.key_slot fault)
     unfolding volume_of
     no_order segment fault is none = rw (found, is, none) refl
 
-    pub volume_is : (segment : Segment) (tries : Tries) → segment_of header ≡ Ok segment → order_of header o.key_slot o.max_iterations ≡ Ok tries
+    pub volume_is : (segment : Segment) (tries : Tries) → segment_of header ≡ Ok segment
+        → order_of header o.key_slot o.max_iterations ≡ Ok tries
         → volume_of o image ≡ Ok (record { header = header; segment = segment; tries = tries })
     unfolding volume_of
     volume_is segment tries is ordered = rw (found, is, ordered) refl
 
+    pub volume_found : (segment : Segment) (tries : Tries) → segment_of header ≡ Ok segment
+        → order_of header o.key_slot o.max_iterations ≡ Ok tries
+        → is_err (volume_of o image) ≡ false
+    volume_found segment tries is ordered = rw (volume_is segment tries is ordered) refl
+
     module _ (rest : left ≡ Some (drop (cost_of image) image)) where
-      pub stops_without_segment : (fault : SegmentFault) → segment_of header ≡ Err fault → StopsFinding o image left (SegmentRefused fault)
-      stops_without_segment fault none = (no_segment fault none, rest)
+      pub stops_without_segment : (fault : SegmentFault) → segment_of header ≡ Err fault
+          → StopsFinding o image left (SegmentRefused fault)
+      stops_without_segment fault none = (no_segment fault none, took_header image left rest)
 
       pub stops_without_order : (segment : Segment) (fault : OpenFault) → segment_of header ≡ Ok segment
-          → (fault ≡ Memory) ⊎ (order_of header o.key_slot o.max_iterations ≡ Err fault) → StopsFinding o image left (message_for_opening o.key_slot fault)
-      stops_without_order segment Memory is why = (cost_of image, omega arith, rest)
-      stops_without_order segment NotThere is (inr why) = (no_order segment NotThere is why, rest)
-      stops_without_order segment Disabled is (inr why) = (no_order segment Disabled is why, rest)
-      stops_without_order segment (NamedSkipped reason) is (inr why) = (no_order segment (NamedSkipped reason) is why, rest)
-      stops_without_order segment (NoneTried skipped) is (inr why) = (no_order segment (NoneTried skipped) is why, rest)
-      stops_without_order segment (NoneOpens skipped) is (inr why) = (no_order segment (NoneOpens skipped) is why, rest)
+          → (fault ≡ Memory) ⊎ (order_of header o.key_slot o.max_iterations ≡ Err fault)
+          → StopsFinding o image left (message_for_opening o.key_slot fault)
+      stops_without_order segment Memory is why = (cost_of image, omega arith, took_header image left rest)
+      stops_without_order segment NotThere is (inr why) =
+          (no_order segment NotThere is why, took_header image left rest)
+      stops_without_order segment Disabled is (inr why) =
+          (no_order segment Disabled is why, took_header image left rest)
+      stops_without_order segment (NamedSkipped reason) is (inr why) =
+          (no_order segment (NamedSkipped reason) is why, took_header image left rest)
+      stops_without_order segment (NoneTried skipped) is (inr why) =
+          (no_order segment (NoneTried skipped) is why, took_header image left rest)
+      stops_without_order segment (NoneOpens skipped) is (inr why) =
+          (no_order segment (NoneOpens skipped) is why, took_header image left rest)
       stops_without_order segment _ is (inl memory) = cc

@@ -1,8 +1,8 @@
 -- How the commands on volumes end before their volume is opened.
-use Rattle.std.proofs.Common.{◌≡◌, ℕ, ◌+◌, ◌-◌, ◌*◌, ◌<◌, ◌≤◌, inl, inr, List, [], ◌++◌, Option, Some, Result, Ok, Err, ◌∙◌, ap, sym, refl, take, drop, length, length-drop, length-take-le, append-nil, max, min, arith, true, false}
+use Rattle.std.proofs.Common.{◌≡◌, ℕ, ◌+◌, ◌-◌, ◌<◌, ◌≤◌, inl, inr, List, ◌++◌, Option, Some, Result, Ok, Err, ◌∙◌, ap, sym, refl, take, drop, length, length-drop, length-take-le, max, min, arith, true, false}
 use Rattle.std.proofs.lemmas.Bool.{cases_lt}
 use Rattle.std.proofs.lemmas.Bool.Decides.{nat_tests}
-use Rattle.std.proofs.lemmas.List.{drop-drop, drop_all}
+use Rattle.std.proofs.lemmas.List.{drop-drop}
 use Rattle.std.proofs.Math.Nat.{zero-div}
 use Rattle.std.proofs.Math.Seq.{take-add}
 use Rattle.std.specs.Prelude.{◌≢◌, nat_lt}
@@ -23,22 +23,24 @@ use Rattle.luks_open.specs.declared.opening.Opened.{Opened}
 use Rattle.luks_volume.specs.Plain.{sector_len}
 use Rattle.luks_cli.proofs.VolumeLemmas.{volume_is}
 use Rattle.luks_report.specs.Faults.{message_for_header}
-use Rattle.luks_cli.specs.Outcome.{Deed, Outcome, found_outcome, opened_outcome, outcome_after, unwritten, volume_outcome}
-use Rattle.luks_cli.specs.Payload.{cat_promptly}
+use Rattle.luks_cli.specs.Volume.{OnOpened, found_outcome, opened_outcome, outcome_after, volume_outcome}
+use Rattle.luks_cli.specs.Ending.{Outcome, unwritten}
+use Rattle.luks_cli.specs.VolumeParts.{cat_promptly}
 use Rattle.luks_command.specs.Request.{OpeningRequest}
-use Rattle.luks_cli.specs.Run.{BreaksOff, Bytes, IsBeginning, IsSilent, Runs}
-use Rattle.luks_cli.specs.Secret.{NoSecretRead}
-use Rattle.luks_cli.specs.Unlocking.{TakesHeld, Unlocks}
-use Rattle.luks_cli.specs.Volume.{HasSegment, StopsFinding, Volume, held_for, volume_of}
+use Rattle.luks_cli.specs.Run.{BreaksOff, IsBeginning, IsSilent, Runs}
+use Rattle.luks_io.proofs.Taking.{adds-none, took-none}
+use Rattle.luks_io.specs.Bytes.{Adds, Took}
+use Rattle.luks_cli.proofs.HeaderTaking.{cost_there, took_header}
+use Rattle.luks_cli.specs.VolumeParts.{NoSecretRead}
+use Rattle.luks_cli.specs.Volume.{longest_key_file}
+use Rattle.luks_cli.specs.VolumeParts.{TakesHeld, Unlocks}
+use Rattle.luks_cli.specs.VolumeParts.{HasSegment, StopsFinding}
+use Rattle.luks_cli.specs.Volume.{Volume, held_for, volume_of}
 use Rattle.luks_report.specs.Faults.{message_for_opening}
 use Rattle.luks_report.specs.declared.message.Message.{Message}
 use Rattle.luks_report.specs.declared.message.Message.TheVariants.{Cut, KeyFileLength, OutOfMemory, ReadFailed, WriteFailed}
 
 -- ---- how much of the image is taken for what is promised
-
-cost_there : (image : List ℕ) → cost_of image ≤ length image
-unfolding cost_of
-cost_there image = omega arith
 
 pub cost_most : (image : List ℕ) → cost_of image ≤ 592
 unfolding cost_of
@@ -59,7 +61,8 @@ prompt_in_header image WriteFailed a b few segment has = omega arith
 prompt_in_header image _ a b few segment has = tt
 
 -- nothing past the payload's start was taken
-prompt_before_payload : (image : List ℕ) (message : Message) (a b : ℕ) (segment : Segment) → HasSegment image segment → a ≤ segment.offset → cat_promptly image message a b 0
+prompt_before_payload : (image : List ℕ) (message : Message) (a b : ℕ) (segment : Segment) → HasSegment image segment
+    → a ≤ segment.offset → cat_promptly image message a b 0
 prompt_before_payload image ReadFailed a b segment has few other is = λ past.
     let same = same_segment image segment other has is in
     let none : a - other.offset ≡ 0 = rw same (omega arith) in
@@ -73,10 +76,11 @@ prompt_before_payload image _ a b segment has few other is = tt
 -- ---- runs without output
 
 -- a run that was broken off before any output
-early : (out : Outcome) (before : Bytes) (message : Message) (i s w : Option (List ℕ)) (a b : ℕ) → IsSilent message 0 → IsBeginning message 0 (length out.output) → cat_promptly before.image message a b 0
-    → a ≤ out.image_taken → b ≤ out.secret_taken → i ≡ Some (drop a before.image) → s ≡ Some (drop b before.secret) → w ≡ Some before.written
-    → BreaksOff (cat_promptly before.image) out before message i s w
-early out before message i s w a b silent begins prompt few little image secret was = record {
+early : (out : Outcome) (image pass : List ℕ) (message : Message) (i s w : Option (List ℕ)) (a b : ℕ)
+    → IsSilent message 0 → IsBeginning message 0 (length out.output) → cat_promptly image message a b 0
+    → a ≤ out.image_taken → b ≤ out.secret_taken → Took image i a → Took pass s b
+    → BreaksOff (cat_promptly image) out message (Took image i) (Took pass s) (Adds w w)
+early out image pass message i s w a b silent begins prompt few little took_image took_pass = record {
   image_taken = a;
   secret_taken = b;
   output_len = 0;
@@ -85,18 +89,23 @@ early out before message i s w a b silent begins prompt few little image secret 
   output_within = begins;
   is_silent = silent;
   is_prompt = prompt;
-  left = record { image = image; secret = secret; written = was ∙ ap Some (sym (append-nil before.written)) };
+  image = took_image;
+  secret = took_pass;
+  output = adds-none w;
 }
 
 -- a run whose outcome has no output, whatever it tells but for a failed write
-ends_unwritten : (before : Bytes) (message : Message) (i s w : Option (List ℕ)) (a b : ℕ) → message ≢ WriteFailed → cat_promptly before.image message a b 0
-    → i ≡ Some (drop a before.image) → s ≡ Some (drop b before.secret) → w ≡ Some before.written
-    → Runs (cat_promptly before.image) (unwritten message a b) before message i s w
-ends_unwritten before OutOfMemory i s w a b other prompt image secret was = early _ before OutOfMemory i s w a b refl (omega arith) prompt (omega arith) (omega arith) image secret was
-ends_unwritten before ReadFailed i s w a b other prompt image secret was = early _ before ReadFailed i s w a b tt (omega arith) prompt (omega arith) (omega arith) image secret was
-ends_unwritten before WriteFailed i s w a b other prompt image secret was = absurd (other refl)
-ends_unwritten before _ i s w a b other prompt image secret was =
-    record { told = refl; left = record { image = image; secret = secret; written = was ∙ ap Some (sym (append-nil before.written)) } }
+ends_unwritten : (image pass : List ℕ) (message : Message) (i s w : Option (List ℕ)) (a b : ℕ) → message ≢ WriteFailed
+    → cat_promptly image message a b 0
+    → Took image i a → Took pass s b
+    → Runs (cat_promptly image) (unwritten message a b) message (Took image i) (Took pass s) (Adds w w)
+ends_unwritten image pass OutOfMemory i s w a b other prompt ti ts =
+    early _ image pass OutOfMemory i s w a b refl (omega arith) prompt (omega arith) (omega arith) ti ts
+ends_unwritten image pass ReadFailed i s w a b other prompt ti ts =
+    early _ image pass ReadFailed i s w a b tt (omega arith) prompt (omega arith) (omega arith) ti ts
+ends_unwritten image pass WriteFailed i s w a b other prompt ti ts = absurd (other refl)
+ends_unwritten image pass _ i s w a b other prompt ti ts =
+    record { as_stated = refl; image = ti; secret = ts; output = adds-none w }
 
 -- of key slots no failed write is told
 no_write_told : (named : Option ℕ) (fault : OpenFault) → message_for_opening named fault ≢ WriteFailed
@@ -109,36 +118,41 @@ no_write_told named Memory h = cc
 
 -- ---- the outcome of a volume that was found
 
-module _ (deed : Deed) (named : Option ℕ) (v : Volume) (image secret : List ℕ) where
-  found_long : 8388608 < length secret → found_outcome deed named v image secret ≡ unwritten KeyFileLength (cost_of image) 8388609
+module _ (on_opened : OnOpened) (named : Option ℕ) (v : Volume) (image secret : List ℕ) where
+  found_long : longest_key_file < length secret
+      → found_outcome on_opened named v image secret ≡ unwritten KeyFileLength (cost_of image) (longest_key_file + 1)
   unfolding found_outcome
-  found_long long = let yes : nat_lt 8388608 (length secret) ≡ true = grind (arith, nat_tests) in rw yes refl
+  found_long long = let yes : nat_lt longest_key_file (length secret) ≡ true = grind (arith, nat_tests) in rw yes refl
 
-  found_cut : length secret ≤ 8388608 → length image < held_of v.tries.slots → found_outcome deed named v image secret ≡ unwritten Cut (length image) (length secret)
+  found_cut : length secret ≤ longest_key_file → length image < held_of v.tries.slots
+      → found_outcome on_opened named v image secret ≡ unwritten Cut (length image) (length secret)
   unfolding found_outcome
   found_cut short few =
-      let no : nat_lt 8388608 (length secret) ≡ false = grind (arith, nat_tests) in
+      let no : nat_lt longest_key_file (length secret) ≡ false = grind (arith, nat_tests) in
       let yes : nat_lt (length image) (held_of v.tries.slots) ≡ true = grind (arith, nat_tests) in
       rw (no, yes) refl
 
-  found_whole : length secret ≤ 8388608 → held_of v.tries.slots ≤ length image
-      → found_outcome deed named v image secret ≡ opened_outcome deed named v image secret (opening_of v.tries image secret)
+  found_whole : length secret ≤ longest_key_file → held_of v.tries.slots ≤ length image
+      → found_outcome on_opened named v image secret
+      ≡ opened_outcome on_opened named v image secret (opening_of v.tries image secret)
   unfolding found_outcome
   found_whole short enough =
-      let no : nat_lt 8388608 (length secret) ≡ false = grind (arith, nat_tests) in
+      let no : nat_lt longest_key_file (length secret) ≡ false = grind (arith, nat_tests) in
       let none : nat_lt (length image) (held_of v.tries.slots) ≡ false = grind (arith, nat_tests) in
       rw (no, none) refl
 
-  module _ (takes : TakesHeld secret deed) where
+  module _ (takes : TakesHeld secret on_opened) where
     opened_within : (r : Result Opened OpenFault)
-        → (held_for image v ≤ (opened_outcome deed named v image secret r).image_taken) × (length secret ≤ (opened_outcome deed named v image secret r).secret_taken)
+        → (held_for image v ≤ (opened_outcome on_opened named v image secret r).image_taken)
+        × (length secret ≤ (opened_outcome on_opened named v image secret r).secret_taken)
     opened_within (Ok opened) =
         (takes.held v.segment opened (held_for image v), omega (arith, takes.whole v.segment opened (held_for image v)))
     opened_within (Err fault) = (omega arith, omega arith)
 
     -- a key file that is not too long is taken whole, and the image as far as it is held
-    area_within : length secret ≤ 8388608
-        → (min (length image) (held_for image v) ≤ (found_outcome deed named v image secret).image_taken) × (length secret ≤ (found_outcome deed named v image secret).secret_taken)
+    area_within : length secret ≤ longest_key_file
+        → (min (length image) (held_for image v) ≤ (found_outcome on_opened named v image secret).image_taken)
+        × (length secret ≤ (found_outcome on_opened named v image secret).secret_taken)
     area_within short = elim (cases_lt (length image) (held_of v.tries.slots)) [
       | inl few ↦ rw (found_cut short few) (omega arith, omega arith)
       | inr enough ↦
@@ -147,9 +161,9 @@ module _ (deed : Deed) (named : Option ℕ) (v : Volume) (image secret : List �
     ]
 
     -- the header is taken, and of the key file as much as is read at most
-    found_within : (cost_of image ≤ (found_outcome deed named v image secret).image_taken)
-        × (min (length secret) 8388609 ≤ (found_outcome deed named v image secret).secret_taken)
-    found_within = elim (cases_lt 8388608 (length secret)) [
+    found_within : (cost_of image ≤ (found_outcome on_opened named v image secret).image_taken)
+        × (min (length secret) (longest_key_file + 1) ≤ (found_outcome on_opened named v image secret).secret_taken)
+    found_within = elim (cases_lt longest_key_file (length secret)) [
       | inl long ↦ rw (found_long long) (omega arith, omega arith)
       | inr short ↦
           let all = area_within short in
@@ -164,173 +178,214 @@ module _ (image area area' : List ℕ) (i : Option (List ℕ)) (held : ℕ) (fro
 
   -- so many bytes more are held
   area_more : (n : ℕ) → Grows area area' (drop (cost_of image) image) i n
-      → (cost_of image + n ≤ length image) × (area' ≡ take (cost_of image + n) image) × (i ≡ Some (drop (cost_of image + n) image))
+      → (area' ≡ take (cost_of image + n) image) × Took image i (cost_of image + n)
   area_more n grows = (
-    omega (arith, grows.there, length-drop (cost_of image) image, cost_there image),
     grows.holds ∙ ap (λ l. l ++ take n (drop (cost_of image) image)) front ∙ sym (take-add (cost_of image) n image),
-    grows.leaves ∙ ap Some (drop-drop n (cost_of image) image),
+    record {
+      within = omega (arith, grows.there, length-drop (cost_of image) image, cost_there image);
+      left = grows.leaves ∙ ap Some (drop-drop n (cost_of image) image);
+    },
   )
 
-  module _ (grows : Grows area area' (drop (cost_of image) image) i (min (held - length area) (length (drop (cost_of image) image)))) where
+  module _ (grows : Grows area area' (drop (cost_of image) image) i
+      (min (held - length area) (length (drop (cost_of image) image)))) where
     reached : ℕ
     reached = cost_of image + min (held - length area) (length (drop (cost_of image) image))
 
     grown : (length area' ≡ reached) × (reached ≡ max (cost_of image) (min held (length image)))
     unfolding reached
     grown =
-        let more = area_more _ grows in
-        (ap length more.1 ∙ length-take-le _ image more.0, omega (arith, front_len, length-drop (cost_of image) image, cost_there image))
+        let more = area_more _ grows in (
+          ap length more.0
+              ∙ length-take-le _ image more.1.within,
+          omega (arith, front_len, length-drop (cost_of image) image, cost_there image),
+        )
 
     -- the image ended before the area was held
-    pub area_cut : length area' < held → (length image < held) × (i ≡ Some (drop (length image) image))
+    pub area_cut : length area' < held → (length image < held) × Took image i (length image)
     unfolding reached
     area_cut short =
         let more = area_more _ grows in
         let all : reached ≡ length image = omega (arith, grown.0, grown.1, cost_there image) in
-        (omega (arith, grown.0, grown.1, cost_there image), rw all at more.2)
+        (omega (arith, grown.0, grown.1, cost_there image), rw all at more.1)
 
     -- the area is held
     pub area_held : held ≤ length area' → (held ≤ length image) × (length area' ≡ max (cost_of image) held)
-        × (area' ≡ take (max (cost_of image) held) image) × (i ≡ Some (drop (max (cost_of image) held) image))
+        × (area' ≡ take (max (cost_of image) held) image) × Took image i (max (cost_of image) held)
     unfolding reached
     area_held enough =
         let more = area_more _ grows in
-        let there : held ≤ length image = omega (arith, grown.0, grown.1, cost_there image, more.0) in
+        let there : held ≤ length image = omega (arith, grown.0, grown.1, cost_there image, more.1.within) in
         let all : reached ≡ max (cost_of image) held = omega (arith, grown.1) in
-        (there, grown.0 ∙ all, rw all at more.1, rw all at more.2)
+        (there, grown.0 ∙ all, rw all at more.0, rw all at more.1)
 
 -- ---- runs that open no volume
 
-module _ (o : OpeningRequest) (before : Bytes) (i s w : Option (List ℕ)) where
-  outcome_is : (deed : Deed) (r : Result Volume Message) → volume_of o before.image ≡ r
-      → volume_outcome deed o before.image before.secret ≡ outcome_after deed o.key_slot before.image before.secret r
+module _ (o : OpeningRequest) (image pass : List ℕ) (i s w : Option (List ℕ)) where
+  outcome_is : (on_opened : OnOpened) (r : Result Volume Message) → volume_of o image ≡ r
+      → volume_outcome on_opened o image pass ≡ outcome_after on_opened o.key_slot image pass r
   unfolding volume_outcome
-  outcome_is deed r is = rw is refl
+  outcome_is on_opened r is = rw is refl
 
-  module _ (deed : Deed) (was : w ≡ Some before.written) (takes : TakesHeld before.secret deed) where
-    cost_taken : cost_of before.image ≤ (volume_outcome deed o before.image before.secret).image_taken
+  module _ (on_opened : OnOpened) (takes : TakesHeld pass on_opened) where
+    cost_taken : cost_of image ≤ (volume_outcome on_opened o image pass).image_taken
     unfolding volume_outcome
-    cost_taken = after (volume_of o before.image)
+    cost_taken = after (volume_of o image)
       where
-        after : (r : Result Volume Message) → cost_of before.image ≤ (outcome_after deed o.key_slot before.image before.secret r).image_taken
-        after (Ok v) = (found_within deed o.key_slot v before.image before.secret takes).0
+        after : (r : Result Volume Message)
+            → cost_of image ≤ (outcome_after on_opened o.key_slot image pass r).image_taken
+        after (Ok v) = (found_within on_opened o.key_slot v image pass takes).0
         after (Err message) = omega arith
 
     -- there was no volume, or its header was not read
-    pub runs_without_volume : (message : Message) → message ≢ WriteFailed → StopsFinding o before.image i message → s ≡ Some before.secret
-        → Runs (cat_promptly before.image) (volume_outcome deed o before.image before.secret) before message i s w
+    pub runs_without_volume : (message : Message) → message ≢ WriteFailed → StopsFinding o image i message
+        → s ≡ Some pass
+        → Runs (cat_promptly image) (volume_outcome on_opened o image pass) message (Took image i) (Took pass s)
+        (Adds w w)
     runs_without_volume OutOfMemory other stop whole =
-        early _ before OutOfMemory i s w stop.0 0 refl (omega arith) (prompt_in_header before.image OutOfMemory stop.0 0 stop.1) (omega (arith, stop.1, cost_taken)) (omega arith) stop.2 whole was
+        early _ image pass OutOfMemory i s w stop.0 0 refl (omega arith)
+        (prompt_in_header image OutOfMemory stop.0 0 stop.1) (omega (arith, stop.1, cost_taken)) (omega arith)
+        stop.2 (took-none pass s whole)
     runs_without_volume ReadFailed other stop whole =
-        early _ before ReadFailed i s w stop.0 0 tt (omega arith) (prompt_in_header before.image ReadFailed stop.0 0 stop.1) (omega (arith, stop.1, cost_taken)) (omega arith) stop.2 whole was
+        early _ image pass ReadFailed i s w stop.0 0 tt (omega arith)
+        (prompt_in_header image ReadFailed stop.0 0 stop.1) (omega (arith, stop.1, cost_taken)) (omega arith)
+        stop.2 (took-none pass s whole)
     runs_without_volume WriteFailed other stop whole = absurd (other refl)
     runs_without_volume message other stop whole =
-        rw (outcome_is deed (Err message) stop.0)
-        (ends_unwritten before message i s w (cost_of before.image) 0 other (prompt_in_header before.image message (cost_of before.image) 0 (omega arith)) stop.1 whole was)
+        rw (outcome_is on_opened (Err message) stop.0)
+        (ends_unwritten image pass message i s w (cost_of image) 0 other
+        (prompt_in_header image message (cost_of image) 0 (omega arith)) stop.1 (took-none pass s whole))
 
   -- the header names this segment and these key slots to be tried
-  module _ (header : Header) (segment : Segment) (tries : Tries) (found : header_of before.image ≡ Ok header) (is_segment : segment_of header ≡ Ok segment)
+  module _ (header : Header) (segment : Segment) (tries : Tries) (found : header_of image ≡ Ok header)
+      (is_segment : segment_of header ≡ Ok segment)
       (ordered : order_of header o.key_slot o.max_iterations ≡ Ok tries) where
     volume : Volume
     volume = record { header = header; segment = segment; tries = tries }
 
-    outcome_found : (deed : Deed) → volume_outcome deed o before.image before.secret ≡ found_outcome deed o.key_slot volume before.image before.secret
+    outcome_found : (on_opened : OnOpened)
+        → volume_outcome on_opened o image pass ≡ found_outcome on_opened o.key_slot volume image pass
     unfolding volume
-    outcome_found deed = outcome_is deed (Ok volume) (volume_is o before.image i header found segment tries is_segment ordered)
+    outcome_found on_opened =
+        outcome_is on_opened (Ok volume) (volume_is o image i header found segment tries is_segment ordered)
 
-    held_before : held_for before.image volume ≤ segment.offset
+    held_before : held_for image volume ≤ segment.offset
     unfolding volume
     held_before =
-        omega (arith, cost_most before.image, behind_header header segment is_segment, held_before_payload header segment o.key_slot o.max_iterations tries is_segment ordered)
+        omega (
+          arith,
+          cost_most image,
+          behind_header header segment is_segment,
+          held_before_payload header segment o.key_slot o.max_iterations tries is_segment ordered,
+        )
 
     -- the key file was not read
-    pub runs_without_secret : (deed : Deed) (was : w ≡ Some before.written) (takes : TakesHeld before.secret deed) (message : Message) → NoSecretRead before.secret s message
-        → i ≡ Some (drop (cost_of before.image) before.image)
-        → Runs (cat_promptly before.image) (volume_outcome deed o before.image before.secret) before message i s w
-    runs_without_secret deed was takes KeyFileLength stop rest =
-        rw (outcome_found deed, found_long deed o.key_slot volume before.image before.secret stop.0)
-        (ends_unwritten before KeyFileLength i s w (cost_of before.image) 8388609 (λ h. cc) (λ segment has. tt) rest stop.1 was)
-    runs_without_secret deed was takes OutOfMemory stop rest =
-        let within = found_within deed o.key_slot volume before.image before.secret takes in
-        rw (outcome_found deed)
-        (early _ before OutOfMemory i s w (cost_of before.image) stop.0 refl (omega arith) (λ segment has. tt) within.0 (omega (arith, stop.1, within.1)) rest stop.2 was)
-    runs_without_secret deed was takes ReadFailed stop rest =
-        let within = found_within deed o.key_slot volume before.image before.secret takes in
-        rw (outcome_found deed)
-        (early _ before ReadFailed i s w (cost_of before.image) stop.0 tt (omega arith) (prompt_in_header before.image ReadFailed (cost_of before.image) stop.0 (omega arith)) within.0
-        (omega (arith, stop.1, within.1)) rest stop.2 was)
-    runs_without_secret deed was takes _ stop rest = absurd stop
+    pub runs_without_secret : (on_opened : OnOpened) (takes : TakesHeld pass on_opened) (message : Message)
+        → NoSecretRead pass s message
+        → Took image i (cost_of image)
+        → Runs (cat_promptly image) (volume_outcome on_opened o image pass) message (Took image i) (Took pass s)
+        (Adds w w)
+    runs_without_secret on_opened takes KeyFileLength stop rest =
+        rw (outcome_found on_opened, found_long on_opened o.key_slot volume image pass stop.0)
+        (ends_unwritten image pass KeyFileLength i s w (cost_of image) (longest_key_file + 1) (λ h. cc)
+        (λ segment has. tt) rest stop.1)
+    runs_without_secret on_opened takes OutOfMemory stop rest =
+        let within = found_within on_opened o.key_slot volume image pass takes in
+        rw (outcome_found on_opened)
+        (early _ image pass OutOfMemory i s w (cost_of image) stop.0 refl (omega arith) (λ segment has. tt) within.0
+        (omega (arith, stop.1, within.1)) rest stop.2)
+    runs_without_secret on_opened takes ReadFailed stop rest =
+        let within = found_within on_opened o.key_slot volume image pass takes in
+        rw (outcome_found on_opened)
+        (early _ image pass ReadFailed i s w (cost_of image) stop.0 tt (omega arith)
+        (prompt_in_header image ReadFailed (cost_of image) stop.0 (omega arith)) within.0
+        (omega (arith, stop.1, within.1)) rest stop.2)
+    runs_without_secret on_opened takes _ stop rest = absurd stop
 
     -- the key file was read
-    module _ (short : length before.secret ≤ 8388608) (gone : s ≡ Some []) (area area' : List ℕ) (front : area ≡ take (cost_of before.image) before.image) where
-      taken : s ≡ Some (drop (length before.secret) before.secret)
-      taken = gone ∙ ap Some (sym (drop_all (length before.secret) before.secret (omega arith)))
-
+    module _ (short : length pass ≤ longest_key_file) (gone : Took pass s (length pass)) (area area' : List ℕ)
+        (front : area ≡ take (cost_of image) image) where
       -- the key areas were not taken
-      pub runs_without_area : (deed : Deed) (was : w ≡ Some before.written) (takes : TakesHeld before.secret deed) (fault : HeaderFault)
-          → StopsGrowing (held_of tries.slots - length area) area area' (drop (cost_of before.image) before.image) i fault
-          → Runs (cat_promptly before.image) (volume_outcome deed o before.image before.secret) before (message_for_header fault) i s w
+      pub runs_without_area : (on_opened : OnOpened) (takes : TakesHeld pass on_opened) (fault : HeaderFault)
+          → StopsGrowing (held_of tries.slots - length area) area area' (drop (cost_of image) image) i fault
+          → Runs (cat_promptly image) (volume_outcome on_opened o image pass) (message_for_header fault) (Took image i)
+          (Took pass s) (Adds w w)
       unfolding volume
-      runs_without_area deed was takes LostRead stop =
-          let more = area_more before.image area area' i (held_of tries.slots) front stop.0 stop.2 in
-          let few : cost_of before.image + stop.0 ≤ held_for before.image volume = omega (arith, stop.1, front_len before.image area area' i (held_of tries.slots) front) in
-          let within = area_within deed o.key_slot volume before.image before.secret takes short in
-          rw (outcome_found deed)
-          (early _ before ReadFailed i s w (cost_of before.image + stop.0) (length before.secret) tt (omega arith)
-          (prompt_before_payload before.image ReadFailed (cost_of before.image + stop.0) (length before.secret) segment (header, found, is_segment) (omega (arith, few, held_before)))
-          (omega (arith, within.0, more.0, few)) within.1 more.2 taken was)
-      runs_without_area deed was takes NoMemory stop =
-          let within = found_within deed o.key_slot volume before.image before.secret takes in
-          let whole = area_within deed o.key_slot volume before.image before.secret takes short in
-          rw (outcome_found deed)
-          (early _ before OutOfMemory i s w (cost_of before.image) (length before.secret) refl (omega arith) (λ segment has. tt) within.0 whole.1 stop.leaves taken was)
-      runs_without_area deed was takes _ stop = absurd stop
+      runs_without_area on_opened takes LostRead stop =
+          let more = area_more image area area' i (held_of tries.slots) front stop.0 stop.2 in
+          let few : cost_of image + stop.0
+          ≤ held_for image volume =
+          omega (arith, stop.1, front_len image area area' i (held_of tries.slots) front) in
+          let within = area_within on_opened o.key_slot volume image pass takes short in
+          rw (outcome_found on_opened)
+          (early _ image pass ReadFailed i s w (cost_of image + stop.0) (length pass) tt (omega arith)
+          (prompt_before_payload image ReadFailed (cost_of image + stop.0) (length pass) segment
+          (header, found, is_segment) (omega (arith, few, held_before)))
+          (omega (arith, within.0, more.1.within, few)) within.1 more.1 gone)
+      runs_without_area on_opened takes NoMemory stop =
+          let within = found_within on_opened o.key_slot volume image pass takes in
+          let whole = area_within on_opened o.key_slot volume image pass takes short in
+          rw (outcome_found on_opened)
+          (early _ image pass OutOfMemory i s w (cost_of image) (length pass) refl (omega arith) (λ segment has. tt)
+          within.0 whole.1 (took_header image i stop.leaves) gone)
+      runs_without_area on_opened takes _ stop = absurd stop
 
-      module _ (grows : Grows area area' (drop (cost_of before.image) before.image) i (min (held_of tries.slots - length area) (length (drop (cost_of before.image) before.image)))) where
+      module _ (grows : Grows area area' (drop (cost_of image) image) i
+          (min (held_of tries.slots - length area) (length (drop (cost_of image) image)))) where
         -- the image ended within them
-        pub runs_cut : (deed : Deed) (was : w ≡ Some before.written) → length area' < held_of tries.slots
-            → Runs (cat_promptly before.image) (volume_outcome deed o before.image before.secret) before Cut i s w
+        pub runs_cut : (on_opened : OnOpened) → length area' < held_of tries.slots
+            → Runs (cat_promptly image) (volume_outcome on_opened o image pass) Cut (Took image i) (Took pass s)
+            (Adds w w)
         unfolding volume
-        runs_cut deed was few =
-            let cut = area_cut before.image area area' i (held_of tries.slots) front grows few in
-            rw (outcome_found deed, found_cut deed o.key_slot volume before.image before.secret short cut.0)
-            (ends_unwritten before Cut i s w (length before.image) (length before.secret) (λ h. cc) (λ segment has. tt) cut.1 taken was)
+        runs_cut on_opened few =
+            let cut = area_cut image area area' i (held_of tries.slots) front grows few in
+            rw (outcome_found on_opened, found_cut on_opened o.key_slot volume image pass short cut.0)
+            (ends_unwritten image pass Cut i s w (length image) (length pass) (λ h. cc) (λ segment has. tt) cut.1 gone)
 
-        module _ (enough : held_of tries.slots ≤ length area') (r : Result Opened OpenFault) (tried : opening_of tries area' before.secret ≡ r) where
-          outcome_tried : (deed : Deed) → volume_outcome deed o before.image before.secret ≡ opened_outcome deed o.key_slot volume before.image before.secret r
+        module _ (enough : held_of tries.slots ≤ length area') (r : Result Opened OpenFault)
+            (tried : opening_of tries area' pass ≡ r) where
+          outcome_tried : (on_opened : OnOpened)
+              → volume_outcome on_opened o image pass ≡ opened_outcome on_opened o.key_slot volume image pass r
           unfolding volume
-          outcome_tried deed =
-              let held = area_held before.image area area' i (held_of tries.slots) front grows enough in
-              let whole : opening_of tries before.image before.secret ≡ r =
-              sym (opening_beginning tries (max (cost_of before.image) (held_of tries.slots)) before.image before.secret (omega arith))
-              ∙ ap (λ l. opening_of tries l before.secret) (sym held.2) ∙ tried in
-              outcome_found deed ∙ found_whole deed o.key_slot volume before.image before.secret short held.0
-              ∙ ap (opened_outcome deed o.key_slot volume before.image before.secret) whole
+          outcome_tried on_opened =
+              let held = area_held image area area' i (held_of tries.slots) front grows enough in
+              let whole : opening_of tries image pass ≡ r =
+              sym (opening_beginning tries (max (cost_of image) (held_of tries.slots)) image pass (omega arith))
+              ∙ ap (λ l. opening_of tries l pass) (sym held.2) ∙ tried in
+              outcome_found on_opened ∙ found_whole on_opened o.key_slot volume image pass short held.0
+              ∙ ap (opened_outcome on_opened o.key_slot volume image pass) whole
 
       -- no key slot opens
-      pub runs_unopened : (grows : Grows area area' (drop (cost_of before.image) before.image) i (min (held_of tries.slots - length area) (length (drop (cost_of before.image) before.image))))
-          → (enough : held_of tries.slots ≤ length area') (fault : OpenFault) (tried : opening_of tries area' before.secret ≡ Err fault) (deed : Deed) (was : w ≡ Some before.written)
-          → Runs (cat_promptly before.image) (volume_outcome deed o before.image before.secret) before (message_for_opening o.key_slot fault) i s w
+      pub runs_unopened : (grows : Grows area area' (drop (cost_of image) image) i
+          (min (held_of tries.slots - length area) (length (drop (cost_of image) image))))
+          → (enough : held_of tries.slots ≤ length area') (fault : OpenFault)
+          (tried : opening_of tries area' pass ≡ Err fault) (on_opened : OnOpened)
+          → Runs (cat_promptly image) (volume_outcome on_opened o image pass) (message_for_opening o.key_slot fault)
+          (Took image i) (Took pass s) (Adds w w)
       unfolding volume
-      runs_unopened grows enough fault tried deed was =
-          let held = area_held before.image area area' i (held_of tries.slots) front grows enough in
-          rw (outcome_tried grows enough (Err fault) tried deed)
-          (ends_unwritten before (message_for_opening o.key_slot fault) i s w (held_for before.image volume) (length before.secret) (no_write_told o.key_slot fault)
-          (prompt_before_payload before.image (message_for_opening o.key_slot fault) (held_for before.image volume) (length before.secret) segment (header, found, is_segment) held_before)
-          held.3 taken was)
+      runs_unopened grows enough fault tried on_opened =
+          let held = area_held image area area' i (held_of tries.slots) front grows enough in
+          rw (outcome_tried grows enough (Err fault) tried on_opened)
+          (ends_unwritten image pass (message_for_opening o.key_slot fault) i s w (held_for image volume) (length pass)
+          (no_write_told o.key_slot fault)
+          (prompt_before_payload image (message_for_opening o.key_slot fault) (held_for image volume) (length pass)
+          segment (header, found, is_segment) held_before)
+          held.3 gone)
 
       -- a key slot opens
-      pub unlocks : (grows : Grows area area' (drop (cost_of before.image) before.image) i (min (held_of tries.slots - length area) (length (drop (cost_of before.image) before.image))))
-          → (enough : held_of tries.slots ≤ length area') (opened : Opened) (tried : opening_of tries area' before.secret ≡ Ok opened)
-          → Unlocks o before.image before.secret segment opened (length area') i s
+      pub unlocks : (grows : Grows area area' (drop (cost_of image) image) i
+          (min (held_of tries.slots - length area) (length (drop (cost_of image) image))))
+          → (enough : held_of tries.slots ≤ length area') (opened : Opened)
+          (tried : opening_of tries area' pass ≡ Ok opened)
+          → Unlocks o image pass segment opened (length area') i s
       unfolding volume
       unlocks grows enough opened tried =
-          let held = area_held before.image area area' i (held_of tries.slots) front grows enough in
+          let held = area_held image area area' i (held_of tries.slots) front grows enough in
           record {
-            outcome = λ deed. outcome_tried grows enough (Ok opened) tried deed ∙ ap (deed segment opened) (sym held.1);
+            outcome = λ on_opened. outcome_tried grows enough (Ok opened) tried on_opened
+                ∙ ap (on_opened segment opened) (sym held.1);
             has = (header, found, is_segment);
             cost = omega (arith, held.1);
-            there = omega (arith, held.0, held.1, cost_there before.image);
-            image_left = rw (← held.1) at held.3;
-            secret_left = gone;
+            image_taken = rw (← held.1) at held.3;
+            secret_taken = gone;
           }

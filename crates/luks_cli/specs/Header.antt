@@ -1,11 +1,13 @@
--- What the commands on headers answer.
+-- What the commands on headers come to.
 use Rattle.std.specs.Prelude.{ℕ, List, [], Result, Ok, Err}
+use Rattle.luks_header.specs.Header.{cost_of, header_of}
 use Rattle.luks_header.specs.declared.header.Header.{Header}
 use Rattle.luks_area.specs.declared.fault.HeaderFault.{HeaderFault}
 use Rattle.luks_area.specs.declared.fault.HeaderFault.TheVariants.{NotLuks}
 use Rattle.luks_report.specs.Faults.{message_for_header}
 use Rattle.luks_report.specs.declared.message.Message.{Message}
 use Rattle.luks_report.specs.declared.message.Message.TheVariants.{Done, No}
+use Rattle.luks_cli.specs.Ending.{Outcome, unwritten}
 
 -- what `isLuks` tells
 abbrev pub answer_to_is_luks : Result Header HeaderFault → Message
@@ -18,7 +20,20 @@ abbrev pub printed : (Header → List ℕ) → Result Header HeaderFault → Lis
 printed text (Ok header) = text header
 printed text (Err _) = []
 
--- what is told of a header that is to be printed
-abbrev pub told_of : Result Header HeaderFault → Message
-told_of (Ok _) = Done
-told_of (Err fault) = message_for_header fault
+-- the message of a command that prints a text of the header
+abbrev pub message_printing : Result Header HeaderFault → Message
+message_printing (Ok _) = Done
+message_printing (Err fault) = message_for_header fault
+
+-- `isLuks`: nothing is written
+unfoldable pub is_luks_outcome : List ℕ → Outcome
+is_luks_outcome image = unwritten (answer_to_is_luks (header_of image)) (cost_of image) 0
+
+-- a command that prints a text of the header
+unfoldable pub print_outcome : (Header → List ℕ) → List ℕ → Outcome
+print_outcome text image = record {
+  output = printed text (header_of image);
+  message = message_printing (header_of image);
+  image_taken = cost_of image;
+  secret_taken = 0;
+}

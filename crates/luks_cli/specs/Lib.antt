@@ -1,8 +1,9 @@
+pub mod Ending
 pub mod Header
+pub mod MayEnd
 pub mod Outcome
-pub mod Payload
 pub mod Run
-pub mod Secret
 pub mod Stripe
-pub mod Unlocking
+pub mod StripeParts
 pub mod Volume
+pub mod VolumeParts

@@ -1,32 +1,17 @@
--- What a run leaves in its devices: the image, the secret and the output.
-use Rattle.std.specs.Prelude.{◌≡◌, ℕ, ◌<◌, ◌≤◌, ◌^◌, ◌++◌, List, drop, length, take, Option, Some, Bool, true, false, MatchBool, ◌⊎◌, Result, Ok, Err}
-use Rattle.luks_io.specs.Bytes.{raised}
-use Rattle.luks_cli.specs.Payload.{cat_promptly}
-use Rattle.luks_command.specs.Request.{Request, luks_cat, af_split, af_merge}
-use Rattle.luks_cli.specs.Outcome.{Outcome}
-use Rattle.luks_cli.specs.Stripe.{split_promptly}
+-- What a run leaves in its devices, and what it keeps to where it is broken off. Each device is spoken of by itself: a
+-- run takes so many bytes of the image and of the second input, and writes these; what that means for a device is a
+-- fact of its own.
+use Rattle.std.specs.Prelude.{◌≡◌, ℕ, ◌<◌, ◌≤◌, ◌^◌, List, length, take, Option, Some, Bool, true, false, MatchBool, ◌⊎◌, is_err, Result, Ok, Err}
+use Rattle.luks_io.specs.Bytes.{Adds, Took, WhereKnown, raised}
+use Rattle.luks_cli.specs.VolumeParts.{cat_promptly}
+use Rattle.luks_command.specs.Request.{Request, is_luks, luks_uuid, luks_dump, test_passphrase, luks_cat, af_split, af_merge}
+use Rattle.luks_cli.specs.Ending.{Outcome}
+use Rattle.luks_cli.specs.Outcome.{outcome_of}
+use Rattle.luks_cli.specs.Stripe.{longest_key}
+use Rattle.luks_cli.specs.StripeParts.{split_promptly}
+use Rattle.luks_cli.specs.Volume.{volume_of}
 use Rattle.luks_report.specs.declared.message.Message.{Message}
 use Rattle.luks_report.specs.declared.message.Message.TheVariants.{Done, OutOfMemory, ReadFailed, WriteFailed}
-
--- the bytes that the inputs give from here on, and those that were written
-pub record Bytes : Type 0 where
-  pub image : List ℕ
-  pub secret : List ℕ
-  pub written : List ℕ
-
--- the devices tell these bytes
-pub record Tell (image' secret' written' : Option (List ℕ)) (bytes : Bytes) : Type 0 where
-  pub image : image' ≡ Some bytes.image
-  pub secret : secret' ≡ Some bytes.secret
-  pub written : written' ≡ Some bytes.written
-
--- the bytes after so many of each input were taken and these were written
-abbrev pub bytes_after : Bytes → ℕ → ℕ → List ℕ → Bytes
-bytes_after b image secret output = record {
-  image = drop image b.image;
-  secret = drop secret b.secret;
-  written = b.written ++ output;
-}
 
 -- memory was refused, or a read or a write failed
 abbrev pub breaks_off : Message → Bool
@@ -35,10 +20,20 @@ breaks_off ReadFailed = true
 breaks_off WriteFailed = true
 breaks_off _ = false
 
--- what a run that is broken off owes beside: a fact on its message, the bytes of the image and of the secret that it took, and
--- the length of what it wrote
-abbrev pub Prompt : Type 1
-Prompt = Message → ℕ → ℕ → ℕ → Type 0
+-- how prompt a run is that is broken off: a fact on its message, the bytes of the image and of the second input that it
+-- took, and the length of what it wrote
+abbrev pub Promptness : Type 1
+Promptness = Message → ℕ → ℕ → ℕ → Type 0
+
+-- nothing is said of it
+abbrev pub at_any_pace : Promptness
+at_any_pace _ _ _ _ = Unit {0}
+
+-- how prompt a command is with this image
+abbrev pub promptness_of : Request → List ℕ → Promptness
+promptness_of (luks_cat o) image = cat_promptly image
+promptness_of (af_split s) image = split_promptly (length image)
+promptness_of _ image = at_any_pace
 
 -- a run that is refused memory writes nothing
 abbrev pub IsSilent : Message → ℕ → Type 0
@@ -50,8 +45,10 @@ abbrev pub IsBeginning : Message → ℕ → ℕ → Type 0
 IsBeginning WriteFailed output stated = output < stated
 IsBeginning _ output stated = output ≤ stated
 
--- a run that was broken off: what it wrote is a beginning of the stated output, and no input was taken further than stated
-pub record BreaksOff (prompt : Prompt) (o : Outcome) (before : Bytes) (message : Message) (image secret written : Option (List ℕ)) : Type 0 where
+-- a run that was broken off: what it wrote is a beginning of the stated output, and no input was taken further than
+-- stated
+pub record BreaksOff (is_prompt' : Promptness) (o : Outcome) (message : Message) (TookImage TookSecret : ℕ → Type 0)
+    (Wrote : List ℕ → Type 0) : Type 0 where
   pub image_taken : ℕ
   pub secret_taken : ℕ
   pub output_len : ℕ
@@ -59,33 +56,62 @@ pub record BreaksOff (prompt : Prompt) (o : Outcome) (before : Bytes) (message :
   pub secret_within : secret_taken ≤ o.secret_taken
   pub output_within : IsBeginning message output_len (length o.output)
   pub is_silent : IsSilent message output_len
-  pub is_prompt : prompt message image_taken secret_taken output_len
-  pub left : Tell image secret written (bytes_after before image_taken secret_taken (take output_len o.output))
+  pub is_prompt : is_prompt' message image_taken secret_taken output_len
+  pub image : TookImage image_taken
+  pub secret : TookSecret secret_taken
+  pub output : Wrote (take output_len o.output)
 
 -- a run that was not: the stated message, output and bytes taken
-pub record Completes (o : Outcome) (before : Bytes) (message : Message) (image secret written : Option (List ℕ)) : Type 0 where
-  pub told : message ≡ o.message
-  pub left : Tell image secret written (bytes_after before o.image_taken o.secret_taken o.output)
+pub record Completes (o : Outcome) (message : Message) (TookImage TookSecret : ℕ → Type 0)
+    (Wrote : List ℕ → Type 0) : Type 0 where
+  pub as_stated : message ≡ o.message
+  pub image : TookImage o.image_taken
+  pub secret : TookSecret o.secret_taken
+  pub output : Wrote o.output
 
 -- a run with the stated outcome, as far as it came
-abbrev pub Runs : Prompt → Outcome → Bytes → Message → Option (List ℕ) → Option (List ℕ) → Option (List ℕ) → Type 0
-Runs prompt o before message image secret written =
-    MatchBool (breaks_off message) (BreaksOff prompt o before message image secret written) (Completes o before message image secret written)
+abbrev pub Runs : Promptness → Outcome → Message → (ℕ → Type 0) → (ℕ → Type 0) → (List ℕ → Type 0) → Type 0
+Runs is_prompt o message TookImage TookSecret Wrote =
+    MatchBool (breaks_off message) (BreaksOff is_prompt o message TookImage TookSecret Wrote)
+    (Completes o message TookImage TookSecret Wrote)
 
--- nothing is owed beside
-abbrev pub none_owed : Prompt
-none_owed _ _ _ _ = Unit {0}
+-- of a second input that a command does not have, nothing is taken
+abbrev pub TookNone : ℕ → Type 0
+TookNone count = count ≡ 0
 
--- what a command that is broken off owes beside
-abbrev pub prompt_of : Request → Bytes → Prompt
-prompt_of (luks_cat o) before = cat_promptly before.image
-prompt_of (af_split s) before = split_promptly (length before.image)
-prompt_of _ before = none_owed
+-- the second input of a command knows its bytes, if there is one
+abbrev pub KnowsSecret : Request → Option (List ℕ) → List ℕ → Type 0
+KnowsSecret (is_luks _) device secret = Unit {0}
+KnowsSecret (luks_uuid _) device secret = Unit {0}
+KnowsSecret (luks_dump _) device secret = Unit {0}
+KnowsSecret (test_passphrase o) device secret = device ≡ Some secret
+KnowsSecret (luks_cat o) device secret = device ≡ Some secret
+KnowsSecret (af_split s) device secret = device ≡ Some secret
+KnowsSecret (af_merge m) device secret = Unit {0}
+
+-- what was taken of it
+abbrev pub TookSecret : Request → List ℕ → Option (List ℕ) → ℕ → Type 0
+TookSecret (is_luks _) secret left = TookNone
+TookSecret (luks_uuid _) secret left = TookNone
+TookSecret (luks_dump _) secret left = TookNone
+TookSecret (test_passphrase o) secret left = Took secret left
+TookSecret (luks_cat o) secret left = Took secret left
+TookSecret (af_split s) secret left = Took secret left
+TookSecret (af_merge m) secret left = TookNone
 
 -- the image is not longer than the command can count: `luksCat` counts its bytes in 64 bits
 abbrev pub IsCounted : Request → List ℕ → Type 0
 IsCounted (luks_cat o) image = length image < 2 ^ 64
 IsCounted _ image = Unit {0}
+
+-- the headline: where the inputs of a command know their bytes, its run has the outcome that is stated for these
+abbrev pub RunsAsStated : Request → Message → Option (List ℕ) → Option (List ℕ) → Option (List ℕ) → Option (List ℕ)
+    → Option (List ℕ) → Option (List ℕ) → Type 0
+RunsAsStated request message image image' secret secret' written written' =
+    WhereKnown image
+    (λ known. (known_secret : List ℕ) → KnowsSecret request secret known_secret → IsCounted request known
+    → Runs (promptness_of request known) (outcome_of request known known_secret) message
+    (Took known image') (TookSecret request known_secret secret') (Adds written written'))
 
 -- the command takes no memory
 abbrev pub TakesNoMemory : Request → Type 0
@@ -93,26 +119,42 @@ TakesNoMemory (af_split s) = Unit {0}
 TakesNoMemory (af_merge m) = Unit {0}
 TakesNoMemory _ = ⊥
 
+-- a command that writes nothing before its last read
+abbrev pub ReadsFirst : Request → Type 0
+ReadsFirst (luks_cat o) = ⊥
+ReadsFirst (af_split s) = ⊥
+ReadsFirst _ = Unit {0}
+
+-- the header, the segment, the order of the key slots or the key's length ends the run: no second input is needed
+abbrev pub NeedsNoSecret : Request → List ℕ → Type 0
+NeedsNoSecret (test_passphrase o) image = is_err (volume_of o image) ≡ true
+NeedsNoSecret (luks_cat o) image = is_err (volume_of o image) ≡ true
+NeedsNoSecret (af_split s) image = (length image ≡ 0) ⊎ (longest_key < length image)
+NeedsNoSecret _ image = Unit {0}
+
+-- the message of a part of a run
+abbrev pub message_of : {T : Type 0} → Result T Message → Message
+message_of (Ok _) = Done
+message_of (Err message) = message
+
+-- a failed read is told
+abbrev pub is_failed_read : Message → Bool
+is_failed_read ReadFailed = true
+is_failed_read _ = false
+
+-- a failed write is told
+abbrev pub is_failed_write : Message → Bool
+is_failed_write WriteFailed = true
+is_failed_write _ = false
+
 -- how many reads of the image and of the secret and how many writes have failed
 pub record Failures : Type 0 where
   pub image : ℕ
   pub secret : ℕ
   pub written : ℕ
 
--- the message of a part of a run
-abbrev pub ending_of : {T : Type 0} → Result T Message → Message
-ending_of (Ok _) = Done
-ending_of (Err message) = message
-
--- a count of failed reads after a part of a run with this message
-abbrev pub count_reads : Message → ℕ → ℕ
-count_reads ReadFailed count = raised count
-count_reads _ count = count
-
--- a count of failed writes after a part of a run with this message
-abbrev pub count_writes : Message → ℕ → ℕ
-count_writes WriteFailed count = raised count
-count_writes _ count = count
+abbrev pub failures_of : ℕ → ℕ → ℕ → Failures
+failures_of image secret written = record { image = image; secret = secret; written = written }
 
 -- the counts after a run with this message: one of them rose by one where a read or a write failed, and else none did
 abbrev pub Counts : Message → Failures → Failures → Type 0

@@ -1,45 +1,53 @@
--- What the parts of the stripe commands leave, where the devices tell their bytes.
-use Rattle.std.specs.Prelude.{◌≡◌, ℕ, ◌+◌, ◌*◌, ◌/◌, ◌<◌, ◌≤◌, ◌++◌, ◌⊎◌, List, drop, length, take, min, Option, Some}
-use Rattle.luks_header.specs.Header.{LosesUpTo}
-use Rattle.luks_report.specs.declared.message.Message.{Message}
-use Rattle.luks_report.specs.declared.message.Message.TheVariants.{KeyLength, FewRandomBytes, FewStripes, ReadFailed, WriteFailed}
+-- What the commands on stripes come to.
+use Rattle.std.specs.Prelude.{ℕ, ◌+◌, ◌-◌, ◌*◌, ◌/◌, ◌&&◌, ◌++◌, List, length, take, min, nat_lt, nat_le, if◌then◌else◌}
+use Rattle.luks_kdf.specs.Bytes.{xor}
+use Rattle.luks_kdf.specs.Stripes.{chain_of, merged}
+use Rattle.luks_kdf.specs.declared.hash.Hash.{Hash}
+use Rattle.luks_report.specs.declared.message.Message.TheVariants.{Done, KeyLength, FewRandomBytes, FewStripes}
+use Rattle.luks_cli.specs.Ending.{Outcome, unwritten}
 
--- how reading a key failed
-abbrev pub NoKeyRead : List ℕ → Option (List ℕ) → Message → Type 0
-NoKeyRead key new KeyLength = (min (length key) 513 ≡ 0 ⊎ 512 < length key) × (new ≡ Some (drop (min (length key) 513) key))
-NoKeyRead key new ReadFailed = LosesUpTo key new (min (length key) 513)
-NoKeyRead key new _ = ⊥
+-- the longest key
+abbrev pub longest_key : ℕ
+longest_key = 512
 
--- so many random bytes were taken, and so many of them written
-pub record Passed (random before : List ℕ) (random' written' : Option (List ℕ)) (taken written : ℕ) : Type 0 where
-  pub there : taken ≤ length random
-  pub left : random' ≡ Some (drop taken random)
-  pub output : written' ≡ Some (before ++ take written random)
+-- the stripes of a key: the random ones, and the one that makes them merge to the key
+abbrev pub stripes_of : Hash → ℕ → List ℕ → List ℕ → List ℕ
+stripes_of hash count key random = random ++ xor (chain_of hash (length key) random (count - 1)) key
 
--- passing on `count` random stripes of `len` bytes was broken off at stripe i, from 0: at the end of the random bytes or by a
--- failed read after the whole stripes, and by a failed write within the stripe
-abbrev pub StopsPassing : ℕ → ℕ → List ℕ → List ℕ → Option (List ℕ) → Option (List ℕ) → Message → Type 0
-StopsPassing count len random before random' written' FewRandomBytes =
-    (i : ℕ) × (i < count) × (i * len ≤ length random) × (length random < (i + 1) * len) × Passed random before random' written' (length random) (i * len)
-StopsPassing count len random before random' written' ReadFailed =
-    (i : ℕ) × (taken : ℕ) × (i < count) × (i * len ≤ taken) × (taken < (i + 1) * len) × Passed random before random' written' taken (i * len)
-StopsPassing count len random before random' written' WriteFailed =
-    (i : ℕ) × (written : ℕ) × (i < count) × (i * len ≤ written) × (written < (i + 1) * len) × Passed random before random' written' ((i + 1) * len) written
-StopsPassing count len random before random' written' _ = ⊥
+-- splitting a key of a length that is allowed
+unfoldable pub split_key_outcome : Hash → ℕ → List ℕ → List ℕ → Outcome
+split_key_outcome hash count key random =
+    let needed = (count - 1) * length key in
+    if nat_le needed (length random)
+    then record {
+      output = stripes_of hash count key (take needed random);
+      message = Done;
+      image_taken = length key;
+      secret_taken = needed;
+    }
+    else record {
+      output = take (length random / length key * length key) random;
+      message = FewRandomBytes;
+      image_taken = length key;
+      secret_taken = length random;
+    }
 
--- so many bytes of a source were taken
-abbrev pub Taken : List ℕ → Option (List ℕ) → ℕ → Type 0
-Taken told new count = (count ≤ length told) × (new ≡ Some (drop count told))
+-- `afSplit`: the key is the whole image, and the random bytes are the secret
+unfoldable pub split_outcome : Hash → ℕ → List ℕ → List ℕ → Outcome
+split_outcome hash count key random =
+    if nat_lt 0 (length key) && nat_le (length key) longest_key
+    then split_key_outcome hash count key random
+    else unwritten KeyLength (min (length key) (longest_key + 1)) 0
 
--- taking `count` stripes of `len` bytes was broken off: by the end of the bytes, or by a failed read
-abbrev pub StopsTaking : ℕ → ℕ → List ℕ → Option (List ℕ) → Message → Type 0
-StopsTaking count len bytes new FewStripes = (length bytes < count * len) × Taken bytes new (length bytes)
-StopsTaking count len bytes new ReadFailed = (taken : ℕ) × (taken ≤ count * len) × Taken bytes new taken
-StopsTaking count len bytes new _ = ⊥
-
--- a split that is broken off: where a write fails, nothing past the stripe of the last byte written was taken; where a read
--- fails, the whole random stripes that were taken are written
-abbrev pub split_promptly : ℕ → Message → ℕ → ℕ → ℕ → Type 0
-split_promptly len WriteFailed image secret output = secret ≤ (output / len + 1) * len
-split_promptly len ReadFailed image secret output = output ≡ secret / len * len
-split_promptly len _ image secret output = Unit {0}
+-- `afMerge`: the stripes are the beginning of the image
+unfoldable pub merge_outcome : Hash → ℕ → ℕ → List ℕ → Outcome
+merge_outcome hash count key_bytes image =
+    let needed = count * key_bytes in
+    if nat_le needed (length image)
+    then record {
+      output = merged hash key_bytes (take needed image);
+      message = Done;
+      image_taken = needed;
+      secret_taken = 0;
+    }
+    else unwritten FewStripes (length image) 0

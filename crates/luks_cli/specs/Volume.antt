@@ -1,6 +1,7 @@
--- What an image's header says of its volume, before any key slot is tried.
-use Rattle.std.specs.Prelude.{◌≡◌, ℕ, List, drop, max, Option, Some, Result, Ok, Err}
-use Rattle.luks_header.specs.Header.{LosesUpTo, cost_of, header_of}
+-- What the commands on volumes come to.
+-- First what an image's header says of its volume, before any key slot is tried; then what becomes of a run.
+use Rattle.std.specs.Prelude.{ℕ, ◌+◌, List, length, max, nat_lt, if◌then◌else◌, Option, Result, Ok, Err}
+use Rattle.luks_header.specs.Header.{cost_of, header_of}
 use Rattle.luks_header.specs.Segment.{segment_of}
 use Rattle.luks_header.specs.declared.header.Header.{Header}
 use Rattle.luks_area.specs.declared.fault.HeaderFault.{HeaderFault}
@@ -10,8 +11,15 @@ use Rattle.luks_open.specs.Order.{Tries, held_of, order_of}
 use Rattle.luks_open.specs.declared.fault.OpenFault.{OpenFault}
 use Rattle.luks_report.specs.Faults.{message_for_header, message_for_opening}
 use Rattle.luks_command.specs.Request.{OpeningRequest}
+use Rattle.luks_open.specs.Opening.{opening_of}
+use Rattle.luks_open.specs.declared.opening.Opened.{Opened}
+use Rattle.luks_volume.specs.Plain.{ending_of, payload_end_of, plain_of}
+use Rattle.luks_report.specs.Faults.{message_at_end}
+use Rattle.luks_report.specs.Texts.{opened_line}
+use Rattle.luks_report.specs.declared.message.Message.TheVariants.{Done, Cut, KeyFileLength}
+use Rattle.luks_cli.specs.Ending.{Outcome, unwritten}
 use Rattle.luks_report.specs.declared.message.Message.{Message}
-use Rattle.luks_report.specs.declared.message.Message.TheVariants.{SegmentRefused, OutOfMemory, ReadFailed}
+use Rattle.luks_report.specs.declared.message.Message.TheVariants.{SegmentRefused}
 
 -- a volume: its header, where its payload lies, and which key slots are tried
 pub record Volume : Type 0 where
@@ -26,7 +34,8 @@ volume_in_order named header segment (Err fault) = Err (message_for_opening name
 
 -- the volume with this segment
 abbrev pub volume_in_segment : OpeningRequest → Header → Result Segment SegmentFault → Result Volume Message
-volume_in_segment o header (Ok segment) = volume_in_order o.key_slot header segment (order_of header o.key_slot o.max_iterations)
+volume_in_segment o header (Ok segment) =
+    volume_in_order o.key_slot header segment (order_of header o.key_slot o.max_iterations)
 volume_in_segment o header (Err fault) = Err (SegmentRefused fault)
 
 -- the volume with this header
@@ -34,8 +43,8 @@ abbrev pub volume_in_header : OpeningRequest → Result Header HeaderFault → R
 volume_in_header o (Ok header) = volume_in_segment o header (segment_of header)
 volume_in_header o (Err fault) = Err (message_for_header fault)
 
--- the volume of an image, or what is told where there is none: of its header first, then of its segment, then of the order of its
--- key slots
+-- the volume of an image, or what is told where there is none: of its header first, then of its segment, then of the
+-- order of its key slots
 unfoldable pub volume_of : OpeningRequest → List ℕ → Result Volume Message
 volume_of o image = volume_in_header o (header_of image)
 
@@ -43,12 +52,48 @@ volume_of o image = volume_in_header o (header_of image)
 abbrev pub held_for : List ℕ → Volume → ℕ
 held_for image volume = max (cost_of image) (held_of volume.tries.slots)
 
--- the image has a header with this segment
-abbrev pub HasSegment : List ℕ → Segment → Type 0
-HasSegment image segment = (header : Header) × (header_of image ≡ Ok header) × (segment_of header ≡ Ok segment)
+-- the longest key file
+abbrev pub longest_key_file : ℕ
+longest_key_file = 8388608
 
--- finding the volume of an image ended without one
-abbrev pub StopsFinding : OpeningRequest → List ℕ → Option (List ℕ) → Message → Type 0
-StopsFinding o image left ReadFailed = LosesUpTo image left (cost_of image)
-StopsFinding o image left OutOfMemory = LosesUpTo image left (cost_of image)
-StopsFinding o image left message = (volume_of o image ≡ Err message) × (left ≡ Some (drop (cost_of image) image))
+-- what a command does with a volume that is opened: with its segment, its key, and the bytes of its image that were
+-- taken so far
+abbrev pub OnOpened : Type 0
+OnOpened = Segment → Opened → ℕ → Outcome
+
+-- `testPassphrase`: the key slot that opens is told
+abbrev pub slot_outcome : List ℕ → OnOpened
+slot_outcome secret segment opened held =
+    record { output = opened_line opened.slot; message = Done; image_taken = held; secret_taken = length secret }
+
+-- `luksCat`: the payload is written as plain text
+abbrev pub payload_outcome : List ℕ → List ℕ → OnOpened
+payload_outcome image secret segment opened held = record {
+  output = plain_of segment opened.key image;
+  message = message_at_end (ending_of segment image);
+  image_taken = max held (payload_end_of segment image);
+  secret_taken = length secret;
+}
+
+-- the key slots were tried
+abbrev pub opened_outcome : OnOpened → Option ℕ → Volume → List ℕ → List ℕ → Result Opened OpenFault → Outcome
+opened_outcome on_opened named volume image secret (Ok opened) = on_opened volume.segment opened (held_for image volume)
+opened_outcome on_opened named volume image secret (Err fault) =
+    unwritten (message_for_opening named fault) (held_for image volume) (length secret)
+
+-- a volume was found: the key file is read whole, then the image up to the end of the key areas, and the key slots are
+-- tried
+unfoldable pub found_outcome : OnOpened → Option ℕ → Volume → List ℕ → List ℕ → Outcome
+found_outcome on_opened named volume image secret =
+    if nat_lt longest_key_file (length secret) then unwritten KeyFileLength (cost_of image) (longest_key_file + 1)
+    else (if nat_lt (length image) (held_of volume.tries.slots) then unwritten Cut (length image) (length secret)
+    else opened_outcome on_opened named volume image secret (opening_of volume.tries image secret))
+
+-- there is a volume or not
+abbrev pub outcome_after : OnOpened → Option ℕ → List ℕ → List ℕ → Result Volume Message → Outcome
+outcome_after on_opened named image secret (Ok volume) = found_outcome on_opened named volume image secret
+outcome_after on_opened named image secret (Err message) = unwritten message (cost_of image) 0
+
+-- a command that opens a volume
+unfoldable pub volume_outcome : OnOpened → OpeningRequest → List ℕ → List ℕ → Outcome
+volume_outcome on_opened o image secret = outcome_after on_opened o.key_slot image secret (volume_of o image)

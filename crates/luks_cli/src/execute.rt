@@ -1,10 +1,11 @@
 //! What the commands do.
 
 ghost use Rattle.std.specs.Prelude.{◌≡◌, ◌≢◌, IfErr, None};
-ghost use Rattle.luks_cli.specs.Outcome.{outcome_of};
+ghost use Rattle.luks_io.specs.Bytes.{WhereKnown};
 ghost use Rattle.luks_report.specs.Report.{report_of};
 ghost use Rattle.luks_command.specs.Request.{request_of, secret_of};
-ghost use Rattle.luks_cli.specs.Run.{Bytes, Counts, IsCounted, Runs, TakesNoMemory, Tell, ending_of, prompt_of};
+ghost use Rattle.luks_cli.specs.Run.{Counts, failures_of, NeedsNoSecret, ReadsFirst, RunsAsStated, TakesNoMemory, message_of};
+ghost use Rattle.luks_cli.specs.MayEnd.{MayTell};
 
 use luks_command::command::Command;
 use luks_io::sink::Sink;
@@ -23,13 +24,17 @@ mod volumes;
 
 /// Runs a command over its first input, its second one and the output.
 ///
-/// What is written, told and taken of both inputs is one function of the command and of the bytes that the inputs give.
-/// Where memory is refused or a read or a write fails, what was written is a beginning of that output, and no input was
-/// taken further than stated; a failed read or write is told exactly where one failed. Where a write failed, not all of the
-/// output is written. A command that has no second input leaves that source as it is.
+/// What is written, told and taken of both inputs is one function of the command and of the bytes
+/// that the inputs give. Where memory is refused or a read or a write fails, what was written is a
+/// beginning of that output, and no input was taken further than stated; a failed read or write is
+/// told exactly where one failed. Where a write failed, not all of the output is written. A command
+/// that has no second input leaves that source as it is, and so does one whose run ends with the
+/// header, the segment, the order of the key slots or the length of a key. But for `luksCat` and
+/// `afSplit`, nothing is written where a read fails.
 ///
-/// `luksCat` writes each sector as it comes: where a write fails, nothing of the image past the current sector was taken, and
-/// where a read fails, all whole sectors that were taken are written. Its image is shorter than 2^64 bytes.
+/// `luksCat` writes each sector as it comes: where a write fails, nothing of the image past the
+/// current sector was taken, and where a read fails, all whole sectors that were taken are written.
+/// Its image is shorter than 2^64 bytes.
 pub fn execute<I: Source, K: Source, O: Sink>(
     alloc: Global,
     command: &Command<'_>,
@@ -37,18 +42,20 @@ pub fn execute<I: Source, K: Source, O: Sink>(
     secret: &mut K,
     out: &mut O,
 ) -> Report
-    ensures run { (before : Bytes)
-        → Tell (I.to_come image.old) (K.to_come secret.old) (O.written out.old) before
-        → let request = request_of command.now in
-        IsCounted request before.image
-        → Runs (prompt_of request before) (outcome_of request before.image before.secret) before
-        result.message (I.to_come image.new) (K.to_come secret.new) (O.written out.new) }
+    ensures run { RunsAsStated (request_of command.now) result.message
+        (I.to_come image.old) (I.to_come image.new) (K.to_come secret.old) (K.to_come secret.new)
+        (O.written out.old) (O.written out.new) }
+    ensures only { MayTell (request_of command.now) result.message }
     ensures status { result ≡ report_of result.message }
     ensures memory { TakesNoMemory (request_of command.now) → result.message ≢ Message.OutOfMemory }
     ensures unread { secret_of (request_of command.now) ≡ None → secret.new ≡ secret.old }
+    ensures unneeded { WhereKnown (I.to_come image.old) (λ known. NeedsNoSecret (request_of command.now) known
+        → secret.new ≡ secret.old) }
+    ensures reads_first { ReadsFirst (request_of command.now) → result.message ≡ Message.ReadFailed
+        → out.new ≡ out.old }
     ensures counts { Counts result.message
-        (record { image = I.failures image.old; secret = K.failures secret.old; written = O.failures out.old })
-        (record { image = I.failures image.new; secret = K.failures secret.new; written = O.failures out.new }) }
+        (failures_of (I.failures image.old) (K.failures secret.old) (O.failures out.old))
+        (failures_of (I.failures image.new) (K.failures secret.new) (O.failures out.new)) }
 {
     match perform(alloc, command, image, secret, out) {
         Ok(()) => Report::of(Message::Done),
@@ -64,18 +71,20 @@ fn perform<I: Source, K: Source, O: Sink>(
     secret: &mut K,
     out: &mut O,
 ) -> Result<(), Message>
-    ensures run { (before : Bytes)
-        → Tell (I.to_come image.old) (K.to_come secret.old) (O.written out.old) before
-        → let request = request_of command.now in
-        IsCounted request before.image
-        → Runs (prompt_of request before) (outcome_of request before.image before.secret) before
-        (ending_of result) (I.to_come image.new) (K.to_come secret.new) (O.written out.new) }
+    ensures run { RunsAsStated (request_of command.now) (message_of result)
+        (I.to_come image.old) (I.to_come image.new) (K.to_come secret.old) (K.to_come secret.new)
+        (O.written out.old) (O.written out.new) }
+    ensures only { MayTell (request_of command.now) (message_of result) }
     ensures memory { TakesNoMemory (request_of command.now)
         → IfErr result (λ message. message ≢ Message.OutOfMemory) }
     ensures unread { secret_of (request_of command.now) ≡ None → secret.new ≡ secret.old }
-    ensures counts { Counts (ending_of result)
-        (record { image = I.failures image.old; secret = K.failures secret.old; written = O.failures out.old })
-        (record { image = I.failures image.new; secret = K.failures secret.new; written = O.failures out.new }) }
+    ensures unneeded { WhereKnown (I.to_come image.old) (λ known. NeedsNoSecret (request_of command.now) known
+        → secret.new ≡ secret.old) }
+    ensures reads_first { ReadsFirst (request_of command.now) → message_of result ≡ Message.ReadFailed
+        → out.new ≡ out.old }
+    ensures counts { Counts (message_of result)
+        (failures_of (I.failures image.old) (K.failures secret.old) (O.failures out.old))
+        (failures_of (I.failures image.new) (K.failures secret.new) (O.failures out.new)) }
 {
     match command {
         Command::IsLuks { .. } => headers::is_luks(alloc, image),

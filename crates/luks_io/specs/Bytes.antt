@@ -20,13 +20,9 @@ TookUpTo known left most = (count : ℕ) × (count ≤ most) × Took known left 
 abbrev pub TookFewer : List ℕ → Option (List ℕ) → ℕ → Type 0
 TookFewer known left all = (count : ℕ) × (count < all) × Took known left count
 
--- of those bytes some first ones were taken: at least `least`, and at most `most`
+-- of those bytes some first ones were taken: at least `least`, and fewer than `all`
 abbrev pub TookBetween : List ℕ → Option (List ℕ) → ℕ → ℕ → Type 0
-TookBetween known left least most = (count : ℕ) × (least ≤ count) × (count ≤ most) × Took known left count
-
--- the bytes that were taken are these
-abbrev pub TookThese : List ℕ → Option (List ℕ) → List ℕ → Type 0
-TookThese known left bytes = Took known left (length bytes) × (bytes ≡ take (length bytes) known)
+TookBetween known left least all = (count : ℕ) × (least ≤ count) × (count < all) × Took known left count
 
 -- the first `count` bytes of a buffer are those that were taken
 abbrev pub TookInto : List ℕ → Option (List ℕ) → List ℕ → ℕ → Type 0
@@ -73,3 +69,7 @@ TakesNext old new count bytes =
 -- a source was asked for so many bytes and gave count of them: all that it had, if that is fewer
 abbrev pub GivesAll : Option (List ℕ) → ℕ → ℕ → Type 0
 GivesAll old asked count = (told : List ℕ) → old ≡ Some told → count ≡ min asked (length told)
+
+-- a call that ended well leaves the count, and one that failed raises it by one
+abbrev pub CountsFailure : {T E : Type 0} → ℕ → ℕ → Result T E → Type 0
+CountsFailure old new r = MatchResult r (λ _. new ≡ old) (λ _. new ≡ raised old)

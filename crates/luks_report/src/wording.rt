@@ -1,7 +1,7 @@
 //! The lines that messages are told as.
 
-ghost use Rattle.std.specs.Prelude.{◌≡◌, ◌+◌, ◌<◌, ◌≤◌, ◌++◌, OnOk, IfErr, codes, decimal, length, take};
-ghost use Rattle.luks_io.specs.Bytes.{Adds, CountsFailure};
+ghost use Rattle.std.specs.Prelude.{◌≡◌, ◌+◌, ◌<◌, ◌≤◌, ◌++◌, OnOk, IfErr, codes, decimal, is_err, length, take};
+ghost use Rattle.luks_io.specs.Bytes.{Adds, counted};
 ghost use Rattle.luks_report.specs.Texts.{line, line_of, more_skips_text, skip_text, skips_text};
 
 use crate::line::Line;
@@ -20,7 +20,7 @@ impl Message {
         ensures err { IfErr result (λ fault. (fault.written < length (line_of self.now))
             × Adds (O.written out.old) (O.written out.new)
             (take fault.written (line_of self.now))) }
-        ensures counts { CountsFailure (O.failures out.old) (O.failures out.new) result }
+        ensures counts { O.failures out.new ≡ counted (is_err result) (O.failures out.old) }
     {
         put_all(out, self.line().as_slice())
     }

@@ -113,20 +113,25 @@ pub before_end : (size : Option ℕ) (offset len place : ℕ) → place ≤ offs
 before_end None offset len place first there = there
 before_end (Some size) offset len place first there = omega arith
 
--- how a payload may end
-abbrev pub is_end : Result Step VolumeFault → Bool
-is_end (Ok Sector) = false
-is_end (Ok End) = true
-is_end (Err CutBeforePayload) = true
-is_end (Err (Tail _)) = true
-is_end (Err (Short _)) = true
-is_end (Err Read) = false
-is_end (Err Write) = false
+-- how a payload may end whose image reaches it
+abbrev pub is_ending : Result Step VolumeFault → Bool
+is_ending (Ok Sector) = false
+is_ending (Ok End) = true
+is_ending (Err CutBeforePayload) = false
+is_ending (Err (Tail _)) = true
+is_ending (Err (Short _)) = true
+is_ending (Err Read) = false
+is_ending (Err Write) = false
 
-either : (b : Bool) (x y : Result Step VolumeFault) → is_end x ≡ true → is_end y ≡ true → is_end (if b then x else y) ≡ true
+either : (b : Bool) (x y : Result Step VolumeFault) → is_ending x ≡ true → is_ending y ≡ true → is_ending (if b then x else y) ≡ true
 either true x y p q = p
 either false x y p q = q
 
-pub ending_is_end : (size : Option ℕ) (z len : ℕ) → is_end (ending_within size z len) ≡ true
-ending_is_end None z len = either (len % z == 0) (Ok End) (Err (Tail (len % z))) refl refl
-ending_is_end (Some size) z len = either (nat_lt len size) (Err (Short (size - len))) (Ok End) refl refl
+pub ending_is_ending : (size : Option ℕ) (z len : ℕ) → is_ending (ending_within size z len) ≡ true
+ending_is_ending None z len = either (len % z == 0) (Ok End) (Err (Tail (len % z))) refl refl
+ending_is_ending (Some size) z len = either (nat_lt len size) (Err (Short (size - len))) (Ok End) refl refl
+
+-- a payload ends where its image does or before
+pub end_there : (size : Option ℕ) (offset len : ℕ) → end_within size offset len ≤ len
+end_there None offset len = omega arith
+end_there (Some size) offset len = omega arith

@@ -1,39 +1,46 @@
 -- What the parts of a pump leave in its source and its sink.
-use Rattle.std.specs.Prelude.{◌≡◌, ℕ, ◌-◌, ◌/◌, ◌^◌, ◌<◌, ◌≤◌, List, [], length, take, drop, Option, None, Some, Result, Err}
-use Rattle.luks_io.specs.Bytes.{Adds, raised}
+use Rattle.std.specs.Prelude.{◌≡◌, ℕ, ◌-◌, ◌/◌, ◌^◌, ◌<◌, Bool, true, false, List, length, take, Option, None, Some, Result, Err}
+use Rattle.luks_io.specs.Bytes.{Adds, Took, TookFewer, raised}
 use Rattle.luks_verdict.specs.declared.segment.Segment.{Segment}
 use Rattle.luks_volume.specs.Plain.{unit_plain, sector_len}
 use Rattle.luks_volume.specs.declared.fault.VolumeFault.{VolumeFault}
 use Rattle.luks_volume.specs.declared.fault.VolumeFault.TheVariants.{CutBeforePayload, Tail, Short, Read, Write}
 
--- a count of failed reads after a call with this answer
-abbrev pub count_reads : {T : Type 0} → Result T VolumeFault → ℕ → ℕ
-count_reads (Err Read) count = raised count
-count_reads _ count = count
+-- whether a call with this answer met a read that failed
+abbrev pub is_failed_read : {T : Type 0} → Result T VolumeFault → Bool
+is_failed_read (Err Read) = true
+is_failed_read _ = false
 
--- a count of failed writes after a call with this answer
-abbrev pub count_writes : {T : Type 0} → Result T VolumeFault → ℕ → ℕ
-count_writes (Err Write) count = raised count
-count_writes _ count = count
+-- whether it met a write that failed
+abbrev pub is_failed_write : {T : Type 0} → Result T VolumeFault → Bool
+is_failed_write (Err Write) = true
+is_failed_write _ = false
 
--- letting go of the next `count` bytes of a source that tells these was broken off
+-- whether it found the end of the image before the payload
+abbrev pub is_cut : {T : Type 0} → Result T VolumeFault → Bool
+is_cut (Err CutBeforePayload) = true
+is_cut _ = false
+
+-- letting go of the next `count` bytes of a source was broken off
 abbrev pub StopsDiscarding : ℕ → List ℕ → Option (List ℕ) → VolumeFault → Type 0
-StopsDiscarding count bytes left CutBeforePayload = (length bytes < count) × (left ≡ Some [])
-StopsDiscarding count bytes left Read = (taken : ℕ) × (taken < count) × (taken ≤ length bytes) × (left ≡ Some (drop taken bytes))
-StopsDiscarding count bytes left (Tail _) = ⊥
-StopsDiscarding count bytes left (Short _) = ⊥
-StopsDiscarding count bytes left Write = ⊥
+StopsDiscarding count known left CutBeforePayload = (length known < count) × Took known left (length known)
+StopsDiscarding count known left Read = TookFewer known left count
+StopsDiscarding count known left (Tail _) = ⊥
+StopsDiscarding count known left (Short _) = ⊥
+StopsDiscarding count known left Write = ⊥
 
--- passing on a sector of `len` bytes from a source that tells these was broken off
-abbrev pub StopsPassing : List ℕ → ℕ → ℕ → List ℕ → Option (List ℕ) → Option (List ℕ) → Option (List ℕ) → VolumeFault → Type 0
-StopsPassing key number len bytes left before after Read =
-    (taken : ℕ) × (taken < len) × (taken ≤ length bytes) × (left ≡ Some (drop taken bytes))
-StopsPassing key number len bytes left before after Write =
-    (written : ℕ) × (written < len) × (len ≤ length bytes) × (left ≡ Some (drop len bytes))
-    × Adds before after (take written (unit_plain key number (take len bytes)))
-StopsPassing key number len bytes left before after CutBeforePayload = ⊥
-StopsPassing key number len bytes left before after (Tail _) = ⊥
-StopsPassing key number len bytes left before after (Short _) = ⊥
+-- the plain bytes of some unit of `len` bytes were written
+abbrev pub AddsUnit : List ℕ → ℕ → ℕ → Option (List ℕ) → Option (List ℕ) → Type 0
+AddsUnit key number len before after = (unit : List ℕ) × (length unit ≡ len) × Adds before after (unit_plain key number unit)
+
+-- passing on a sector of `len` bytes was broken off
+abbrev pub StopsInSector : List ℕ → ℕ → ℕ → List ℕ → Option (List ℕ) → Option (List ℕ) → Option (List ℕ) → VolumeFault → Type 0
+StopsInSector key number len known left before after Read = TookFewer known left len
+StopsInSector key number len known left before after Write =
+    Took known left len × ((count : ℕ) × (count < len) × Adds before after (take count (unit_plain key number (take len known))))
+StopsInSector key number len known left before after CutBeforePayload = ⊥
+StopsInSector key number len known left before after (Tail _) = ⊥
+StopsInSector key number len known left before after (Short _) = ⊥
 
 -- the most sectors that are passed on: those of a fixed size, and else as many as a count of them can say
 abbrev pub limit_within : Option ℕ → ℕ → ℕ
@@ -42,3 +49,13 @@ limit_within (Some size) sector = size / sector
 
 abbrev pub limit_of : Segment → ℕ
 limit_of s = limit_within s.size (sector_len s)
+
+-- Words of before, which go once nothing cites them:
+
+abbrev pub count_reads : {T : Type 0} → Result T VolumeFault → ℕ → ℕ
+count_reads (Err Read) count = raised count
+count_reads _ count = count
+
+abbrev pub count_writes : {T : Type 0} → Result T VolumeFault → ℕ → ℕ
+count_writes (Err Write) count = raised count
+count_writes _ count = count

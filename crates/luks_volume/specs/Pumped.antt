@@ -1,8 +1,9 @@
 -- What a pump is to its caller, and what its calls do.
-use Rattle.std.specs.Prelude.{◌≡◌, ℕ, ◌+◌, ◌<◌, ◌≤◌, List, [], length, take, drop, Option, Some, Result, Ok, Err, Bool, true, false, IsTrue}
-use Rattle.luks_io.specs.Bytes.{Adds}
+use Rattle.std.specs.Prelude.{◌≡◌, ℕ, ◌+◌, ◌*◌, ◌<◌, ◌⊎◌, min, nat_lt, List, length, take, Option, Result, Ok, Err, Bool, true, false, IsTrue}
+use Rattle.luks_io.specs.Bytes.{Adds, Took, TookBetween}
 use Rattle.luks_verdict.specs.declared.segment.Segment.{Segment}
-use Rattle.luks_volume.specs.Plain.{ending_of, payload_end_of, sector_len, sector_of, sector_start, sectors_of}
+use Rattle.luks_volume.specs.Passing.{limit_of}
+use Rattle.luks_volume.specs.Plain.{ending_of, ending_within, payload_end_of, sector_len, sector_of, sector_start, sectors_of}
 use Rattle.luks_volume.specs.declared.fault.VolumeFault.{VolumeFault}
 use Rattle.luks_volume.specs.declared.fault.VolumeFault.TheVariants.{CutBeforePayload, Tail, Short, Read, Write}
 use Rattle.luks_volume.specs.declared.state.State.{State}
@@ -39,8 +40,7 @@ position p = place_in p.state p.consumed (sector_start p.segment p.count)
 -- a running pump stands in an image whose other bytes the source has left
 pub record StandsIn (image : List ℕ) (pump : Pumped) (left' : Option (List ℕ)) : Type 0 where
   pub running : IsTrue (is_running pump.state)
-  pub there : position pump ≤ length image
-  pub left : left' ≡ Some (drop (position pump) image)
+  pub took : Took image left' (position pump)
 
 -- where a pump stands after a skip
 abbrev pub state_after_skip : {T : Type 0} → State → Result T VolumeFault → State
@@ -57,16 +57,11 @@ SkipsAgain InPayload answer untouched = (answer ≡ Ok tt) × untouched
 SkipsAgain Ended answer untouched = (answer ≡ Ok tt) × untouched
 SkipsAgain (Faulted fault) answer untouched = (answer ≡ Err fault) × untouched
 
--- a read failed at a place of the image from `first` on and before `last`
-abbrev pub FailsBetween : ℕ → ℕ → ℕ → List ℕ → Option (List ℕ) → Type 0
-FailsBetween first last most image left =
-    (place : ℕ) × (first ≤ place) × (place < last) × (place ≤ most) × (left ≡ Some (drop place image))
-
 -- a skip took the image up to the payload's start, or was broken off
 abbrev pub Skips : Pumped → List ℕ → Result (Unit {0}) VolumeFault → Option (List ℕ) → Type 0
-Skips p image (Ok _) left = (p.segment.offset ≤ length image) × (left ≡ Some (drop p.segment.offset image))
-Skips p image (Err CutBeforePayload) left = (length image < p.segment.offset) × (left ≡ Some [])
-Skips p image (Err Read) left = FailsBetween p.consumed p.segment.offset (length image) image left
+Skips p image (Ok _) left = Took image left p.segment.offset
+Skips p image (Err CutBeforePayload) left = (length image < p.segment.offset) × Took image left (length image)
+Skips p image (Err Read) left = TookBetween image left p.consumed p.segment.offset
 Skips p image (Err (Tail _)) left = ⊥
 Skips p image (Err (Short _)) left = ⊥
 Skips p image (Err Write) left = ⊥
@@ -94,17 +89,41 @@ WritesSectors (Err (Short _)) unwritten = unwritten
 WritesSectors (Err Read) unwritten = unwritten
 WritesSectors (Err Write) unwritten = Unit {0}
 
+-- how the payload ends where so many sectors were passed on: at its limit, or where the source has less than one sector more
+abbrev pub EndsAt : Segment → ℕ → Result Step VolumeFault → Type 0
+EndsAt s count answer = ((count ≡ limit_of s) × (answer ≡ Ok End))
+    ⊎ ((count < limit_of s) × ((more : ℕ) × (more < sector_len s) × (answer ≡ ending_within s.size (sector_len s) (count * sector_len s + more))))
+
+-- the answers that a step may give, whatever its devices do
+abbrev pub MayAnswer : State → Segment → ℕ → Result Step VolumeFault → Type 0
+MayAnswer state s count (Ok Sector) = count < limit_of s
+MayAnswer state s count (Ok End) = EndsAt s count (Ok End)
+MayAnswer state s count (Err CutBeforePayload) = state ≡ BeforePayload
+MayAnswer state s count (Err (Tail bytes)) = EndsAt s count (Err (Tail bytes))
+MayAnswer state s count (Err (Short bytes)) = EndsAt s count (Err (Short bytes))
+MayAnswer state s count (Err Read) = Unit {0}
+MayAnswer state s count (Err Write) = Unit {0}
+
+-- whether a step with so many sectors passed on before found the end of its source: not where a limit ends the payload
+abbrev pub is_found_end : Segment → ℕ → Result Step VolumeFault → Bool
+is_found_end s count (Ok Sector) = false
+is_found_end s count (Ok End) = nat_lt count (limit_of s)
+is_found_end s count (Err CutBeforePayload) = true
+is_found_end s count (Err (Tail _)) = true
+is_found_end s count (Err (Short _)) = true
+is_found_end s count (Err Read) = false
+is_found_end s count (Err Write) = false
+
 -- sector `count` was taken from the image, and nothing past it
-pub record TakesSector (image : List ℕ) (segment : Segment) (count : ℕ) (left' : Option (List ℕ)) : Type 0 where
+pub record TakesSector (image : List ℕ) (segment : Segment) (count : ℕ) (left : Option (List ℕ)) : Type 0 where
   pub is_one : count < sectors_of segment image
-  pub there : sector_start segment (count + 1) ≤ length image
-  pub left : left' ≡ Some (drop (sector_start segment (count + 1)) image)
+  pub took : Took image left (sector_start segment (count + 1))
 
 -- the payload came to its stated end after `count` sectors, and all of it was taken
-pub record Ends (image : List ℕ) (segment : Segment) (count : ℕ) (answer : Result Step VolumeFault) (left' : Option (List ℕ)) : Type 0 where
+pub record Ends (image : List ℕ) (segment : Segment) (count : ℕ) (answer : Result Step VolumeFault) (left : Option (List ℕ)) : Type 0 where
   pub all : count ≡ sectors_of segment image
   pub as_stated : answer ≡ ending_of segment image
-  pub left : left' ≡ Some (drop (payload_end_of segment image) image)
+  pub took : Took image left (payload_end_of segment image)
 
 -- what a step did from this place of the image on, with so many sectors passed on before
 abbrev pub Steps : Segment → List ℕ → ℕ → ℕ → List ℕ → Result Step VolumeFault → Option (List ℕ) → Option (List ℕ) → Option (List ℕ) → Type 0
@@ -115,6 +134,6 @@ Steps s key count place image (Err CutBeforePayload) left before after = Ends im
 Steps s key count place image (Err (Tail bytes)) left before after = Ends image s count (Err (Tail bytes)) left
 Steps s key count place image (Err (Short bytes)) left before after = Ends image s count (Err (Short bytes)) left
 Steps s key count place image (Err Read) left before after =
-    FailsBetween place (sector_start s (count + 1)) (payload_end_of s image) image left
+    TookBetween image left place (min (sector_start s (count + 1)) (payload_end_of s image + 1))
 Steps s key count place image (Err Write) left before after =
     TakesSector image s count left × ((written : ℕ) × (written < sector_len s) × Adds before after (take written (sector_of s key image count)))

@@ -22,9 +22,13 @@ FitsCounts p = (1 ≤ p.stripes) × (p.stripes ≤ 4000) × (1 ≤ p.digest_iter
 abbrev pub FitsText : ℕ → List ℕ → Type 0
 FitsText most text = (length text ≤ most) × ((i : ℕ) → i < length text → slice_index text i ≢ 0)
 
+-- the longest plain text that is sealed
+abbrev pub longest_plain : ℕ
+longest_plain = 8388608
+
 -- whole sectors, and not too many
 abbrev pub FitsPlain : ℕ → Type 0
-FitsPlain len = (len % 512 ≡ 0) × (len ≤ 8388608)
+FitsPlain len = (len % 512 ≡ 0) × (len ≤ longest_plain)
 
 -- one slot of a volume with so many random bytes for each
 abbrev pub FitsSlot : ℕ → Slot1 → Type 0

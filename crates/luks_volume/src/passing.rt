@@ -1,8 +1,9 @@
 //! Bytes on their way from a source: those before the payload, and those of one sector.
 
-ghost use Rattle.std.specs.Prelude.{◌≡◌, ◌%◌, ◌<◌, ◌≤◌, ◌⊎◌, List, ℕ, Some, IfOk, IfErr, OnOk, length, take, drop, min};
-ghost use Rattle.luks_io.specs.Bytes.{Adds};
-ghost use Rattle.luks_volume.specs.Passing.{StopsDiscarding, StopsPassing, count_reads, count_writes};
+ghost use Rattle.std.specs.Prelude.{◌≡◌, ◌%◌, ◌<◌, ◌≤◌, ◌⊎◌, List, ℕ, Some, IfOk, IfErr, OnOk, length, take, min};
+ghost use Rattle.luks_io.specs.Bytes.{Adds, Took, WhereKnown, counted, is_short};
+ghost use Rattle.luks_volume.specs.Passing.{AddsUnit, StopsDiscarding, StopsInSector};
+ghost use Rattle.luks_volume.specs.Passing.{is_cut, is_failed_read, is_failed_write};
 ghost use Rattle.luks_volume.specs.Plain.{unit_plain};
 
 use crate::fault::VolumeFault;
@@ -17,12 +18,13 @@ pub(crate) fn discard<S: Source>(
     piece: &mut [u8],
 ) -> Result<(), VolumeFault>
     requires { 0 < length piece.old }
-    ensures ok { OnOk result ((bytes : List ℕ) → S.to_come source.old ≡ Some bytes
-        → (count ≤ length bytes) × (S.to_come source.new ≡ Some (drop count bytes))) }
-    ensures err { IfErr result (λ fault. (bytes : List ℕ) → S.to_come source.old ≡ Some bytes
-        → StopsDiscarding count bytes (S.to_come source.new) fault) }
+    ensures ok { OnOk result (WhereKnown (S.to_come source.old)
+        (λ known. Took known (S.to_come source.new) count)) }
+    ensures err { IfErr result (λ fault. WhereKnown (S.to_come source.old)
+        (λ known. StopsDiscarding count known (S.to_come source.new) fault)) }
     ensures only { IfErr result (λ fault. (fault ≡ VolumeFault.CutBeforePayload) ⊎ (fault ≡ VolumeFault.Read)) }
-    ensures reads { S.failures source.new ≡ count_reads result (S.failures source.old) }
+    ensures reads { S.failures source.new ≡ counted (is_failed_read result) (S.failures source.old) }
+    ensures ends { S.ends source.new ≡ counted (is_cut result) (S.ends source.old) }
 {
     let mut left = count;
     'pieces: while left > 0 {
@@ -47,19 +49,21 @@ pub(crate) fn pass_sector<S: Source, O: Sink>(
     requires shortest { 16 ≤ length sector.old }
     requires longest { length sector.old ≤ 4096 }
     ensures most { IfOk result (λ got. got ≤ length sector.old) }
-    ensures taken { IfOk result (λ got. (bytes : List ℕ) → S.to_come source.old ≡ Some bytes
-        → (got ≡ min (length sector.old) (length bytes)) × (S.to_come source.new ≡ Some (drop got bytes))) }
-    ensures written { IfOk result (λ got. got ≡ length sector.old
-        → (bytes : List ℕ) → S.to_come source.old ≡ Some bytes
-        → Adds (O.written sink.old) (O.written sink.new) (unit_plain key.now number (take got bytes))) }
+    ensures taken { IfOk result (λ got. WhereKnown (S.to_come source.old)
+        (λ known. (got ≡ min (length sector.old) (length known)) × Took known (S.to_come source.new) got)) }
+    ensures written { IfOk result (λ got. got ≡ length sector.old → WhereKnown (S.to_come source.old)
+        (λ known. Adds (O.written sink.old) (O.written sink.new) (unit_plain key.now number (take got known)))) }
+    ensures whole { IfOk result (λ got. got ≡ length sector.old
+        → AddsUnit key.now number (length sector.old) (O.written sink.old) (O.written sink.new)) }
     ensures torn { IfOk result (λ got. got < length sector.old → sink.new ≡ sink.old) }
-    ensures err { IfErr result (λ fault. (bytes : List ℕ) → S.to_come source.old ≡ Some bytes
-        → StopsPassing key.now number (length sector.old) bytes
-        (S.to_come source.new) (O.written sink.old) (O.written sink.new) fault) }
+    ensures err { IfErr result (λ fault. WhereKnown (S.to_come source.old)
+        (λ known. StopsInSector key.now number (length sector.old) known
+        (S.to_come source.new) (O.written sink.old) (O.written sink.new) fault)) }
     ensures unread { IfErr result (λ fault. fault ≡ VolumeFault.Read → sink.new ≡ sink.old) }
     ensures only { IfErr result (λ fault. (fault ≡ VolumeFault.Read) ⊎ (fault ≡ VolumeFault.Write)) }
-    ensures reads { S.failures source.new ≡ count_reads result (S.failures source.old) }
-    ensures writes { O.failures sink.new ≡ count_writes result (O.failures sink.old) }
+    ensures reads { S.failures source.new ≡ counted (is_failed_read result) (S.failures source.old) }
+    ensures ends { S.ends source.new ≡ counted (is_short result (length sector.old)) (S.ends source.old) }
+    ensures writes { O.failures sink.new ≡ counted (is_failed_write result) (O.failures sink.old) }
 {
     let got = fill(source, sector)?;
     if got < sector.len() {

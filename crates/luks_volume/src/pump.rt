@@ -1,10 +1,11 @@
 //! The sector stream: an image's payload in, its plain text out, one sector at a time.
 
-ghost use Rattle.std.specs.Prelude.{◌≡◌, ◌+◌, ◌^◌, ◌<◌, ◌≤◌, ◌⊎◌, List, ℕ, Some, Ok, IfErr, true, length, drop};
-ghost use Rattle.luks_volume.specs.Passing.{count_reads, count_writes, limit_of};
-ghost use Rattle.luks_volume.specs.Plain.{sector_start};
-ghost use Rattle.luks_volume.specs.Pumped.{SkipsAgain, Skips, StandsIn, Steps, StepsAgain, WritesSectors};
-ghost use Rattle.luks_volume.specs.Pumped.{after_step, is_running, position, state_after_skip};
+ghost use Rattle.std.specs.Prelude.{◌≡◌, ◌^◌, ◌<◌, ◌≤◌, ◌⊎◌, List, ℕ, Some, Ok, IfErr, true, length};
+ghost use Rattle.luks_io.specs.Bytes.{Took, counted};
+ghost use Rattle.luks_volume.specs.Passing.{AddsUnit, is_cut, is_failed_read, is_failed_write, limit_of};
+ghost use Rattle.luks_volume.specs.Plain.{sector_len, sector_start, unit_number};
+ghost use Rattle.luks_volume.specs.Pumped.{MayAnswer, SkipsAgain, Skips, StandsIn, Steps, StepsAgain, WritesSectors};
+ghost use Rattle.luks_volume.specs.Pumped.{after_step, is_found_end, is_running, position, state_after_skip};
 
 use crate::fault::VolumeFault;
 use crate::passing::{discard, pass_sector};
@@ -56,19 +57,22 @@ fn next_sector<S: Source, O: Sink>(
     source: &mut S,
     sink: &mut O,
 ) -> Result<Step, VolumeFault>
-    requires room { length buffer.old ≡ 4096 }
+    requires room { length buffer.old ≡ ROOM }
     requires within { count ≤ limit_of segment.now }
     ensures limit { count ≡ limit_of segment.now
         → (result ≡ Ok Step.End) × (source.new ≡ source.old) × (sink.new ≡ sink.old) }
     ensures below { result ≡ Ok Step.Sector → count < limit_of segment.now }
+    ensures passed { result ≡ Ok Step.Sector → AddsUnit key.now (unit_number segment.now count)
+        (sector_len segment.now) (O.written sink.old) (O.written sink.new) }
+    ensures only { MayAnswer State.InPayload segment.now count result }
     ensures run { (image : List ℕ) → length image < 2 ^ 64
-        → sector_start segment.now count ≤ length image
-        → S.to_come source.old ≡ Some (drop (sector_start segment.now count) image)
+        → Took image (S.to_come source.old) (sector_start segment.now count)
         → Steps segment.now key.now count (sector_start segment.now count) image result
         (S.to_come source.new) (O.written sink.old) (O.written sink.new) }
     ensures writes_sectors { WritesSectors result (sink.new ≡ sink.old) }
-    ensures reads { S.failures source.new ≡ count_reads result (S.failures source.old) }
-    ensures writes { O.failures sink.new ≡ count_writes result (O.failures sink.old) }
+    ensures reads { S.failures source.new ≡ counted (is_failed_read result) (S.failures source.old) }
+    ensures ends { S.ends source.new ≡ counted (is_found_end segment.now count result) (S.ends source.old) }
+    ensures writes { O.failures sink.new ≡ counted (is_failed_write result) (O.failures sink.old) }
 {
     if count == limit(segment) {
         return Ok(Step::End);
@@ -124,7 +128,9 @@ impl Pump {
             (fault ≡ VolumeFault.CutBeforePayload) ⊎ (fault ≡ VolumeFault.Read)) }
         ensures fresh { self.old.state ≡ State.BeforePayload → self.old.count ≡ 0 }
         ensures reads { is_running self.old.state ≡ true
-            → S.failures source.new ≡ count_reads result (S.failures source.old) }
+            → S.failures source.new ≡ counted (is_failed_read result) (S.failures source.old) }
+        ensures ends { is_running self.old.state ≡ true
+            → S.ends source.new ≡ counted (is_cut result) (S.ends source.old) }
     {
         match self.state {
             State::BeforePayload => {
@@ -170,11 +176,18 @@ impl Pump {
         ensures run { (image : List ℕ) → length image < 2 ^ 64 → StandsIn image self.old (S.to_come source.old)
             → Steps self.old.segment self.old.key self.old.count (position self.old) image result
             (S.to_come source.new) (O.written sink.old) (O.written sink.new) }
+        ensures passed { result ≡ Ok Step.Sector
+            → AddsUnit self.old.key (unit_number self.old.segment self.old.count) (sector_len self.old.segment)
+            (O.written sink.old) (O.written sink.new) }
+        ensures only { is_running self.old.state ≡ true
+            → MayAnswer self.old.state self.old.segment self.old.count result }
         ensures writes_sectors { WritesSectors result (sink.new ≡ sink.old) }
         ensures reads { is_running self.old.state ≡ true
-            → S.failures source.new ≡ count_reads result (S.failures source.old) }
+            → S.failures source.new ≡ counted (is_failed_read result) (S.failures source.old) }
+        ensures ends { is_running self.old.state ≡ true → S.ends source.new
+            ≡ counted (is_found_end self.old.segment self.old.count result) (S.ends source.old) }
         ensures writes { is_running self.old.state ≡ true
-            → O.failures sink.new ≡ count_writes result (O.failures sink.old) }
+            → O.failures sink.new ≡ counted (is_failed_write result) (O.failures sink.old) }
     {
         self.skip(source)?;
         if self.state == State::Ended {

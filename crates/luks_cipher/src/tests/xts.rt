@@ -154,3 +154,23 @@ fn a_unit_of_4096_bytes(rt: HostRuntime) -> Result<(), Fail> {
     assert_eq!(rt; unit, plain);
     Ok(())
 }
+
+#[test]
+fn lengths_of_keys(rt: HostRuntime) -> Result<(), Fail> {
+    for (length, is_xts) in [
+        (0, false),
+        (15, false),
+        (16, false),
+        (17, false),
+        (24, false),
+        (32, true),
+        (33, false),
+        (48, false),
+        (64, true),
+        (65, false),
+    ] {
+        let bytes = vec![in rt.alloc(); 0u8; length]?;
+        assert_eq!(rt; XtsKey::new(&bytes).is_some(), is_xts, "{length} bytes");
+    }
+    Ok(())
+}

@@ -1,10 +1,12 @@
 //! `isLuks`, `luksUUID` and `luksDump`: what an image's header says.
 
 ghost use Rattle.std.specs.Prelude.{◌≡◌, List, ℕ, Option};
+ghost use Rattle.luks_io.specs.Bytes.{Adds, Took, WhereKnown};
 ghost use Rattle.luks_cli.specs.Header.{answer_to_is_luks};
 ghost use Rattle.luks_report.specs.Dump.{dump_of, uuid_of};
-ghost use Rattle.luks_cli.specs.Outcome.{is_luks_outcome, print_outcome};
-ghost use Rattle.luks_cli.specs.Run.{Bytes, Counts, Runs, Tell, ending_of, none_owed};
+ghost use Rattle.luks_cli.specs.Header.{is_luks_outcome, print_outcome};
+ghost use Rattle.luks_cli.specs.Run.{Counts, failures_of, Runs, TookNone, at_any_pace, message_of};
+ghost use Rattle.luks_cli.specs.MayEnd.{IsLuksMessage, PrintMessage};
 
 use luks_header::fault::HeaderFault;
 use luks_header::header::read_header;
@@ -16,13 +18,13 @@ use std::alloc::Global;
 
 /// `isLuks`: nothing is written; what is no LUKS is told by the status alone.
 pub(super) fn is_luks<S: Source>(alloc: Global, image: &mut S) -> Result<(), Message>
-    ensures run { (secret written : Option (List ℕ)) (before : Bytes)
-        → Tell (S.to_come image.old) secret written before
-        → Runs none_owed (is_luks_outcome before.image) before
-        (ending_of result) (S.to_come image.new) secret written }
-    ensures counts { (secret written : ℕ) → Counts (ending_of result)
-        (record { image = S.failures image.old; secret = secret; written = written })
-        (record { image = S.failures image.new; secret = secret; written = written }) }
+    ensures run { (written : Option (List ℕ)) → WhereKnown (S.to_come image.old) (λ known.
+        Runs at_any_pace (is_luks_outcome known) (message_of result)
+        (Took known (S.to_come image.new)) TookNone (Adds written written)) }
+    ensures only { IsLuksMessage (message_of result) }
+    ensures counts { (secret written : ℕ) → Counts (message_of result)
+        (failures_of (S.failures image.old) secret written)
+        (failures_of (S.failures image.new) secret written) }
 {
     match read_header(alloc, image) {
         Ok(_) => Ok(()),
@@ -46,13 +48,15 @@ pub(super) fn print_uuid<S: Source, O: Sink>(
     image: &mut S,
     out: &mut O,
 ) -> Result<(), Message>
-    ensures run { (secret : Option (List ℕ)) (before : Bytes)
-        → Tell (S.to_come image.old) secret (O.written out.old) before
-        → Runs none_owed (print_outcome uuid_of before.image) before
-        (ending_of result) (S.to_come image.new) secret (O.written out.new) }
-    ensures counts { (secret : ℕ) → Counts (ending_of result)
-        (record { image = S.failures image.old; secret = secret; written = O.failures out.old })
-        (record { image = S.failures image.new; secret = secret; written = O.failures out.new }) }
+    ensures run { WhereKnown (S.to_come image.old) (λ known.
+        Runs at_any_pace (print_outcome uuid_of known) (message_of result)
+        (Took known (S.to_come image.new)) TookNone
+        (Adds (O.written out.old) (O.written out.new))) }
+    ensures only { PrintMessage (message_of result) }
+    ensures reads_first { message_of result ≡ Message.ReadFailed → out.new ≡ out.old }
+    ensures counts { (secret : ℕ) → Counts (message_of result)
+        (failures_of (S.failures image.old) secret (O.failures out.old))
+        (failures_of (S.failures image.new) secret (O.failures out.new)) }
 {
     let (header, _held) = read_header(alloc, image)?;
     let page = uuid_page(alloc, &header)?;
@@ -66,13 +70,15 @@ pub(super) fn print_dump<S: Source, O: Sink>(
     image: &mut S,
     out: &mut O,
 ) -> Result<(), Message>
-    ensures run { (secret : Option (List ℕ)) (before : Bytes)
-        → Tell (S.to_come image.old) secret (O.written out.old) before
-        → Runs none_owed (print_outcome dump_of before.image) before
-        (ending_of result) (S.to_come image.new) secret (O.written out.new) }
-    ensures counts { (secret : ℕ) → Counts (ending_of result)
-        (record { image = S.failures image.old; secret = secret; written = O.failures out.old })
-        (record { image = S.failures image.new; secret = secret; written = O.failures out.new }) }
+    ensures run { WhereKnown (S.to_come image.old) (λ known.
+        Runs at_any_pace (print_outcome dump_of known) (message_of result)
+        (Took known (S.to_come image.new)) TookNone
+        (Adds (O.written out.old) (O.written out.new))) }
+    ensures only { PrintMessage (message_of result) }
+    ensures reads_first { message_of result ≡ Message.ReadFailed → out.new ≡ out.old }
+    ensures counts { (secret : ℕ) → Counts (message_of result)
+        (failures_of (S.failures image.old) secret (O.failures out.old))
+        (failures_of (S.failures image.new) secret (O.failures out.new)) }
 {
     let (header, _held) = read_header(alloc, image)?;
     let page = dump_page(alloc, &header)?;

@@ -1,8 +1,10 @@
 //! The payload on its way from the image to the output.
 
-ghost use Rattle.std.specs.Prelude.{◌≡◌, ◌≢◌, ◌<◌, ◌≤◌, ◌^◌, List, ℕ, Some, IfErr, drop, length};
-ghost use Rattle.luks_cli.specs.Payload.{PassesPayload};
-ghost use Rattle.luks_cli.specs.Run.{count_reads, count_writes, ending_of};
+ghost use Rattle.std.specs.Prelude.{◌≡◌, ◌≢◌, ◌<◌, ◌≤◌, ◌^◌, List, ℕ, IfErr, length};
+ghost use Rattle.luks_cli.specs.VolumeParts.{PassesPayload};
+ghost use Rattle.luks_cli.specs.MayEnd.{PayloadMessage};
+ghost use Rattle.luks_cli.specs.Run.{is_failed_read, is_failed_write, message_of};
+ghost use Rattle.luks_io.specs.Bytes.{Took, counted};
 
 use luks_cipher::XtsKey;
 use luks_header::segment::Segment;
@@ -12,7 +14,8 @@ use luks_report::message::Message;
 use luks_volume::pump::Pump;
 use luks_volume::state::Step;
 
-/// Writes the payload of an image, of which so many bytes were taken, as plain text: each sector as it comes.
+/// Writes the payload of an image, of which so many bytes were taken, as plain text: each sector as
+/// it comes.
 pub(super) fn write_payload<I: Source, O: Sink>(
     segment: Segment,
     key: XtsKey,
@@ -21,13 +24,16 @@ pub(super) fn write_payload<I: Source, O: Sink>(
     out: &mut O,
 ) -> Result<(), Message>
     requires { consumed ≤ segment.offset }
-    ensures run { (whole before : List ℕ) → length whole < 2 ^ 64 → consumed ≤ length whole
-        → I.to_come image.old ≡ Some (drop consumed whole) → O.written out.old ≡ Some before
-        → PassesPayload segment key whole before
-        (I.to_come image.new) (O.written out.new) (ending_of result) }
+    ensures run { (whole : List ℕ) → length whole < 2 ^ 64
+        → Took whole (I.to_come image.old) consumed
+        → PassesPayload segment key whole
+        (I.to_come image.new) (O.written out.old) (O.written out.new) (message_of result) }
+    ensures only { PayloadMessage (message_of result) }
     ensures memory { IfErr result (λ message. message ≢ Message.OutOfMemory) }
-    ensures reads { I.failures image.new ≡ count_reads (ending_of result) (I.failures image.old) }
-    ensures writes { O.failures out.new ≡ count_writes (ending_of result) (O.failures out.old) }
+    ensures reads { I.failures image.new
+        ≡ counted (is_failed_read (message_of result)) (I.failures image.old) }
+    ensures writes { O.failures out.new
+        ≡ counted (is_failed_write (message_of result)) (O.failures out.old) }
 {
     let mut pump = Pump::new(segment, key, consumed);
     'sectors: for _ in 0..u64::MAX {

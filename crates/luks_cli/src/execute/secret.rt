@@ -1,10 +1,10 @@
 //! The key file, whose bytes are the passphrase.
 
-ghost use Rattle.std.specs.Prelude.{◌≡◌, ◌+◌, ◌<◌, ◌≤◌, ◌⊎◌, List, ℕ, [], Some, IfOk, IfErr, length, min, vec_len};
-ghost use Rattle.luks_header.specs.Area.{Grows};
-ghost use Rattle.luks_header.specs.Header.{LosesUpTo};
-ghost use Rattle.luks_cli.specs.Run.{count_reads, ending_of};
-ghost use Rattle.luks_cli.specs.Secret.{NoSecretRead};
+ghost use Rattle.std.specs.Prelude.{◌≡◌, ◌+◌, ◌<◌, ◌≤◌, ◌⊎◌, ◌++◌, List, ℕ, IfOk, IfErr, length, min, take, vec_len};
+ghost use Rattle.luks_io.specs.Bytes.{Took, TookUpTo, WhereKnown, counted};
+ghost use Rattle.luks_cli.specs.Run.{is_failed_read, message_of};
+ghost use Rattle.luks_cli.specs.VolumeParts.{NoSecretRead};
+ghost use Rattle.luks_cli.specs.Volume.{longest_key_file};
 
 use luks_io::source::{Source, fill};
 use luks_report::message::Message;
@@ -16,17 +16,18 @@ const LONGEST: usize = 8_388_608;
 /// How many bytes are read at once.
 const PIECE: usize = 4096;
 
-/// Reads the key file, which is all that the source gives, a last newline too. Of one that is too long, one byte more is taken
-/// than the longest has.
+/// Reads the key file, which is all that the source gives, a last newline too. Of one that is too
+/// long, one byte more is taken than the longest has.
 pub(super) fn read_secret<S: Source>(alloc: Global, source: &mut S) -> Result<Vec<u8>, Message>
-    ensures few { IfOk result (λ secret. vec_len secret ≤ 8388608) }
-    ensures ok { IfOk result (λ secret. (told : List ℕ) → S.to_come source.old ≡ Some told
-        → (secret.items ≡ told) × (S.to_come source.new ≡ Some [])) }
-    ensures err { IfErr result (λ message. (told : List ℕ) → S.to_come source.old ≡ Some told
-        → NoSecretRead told (S.to_come source.new) message) }
+    ensures few { IfOk result (λ secret. vec_len secret ≤ longest_key_file) }
+    ensures ok { IfOk result (λ secret. WhereKnown (S.to_come source.old)
+        (λ known. (secret.items ≡ known) × Took known (S.to_come source.new) (length known))) }
+    ensures err { IfErr result (λ message. WhereKnown (S.to_come source.old)
+        (λ known. NoSecretRead known (S.to_come source.new) message)) }
     ensures only { IfErr result (λ message. (message ≡ Message.KeyFileLength)
         ⊎ ((message ≡ Message.OutOfMemory) ⊎ (message ≡ Message.ReadFailed))) }
-    ensures reads { S.failures source.new ≡ count_reads (ending_of result) (S.failures source.old) }
+    ensures reads { S.failures source.new
+        ≡ counted (is_failed_read (message_of result)) (S.failures source.old) }
 {
     let mut buffer = [0; PIECE];
     gather(alloc, &mut buffer, source)
@@ -35,14 +36,15 @@ pub(super) fn read_secret<S: Source>(alloc: Global, source: &mut S) -> Result<Ve
 /// Reads the key file by pieces that fit into the buffer.
 fn gather<S: Source>(alloc: Global, buffer: &mut [u8], source: &mut S) -> Result<Vec<u8>, Message>
     requires { 0 < length buffer.old }
-    ensures few { IfOk result (λ secret. vec_len secret ≤ 8388608) }
-    ensures ok { IfOk result (λ secret. (told : List ℕ) → S.to_come source.old ≡ Some told
-        → (secret.items ≡ told) × (S.to_come source.new ≡ Some [])) }
-    ensures err { IfErr result (λ message. (told : List ℕ) → S.to_come source.old ≡ Some told
-        → NoSecretRead told (S.to_come source.new) message) }
+    ensures few { IfOk result (λ secret. vec_len secret ≤ longest_key_file) }
+    ensures ok { IfOk result (λ secret. WhereKnown (S.to_come source.old)
+        (λ known. (secret.items ≡ known) × Took known (S.to_come source.new) (length known))) }
+    ensures err { IfErr result (λ message. WhereKnown (S.to_come source.old)
+        (λ known. NoSecretRead known (S.to_come source.new) message)) }
     ensures only { IfErr result (λ message. (message ≡ Message.KeyFileLength)
         ⊎ ((message ≡ Message.OutOfMemory) ⊎ (message ≡ Message.ReadFailed))) }
-    ensures reads { S.failures source.new ≡ count_reads (ending_of result) (S.failures source.old) }
+    ensures reads { S.failures source.new
+        ≡ counted (is_failed_read (message_of result)) (S.failures source.old) }
 {
     let mut secret = Vec::new(alloc);
     'pieces: while secret.len() <= LONGEST {
@@ -54,23 +56,26 @@ fn gather<S: Source>(alloc: Global, buffer: &mut [u8], source: &mut S) -> Result
     Err(Message::KeyFileLength)
 }
 
-/// Puts the next piece of the key file behind the bytes so far. Answers its length, which is less than that of the buffer only
-/// at the end.
+/// Puts the next piece of the key file behind the bytes so far. Answers its length, which is less
+/// than that of the buffer only at the end.
 fn take_piece<S: Source>(
     piece: &mut [u8],
     secret: &mut Vec<u8>,
     source: &mut S,
 ) -> Result<usize, Message>
-    requires { vec_len secret.old + length piece.old ≤ 8388609 }
+    requires { vec_len secret.old + length piece.old ≤ longest_key_file + 1 }
     ensures size { IfOk result (λ got. got ≤ length piece.old) }
     ensures len { IfOk result (λ got. vec_len secret.new ≡ vec_len secret.old + got) }
-    ensures ok { IfOk result (λ got. (told : List ℕ) → S.to_come source.old ≡ Some told
-        → (got ≡ min (length piece.old) (length told))
-        × Grows secret.old.items secret.new.items told (S.to_come source.new) got) }
-    ensures err { IfErr result (λ message. (told : List ℕ) → S.to_come source.old ≡ Some told
-        → LosesUpTo told (S.to_come source.new) (min (length piece.old) (length told))) }
-    ensures only { IfErr result (λ message. (message ≡ Message.OutOfMemory) ⊎ (message ≡ Message.ReadFailed)) }
-    ensures reads { S.failures source.new ≡ count_reads (ending_of result) (S.failures source.old) }
+    ensures ok { IfOk result (λ got. WhereKnown (S.to_come source.old)
+        (λ known. (got ≡ min (length piece.old) (length known))
+        × Took known (S.to_come source.new) got
+        × (secret.new.items ≡ secret.old.items ++ take got known))) }
+    ensures err { IfErr result (λ message. WhereKnown (S.to_come source.old)
+        (λ known. TookUpTo known (S.to_come source.new) (length piece.old))) }
+    ensures only { IfErr result
+        (λ message. (message ≡ Message.OutOfMemory) ⊎ (message ≡ Message.ReadFailed)) }
+    ensures reads { S.failures source.new
+        ≡ counted (is_failed_read (message_of result)) (S.failures source.old) }
 {
     let got = fill(source, piece)?;
     secret.extend_from_slice(&piece[..got])?;

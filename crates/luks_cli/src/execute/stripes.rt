@@ -1,11 +1,13 @@
 //! `afSplit` and `afMerge`: keys and the stripes that hold them.
 
-ghost use Rattle.std.specs.Prelude.{◌≡◌, ◌≢◌, ◌*◌, ◌≤◌, ◌⊎◌, List, ℕ, [], Some, Option, IfOk, IfErr, OnOk, length, take};
+ghost use Rattle.std.specs.Prelude.{◌≡◌, ◌≢◌, ◌*◌, ◌<◌, ◌≤◌, ◌⊎◌, ◌+◌, ℕ, IfOk, IfErr, OnOk, length, take};
 ghost use Rattle.luks_kdf.specs.Stripes.{chain_after};
-ghost use Rattle.luks_cli.specs.Run.{count_reads, count_writes, ending_of};
-ghost use Rattle.luks_cli.specs.Run.{Bytes, Counts, Runs, Tell, none_owed};
-ghost use Rattle.luks_cli.specs.Outcome.{merge_outcome, split_outcome};
-ghost use Rattle.luks_cli.specs.Stripe.{NoKeyRead, Passed, StopsPassing, StopsTaking, Taken, split_promptly};
+ghost use Rattle.luks_io.specs.Bytes.{Adds, Took, WhereKnown, counted};
+ghost use Rattle.luks_cli.specs.Run.{Counts, failures_of, Runs, TookNone, at_any_pace, is_failed_read, is_failed_write, message_of};
+ghost use Rattle.luks_cli.specs.MayEnd.{MergeMessage, SplitMessage};
+ghost use Rattle.luks_cli.specs.Stripe.{merge_outcome, split_outcome};
+ghost use Rattle.luks_cli.specs.StripeParts.{NoKeyRead, Passed, StopsAtStripe, StopsTaking, split_promptly};
+ghost use Rattle.luks_cli.specs.Stripe.{longest_key};
 
 use luks_command::command::{Merging, Splitting};
 use luks_io::sink::{Sink, put_all};
@@ -16,18 +18,21 @@ use luks_report::message::Message;
 /// The length of the longest key.
 const LONGEST_KEY: usize = 512;
 
-/// Reads a key, which is all that the source gives, into the front of the buffer. Answers its length.
-/// The buffer has room for one byte more than the longest key.
+/// Reads a key, which is all that the source gives, into the front of the buffer. Answers its
+/// length. The buffer has room for one byte more than the longest key.
 fn read_key<S: Source>(source: &mut S, buf: &mut [u8]) -> Result<usize, Message>
-    requires { length buf.old ≡ 513 }
-    ensures length { IfOk result (λ len. (1 ≤ len) × (len ≤ 512)) }
-    ensures key { IfOk result (λ len. (key : List ℕ) → S.to_come source.old ≡ Some key
-        → (take len buf.new ≡ key) × (S.to_come source.new ≡ Some [])) }
-    ensures err { IfErr result (λ message. (key : List ℕ) → S.to_come source.old ≡ Some key
-        → NoKeyRead key (S.to_come source.new) message) }
+    requires { length buf.old ≡ longest_key + 1 }
+    ensures length { IfOk result (λ len. (1 ≤ len) × (len ≤ longest_key)) }
+    ensures fits { IfOk result
+        (λ len. WhereKnown (S.to_come source.old) (λ key. len ≡ length key)) }
+    ensures key { IfOk result (λ len. WhereKnown (S.to_come source.old)
+        (λ key. (take len buf.new ≡ key) × Took key (S.to_come source.new) (length key))) }
+    ensures err { IfErr result (λ message. WhereKnown (S.to_come source.old)
+        (λ key. NoKeyRead key (S.to_come source.new) message)) }
     ensures only { IfErr result (λ message.
         (message ≡ Message.KeyLength) ⊎ (message ≡ Message.ReadFailed)) }
-    ensures reads { S.failures source.new ≡ count_reads (ending_of result) (S.failures source.old) }
+    ensures reads { S.failures source.new
+        ≡ counted (is_failed_read (message_of result)) (S.failures source.old) }
 {
     let len = fill(source, buf)?;
     if len == 0 || len > LONGEST_KEY {
@@ -36,7 +41,8 @@ fn read_key<S: Source>(source: &mut S, buf: &mut [u8]) -> Result<usize, Message>
     Ok(len)
 }
 
-/// Writes so many random stripes, each as it is whole, and answers the splitter that has taken them.
+/// Writes so many random stripes, each as it is whole, and answers the splitter that has taken
+/// them.
 fn pass_stripes<R: Source, O: Sink>(
     hash: Hash,
     count: usize,
@@ -45,21 +51,22 @@ fn pass_stripes<R: Source, O: Sink>(
     out: &mut O,
 ) -> Result<AfSplitter, Message>
     requires some { 1 ≤ length stripe.old }
-    requires room { length stripe.old ≤ 512 }
+    requires room { length stripe.old ≤ longest_key }
     requires few { count ≤ 4000 }
     ensures len { IfOk result (λ splitter. length splitter.block ≡ length stripe.new) }
-    ensures ok { IfOk result (λ splitter.
-        (bytes before : List ℕ) → R.to_come random.old ≡ Some bytes → O.written out.old ≡ Some before
-        → (splitter ≡ chain_after hash (length stripe.new) bytes count)
-        × Passed bytes before (R.to_come random.new) (O.written out.new)
-        (count * length stripe.new) (count * length stripe.new)) }
-    ensures err { IfErr result (λ message.
-        (bytes before : List ℕ) → R.to_come random.old ≡ Some bytes → O.written out.old ≡ Some before
-        → StopsPassing count (length stripe.new) bytes before
-        (R.to_come random.new) (O.written out.new) message) }
+    ensures ok { IfOk result (λ splitter. WhereKnown (R.to_come random.old)
+        (λ known. (splitter ≡ chain_after hash (length stripe.new) known count)
+        × Passed known (R.to_come random.new) (O.written out.old) (O.written out.new)
+        (count * length stripe.new) (count * length stripe.new))) }
+    ensures err { IfErr result (λ message. WhereKnown (R.to_come random.old)
+        (λ known. StopsAtStripe count (length stripe.new) known
+        (R.to_come random.new) (O.written out.old) (O.written out.new) message)) }
+    ensures only { SplitMessage (message_of result) }
     ensures memory { IfErr result (λ message. message ≢ Message.OutOfMemory) }
-    ensures reads { R.failures random.new ≡ count_reads (ending_of result) (R.failures random.old) }
-    ensures writes { O.failures out.new ≡ count_writes (ending_of result) (O.failures out.old) }
+    ensures reads { R.failures random.new
+        ≡ counted (is_failed_read (message_of result)) (R.failures random.old) }
+    ensures writes { O.failures out.new
+        ≡ counted (is_failed_write (message_of result)) (O.failures out.old) }
 {
     let mut splitter = AfSplitter::new(hash, stripe.len());
     'stripes: for _ in 0..count {
@@ -72,8 +79,8 @@ fn pass_stripes<R: Source, O: Sink>(
     Ok(splitter)
 }
 
-/// Splits the key that the first source gives into stripes, the random ones first. The buffers are for the key, with a byte
-/// more than the longest has, and for one stripe.
+/// Splits the key that the first source gives into stripes, the random ones first. The buffers are
+/// for the key, with a byte more than the longest has, and for one stripe.
 fn write_split<K: Source, R: Source, O: Sink>(
     splitting: &Splitting<'_>,
     key_buf: &mut [u8],
@@ -82,17 +89,22 @@ fn write_split<K: Source, R: Source, O: Sink>(
     random: &mut R,
     out: &mut O,
 ) -> Result<(), Message>
-    requires key_room { length key_buf.old ≡ 513 }
-    requires stripe_room { length stripe_buf.old ≡ 512 }
-    ensures run { (before : Bytes)
-        → Tell (K.to_come key.old) (R.to_come random.old) (O.written out.old) before
-        → Runs (split_promptly (length before.image))
-        (split_outcome splitting.now.hash splitting.now.stripes.count before.image before.secret)
-        before (ending_of result) (K.to_come key.new) (R.to_come random.new) (O.written out.new) }
+    requires key_room { length key_buf.old ≡ longest_key + 1 }
+    requires stripe_room { length stripe_buf.old ≡ longest_key }
+    ensures run { WhereKnown (K.to_come key.old)
+        (λ known. WhereKnown (R.to_come random.old) (λ bytes.
+        Runs (split_promptly (length known))
+        (split_outcome splitting.now.hash splitting.now.stripes.count known bytes)
+        (message_of result)
+        (Took known (K.to_come key.new)) (Took bytes (R.to_come random.new))
+        (Adds (O.written out.old) (O.written out.new)))) }
+    ensures only { SplitMessage (message_of result) }
+    ensures unneeded { WhereKnown (K.to_come key.old) (λ known. (length known ≡ 0) ⊎ (longest_key < length known)
+        → random.new ≡ random.old) }
     ensures memory { IfErr result (λ message. message ≢ Message.OutOfMemory) }
-    ensures counts { Counts (ending_of result)
-        (record { image = K.failures key.old; secret = R.failures random.old; written = O.failures out.old })
-        (record { image = K.failures key.new; secret = R.failures random.new; written = O.failures out.new }) }
+    ensures counts { Counts (message_of result)
+        (failures_of (K.failures key.old) (R.failures random.old) (O.failures out.old))
+        (failures_of (K.failures key.new) (R.failures random.new) (O.failures out.new)) }
 {
     let len = read_key(key, key_buf)?;
     let stripe = &mut stripe_buf[..len];
@@ -116,16 +128,17 @@ fn take_stripes<S: Source>(
     stripes: &mut S,
 ) -> Result<AfSplitter, Message>
     requires some { 1 ≤ length stripe.old }
-    requires room { length stripe.old ≤ 512 }
+    requires room { length stripe.old ≤ longest_key }
     ensures len { IfOk result (λ splitter. length splitter.block ≡ length stripe.new) }
-    ensures ok { IfOk result (λ splitter. (bytes : List ℕ) → S.to_come stripes.old ≡ Some bytes
-        → (splitter ≡ chain_after hash (length stripe.new) bytes count)
-        × Taken bytes (S.to_come stripes.new) (count * length stripe.new)) }
-    ensures err { IfErr result (λ message. (bytes : List ℕ) → S.to_come stripes.old ≡ Some bytes
-        → StopsTaking count (length stripe.new) bytes (S.to_come stripes.new) message) }
+    ensures ok { IfOk result (λ splitter. WhereKnown (S.to_come stripes.old)
+        (λ known. (splitter ≡ chain_after hash (length stripe.new) known count)
+        × Took known (S.to_come stripes.new) (count * length stripe.new))) }
+    ensures err { IfErr result (λ message. WhereKnown (S.to_come stripes.old)
+        (λ known. StopsTaking count (length stripe.new) known (S.to_come stripes.new) message)) }
     ensures only { IfErr result (λ message.
         (message ≡ Message.FewStripes) ⊎ (message ≡ Message.ReadFailed)) }
-    ensures reads { S.failures stripes.new ≡ count_reads (ending_of result) (S.failures stripes.old) }
+    ensures reads { S.failures stripes.new
+        ≡ counted (is_failed_read (message_of result)) (S.failures stripes.old) }
 {
     let mut splitter = AfSplitter::new(hash, stripe.len());
     'stripes: for _ in 0..count {
@@ -145,17 +158,18 @@ fn write_merged<S: Source, O: Sink>(
     stripes: &mut S,
     out: &mut O,
 ) -> Result<(), Message>
-    requires stripe_room { length stripe_buf.old ≡ 512 }
-    requires key_room { length key_buf.old ≡ 512 }
-    ensures run { (secret : Option (List ℕ)) (before : Bytes)
-        → Tell (S.to_come stripes.old) secret (O.written out.old) before
-        → let m = merging.now in
-        Runs none_owed (merge_outcome m.hash m.stripes.count m.key_bytes.bytes before.image)
-        before (ending_of result) (S.to_come stripes.new) secret (O.written out.new) }
+    requires stripe_room { length stripe_buf.old ≡ longest_key }
+    requires key_room { length key_buf.old ≡ longest_key }
+    ensures run { WhereKnown (S.to_come stripes.old) (λ known. let m = merging.now in
+        Runs at_any_pace (merge_outcome m.hash m.stripes.count m.key_bytes.bytes known) (message_of result)
+        (Took known (S.to_come stripes.new)) TookNone
+        (Adds (O.written out.old) (O.written out.new))) }
     ensures memory { IfErr result (λ message. message ≢ Message.OutOfMemory) }
-    ensures counts { (secret : ℕ) → Counts (ending_of result)
-        (record { image = S.failures stripes.old; secret = secret; written = O.failures out.old })
-        (record { image = S.failures stripes.new; secret = secret; written = O.failures out.new }) }
+    ensures only { MergeMessage (message_of result) }
+    ensures reads_first { message_of result ≡ Message.ReadFailed → out.new ≡ out.old }
+    ensures counts { (secret : ℕ) → Counts (message_of result)
+        (failures_of (S.failures stripes.old) secret (O.failures out.old))
+        (failures_of (S.failures stripes.new) secret (O.failures out.new)) }
 {
     let len = merging.key_bytes.get();
     let stripe = &mut stripe_buf[..len];
@@ -176,15 +190,20 @@ pub(super) fn split<K: Source, R: Source, O: Sink>(
     random: &mut R,
     out: &mut O,
 ) -> Result<(), Message>
-    ensures run { (before : Bytes)
-        → Tell (K.to_come key.old) (R.to_come random.old) (O.written out.old) before
-        → Runs (split_promptly (length before.image))
-        (split_outcome splitting.now.hash splitting.now.stripes.count before.image before.secret)
-        before (ending_of result) (K.to_come key.new) (R.to_come random.new) (O.written out.new) }
+    ensures run { WhereKnown (K.to_come key.old)
+        (λ known. WhereKnown (R.to_come random.old) (λ bytes.
+        Runs (split_promptly (length known))
+        (split_outcome splitting.now.hash splitting.now.stripes.count known bytes)
+        (message_of result)
+        (Took known (K.to_come key.new)) (Took bytes (R.to_come random.new))
+        (Adds (O.written out.old) (O.written out.new)))) }
+    ensures only { SplitMessage (message_of result) }
+    ensures unneeded { WhereKnown (K.to_come key.old) (λ known. (length known ≡ 0) ⊎ (longest_key < length known)
+        → random.new ≡ random.old) }
     ensures memory { IfErr result (λ message. message ≢ Message.OutOfMemory) }
-    ensures counts { Counts (ending_of result)
-        (record { image = K.failures key.old; secret = R.failures random.old; written = O.failures out.old })
-        (record { image = K.failures key.new; secret = R.failures random.new; written = O.failures out.new }) }
+    ensures counts { Counts (message_of result)
+        (failures_of (K.failures key.old) (R.failures random.old) (O.failures out.old))
+        (failures_of (K.failures key.new) (R.failures random.new) (O.failures out.new)) }
 {
     let mut key_buf = [0; LONGEST_KEY + 1];
     let mut stripe_buf = [0; LONGEST_KEY];
@@ -197,15 +216,16 @@ pub(super) fn merge<S: Source, O: Sink>(
     stripes: &mut S,
     out: &mut O,
 ) -> Result<(), Message>
-    ensures run { (secret : Option (List ℕ)) (before : Bytes)
-        → Tell (S.to_come stripes.old) secret (O.written out.old) before
-        → let m = merging.now in
-        Runs none_owed (merge_outcome m.hash m.stripes.count m.key_bytes.bytes before.image)
-        before (ending_of result) (S.to_come stripes.new) secret (O.written out.new) }
+    ensures run { WhereKnown (S.to_come stripes.old) (λ known. let m = merging.now in
+        Runs at_any_pace (merge_outcome m.hash m.stripes.count m.key_bytes.bytes known) (message_of result)
+        (Took known (S.to_come stripes.new)) TookNone
+        (Adds (O.written out.old) (O.written out.new))) }
     ensures memory { IfErr result (λ message. message ≢ Message.OutOfMemory) }
-    ensures counts { (secret : ℕ) → Counts (ending_of result)
-        (record { image = S.failures stripes.old; secret = secret; written = O.failures out.old })
-        (record { image = S.failures stripes.new; secret = secret; written = O.failures out.new }) }
+    ensures only { MergeMessage (message_of result) }
+    ensures reads_first { message_of result ≡ Message.ReadFailed → out.new ≡ out.old }
+    ensures counts { (secret : ℕ) → Counts (message_of result)
+        (failures_of (S.failures stripes.old) secret (O.failures out.old))
+        (failures_of (S.failures stripes.new) secret (O.failures out.new)) }
 {
     let mut stripe_buf = [0; LONGEST_KEY];
     let mut key_buf = [0; LONGEST_KEY];

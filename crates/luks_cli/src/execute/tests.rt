@@ -71,8 +71,8 @@ const LAST: [u8; 28] = [
     0xf7, 0x68, 0xeb, 0x7a, 0x91, 0x1d, 0xcc, 0x4c, 0x6f, 0xd5, 0xa6, 0xe2,
 ];
 
-// What a key of the bytes 0 to 63 makes of the two random stripes of `patterned`, with SHA-1. By a script over Python's
-// hashlib.
+// What a key of the bytes 0 to 63 makes of the two random stripes of `patterned`, with SHA-1. By a
+// script over Python's hashlib.
 const LAST_SHA1: [u8; 64] = [
     0xcd, 0x64, 0x4a, 0xa6, 0x21, 0xf8, 0x5f, 0x39, 0x37, 0x36, 0x14, 0x8e, 0x26, 0x6a, 0x9c, 0xf0,
     0x6f, 0x90, 0xab, 0x49, 0x02, 0xef, 0x32, 0x00, 0x28, 0xd9, 0x25, 0xa0, 0x89, 0xe0, 0x67, 0x0c,
@@ -237,8 +237,8 @@ fn tells_how_it_is_called(rt: HostRuntime) -> Result<(), Fail> {
     Ok(())
 }
 
-// Runs with one failing call each, counted upwards until a run meets none. Each is told as what failed, and what it wrote is
-// a beginning of the whole.
+// Runs with one failing call each, counted upwards until a run meets none. Each is told as what
+// failed, and what it wrote is a beginning of the whole.
 fn check_failures(
     rt: &(impl Abort + AllocGlobal),
     line: &str,

@@ -1,16 +1,19 @@
 //! `testPassphrase` and `luksCat`: volumes that a passphrase opens.
 
-ghost use Rattle.std.specs.Prelude.{◌≡◌, ◌≢◌, ◌<◌, ◌≤◌, ◌^◌, List, ℕ, Option, Some, Ok, IfOk, IfErr, drop, length, take, true};
+ghost use Rattle.std.specs.Prelude.{◌≡◌, ◌≢◌, ◌<◌, ◌≤◌, ◌⊎◌, ◌^◌, List, ℕ, Option, Ok, IfOk, IfErr, false, is_err, length, take, true};
 ghost use Rattle.luks_cipher.specs.Xts.{is_xts_key_length};
+ghost use Rattle.luks_io.specs.Bytes.{Adds, Took, WhereKnown, counted};
 ghost use Rattle.luks_header.specs.Header.{cost_of, header_of};
 ghost use Rattle.luks_header.specs.Segment.{segment_of};
 ghost use Rattle.luks_open.specs.Order.{order_of};
-ghost use Rattle.luks_cli.specs.Outcome.{Deed, payload_written, slot_told, volume_outcome};
-ghost use Rattle.luks_cli.specs.Payload.{cat_promptly};
+ghost use Rattle.luks_cli.specs.Volume.{OnOpened, payload_outcome, slot_outcome, volume_outcome};
+ghost use Rattle.luks_cli.specs.VolumeParts.{cat_promptly};
 ghost use Rattle.luks_command.specs.Request.{opening_request};
-ghost use Rattle.luks_cli.specs.Run.{Bytes, Counts, Runs, Tell, count_reads, ending_of, none_owed};
-ghost use Rattle.luks_cli.specs.Unlocking.{TakesHeld, Unlocks};
-ghost use Rattle.luks_cli.specs.Volume.{StopsFinding};
+ghost use Rattle.luks_cli.specs.Run.{Counts, failures_of, Runs, at_any_pace, is_failed_read, message_of};
+ghost use Rattle.luks_cli.specs.MayEnd.{OpeningMessage, PayloadMessage};
+ghost use Rattle.luks_cli.specs.VolumeParts.{TakesHeld, Unlocks};
+ghost use Rattle.luks_cli.specs.VolumeParts.{StopsFinding};
+ghost use Rattle.luks_cli.specs.Volume.{volume_of};
 
 use super::payload::write_payload;
 use super::secret::read_secret;
@@ -74,17 +77,21 @@ fn find_volume<I: Source>(
     opening: &Opening<'_>,
     image: &mut I,
 ) -> Result<Volume, Message>
-    ensures ok { IfOk result (λ volume. (told : List ℕ) → I.to_come image.old ≡ Some told
-        → (header_of told ≡ Ok volume.header) × (volume.area ≡ take (cost_of told) told)
-        × (I.to_come image.new ≡ Some (drop (cost_of told) told))) }
-    ensures err { IfErr result (λ message. (told : List ℕ) → I.to_come image.old ≡ Some told
-        → StopsFinding (opening_request opening.now) told (I.to_come image.new) message) }
+    ensures ok { IfOk result (λ volume. WhereKnown (I.to_come image.old)
+        (λ known. (header_of known ≡ Ok volume.header) × (volume.area ≡ take (cost_of known) known)
+        × Took known (I.to_come image.new) (cost_of known))) }
+    ensures err { IfErr result (λ message. WhereKnown (I.to_come image.old)
+        (λ known. StopsFinding (opening_request opening.now) known (I.to_come image.new) message)) }
+    ensures only { IfErr result OpeningMessage }
     ensures segment { IfOk result (λ volume. segment_of volume.header ≡ Ok volume.segment) }
     ensures order { IfOk result (λ volume. let o = opening_request opening.now in
         order_of volume.header o.key_slot o.max_iterations ≡ Ok volume.order) }
+    ensures volume { IfOk result (λ _. WhereKnown (I.to_come image.old)
+        (λ known. is_err (volume_of (opening_request opening.now) known) ≡ false)) }
     ensures area { IfOk result (λ volume. length volume.area ≡ cost_of volume.area) }
     ensures writes { IfErr result (λ message. message ≢ Message.WriteFailed) }
-    ensures reads { I.failures image.new ≡ count_reads (ending_of result) (I.failures image.old) }
+    ensures reads { I.failures image.new
+        ≡ counted (is_failed_read (message_of result)) (I.failures image.old) }
 {
     let (header, area) = read_header(alloc, image)?;
     let segment = segment(&header)?;
@@ -107,21 +114,25 @@ fn unlock<I: Source, K: Source>(
     image: &mut I,
     secret: &mut K,
 ) -> Result<Unlocked, Message>
-    ensures ok { IfOk result (λ unlocked. (told pass : List ℕ)
-        → I.to_come image.old ≡ Some told → K.to_come secret.old ≡ Some pass
-        → Unlocks (opening_request opening.now) told pass unlocked.segment unlocked.opened unlocked.held
-        (I.to_come image.new) (K.to_come secret.new)) }
-    ensures err { IfErr result (λ message. (written : Option (List ℕ)) (before : Bytes)
-        → Tell (I.to_come image.old) (K.to_come secret.old) written before
-        → (deed : Deed) → TakesHeld before.secret deed
-        → Runs (cat_promptly before.image)
-        (volume_outcome deed (opening_request opening.now) before.image before.secret) before
-        message (I.to_come image.new) (K.to_come secret.new) written) }
+    ensures ok { IfOk result (λ unlocked. WhereKnown (I.to_come image.old) (λ known.
+        WhereKnown (K.to_come secret.old) (λ pass.
+        Unlocks (opening_request opening.now) known pass unlocked.segment unlocked.opened unlocked.held
+        (I.to_come image.new) (K.to_come secret.new)))) }
+    ensures err { IfErr result
+        (λ message. (written : Option (List ℕ)) → WhereKnown (I.to_come image.old) (λ known.
+        WhereKnown (K.to_come secret.old) (λ pass. (on_opened : OnOpened) → TakesHeld pass on_opened
+        → Runs (cat_promptly known)
+        (volume_outcome on_opened (opening_request opening.now) known pass) message
+        (Took known (I.to_come image.new)) (Took pass (K.to_come secret.new))
+        (Adds written written)))) }
+    ensures unneeded { WhereKnown (I.to_come image.old) (λ known.
+        is_err (volume_of (opening_request opening.now) known) ≡ true → secret.new ≡ secret.old) }
+    ensures only { IfErr result OpeningMessage }
     ensures held { IfOk result (λ unlocked. unlocked.held ≤ unlocked.segment.offset) }
     ensures key { IfOk result (λ unlocked. is_xts_key_length (length unlocked.opened.key) ≡ true) }
-    ensures counts { (written : ℕ) → Counts (ending_of result)
-        (record { image = I.failures image.old; secret = K.failures secret.old; written = written })
-        (record { image = I.failures image.new; secret = K.failures secret.new; written = written }) }
+    ensures counts { (written : ℕ) → Counts (message_of result)
+        (failures_of (I.failures image.old) (K.failures secret.old) written)
+        (failures_of (I.failures image.new) (K.failures secret.new) written) }
 {
     let volume = find_volume(alloc, opening, image)?;
     let pass = read_secret(alloc, secret)?;
@@ -152,14 +163,19 @@ pub(super) fn test_passphrase<I: Source, K: Source, O: Sink>(
     secret: &mut K,
     out: &mut O,
 ) -> Result<(), Message>
-    ensures run { (before : Bytes)
-        → Tell (I.to_come image.old) (K.to_come secret.old) (O.written out.old) before
-        → Runs none_owed
-        (volume_outcome (slot_told before.secret) (opening_request opening.now) before.image before.secret) before
-        (ending_of result) (I.to_come image.new) (K.to_come secret.new) (O.written out.new) }
-    ensures counts { Counts (ending_of result)
-        (record { image = I.failures image.old; secret = K.failures secret.old; written = O.failures out.old })
-        (record { image = I.failures image.new; secret = K.failures secret.new; written = O.failures out.new }) }
+    ensures run { WhereKnown (I.to_come image.old)
+        (λ known. WhereKnown (K.to_come secret.old) (λ pass.
+        Runs at_any_pace (volume_outcome (slot_outcome pass) (opening_request opening.now) known pass)
+        (message_of result) (Took known (I.to_come image.new)) (Took pass (K.to_come secret.new))
+        (Adds (O.written out.old) (O.written out.new)))) }
+    ensures unneeded { WhereKnown (I.to_come image.old) (λ known.
+        is_err (volume_of (opening_request opening.now) known) ≡ true → secret.new ≡ secret.old) }
+    ensures only { OpeningMessage (message_of result)
+        ⊎ (message_of result ≡ Message.Done ⊎ message_of result ≡ Message.WriteFailed) }
+    ensures reads_first { message_of result ≡ Message.ReadFailed → out.new ≡ out.old }
+    ensures counts { Counts (message_of result)
+        (failures_of (I.failures image.old) (K.failures secret.old) (O.failures out.old))
+        (failures_of (I.failures image.new) (K.failures secret.new) (O.failures out.new)) }
 {
     let unlocked = unlock(alloc, opening, image, secret)?;
     let page = opened_page(alloc, unlocked.opened.slot)?;
@@ -175,15 +191,18 @@ pub(super) fn cat<I: Source, K: Source, O: Sink>(
     secret: &mut K,
     out: &mut O,
 ) -> Result<(), Message>
-    ensures run { (before : Bytes)
-        → Tell (I.to_come image.old) (K.to_come secret.old) (O.written out.old) before
-        → length before.image < 2 ^ 64
-        → Runs (cat_promptly before.image)
-        (volume_outcome (payload_written before.image before.secret) (opening_request opening.now) before.image before.secret) before
-        (ending_of result) (I.to_come image.new) (K.to_come secret.new) (O.written out.new) }
-    ensures counts { Counts (ending_of result)
-        (record { image = I.failures image.old; secret = K.failures secret.old; written = O.failures out.old })
-        (record { image = I.failures image.new; secret = K.failures secret.new; written = O.failures out.new }) }
+    ensures run { WhereKnown (I.to_come image.old)
+        (λ known. WhereKnown (K.to_come secret.old) (λ pass.
+        length known < 2 ^ 64 → Runs (cat_promptly known)
+        (volume_outcome (payload_outcome known pass) (opening_request opening.now) known pass)
+        (message_of result) (Took known (I.to_come image.new)) (Took pass (K.to_come secret.new))
+        (Adds (O.written out.old) (O.written out.new)))) }
+    ensures unneeded { WhereKnown (I.to_come image.old) (λ known.
+        is_err (volume_of (opening_request opening.now) known) ≡ true → secret.new ≡ secret.old) }
+    ensures only { OpeningMessage (message_of result) ⊎ PayloadMessage (message_of result) }
+    ensures counts { Counts (message_of result)
+        (failures_of (I.failures image.old) (K.failures secret.old) (O.failures out.old))
+        (failures_of (I.failures image.new) (K.failures secret.new) (O.failures out.new)) }
 {
     let unlocked = unlock(alloc, opening, image, secret)?;
     let Some(key) = XtsKey::new(unlocked.opened.key.as_slice()) else {

@@ -15,7 +15,8 @@ pub(crate) const PASSPHRASE: &[u8] = b"correct horse";
 /// How many plain bytes there are: three sectors.
 pub(crate) const PLAIN_LEN: usize = 1536;
 
-/// How a volume is made: its stripes, its payload's start in sectors, and the iterations of its key slot and its digest.
+/// How a volume is made: its stripes, its payload's start in sectors, and the iterations of its key
+/// slot and its digest.
 #[derive(Clone, Copy)]
 pub(crate) struct Size {
     pub(crate) stripes: u32,
@@ -24,8 +25,8 @@ pub(crate) struct Size {
     pub(crate) digest_iterations: u32,
 }
 
-/// As volumes usually are: the key material ends at byte 260,096, the payload starts at byte 2,097,152, and the image has
-/// 2,098,688 bytes.
+/// As volumes usually are: the key material ends at byte 260,096, the payload starts at byte
+/// 2,097,152, and the image has 2,098,688 bytes.
 pub(crate) const USUAL: Size = Size {
     stripes: 4000,
     payload_sectors: 4096,
@@ -33,8 +34,8 @@ pub(crate) const USUAL: Size = Size {
     digest_iterations: 1000,
 };
 
-/// As small as a volume can be: the key material ends at byte 4,608, the payload starts at byte 36,864, and the image has 38,400
-/// bytes.
+/// As small as a volume can be: the key material ends at byte 4,608, the payload starts at byte
+/// 36,864, and the image has 38,400 bytes.
 pub(crate) const SMALL: Size = Size {
     stripes: 4,
     payload_sectors: 72,

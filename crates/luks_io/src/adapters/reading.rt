@@ -1,13 +1,69 @@
 //! Sources over std's readers.
 
-ghost use Rattle.std.specs.Prelude.{◌≡◌};
+ghost use Rattle.std.specs.Prelude.{◌≡◌, ℕ, List, Option, None, length, is_err};
+ghost use Rattle.std.specs.Io.{ReadsAtMost};
+ghost use Rattle.std.specs.Io.KnownBytes.{ReadConsumes};
+ghost use Rattle.luks_io.specs.Answers.{AnswerConsumes, GivesNext, Tells, told_of_read};
+ghost use Rattle.luks_io.specs.Bytes.{counted, is_end};
+ghost use Rattle.luks_io.specs.declared.adapters.Answer.{Answer};
 
 use super::{Answer, REPEATS, answer_of};
 use crate::DeviceFault;
 use crate::source::{Source, count_end};
 use std::io::Read;
 
-/// A source over a reader. It tells the bytes that the reader tells.
+/// A device that answers one read at a time. Where a clause knows its answers, it says which of them are asked for and what
+/// is told of them.
+trait Reading {
+    /// The bytes that are still to come, where they are known.
+    ghost bytes: { Self → Option (List ℕ) };
+
+    /// The answers of the calls from here on, where they are known.
+    ghost answers: { Self → Option (List Answer) };
+
+    fn ask(&mut self, buf: &mut [u8]) -> Answer
+        ensures next { GivesNext (answers self.old) result (answers self.new) }
+        ensures moved { AnswerConsumes (bytes self.old) (bytes self.new) result buf.new };
+}
+
+impl<R: Read> Reading for R {
+    ghost bytes = { λ r. R.remaining r };
+
+    ghost answers = { λ _. None };
+
+    fn ask(&mut self, buf: &mut [u8]) -> Answer {
+        answer_of(self.read(buf))
+    }
+}
+
+/// Reads once, and again while the read is interrupted and a try is left. Ends and failures are counted.
+fn read_counted<D: Reading>(
+    device: &mut D,
+    buf: &mut [u8],
+    failures: &mut u64,
+    ends: &mut u64,
+) -> Result<usize, DeviceFault>
+    ensures told { Tells told_of_read (D.answers device.old) REPEATS result (D.answers device.new) }
+    ensures bound { ReadsAtMost result buf.new }
+    ensures bytes { ReadConsumes (D.bytes device.old) (D.bytes device.new) result buf.new }
+    ensures counts { failures.new ≡ counted (is_err result) failures.old }
+    ensures ends { ends.new ≡ counted (is_end result (length buf.new)) ends.old }
+{
+    let mut tries = REPEATS;
+    'tries: loop {
+        match device.ask(buf) {
+            Answer::Moved(count) => {
+                count_end(ends, count, buf.len());
+                return Ok(count);
+            }
+            Answer::Interrupted if tries > 0 => tries -= 1,
+            Answer::Interrupted => return Err(DeviceFault::counted(failures)),
+            Answer::Failed => return Err(DeviceFault::counted(failures)),
+        }
+    }
+}
+
+/// A source over a reader. It knows the bytes that the reader knows.
 #[derive(Drop)]
 pub struct ReadSource<R> {
     reader: R,
@@ -38,16 +94,6 @@ impl<R: Read> Source for ReadSource<R> {
     ghost ends = { λ s. s.ends };
 
     fn read(&mut self, buf: &mut [u8]) -> Result<usize, DeviceFault> {
-        for _ in 0..=REPEATS {
-            match answer_of(self.reader.read(buf)) {
-                Answer::Moved(count) => {
-                    count_end(&mut self.ends, count, buf.len());
-                    return Ok(count);
-                }
-                Answer::Interrupted => {}
-                Answer::Failed => break,
-            }
-        }
-        Err(DeviceFault::counted(&mut self.failures))
+        read_counted(&mut self.reader, buf, &mut self.failures, &mut self.ends)
     }
 }

@@ -1,7 +1,7 @@
 //! Volumes of LUKS1 (LUKS1 On-Disk Format Specification 1.2.3).
 
 ghost use Rattle.std.specs.Prelude.{◌≡◌, ◌-◌, ◌*◌, ◌≤◌, length};
-ghost use Rattle.luks_volume.specs.Sealed.{AreParameters, FitsKey, FitsSlot, SealsOrSays};
+ghost use Rattle.luks_volume.specs.Sealed.{AreParameters, FitsKey, FitsSlot, SealsOrSays, longest_plain};
 
 use super::parameters::{Seal1, SealFault, Slot1};
 use super::ranges::{are_parameters, area_of};
@@ -170,7 +170,7 @@ fn push_encrypted(
     plain: &[u8],
 ) -> Result<(), AllocError>
     requires key { FitsKey (length key.now) }
-    requires plain { length plain.now ≤ 8388608 }
+    requires plain { length plain.now ≤ longest_plain }
 {
     let Some(key) = XtsKey::new(key) else {
         unreachable!()

@@ -18,8 +18,9 @@ fn put(header: &mut [u8], place: usize, bytes: &[u8])
     header[place..place + bytes.len()].copy_from_slice(bytes);
 }
 
-// A header with the cipher aes-xts-plain64, SHA-256, payload offset 4096, 64 key bytes, the digest 00 to 13, a digest salt of
-// bytes aa, 1000 iterations, a UUID field with no zero byte, slot 0 in use, slot 2 with state 1 and the others disabled.
+// A header with the cipher aes-xts-plain64, SHA-256, payload offset 4096, 64 key bytes, the digest
+// 00 to 13, a digest salt of bytes aa, 1000 iterations, a UUID field with no zero byte, slot 0 in
+// use, slot 2 with state 1 and the others disabled.
 fn make_header() -> [u8; 592] {
     let mut header = [0; 592];
     fill_volume(&mut header);
@@ -203,8 +204,8 @@ fn tells_failed_devices(rt: HostRuntime) -> Result<(), Fail> {
     Ok(())
 }
 
-// Runs with less and less memory refused, until one meets no refusal. Each refused run answers want of memory, writes nothing
-// and takes no more of the image than the whole run.
+// Runs with less and less memory refused, until one meets no refusal. Each refused run answers want
+// of memory, writes nothing and takes no more of the image than the whole run.
 #[test]
 fn answers_memory_where_it_is_refused(rt: HostRuntime) -> Result<(), Fail> {
     let alloc = rt.alloc();

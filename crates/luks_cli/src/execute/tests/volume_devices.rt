@@ -97,8 +97,9 @@ fn stops_at_a_failed_read(rt: HostRuntime) -> Result<(), Fail> {
     Ok(())
 }
 
-// Runs with one failing call each, counted upwards until a run meets none. Each is told as what failed, and what it wrote is a
-// beginning of the whole: for a failed read of the image the whole sectors that were taken.
+// Runs with one failing call each, counted upwards until a run meets none. Each is told as what
+// failed, and what it wrote is a beginning of the whole: for a failed read of the image the whole
+// sectors that were taken.
 fn check_failures(rt: &(impl Abort + AllocGlobal), name: &str, whole: &[u8]) -> Result<(), Fail> {
     let alloc = rt.alloc();
     let image = sealed(alloc, SMALL, PASSPHRASE)?;
@@ -136,8 +137,8 @@ fn tells_each_failed_call(rt: HostRuntime) -> Result<(), Fail> {
     check_failures(&rt, "testPassphrase", b"Key slot 0 opens the volume.\n")
 }
 
-// Runs with less and less memory refused, until one meets no refusal. Each refused run answers want of memory, and writes
-// nothing.
+// Runs with less and less memory refused, until one meets no refusal. Each refused run answers want
+// of memory, and writes nothing.
 #[test]
 fn answers_memory_where_it_is_refused(rt: HostRuntime) -> Result<(), Fail> {
     let alloc = rt.alloc();

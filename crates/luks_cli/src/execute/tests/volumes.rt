@@ -123,7 +123,8 @@ fn tells_where_a_payload_is_cut(rt: HostRuntime) -> Result<(), Fail> {
     Ok(())
 }
 
-// Runs `luksCat` and `testPassphrase` with these options, which end alike, with nothing written and the key file unread.
+// Runs `luksCat` and `testPassphrase` with these options, which end alike, with nothing written and
+// the key file unread.
 fn check_refused(
     rt: &(impl Abort + AllocGlobal),
     options: &str,

@@ -1,13 +1,14 @@
-use Rattle.std.proofs.Common.{◌≡◌, ◌≤◌, ◌-◌, List, ℕ, Some, length, drop}
+use Rattle.std.proofs.Common.{◌≡◌, ◌≤◌, ◌-◌}
+use Rattle.luks_io.specs.Bytes.{Took, WhereKnown}
 use Rattle.luks_volume.proofs.passing.discard.Given as goal
 
--- the bytes so far are gone
+-- the bytes so far are gone, and no read has failed or found the end
 abbrev pub invariant-pieces : goal.invariant-pieces
 invariant-pieces g l = record {
   reads : g.S.Source.failures l.source ≡ g.S.Source.failures l.initial.source;
+  ends : g.S.Source.ends l.source ≡ g.S.Source.ends l.initial.source;
   few : l.left ≤ l.count;
-  taken : (bytes : List ℕ) → g.S.Source.to_come l.initial.source ≡ Some bytes →
-      (l.count - l.left ≤ length bytes) × (g.S.Source.to_come l.source ≡ Some (drop (l.count - l.left) bytes));
+  taken : WhereKnown (g.S.Source.to_come l.initial.source) (λ known. Took known (g.S.Source.to_come l.source) (l.count - l.left));
 }
 
 -- the bytes that are still to be taken

@@ -7,7 +7,7 @@ returns c =
     c.self.invariant.same_length c.self.view_is in
     let read = c.copy_from_slice.ensures.after in
     let masked = c.block_sum-masked.ensures in
-    let ciphered = c.decrypt_block.ensures in
+    let ciphered = c.decrypt_block.ensures.value in
     let summed = c.block_sum.ensures in
     let written = c.copy_from_slice-2.ensures.after in
     cc

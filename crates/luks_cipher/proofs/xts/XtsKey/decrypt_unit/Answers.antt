@@ -1,11 +1,11 @@
-use Rattle.std.proofs.Common.{ap, arith, ◌∙◌, add-one, refl}
-use Rattle.luks_cipher.specs.Xts.{doubled, tweak_of, xts_decrypted}
+use Rattle.std.proofs.Common.{ap, arith, ◌∙◌, add-one, refl, rules}
+use Rattle.luks_cipher.specs.Xts.{doubled, tweak_of, xts_encrypted, xts_decrypted}
 use Rattle.luks_cipher.proofs.TweakLemmas.{done_none, done_more, decrypted_unit, block_is}
-use Rattle.luks_cipher.proofs.UnitsUndone.{xts_decrypted-xts_encrypted}
+use Rattle.luks_cipher.proofs.UnitsUndone.{xts_decrypted-xts_encrypted, xts_encrypted-xts_decrypted}
 use Rattle.luks_cipher.proofs.xts.XtsKey.decrypt_unit.Goals as goal
 
 pub loop-j-init : goal.loop-j-init
-loop-j-init c = record { next_tweak = c.first_tweak-tweak.ensures.value; done = done_none _ _ }
+loop-j-init c = record { bytes = record { each = search rules }; next_tweak = c.first_tweak-tweak.ensures.value; done = done_none _ _ }
 
 pub loop-j-preserved : goal.loop-j-preserved
 unfolding tweak_of
@@ -15,6 +15,7 @@ loop-j-preserved c =
     let block = block_is c.args.unit.now c.loop-j.unit j before.done.left in
     let tweak = before.next_tweak in
     record {
+      bytes = before.bytes;
       next_tweak = rw add-one (c.doubled-next.ensures ∙ ap doubled tweak);
       done = done_more _ _ _ _ j before.done (omega arith) (omega arith) (c.decrypt_piece.ensures ∙ rw (block, tweak) refl);
     }
@@ -30,4 +31,6 @@ returns c =
       undoes = λ plain bytes same is.
           value ∙ ap (xts_decrypted key c.args.number) is
           ∙ xts_decrypted-xts_encrypted key c.args.number plain c.first_tweak-tweak.ensures.key_bytes bytes (rw same c.requires.whole_blocks);
+      undone = ap (xts_encrypted key c.args.number) value
+          ∙ xts_encrypted-xts_decrypted key c.args.number unit c.first_tweak-tweak.ensures.key_bytes c.loop-j.invariant.bytes c.requires.whole_blocks;
     }

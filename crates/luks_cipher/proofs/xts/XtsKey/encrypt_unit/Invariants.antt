@@ -1,5 +1,5 @@
 use Rattle.std.proofs.Common.{◌≡◌}
-use Rattle.luks_cipher.specs.Bytes.{IsBytes}
+use Rattle.luks_aes.specs.Bytes.{IsBytes}
 use Rattle.luks_cipher.specs.Xts.{tweak_of, block_at, block_encrypted}
 use Rattle.luks_cipher.proofs.TweakLemmas.{IsDoneBefore}
 use Rattle.luks_cipher.proofs.xts.XtsKey.encrypt_unit.Given as goal

@@ -1,6 +1,6 @@
 use Rattle.std.proofs.Common.{◌∙◌, ap}
 use Rattle.std.specs.Int.{w128, to_le_bytes}
-use Rattle.luks_cipher.proofs.ByteLists.{bytes_append}
+use Rattle.luks_aes.proofs.ByteLists.{bytes_append}
 use Rattle.luks_cipher.proofs.TweakLemmas.{first_tweak_is}
 use Rattle.luks_cipher.proofs.xts.XtsKey.first_tweak.Goals as goal
 

@@ -3,9 +3,9 @@ use Rattle.luks_cli.proofs.execute.headers.is_luks.Goals as goal
 use Rattle.luks_cli.proofs.execute.headers.is_luks.Goals.{in-Ok, in-Err}
 
 pub returns-clause-run : goal.returns-clause-run
-returns-clause-run g c secret written before tell = elim c.match-read_header.branch [
-  | in-Ok w ↦ let read = w.in-Ok.ensures.ok before.image tell.image in
-      rw w.result-is (is_luks_found before _ _ _ tell.secret tell.written _ read.0 read.2)
-  | in-Err w ↦ let stop = w.in-Err.ensures.err before.image tell.image in
-      rw (w.result-is, w.refusal_of.ensures) (is_luks_refused before _ _ _ tell.secret tell.written w.in-Err.fault stop)
+returns-clause-run g c written known is = elim c.match-read_header.branch [
+  | in-Ok w ↦ let read = w.in-Ok.ensures.ok known is in
+      rw w.result-is (is_luks_found known _ _ _ read.0 read.2)
+  | in-Err w ↦ let stop = w.in-Err.ensures.err known is in
+      rw (w.result-is, w.refusal_of.ensures) (is_luks_refused known _ _ w.in-Err.fault stop)
 ]

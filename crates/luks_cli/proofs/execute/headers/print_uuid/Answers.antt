@@ -7,25 +7,27 @@ use Rattle.luks_cli.proofs.execute.headers.print_uuid.Goals as goal
 pub returns-in_err-header-clause-run : goal.returns-in_err-header-clause-run
 returns-in_err-header-clause-run g c =
     let p = err_from_is_err_and c.from_residual.result c.from_residual.ensures.1 in
-    rw (p.1, p.2) (λ secret before tell.
-    runs_without_header uuid_of before _ _ _ tell.secret c.in_err-header.field-0.0 (c.in_err-header.ensures.err before.image tell.image) tell.written)
+    rw (p.1, p.2) (λ known is.
+    runs_without_header uuid_of known _ _ c.in_err-header.field-0.0 (c.in_err-header.ensures.err known is))
 
 pub returns-in_err-page-clause-run : goal.returns-in_err-page-clause-run
 returns-in_err-page-clause-run g c =
     let p = err_from_is_err_and c.from_residual-in_err-page.result c.from_residual-in_err-page.ensures.1 in
-    rw (p.1, p.2) (λ secret before tell.
-    let read = c.in_ok-header.ensures.ok before.image tell.image in
-    runs_without_text uuid_of before _ _ _ tell.secret _ read.0 read.2 tell.written)
+    rw (p.1, p.2) (λ known is.
+    let read = c.in_ok-header.ensures.ok known is in
+    runs_without_text uuid_of known _ _ _ read.0 read.2)
 
 pub returns-in_err-put_all-clause-run : goal.returns-in_err-put_all-clause-run
 returns-in_err-put_all-clause-run g c =
     let p = err_from_is_err_and c.from_residual-in_err-put_all.result c.from_residual-in_err-put_all.ensures.1 in
-    rw (p.1, p.2) (λ secret before tell.
-    let read = c.in_ok-header.ensures.ok before.image tell.image in
+    rw (p.1, p.2) (λ known is.
+    let read = c.in_ok-header.ensures.ok known is in
     let failed = c.in_err-put_all.ensures.err in
-    runs_without_rest uuid_of before _ _ _ tell.secret _ read.0 read.2 c.as_bytes.result.now _ _ (c.as_bytes.ensures.value ∙ c.in_ok-page.ensures) tell.written failed.0 failed.1)
+    runs_without_rest uuid_of known _ _ _ read.0 read.2 c.as_bytes.result.now _ _
+    (c.as_bytes.ensures.value ∙ c.in_ok-page.ensures) failed.0 failed.1)
 
 pub returns-clause-run : goal.returns-clause-run
-returns-clause-run g c secret before tell =
-    let read = c.in_ok-header.ensures.ok before.image tell.image in
-    runs_to_end uuid_of before _ _ _ tell.secret _ read.0 read.2 c.as_bytes.result.now _ (c.as_bytes.ensures.value ∙ c.in_ok-page.ensures) tell.written c.in_ok-put_all.ensures.ok
+returns-clause-run g c known is =
+    let read = c.in_ok-header.ensures.ok known is in
+    runs_to_end uuid_of known _ _ _ read.0 read.2 c.as_bytes.result.now _
+    (c.as_bytes.ensures.value ∙ c.in_ok-page.ensures) c.in_ok-put_all.ensures.ok

@@ -2,7 +2,8 @@ use Rattle.std.proofs.Common.{◌+◌, ◌∙◌, ap, refl, arith}
 use Rattle.std.proofs.lemmas.Result.{err_from_is_err_and}
 use Rattle.luks_cli.proofs.PayloadLemmas.{few_sectors, never_memory, passing_breaks, passing_ends, passing_more, passing_start, reads_are, writes_are}
 use Rattle.luks_report.specs.Faults.{message_for_payload}
-use Rattle.luks_cli.specs.Run.{count_reads, count_writes}
+use Rattle.luks_io.specs.Bytes.{counted}
+use Rattle.luks_cli.specs.Run.{is_failed_read, is_failed_write}
 use Rattle.luks_cli.proofs.execute.payload.write_payload.Goals as goal
 
 pub sectors-init : goal.sectors-init
@@ -13,7 +14,7 @@ sectors-init g c = rw c.new-pump.ensures (record {
   running = refl;
   reads = refl;
   writes = refl;
-  passing = λ whole before counted there is was. passing_start _ whole before _ _ refl refl there is was;
+  passing = λ whole few took. passing_start _ whole _ _ refl refl took;
 })
 
 pub sectors-preserved : goal.sectors-preserved
@@ -27,9 +28,9 @@ sectors-preserved g c =
       running = refl;
       reads = step.reads so_far.running ∙ so_far.reads;
       writes = step.writes so_far.running ∙ so_far.writes;
-      passing = λ whole before counted there is was.
-          let passing = so_far.passing whole before counted there is was in
-          passing_more _ whole before _ _ _ _ passing (step.run whole counted passing.stands);
+      passing = λ whole few took.
+          let passing = so_far.passing whole few took in
+          passing_more _ whole _ _ _ _ _ passing (step.run whole few passing.stands);
     })
 
 pub returns-in_err-step-clause-run : goal.returns-in_err-step-clause-run
@@ -37,23 +38,26 @@ returns-in_err-step-clause-run g c =
     let p = err_from_is_err_and c.from_residual.result c.from_residual.ensures.1 in
     let so_far = c.sectors.invariant in
     let step = c.in_err-step.ensures in
-    rw (p.1, p.2, ← so_far.segment, ← so_far.key) (λ whole before counted there is was.
-    let passing = so_far.passing whole before counted there is was in
-    passing_breaks _ whole before _ _ _ _ passing _ _ (λ same. ap g.O.Sink.written same) step.writes_sectors (step.run whole counted passing.stands))
+    rw (p.1, p.2, ← so_far.segment, ← so_far.key) (λ whole few took.
+    let passing = so_far.passing whole few took in
+    passing_breaks _ whole _ _ _ _ _ passing _ _ (λ same. ap g.O.Sink.written same) step.writes_sectors
+    (step.run whole few passing.stands))
 
 pub returns-in_err-step-clause-reads : goal.returns-in_err-step-clause-reads
 returns-in_err-step-clause-reads g c =
     let p = err_from_is_err_and c.from_residual.result c.from_residual.ensures.1 in
     let so_far = c.sectors.invariant in
     let fault = c.in_err-step.field-0.0 in
-    rw (p.1, p.2) (c.in_err-step.ensures.reads so_far.running ∙ reads_are fault (g.I.Source.failures c.sectors.image) ∙ ap (count_reads (message_for_payload fault)) so_far.reads)
+    rw (p.1, p.2) (c.in_err-step.ensures.reads so_far.running ∙ reads_are fault (g.I.Source.failures c.sectors.image)
+    ∙ ap (counted (is_failed_read (message_for_payload fault))) so_far.reads)
 
 pub returns-in_err-step-clause-writes : goal.returns-in_err-step-clause-writes
 returns-in_err-step-clause-writes g c =
     let p = err_from_is_err_and c.from_residual.result c.from_residual.ensures.1 in
     let so_far = c.sectors.invariant in
     let fault = c.in_err-step.field-0.0 in
-    rw (p.1, p.2) (c.in_err-step.ensures.writes so_far.running ∙ writes_are fault (g.O.Sink.failures c.sectors.out) ∙ ap (count_writes (message_for_payload fault)) so_far.writes)
+    rw (p.1, p.2) (c.in_err-step.ensures.writes so_far.running ∙ writes_are fault (g.O.Sink.failures c.sectors.out)
+    ∙ ap (counted (is_failed_write (message_for_payload fault))) so_far.writes)
 
 pub returns-in_err-step-clause-memory : goal.returns-in_err-step-clause-memory
 returns-in_err-step-clause-memory g c =
@@ -64,13 +68,14 @@ pub returns-in-End-clause-run : goal.returns-in-End-clause-run
 returns-in-End-clause-run g c =
     let so_far = c.sectors.invariant in
     let step = rw c.in-End.is at c.in_ok-step.ensures in
-    rw (← so_far.segment, ← so_far.key) (λ whole before counted there is was.
-    let passing = so_far.passing whole before counted there is was in
-    passing_ends _ whole before _ _ _ _ passing (step.run whole counted passing.stands) (ap g.O.Sink.written step.writes_sectors))
+    rw (← so_far.segment, ← so_far.key) (λ whole few took.
+    let passing = so_far.passing whole few took in
+    passing_ends _ whole _ _ _ _ _ passing (step.run whole few passing.stands)
+    (ap g.O.Sink.written step.writes_sectors))
 
 pub returns-clause-run : goal.returns-clause-run
-returns-clause-run g c whole before counted there is was =
+returns-clause-run g c whole few took =
     let so_far = c.sectors.invariant in
-    let passing = so_far.passing whole before counted there is was in
-    let few = few_sectors c.sectors.pump.segment whole counted in
+    let passing = so_far.passing whole few took in
+    let all = few_sectors c.sectors.pump.segment whole few in
     absurd (omega (arith, passing.few, so_far.count))

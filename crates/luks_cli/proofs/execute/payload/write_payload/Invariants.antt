@@ -1,4 +1,5 @@
-use Rattle.std.proofs.Common.{◌≡◌, ◌≤◌, ◌<◌, ◌^◌, List, ℕ, Some, length, drop, true}
+use Rattle.std.proofs.Common.{◌≡◌, ◌<◌, ◌^◌, List, ℕ, length, true}
+use Rattle.luks_io.specs.Bytes.{Took}
 use Rattle.luks_volume.specs.Pumped.{is_running}
 use Rattle.luks_cli.proofs.PayloadLemmas.{Passing}
 use Rattle.luks_cli.proofs.execute.payload.write_payload.Given as goal
@@ -12,7 +13,6 @@ invariant-sectors g l = record {
   running : is_running l.pump.state ≡ true;
   reads : g.I.Source.failures l.image ≡ g.I.Source.failures l.initial.image;
   writes : g.O.Sink.failures l.out ≡ g.O.Sink.failures l.initial.out;
-  passing : (whole before : List ℕ) → length whole < 2 ^ 64 → l.fn.consumed ≤ length whole
-      → g.I.Source.to_come l.initial.image ≡ Some (drop l.fn.consumed whole) → g.O.Sink.written l.initial.out ≡ Some before
-      → Passing l.pump whole before (g.I.Source.to_come l.image) (g.O.Sink.written l.out);
+  passing : (whole : List ℕ) → length whole < 2 ^ 64 → Took whole (g.I.Source.to_come l.initial.image) l.fn.consumed
+      → Passing l.pump whole (g.I.Source.to_come l.image) (g.O.Sink.written l.initial.out) (g.O.Sink.written l.out);
 }

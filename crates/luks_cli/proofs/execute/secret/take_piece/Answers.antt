@@ -5,6 +5,8 @@ use Rattle.luks_cli.proofs.execute.secret.take_piece.Goals as goal
 pub returns-in_err-got-clause-err : goal.returns-in_err-got-clause-err
 returns-in_err-got-clause-err g c =
     let p = err_from_is_err_and c.from_residual.result c.from_residual.ensures.1 in
-    rw p.1 (λ told is.
-    let next = c.in_err-got.ensures.err.1 told is in
-    (c.in_err-got.field-0.0.got, omega (arith, c.in_err-got.ensures.err.0, next.0, c.fill.auto.buf), next.2))
+    rw p.1 (λ known is. (
+      c.in_err-got.field-0.0.got,
+      omega (arith, c.in_err-got.ensures.bound, c.fill.auto.buf),
+      (c.in_err-got.ensures.bytes known is).0,
+    ))

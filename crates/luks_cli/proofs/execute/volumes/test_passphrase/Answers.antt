@@ -1,33 +1,34 @@
 use Rattle.std.proofs.lemmas.Result.{err_from_is_err_and}
 use Rattle.std.proofs.Common.{◌∙◌}
-use Rattle.luks_cli.specs.Outcome.{slot_told}
-use Rattle.luks_cli.proofs.OpenedRuns.{runs_anyhow, runs_told, runs_without_line, runs_without_rest, takes_slot}
+use Rattle.luks_cli.specs.Volume.{slot_outcome}
+use Rattle.luks_cli.proofs.OpenedRuns.{runs_at_any_pace, runs_told, runs_without_line, runs_without_rest, takes_slot}
 use Rattle.luks_cli.proofs.execute.volumes.test_passphrase.Goals as goal
 
 pub returns-in_err-unlocked-clause-run : goal.returns-in_err-unlocked-clause-run
 returns-in_err-unlocked-clause-run g c =
     let p = err_from_is_err_and c.from_residual.result c.from_residual.ensures.1 in
-    rw (p.1, p.2) (λ before tell.
-    runs_anyhow _ _ before _ _ _ _ (c.in_err-unlocked.ensures.err _ before tell (slot_told before.secret) (takes_slot before.secret)))
+    rw (p.1, p.2) (λ known is pass has.
+    runs_at_any_pace _ _ _ _ _ _
+    (c.in_err-unlocked.ensures.err _ known is pass has (slot_outcome pass) (takes_slot pass)))
 
 pub returns-in_err-page-clause-run : goal.returns-in_err-page-clause-run
 returns-in_err-page-clause-run g c =
     let p = err_from_is_err_and c.from_residual-in_err-page.result c.from_residual-in_err-page.ensures.1 in
-    rw (p.1, p.2) (λ before tell.
-    runs_without_line _ before _ _ _ _ _ (c.in_ok-unlocked.ensures.ok before.image before.secret tell.image tell.secret) _ tell.written)
+    rw (p.1, p.2) (λ known is pass has.
+    runs_without_line _ known pass _ _ _ _ _ (c.in_ok-unlocked.ensures.ok known is pass has) _)
 
 pub returns-in_err-put_all-clause-run : goal.returns-in_err-put_all-clause-run
 returns-in_err-put_all-clause-run g c =
     let p = err_from_is_err_and c.from_residual-in_err-put_all.result c.from_residual-in_err-put_all.ensures.1 in
-    rw (p.1, p.2) (λ before tell.
+    rw (p.1, p.2) (λ known is pass has.
     let failed = c.in_err-put_all.ensures.err in
-    runs_without_rest _ before _ _ _ _ _ (c.in_ok-unlocked.ensures.ok before.image before.secret tell.image tell.secret)
-    c.as_bytes.result.now (c.as_bytes.ensures.value ∙ c.in_ok-page.ensures) _ _ tell.written _ failed.0 failed.1)
+    runs_without_rest _ known pass _ _ _ _ _ (c.in_ok-unlocked.ensures.ok known is pass has)
+    c.as_bytes.result.now (c.as_bytes.ensures.value ∙ c.in_ok-page.ensures) _ _ _ failed.0 failed.1)
 
 pub returns-clause-run : goal.returns-clause-run
-returns-clause-run g c before tell =
-    runs_told _ before _ _ _ _ _ (c.in_ok-unlocked.ensures.ok before.image before.secret tell.image tell.secret)
-    c.as_bytes.result.now (c.as_bytes.ensures.value ∙ c.in_ok-page.ensures) _ _ tell.written c.in_ok-put_all.ensures.ok
+returns-clause-run g c known is pass has =
+    runs_told _ known pass _ _ _ _ _ (c.in_ok-unlocked.ensures.ok known is pass has)
+    c.as_bytes.result.now (c.as_bytes.ensures.value ∙ c.in_ok-page.ensures) _ _ c.in_ok-put_all.ensures.ok
 
 pub returns-in_err-put_all-clause-counts : goal.returns-in_err-put_all-clause-counts
 returns-in_err-put_all-clause-counts g c =

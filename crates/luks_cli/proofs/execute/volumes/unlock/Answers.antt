@@ -3,7 +3,7 @@ use Rattle.std.proofs.Common.{◌≤◌, [], Some, ap, sym, length, arith}
 use Rattle.luks_header.proofs.HeaderLemmas.{short_from_not_whole}
 use Rattle.luks_open.proofs.CallerLemmas.{held_before_payload}
 use Rattle.luks_command.specs.Request.{opening_request}
-use Rattle.luks_cli.specs.Run.{Bytes}
+use Rattle.luks_cli.specs.Volume.{longest_key_file}
 use Rattle.luks_header.proofs.KnownLemmas.{behind_header}
 use Rattle.luks_cli.proofs.VolumeRuns.{cost_most, runs_cut, runs_unopened, runs_without_area, runs_without_secret, runs_without_volume, unlocks}
 use Rattle.luks_cli.proofs.execute.volumes.unlock.Goals as goal
@@ -11,53 +11,60 @@ use Rattle.luks_cli.proofs.execute.volumes.unlock.Goals as goal
 pub returns-in_err-volume-clause-err : goal.returns-in_err-volume-clause-err
 returns-in_err-volume-clause-err g c =
     let p = err_from_is_err_and c.from_residual.result c.from_residual.ensures.1 in
-    rw (p.1, p.2) (λ written before tell deed takes.
-    runs_without_volume _ before _ _ _ deed tell.written takes _ c.in_err-volume.ensures.writes (c.in_err-volume.ensures.err before.image tell.image) tell.secret)
+    rw (p.1, p.2) (λ written known is pass has on_opened takes.
+    runs_without_volume _ known pass _ _ _ on_opened takes _ c.in_err-volume.ensures.writes
+    (c.in_err-volume.ensures.err known is) has)
 
 pub returns-in_err-pass-clause-err : goal.returns-in_err-pass-clause-err
 returns-in_err-pass-clause-err g c =
     let p = err_from_is_err_and c.from_residual-in_err-pass.result c.from_residual-in_err-pass.ensures.1 in
-    rw (p.1, p.2) (λ written before tell deed takes.
+    rw (p.1, p.2) (λ written known is pass has on_opened takes.
     let volume = c.in_ok-volume.ensures in
-    let read = volume.ok before.image tell.image in
-    runs_without_secret (opening_request c.args.opening.now) before _ _ _ _ _ _ read.0 volume.segment volume.order deed tell.written takes _
-    (c.in_err-pass.ensures.err before.secret tell.secret) read.2)
+    let read = volume.ok known is in
+    runs_without_secret (opening_request c.args.opening.now) known pass _ _ _ _ _ _ read.0 volume.segment volume.order
+    on_opened takes _
+    (c.in_err-pass.ensures.err pass has) read.2)
 
 pub returns-in_err-extend_to-clause-err : goal.returns-in_err-extend_to-clause-err
 returns-in_err-extend_to-clause-err g c =
     let p = err_from_is_err_and c.from_residual-in_err-extend_to.result c.from_residual-in_err-extend_to.ensures.1 in
-    rw (p.1, p.2) (λ written before tell deed takes.
+    rw (p.1, p.2) (λ written known is pass has on_opened takes.
     let volume = c.in_ok-volume.ensures in
-    let read = volume.ok before.image tell.image in
-    let pass = c.in_ok-pass.ensures.ok before.secret tell.secret in
-    let short : length before.secret ≤ 8388608 = omega (arith, ap length pass.0, c.in_ok-pass.pass.ok.0, c.in_ok-pass.ensures.few) in
-    runs_without_area (opening_request c.args.opening.now) before _ _ _ _ _ _ read.0 volume.segment volume.order short pass.1 _ _ read.1 deed tell.written takes
-    c.in_err-extend_to.field-0.0 (rw c.held_end.ensures.value at (c.in_err-extend_to.ensures.err _ read.2)))
+    let read = volume.ok known is in
+    let whole = c.in_ok-pass.ensures.ok pass has in
+    let short : length pass
+    ≤ longest_key_file = omega (arith, ap length whole.0, c.in_ok-pass.pass.ok.0, c.in_ok-pass.ensures.few) in
+    runs_without_area (opening_request c.args.opening.now) known pass _ _ _ _ _ _ read.0 volume.segment volume.order
+    short whole.1 _ _ read.1 on_opened takes
+    c.in_err-extend_to.field-0.0 (rw c.held_end.ensures.value at (c.in_err-extend_to.ensures.err _ read.2.left)))
 
 pub returns-then-not-branch-clause-err : goal.returns-then-not-branch-clause-err
-returns-then-not-branch-clause-err g c written before tell deed takes =
+returns-then-not-branch-clause-err g c written known is pass has on_opened takes =
     let volume = c.in_ok-volume.ensures in
-    let read = volume.ok before.image tell.image in
-    let pass = c.in_ok-pass.ensures.ok before.secret tell.secret in
-    let short : length before.secret ≤ 8388608 = omega (arith, ap length pass.0, c.in_ok-pass.pass.ok.0, c.in_ok-pass.ensures.few) in
+    let read = volume.ok known is in
+    let whole = c.in_ok-pass.ensures.ok pass has in
+    let short : length pass
+    ≤ longest_key_file = omega (arith, ap length whole.0, c.in_ok-pass.pass.ok.0, c.in_ok-pass.ensures.few) in
     let end = c.held_end.ensures.value in
     let few = short_from_not_whole c.in_ok-extend_to.field-0 _ _ c.in_ok-extend_to.ensures.whole c.if-not-branch.true in
-    runs_cut (opening_request c.args.opening.now) before _ _ _ _ _ _ read.0 volume.segment volume.order short pass.1 _ _ read.1
-    (rw end at (c.in_ok-extend_to.ensures.ok _ read.2)) deed tell.written (rw end at few)
+    runs_cut (opening_request c.args.opening.now) known pass _ _ _ _ _ _ read.0 volume.segment volume.order short
+    whole.1 _ _ read.1
+    (rw end at (c.in_ok-extend_to.ensures.ok _ read.2.left)) on_opened (rw end at few)
 
 pub returns-in-Ok-clause-ok : goal.returns-in-Ok-clause-ok
-returns-in-Ok-clause-ok g c told secret is whole =
-    let before : Bytes = record { image = told; secret = secret; written = [] } in
+returns-in-Ok-clause-ok g c known is pass has =
     let volume = c.in_ok-volume.ensures in
-    let read = volume.ok told is in
-    let pass = c.in_ok-pass.ensures.ok secret whole in
-    let short : length secret ≤ 8388608 = omega (arith, ap length pass.0, c.in_ok-pass.pass.ok.0, c.in_ok-pass.ensures.few) in
+    let read = volume.ok known is in
+    let whole = c.in_ok-pass.ensures.ok pass has in
+    let short : length pass
+    ≤ longest_key_file = omega (arith, ap length whole.0, c.in_ok-pass.pass.ok.0, c.in_ok-pass.ensures.few) in
     let end = c.held_end.ensures.value in
     let enough = c.in_ok-extend_to.ensures.whole.0 c.if-not-branch.false in
-    let tried = sym (rw (c.deref.ensures.value, pass.0) at c.in-Ok.ensures.value) in
+    let tried = sym (rw (c.deref.ensures.value, whole.0) at c.in-Ok.ensures.value) in
     rw c.as_slice.ensures.value
-    (unlocks (opening_request c.args.opening.now) before _ _ (Some []) _ _ _ read.0 volume.segment volume.order short pass.1 _ _ read.1
-    (rw end at (c.in_ok-extend_to.ensures.ok _ read.2)) (rw end at enough) c.in-Ok.opened tried)
+    (unlocks (opening_request c.args.opening.now) known pass _ _ (Some []) _ _ _ read.0 volume.segment volume.order
+    short whole.1 _ _ read.1
+    (rw end at (c.in_ok-extend_to.ensures.ok _ read.2.left)) (rw end at enough) c.in-Ok.opened tried)
 
 pub returns-in-Ok-clause-held : goal.returns-in-Ok-clause-held
 returns-in-Ok-clause-held g c =
@@ -65,17 +72,28 @@ returns-in-Ok-clause-held g c =
     let cost = cost_most c.in_ok-volume.volume.area in
     let start = behind_header _ _ volume.segment in
     let held = held_before_payload _ _ _ _ _ volume.segment volume.order in
-    omega (arith, ap length c.as_slice.ensures.value, c.in_ok-extend_to.ensures.within, volume.area, cost, start, held, c.held_end.ensures.value)
+    omega (
+      arith,
+      ap length c.as_slice.ensures.value,
+      c.in_ok-extend_to.ensures.within,
+      volume.area,
+      cost,
+      start,
+      held,
+      c.held_end.ensures.value,
+    )
 
 pub returns-clause-err : goal.returns-clause-err
-returns-clause-err g c written before tell deed takes =
+returns-clause-err g c written known is pass has on_opened takes =
     let volume = c.in_ok-volume.ensures in
-    let read = volume.ok before.image tell.image in
-    let pass = c.in_ok-pass.ensures.ok before.secret tell.secret in
-    let short : length before.secret ≤ 8388608 = omega (arith, ap length pass.0, c.in_ok-pass.pass.ok.0, c.in_ok-pass.ensures.few) in
+    let read = volume.ok known is in
+    let whole = c.in_ok-pass.ensures.ok pass has in
+    let short : length pass
+    ≤ longest_key_file = omega (arith, ap length whole.0, c.in_ok-pass.pass.ok.0, c.in_ok-pass.ensures.few) in
     let end = c.held_end.ensures.value in
     let enough = c.in_ok-extend_to.ensures.whole.0 c.if-not-branch.false in
-    let tried = sym (rw (c.deref.ensures.value, pass.0) at c.in-Err.ensures.value) in
+    let tried = sym (rw (c.deref.ensures.value, whole.0) at c.in-Err.ensures.value) in
     rw (c.of_opening.ensures, c.named_slot.ensures)
-    (runs_unopened (opening_request c.args.opening.now) before _ _ _ _ _ _ read.0 volume.segment volume.order short pass.1 _ _ read.1
-    (rw end at (c.in_ok-extend_to.ensures.ok _ read.2)) (rw end at enough) c.in-Err.fault tried deed tell.written)
+    (runs_unopened (opening_request c.args.opening.now) known pass _ _ _ _ _ _ read.0 volume.segment volume.order short
+    whole.1 _ _ read.1
+    (rw end at (c.in_ok-extend_to.ensures.ok _ read.2.left)) (rw end at enough) c.in-Err.fault tried on_opened)

@@ -21,4 +21,4 @@ returns-clause-run g c image few stands =
     let was = c.args.self.now in
     steps_resumed was.segment was.key was.consumed was.count image _ _ _ _ _ _ _ _ was.state _ _ c.self.view_is c.in_ok-skip.ensures.pump stands c.self.invariant.0
     c.in_ok-skip.ensures.again (λ same. ap g.S.Source.to_come same) c.in_ok-skip.ensures.fresh (λ first. c.in_ok-skip.ensures.run image first stands)
-    (λ there left. c.next_sector-answer.ensures.run image few there left)
+    (λ took. c.next_sector-answer.ensures.run image few took)

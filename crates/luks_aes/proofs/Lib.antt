@@ -1,0 +1,14 @@
+pub mod Bytes
+pub mod FieldLemmas
+pub mod SboxLemmas
+pub mod StateLemmas
+pub mod CipherLemmas
+pub mod ScheduleLemmas
+pub mod ByteLists
+pub mod MixingLemmas
+pub mod Undone
+pub mod WordLemmas
+pub mod TableLemmas
+pub mod ColumnLemmas
+pub mod UnmixedLemmas
+pub mod Redone

@@ -1,0 +1,21 @@
+use Rattle.std.proofs.Common.{◌∙◌, ap}
+use Rattle.luks_aes.specs.Aes.{decrypted}
+use Rattle.luks_aes.proofs.ByteLists.{key_bytes}
+use Rattle.luks_aes.proofs.ScheduleLemmas.{encrypted_is}
+use Rattle.luks_aes.proofs.Undone.{decrypted-encrypted}
+use Rattle.luks_aes.proofs.aes.AesKey.encrypt_block.Goals as goal
+
+pub returns : goal.returns
+returns c =
+    let words = c.self.inside.words in
+    let schedule = c.self.inside.schedule in
+    let unmixed = c.self.inside.unmixed in
+    let key = c.args.self.now in
+    let block = c.args.block.now in
+    let value = c.cipher.ensures ∙ encrypted_is words schedule unmixed key block c.self.told.0 c.self.invariant c.self.view_is in
+    let keys = key_bytes words schedule key c.self.invariant.bytes c.self.view_is in
+    record {
+      value = value;
+      undone = ap (decrypted key) value
+          ∙ decrypted-encrypted key block keys (record { len = c.told-block; bytes = record { each = c.fits-block } });
+    }

@@ -1,0 +1,37 @@
+use Rattle.std.proofs.Common.{◌≡◌, ◌-◌, ap, arith, ◌∙◌, sym, rules}
+use Rattle.luks_aes.specs.Aes.{inv_state_after, inv_cipher, add_round_key, inv_shift_rows, inv_sub_bytes}
+use Rattle.luks_aes.specs.Bytes.{IsBytes}
+use Rattle.luks_aes.proofs.CipherLemmas.{inv_round_after}
+use Rattle.luks_aes.proofs.ColumnLemmas.{spelt_state}
+use Rattle.luks_aes.proofs.Redone.{inv_shift_rows_state, inv_sub_bytes_state}
+use Rattle.luks_aes.proofs.UnmixedLemmas.{round_key_unmixed}
+use Rattle.luks_aes.proofs.cipher.inv_cipher.Goals as goal
+
+pub loop-round-init : goal.loop-round-init
+unfolding inv_state_after
+loop-round-init c =
+    let none : c.args.rounds - c.args.rounds ≡ 0 = omega arith in
+    (omega arith, rw none (c.with_round_key-state.ensures ∙ ap (λ s. add_round_key s c.args.schedule.now c.args.rounds) c.columns_of.ensures))
+
+pub loop-round-preserved : goal.loop-round-preserved
+loop-round-preserved c =
+    let nr = c.args.rounds in
+    let w = c.args.schedule.now in
+    let u = c.args.unmixed.now in
+    let round = c.loop-round.round in
+    let bytes : IsBytes w = record { each = λ i. search rules } in
+    let shifted = inv_sub_bytes_state _ (inv_shift_rows_state _ (spelt_state c.loop-round.state)) in (
+      omega arith,
+      c.with_round_key-state-in-loop-round.ensures ∙ ap (λ s. add_round_key s u (round - 1)) c.unmixed_columns-substituted.ensures
+          ∙ sym (round_key_unmixed _ w u _ (round - 1) shifted bytes c.requires.products (omega arith))
+          ∙ inv_round_after c.args.block w _ nr (nr - round) (nr - (round - 1)) (round - 1) c.loop-round.invariant.1 (omega arith) (omega arith),
+    )
+
+pub returns : goal.returns
+unfolding inv_cipher
+returns c =
+    let w = c.args.schedule.now in
+    let last : c.args.rounds - c.loop-round.round ≡ c.args.rounds - 1 = omega arith in
+    let state = c.bytes_of-last.ensures ∙ c.loop-round.invariant.1 ∙ ap (inv_state_after c.args.block c.args.rounds w) last in
+    c.add_round_key.ensures
+    ∙ ap (λ s. add_round_key s w 0) (c.inv_sub_bytes.ensures ∙ ap inv_sub_bytes (c.inv_shift_rows.ensures ∙ ap inv_shift_rows state))

@@ -1,0 +1,12 @@
+use Rattle.std.proofs.Common.{refl}
+use Rattle.luks_aes.specs.Columns.{spelt}
+use Rattle.luks_aes.proofs.columns.bytes_of.Goals as goal
+
+pub returns : goal.returns
+unfolding spelt
+returns c =
+    let a = c.to_le_bytes-a.ensures in
+    let b = c.to_le_bytes-b.ensures in
+    let third = c.to_le_bytes-c.ensures in
+    let d = c.to_le_bytes-d.ensures in
+    rw (a, b, third, d) refl

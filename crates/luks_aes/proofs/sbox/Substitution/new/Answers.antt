@@ -1,0 +1,5 @@
+use Rattle.luks_aes.proofs.SboxLemmas.{sbox_entry}
+use Rattle.luks_aes.proofs.sbox.Substitution.new.Goals as goal
+
+pub invariant_of-result : goal.invariant_of-result
+invariant_of-result c = record { is_sbox = sbox_entry }

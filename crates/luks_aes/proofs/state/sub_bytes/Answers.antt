@@ -1,0 +1,14 @@
+use Rattle.std.proofs.Common.{ap, arith, refl, ◌∙◌}
+use Rattle.luks_aes.specs.Aes.{sbox, sub_bytes}
+use Rattle.luks_aes.proofs.StateLemmas.{filled_none, filled_more, filled_all, cell_at}
+use Rattle.luks_aes.proofs.state.sub_bytes.Goals as goal
+
+pub loop-i-init : goal.loop-i-init
+loop-i-init c = filled_none _ _ refl
+
+pub loop-i-preserved : goal.loop-i-preserved
+loop-i-preserved c = filled_more _ _ _ _ c.loop-i.invariant (omega arith) (c.sbox.ensures ∙ ap sbox (cell_at c.args.s c.loop-i.i))
+
+pub returns : goal.returns
+unfolding sub_bytes
+returns c = filled_all _ _ _ c.loop-i.invariant (omega arith)

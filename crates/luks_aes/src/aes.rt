@@ -1,0 +1,70 @@
+//! A key of AES and its schedule.
+
+ghost use Rattle.std.specs.Prelude.{◌≡◌, ◌+◌, ◌*◌, List, ℕ, take, length, Some, None, if◌then◌else◌};
+ghost use Rattle.luks_aes.specs.Aes.{encrypted, decrypted, is_aes_key_length};
+ghost use Rattle.luks_aes.specs.Bytes.{IsBytes};
+ghost use Rattle.luks_aes.specs.Schedule.{IsSchedule};
+
+use crate::cipher::{cipher, inv_cipher};
+use crate::schedule::{LONGEST, key_expansion};
+use crate::unmixed::unmixed_words;
+use std::marker::Model;
+
+/// A key of AES-128, AES-192 or AES-256 (FIPS 197). Contracts see it as its bytes.
+#[derive(Drop)]
+pub struct AesKey {
+    // The key's length in words of 4 bytes.
+    words: usize,
+    // The key schedule, which begins with the key, and zeros.
+    schedule: [u8; LONGEST],
+    // Its words after InvMixColumns, for the inverse cipher.
+    unmixed: [u8; LONGEST],
+}
+
+impl Model for AesKey {
+    ghost Value = { List ℕ };
+
+    ghost view = { λ k. take (4 * k.words) k.schedule };
+
+    ghost invariant = { λ k. IsSchedule k.words k.schedule k.unmixed };
+}
+
+impl AesKey {
+    /// The key of these bytes. There are 16, 24 or 32 of them; at any other number it is `None`.
+    pub fn new(key: &[u8]) -> Option<AesKey>
+        ensures { result ≡ (if is_aes_key_length (length key.now) then Some key.now else None) }
+    {
+        match key.len() {
+            16 | 24 | 32 => {
+                let schedule = key_expansion(key);
+                let unmixed = unmixed_words(&schedule);
+                Some(AesKey {
+                    words: key.len() / 4,
+                    schedule,
+                    unmixed,
+                })
+            }
+            _ => None,
+        }
+    }
+
+    /// Encrypts the block (FIPS 197, 5.1).
+    pub fn encrypt_block(&self, block: &mut [u8; 16])
+        ensures value { block.new ≡ encrypted self.now block.old }
+        ensures undone { decrypted self.now block.new ≡ block.old }
+    {
+        let rounds = self.words + 6;
+        let schedule = &self.schedule[..16 * (rounds + 1)];
+        *block = cipher(*block, rounds, schedule);
+    }
+
+    /// Decrypts the block (FIPS 197, 5.3).
+    pub fn decrypt_block(&self, block: &mut [u8; 16])
+        ensures value { block.new ≡ decrypted self.now block.old }
+        ensures undone { encrypted self.now block.new ≡ block.old }
+    {
+        let rounds = self.words + 6;
+        let end = 16 * (rounds + 1);
+        *block = inv_cipher(*block, rounds, &self.schedule[..end], &self.unmixed[..end]);
+    }
+}

@@ -1,0 +1,113 @@
+//! The key schedule (FIPS 197, 5.2): a list of words of 4 bytes, of which the first are the key's.
+
+ghost use Rattle.std.specs.Prelude.{◌≡◌, ◌+◌, ◌*◌, ◌/◌, ◌<◌, ◌≤◌, take, length, IsTrue};
+ghost use Rattle.luks_aes.specs.Aes.{word_at, word_sum, rot_word, sub_word, round_constant, next_word, with_next_word, rounds_of, key_expansion, is_aes_key_length};
+
+use crate::field::power_of_x;
+use crate::sbox::sbox;
+
+/// The length in bytes of the longest schedule, that of a key of 32 bytes.
+pub const LONGEST: usize = 240;
+
+// Under a key of more words than this, a word in the middle between two turned ones is substituted too.
+const PLAIN_WORDS: usize = 6;
+
+// Word `i` of the schedule.
+fn word_at(schedule: &[u8], i: usize) -> [u8; 4]
+    requires { 4 * i + 4 ≤ length schedule.now }
+    ensures { result ≡ word_at schedule.now i }
+{
+    let at = 4 * i;
+    [
+        schedule[at],
+        schedule[at + 1],
+        schedule[at + 2],
+        schedule[at + 3],
+    ]
+}
+
+// The sum of two words.
+#[tactic(auto, unfolding(crate::specs::Aes::word_sum))]
+fn word_sum(a: [u8; 4], b: [u8; 4]) -> [u8; 4]
+    ensures { result ≡ word_sum a b }
+{
+    [a[0] ^ b[0], a[1] ^ b[1], a[2] ^ b[2], a[3] ^ b[3]]
+}
+
+// RotWord: turned left by one byte.
+#[tactic(auto, unfolding(crate::specs::Aes::rot_word))]
+fn rot_word(a: [u8; 4]) -> [u8; 4]
+    ensures { result ≡ rot_word a }
+{
+    [a[1], a[2], a[3], a[0]]
+}
+
+// SubWord: each byte taken through the S-box.
+#[tactic(auto, unfolding(crate::specs::Aes::sub_word))]
+fn sub_word(a: [u8; 4]) -> [u8; 4]
+    ensures { result ≡ sub_word a }
+{
+    [sbox(a[0]), sbox(a[1]), sbox(a[2]), sbox(a[3])]
+}
+
+// Rcon[j], for `j` from 1.
+fn round_constant(j: usize) -> [u8; 4]
+    requires { 0 < j }
+    ensures { result ≡ round_constant j }
+{
+    [power_of_x(j - 1), 0, 0, 0]
+}
+
+// Word `i` of the schedule of a key of `key_words` words, from the words before it.
+fn next_word(key_words: usize, schedule: &[u8], i: usize) -> [u8; 4]
+    requires some { 0 < key_words }
+    requires after_key { key_words ≤ i }
+    requires words { length schedule.now ≡ 4 * i }
+    ensures { result ≡ next_word key_words schedule.now i }
+{
+    let last = word_at(schedule, i - 1);
+    let change = if i % key_words == 0 {
+        word_sum(sub_word(rot_word(last)), round_constant(i / key_words))
+    } else if key_words > PLAIN_WORDS && i % key_words == 4 {
+        sub_word(last)
+    } else {
+        last
+    };
+    word_sum(word_at(schedule, i - key_words), change)
+}
+
+// Writes word `i` behind the words before it.
+fn write_word(key_words: usize, schedule: &mut [u8], i: usize)
+    requires some { 0 < key_words }
+    requires after_key { key_words ≤ i }
+    requires room { 4 * i + 4 ≤ length schedule.old }
+    ensures { take (4 * i + 4) schedule.new ≡ with_next_word key_words (take (4 * i) schedule.old) }
+{
+    let at = 4 * i;
+    let word = next_word(key_words, &schedule[..at], i);
+    schedule[at..at + 4].copy_from_slice(&word);
+}
+
+// Fills `schedule` from the key on.
+fn expand(key: &[u8], schedule: &mut [u8])
+    requires key_length { IsTrue (is_aes_key_length (length key.now)) }
+    requires room { length schedule.old ≡ LONGEST }
+    ensures { take (16 * (rounds_of key.now + 1)) schedule.new ≡ key_expansion key.now }
+{
+    let key_words = key.len() / 4;
+    let words = 4 * (key_words + 7);
+    schedule[..key.len()].copy_from_slice(key);
+    for i in key_words..words {
+        write_word(key_words, schedule, i);
+    }
+}
+
+/// The schedule of a key, followed by zeros.
+pub fn key_expansion(key: &[u8]) -> [u8; LONGEST]
+    requires { IsTrue (is_aes_key_length (length key.now)) }
+    ensures { take (16 * (rounds_of key.now + 1)) result ≡ key_expansion key.now }
+{
+    let mut schedule = [0; LONGEST];
+    expand(key, &mut schedule);
+    schedule
+}

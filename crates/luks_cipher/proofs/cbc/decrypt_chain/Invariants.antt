@@ -1,0 +1,17 @@
+use Rattle.std.proofs.Common.{◌≡◌}
+use Rattle.luks_aes.specs.Aes.{decrypted}
+use Rattle.luks_cipher.specs.Xts.{block_at, block_sum}
+use Rattle.luks_aes.specs.Bytes.{IsBytes}
+use Rattle.luks_aes.proofs.ByteLists.{IsState}
+use Rattle.luks_cipher.specs.Cbc.{block_before}
+use Rattle.luks_cipher.proofs.TweakLemmas.{IsDoneBefore}
+use Rattle.luks_cipher.proofs.cbc.decrypt_chain.Given as goal
+
+-- the unit and the vector were of bytes, the blocks so far are done, and what the last of them was is kept
+abbrev pub invariant-loop-j : goal.invariant-loop-j
+invariant-loop-j l = record {
+  bytes : IsBytes l.fn.unit;
+  vector : IsState l.fn.vector;
+  last : l.before ≡ block_before l.fn.vector l.fn.unit l.j;
+  done : IsDoneBefore (λ j. block_sum (decrypted l.key (block_at l.fn.unit j)) (block_before l.fn.vector l.fn.unit j)) l.fn.unit l.unit l.j;
+}

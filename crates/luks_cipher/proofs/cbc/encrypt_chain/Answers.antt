@@ -1,0 +1,40 @@
+use Rattle.std.proofs.Common.{◌/◌, ap, arith, ◌∙◌, add-one, refl, rules, length}
+use Rattle.luks_cipher.specs.Cbc.{chained, cbc_encrypted, cbc_decrypted}
+use Rattle.luks_cipher.proofs.TweakLemmas.{done_none, done_more, done_all, block_is}
+use Rattle.luks_cipher.proofs.ChainsUndone.{cbc_decrypted-cbc_encrypted}
+use Rattle.luks_cipher.proofs.cbc.encrypt_chain.Goals as goal
+
+pub loop-j-init : goal.loop-j-init
+unfolding chained
+loop-j-init c = record {
+  bytes = record { each = search rules };
+  vector = record { len = omega arith; bytes = record { each = search rules } };
+  last = refl;
+  done = done_none _ _;
+}
+
+pub loop-j-preserved : goal.loop-j-preserved
+unfolding chained
+loop-j-preserved c =
+    let j = c.loop-j.j in
+    let before = c.loop-j.invariant in
+    let block = block_is c.args.unit.now c.loop-j.unit j before.done.left in
+    let last = before.last in
+    let value = c.encrypt_link-next.ensures.value ∙ rw (block, last) refl in
+    record {
+      bytes = before.bytes;
+      vector = before.vector;
+      last = rw add-one (c.encrypt_link-next.ensures.next ∙ value);
+      done = done_more _ _ _ _ j before.done (omega arith) (omega arith) value;
+    }
+
+pub returns-clause-value : goal.returns-clause-value
+unfolding cbc_encrypted
+returns-clause-value c =
+    let last = c.loop-j.j in
+    done_all _ c.args.unit.now c.loop-j.unit last (length c.args.unit.now / 16) c.loop-j.invariant.done (omega arith) (omega arith)
+
+pub returns-clause-undone : goal.returns-clause-undone
+returns-clause-undone c = λ keys.
+    ap (cbc_decrypted c.args.key.now c.args.vector) (returns-clause-value c)
+    ∙ cbc_decrypted-cbc_encrypted c.args.key.now c.args.vector c.args.unit.now keys c.loop-j.invariant.vector c.loop-j.invariant.bytes (omega arith)

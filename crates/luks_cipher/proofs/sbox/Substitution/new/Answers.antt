@@ -1,5 +1,0 @@
-use Rattle.luks_cipher.proofs.SboxLemmas.{sbox_entry}
-use Rattle.luks_cipher.proofs.sbox.Substitution.new.Goals as goal
-
-pub invariant_of-result : goal.invariant_of-result
-invariant_of-result c = record { is_sbox = sbox_entry }

@@ -1,7 +1,0 @@
-use Rattle.std.proofs.Common.{◌≡◌, ◌-◌, ◌*◌, take}
-use Rattle.luks_cipher.specs.Aes.{words_after}
-use Rattle.luks_cipher.proofs.schedule.expand.Given as goal
-
--- the words so far
-abbrev pub invariant-loop-i : goal.invariant-loop-i
-invariant-loop-i l = take (4 * l.i) l.schedule ≡ words_after l.key_words l.key (l.i - l.key_words)

@@ -1,6 +1,0 @@
-use Rattle.luks_cipher.specs.Aes.{matrix_cell}
-use Rattle.luks_cipher.proofs.StateLemmas.{IsFilled}
-use Rattle.luks_cipher.proofs.state.multiplied_columns.Given as goal
-
-abbrev pub invariant-loop-i : goal.invariant-loop-i
-invariant-loop-i l = IsFilled (matrix_cell l.a l.s) l.next l.i

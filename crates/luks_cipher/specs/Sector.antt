@@ -1,0 +1,55 @@
+-- How a disk's sectors are encrypted under AES: the modes that dm-crypt's documentation calls by these names. A sector is a
+-- unit of whole blocks, and is known by a number.
+use Rattle.std.specs.Prelude.{ℕ, ◌%◌, ◌^◌, Bool, ◌||◌, ◌==◌, if◌then◌else◌, bytes_eq, codes, List, Option, Some, None}
+use Rattle.std.specs.Int.{w128, to_le_bytes}
+use Rattle.sha2.specs.Sha256.{sha256}
+use Rattle.luks_aes.specs.Aes.{encrypted}
+use Rattle.luks_cipher.specs.Xts.{is_xts_key_length, xts_encrypted, xts_decrypted}
+use Rattle.luks_cipher.specs.Cbc.{cbc_encrypted, cbc_decrypted}
+use Rattle.luks_cipher.specs.declared.mode.Mode.{Mode}
+use Rattle.luks_cipher.specs.declared.mode.Mode.TheVariants.{XtsPlain64, XtsPlain, CbcEssivSha256, CbcPlain64}
+
+-- the name
+abbrev pub name_of : Mode → List ℕ
+name_of XtsPlain64 = codes "xts-plain64"
+name_of XtsPlain = codes "xts-plain"
+name_of CbcEssivSha256 = codes "cbc-essiv:sha256"
+name_of CbcPlain64 = codes "cbc-plain64"
+
+-- the mode of this name, where there is one
+abbrev pub mode_named : List ℕ → Option Mode
+mode_named name =
+    if bytes_eq name (codes "xts-plain64") then Some XtsPlain64
+    else if bytes_eq name (codes "xts-plain") then Some XtsPlain
+    else if bytes_eq name (codes "cbc-essiv:sha256") then Some CbcEssivSha256
+    else if bytes_eq name (codes "cbc-plain64") then Some CbcPlain64
+    else None
+
+-- the lengths that a key of the mode may have: two keys of AES for XTS, one for CBC
+abbrev pub is_mode_key_length : Mode → ℕ → Bool
+is_mode_key_length XtsPlain64 n = is_xts_key_length n
+is_mode_key_length XtsPlain n = is_xts_key_length n
+is_mode_key_length CbcEssivSha256 n = (n == 16) || (n == 32)
+is_mode_key_length CbcPlain64 n = (n == 16) || (n == 32)
+
+-- plain64: the sector's number, its low byte first, and zeros
+abbrev pub plain64_vector : ℕ → List ℕ
+plain64_vector number = to_le_bytes w128 number
+
+-- essiv:sha256: that block encrypted under the SHA-256 digest of the key
+abbrev pub essiv_vector : List ℕ → ℕ → List ℕ
+essiv_vector key number = encrypted (sha256 key) (to_le_bytes w128 number)
+
+-- the sector of this number encrypted. plain: the number is cut to its 32 low bits
+abbrev pub sector_encrypted : Mode → List ℕ → ℕ → List ℕ → List ℕ
+sector_encrypted XtsPlain64 key number sector = xts_encrypted key number sector
+sector_encrypted XtsPlain key number sector = xts_encrypted key (number % 2 ^ 32) sector
+sector_encrypted CbcEssivSha256 key number sector = cbc_encrypted key (essiv_vector key number) sector
+sector_encrypted CbcPlain64 key number sector = cbc_encrypted key (plain64_vector number) sector
+
+-- and decrypted
+abbrev pub sector_decrypted : Mode → List ℕ → ℕ → List ℕ → List ℕ
+sector_decrypted XtsPlain64 key number sector = xts_decrypted key number sector
+sector_decrypted XtsPlain key number sector = xts_decrypted key (number % 2 ^ 32) sector
+sector_decrypted CbcEssivSha256 key number sector = cbc_decrypted key (essiv_vector key number) sector
+sector_decrypted CbcPlain64 key number sector = cbc_decrypted key (plain64_vector number) sector

@@ -1,0 +1,27 @@
+//! Blocks of 16 bytes.
+
+ghost use Rattle.std.specs.Prelude.{◌≡◌, length};
+ghost use Rattle.luks_cipher.specs.Xts.{block_sum};
+
+/// The sum of two blocks, byte by byte.
+#[inline(always)]
+pub fn block_sum(a: [u8; 16], b: [u8; 16]) -> [u8; 16]
+    ensures { result ≡ block_sum a b }
+{
+    let mut sum = [0; 16];
+    for i in 0..16 {
+        sum[i] = a[i] ^ b[i];
+    }
+    sum
+}
+
+/// The block that the slice is.
+#[inline(always)]
+pub fn block_of(piece: &[u8]) -> [u8; 16]
+    requires { length piece.now ≡ 16 }
+    ensures { result ≡ piece.now }
+{
+    let mut block = [0; 16];
+    block.copy_from_slice(piece);
+    block
+}

@@ -1,0 +1,48 @@
+//! The modes in which sectors are encrypted.
+
+ghost use Rattle.std.specs.Prelude.{◌≡◌};
+ghost use Rattle.luks_cipher.specs.Sector.{name_of, mode_named};
+
+/// A mode of AES over sectors, and how a sector's number enters it (the kernel's documentation of dm-crypt).
+#[derive(Clone, Copy, PartialEq, Eq, Debug)]
+pub enum Mode {
+    /// XTS under the sector's number.
+    XtsPlain64,
+    /// XTS under the number's 32 low bits.
+    XtsPlain,
+    /// CBC whose vector is the number encrypted under the SHA-256 digest of the key.
+    CbcEssivSha256,
+    /// CBC whose vector is the number.
+    CbcPlain64,
+}
+
+impl Mode {
+    /// The mode of exactly this name, or `None` for any other text.
+    pub fn from_name(name: &str) -> Option<Mode>
+        ensures { result ≡ mode_named name.now }
+    {
+        if name == "xts-plain64" {
+            Some(Mode::XtsPlain64)
+        } else if name == "xts-plain" {
+            Some(Mode::XtsPlain)
+        } else if name == "cbc-essiv:sha256" {
+            Some(Mode::CbcEssivSha256)
+        } else if name == "cbc-plain64" {
+            Some(Mode::CbcPlain64)
+        } else {
+            None
+        }
+    }
+
+    /// The name.
+    pub fn name(self) -> &'static str
+        ensures { result.now ≡ name_of self }
+    {
+        match self {
+            Mode::XtsPlain64 => "xts-plain64",
+            Mode::XtsPlain => "xts-plain",
+            Mode::CbcEssivSha256 => "cbc-essiv:sha256",
+            Mode::CbcPlain64 => "cbc-plain64",
+        }
+    }
+}

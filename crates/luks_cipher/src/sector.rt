@@ -1,0 +1,146 @@
+//! A key for the sectors of a disk, in one of the modes.
+
+ghost use Rattle.std.specs.Prelude.{◌≡◌, ◌%◌, ◌≤◌, ◌==◌, ◌||◌, List, ℕ, length, Some, None, if◌then◌else◌};
+ghost use Rattle.luks_cipher.specs.declared.mode.Mode.{Mode};
+ghost use Rattle.luks_cipher.specs.declared.mode.Mode.TheVariants.{XtsPlain64, XtsPlain, CbcEssivSha256, CbcPlain64};
+ghost use Rattle.luks_cipher.specs.Sector.{is_mode_key_length, sector_encrypted, sector_decrypted, essiv_vector};
+ghost use Rattle.luks_cipher.specs.SectorKey.{mode_of, key_of, IsSectorKey};
+ghost use Rattle.sha2.specs.Sha256.{sha256};
+ghost use Rattle.std.specs.Int.{w128, to_le_bytes};
+
+use crate::cbc::{decrypt_chain, encrypt_chain};
+use crate::mode::Mode;
+use crate::xts::XtsKey;
+use luks_aes::AesKey;
+use sha2::{Digest, Sha256};
+use std::marker::Model;
+
+// The keys that the mode needs, expanded.
+#[derive(Drop)]
+enum Keys {
+    XtsPlain64(XtsKey),
+    XtsPlain(XtsKey),
+    CbcEssivSha256(AesKey, AesKey),
+    CbcPlain64(AesKey),
+}
+
+/// A key of AES for sectors in one of the modes. Contracts see it as the mode and the key's bytes.
+#[derive(Drop)]
+pub struct SectorCipher {
+    keys: Keys,
+}
+
+impl Model for SectorCipher {
+    ghost Value = { Mode × List ℕ };
+
+    ghost view = { λ k. (mode_of k.keys, key_of k.keys) };
+
+    ghost invariant = { λ k. IsSectorKey k.keys };
+}
+
+// The key for the vectors of essiv:sha256: the digest of the key for the data.
+fn vector_key(key: &[u8]) -> Option<AesKey>
+    ensures { result ≡ Some (sha256 key.now) }
+{
+    AesKey::new(&Sha256::digest(key))
+}
+
+// The block that plain64 makes of a sector's number.
+fn number_block(number: u64) -> [u8; 16]
+    ensures { result ≡ to_le_bytes w128 number }
+{
+    u128::from(number).to_le_bytes()
+}
+
+// A key of AES for CBC. There are 16 or 32 bytes of it; at any other number it is `None`.
+fn cbc_key(key: &[u8]) -> Option<AesKey>
+    ensures { result ≡ (if (length key.now == 16) || (length key.now == 32) then Some key.now else None) }
+{
+    match key.len() {
+        16 | 32 => AesKey::new(key),
+        _ => None,
+    }
+}
+
+impl SectorCipher {
+    fn xts_plain64(key: &[u8]) -> Option<SectorCipher>
+        ensures { result ≡ (if is_mode_key_length XtsPlain64 (length key.now) then Some (XtsPlain64, key.now) else None) }
+    {
+        let keys = Keys::XtsPlain64(XtsKey::new(key)?);
+        Some(SectorCipher { keys })
+    }
+
+    fn xts_plain(key: &[u8]) -> Option<SectorCipher>
+        ensures { result ≡ (if is_mode_key_length XtsPlain (length key.now) then Some (XtsPlain, key.now) else None) }
+    {
+        let keys = Keys::XtsPlain(XtsKey::new(key)?);
+        Some(SectorCipher { keys })
+    }
+
+    fn cbc_essiv(key: &[u8]) -> Option<SectorCipher>
+        ensures { result ≡ (if is_mode_key_length CbcEssivSha256 (length key.now) then Some (CbcEssivSha256, key.now) else None) }
+    {
+        let keys = Keys::CbcEssivSha256(cbc_key(key)?, vector_key(key)?);
+        Some(SectorCipher { keys })
+    }
+
+    fn cbc_plain64(key: &[u8]) -> Option<SectorCipher>
+        ensures { result ≡ (if is_mode_key_length CbcPlain64 (length key.now) then Some (CbcPlain64, key.now) else None) }
+    {
+        let keys = Keys::CbcPlain64(cbc_key(key)?);
+        Some(SectorCipher { keys })
+    }
+
+    /// The cipher of this mode and key. The key has 32 or 64 bytes for XTS, and 16 or 32 for CBC; at any
+    /// other number it is `None`.
+    pub fn new(mode: Mode, key: &[u8]) -> Option<SectorCipher>
+        ensures { result ≡ (if is_mode_key_length mode (length key.now) then Some (mode, key.now) else None) }
+    {
+        match mode {
+            Mode::XtsPlain64 => SectorCipher::xts_plain64(key),
+            Mode::XtsPlain => SectorCipher::xts_plain(key),
+            Mode::CbcEssivSha256 => SectorCipher::cbc_essiv(key),
+            Mode::CbcPlain64 => SectorCipher::cbc_plain64(key),
+        }
+    }
+
+    /// Encrypts the sector of this number. Its length is a multiple of 16 bytes, from 16 to 4096.
+    pub fn encrypt_unit(&self, number: u64, unit: &mut [u8])
+        requires whole_blocks { length unit.old % 16 ≡ 0 }
+        requires shortest { 16 ≤ length unit.old }
+        requires longest { length unit.old ≤ 4096 }
+        ensures value { unit.new ≡ sector_encrypted self.now.0 self.now.1 number unit.old }
+        ensures undone { sector_decrypted self.now.0 self.now.1 number unit.new ≡ unit.old }
+    {
+        match &self.keys {
+            Keys::XtsPlain64(key) => key.encrypt_unit(number, unit),
+            Keys::XtsPlain(key) => key.encrypt_unit(number % 0x1_0000_0000, unit),
+            Keys::CbcEssivSha256(key, vector_key) => {
+                let mut vector = number_block(number);
+                vector_key.encrypt_block(&mut vector);
+                encrypt_chain(key, vector, unit);
+            }
+            Keys::CbcPlain64(key) => encrypt_chain(key, number_block(number), unit),
+        }
+    }
+
+    /// Decrypts the sector of this number. Its length is a multiple of 16 bytes, from 16 to 4096.
+    pub fn decrypt_unit(&self, number: u64, unit: &mut [u8])
+        requires whole_blocks { length unit.old % 16 ≡ 0 }
+        requires shortest { 16 ≤ length unit.old }
+        requires longest { length unit.old ≤ 4096 }
+        ensures value { unit.new ≡ sector_decrypted self.now.0 self.now.1 number unit.old }
+        ensures undone { sector_encrypted self.now.0 self.now.1 number unit.new ≡ unit.old }
+    {
+        match &self.keys {
+            Keys::XtsPlain64(key) => key.decrypt_unit(number, unit),
+            Keys::XtsPlain(key) => key.decrypt_unit(number % 0x1_0000_0000, unit),
+            Keys::CbcEssivSha256(key, vector_key) => {
+                let mut vector = number_block(number);
+                vector_key.encrypt_block(&mut vector);
+                decrypt_chain(key, vector, unit);
+            }
+            Keys::CbcPlain64(key) => decrypt_chain(key, number_block(number), unit),
+        }
+    }
+}

@@ -1,0 +1,75 @@
+//! Units by tables and slices against units byte by byte.
+
+use super::bytewise::Bytewise;
+use crate::XtsKey;
+use std::alloc::Global;
+use std::test::Fail;
+
+// A step of a xorshift generator (Marsaglia).
+fn next(x: u64) -> u64 {
+    let a = x ^ (x << 13);
+    let b = a ^ (a >> 7);
+    b ^ (b << 17)
+}
+
+// `length` bytes that follow from the seed.
+fn bytes(alloc: Global, seed: u64, length: usize) -> Result<Vec<u8>, Fail> {
+    let mut bytes = Vec::new(alloc);
+    let mut x = seed;
+    for _ in 0..length {
+        x = next(x);
+        bytes.push((x >> 56) as u8)?;
+    }
+    Ok(bytes)
+}
+
+// 1000 units of this length, each under its own number, encrypted and decrypted in both ways.
+fn same(alloc: Global, key_length: usize, length: usize) -> Result<bool, Fail> {
+    if length % 16 != 0 || length < 16 || length > 4096 {
+        return Err("no data unit".into());
+    }
+    let key = bytes(alloc, 0x9e37_79b9_7f4a_7c15, key_length)?;
+    let other = Bytewise::new(alloc, &key)?;
+    let key = XtsKey::new(&key).ok_or("no length of a key")?;
+    let mut number = 0x0123_4567_89ab_cdef;
+    for _ in 0..1000u32 {
+        number = next(number);
+        let plain = bytes(alloc, number, length)?;
+        let mut unit = plain.clone()?;
+        if unit.len() != length {
+            return Err("no data unit".into());
+        }
+        let mut bytewise = plain.clone()?;
+        other.unit(true, number, &mut bytewise)?;
+        key.encrypt_unit(number, &mut unit);
+        if unit != bytewise {
+            return Ok(false);
+        }
+        other.unit(false, number, &mut bytewise)?;
+        key.decrypt_unit(number, &mut unit);
+        if unit != bytewise || unit != plain {
+            return Ok(false);
+        }
+    }
+    Ok(true)
+}
+
+#[test]
+fn a_thousand_blocks(rt: HostRuntime) -> Result<(), Fail> {
+    assert!(rt; same(rt.alloc(), 32, 16)?);
+    assert!(rt; same(rt.alloc(), 64, 16)?);
+    Ok(())
+}
+
+#[test]
+fn a_thousand_units_of_512_bytes(rt: HostRuntime) -> Result<(), Fail> {
+    assert!(rt; same(rt.alloc(), 32, 512)?);
+    assert!(rt; same(rt.alloc(), 64, 512)?);
+    Ok(())
+}
+
+#[test]
+fn a_thousand_units_of_4096_bytes(rt: HostRuntime) -> Result<(), Fail> {
+    assert!(rt; same(rt.alloc(), 64, 4096)?);
+    Ok(())
+}

@@ -1,0 +1,155 @@
+use super::bytes;
+use super::mode_vectors::{CHAINS, SECTORS};
+use crate::cbc::{decrypt_chain, encrypt_chain};
+use crate::{AesKey, Mode, SectorCipher};
+use std::alloc::Global;
+use std::test::Fail;
+
+const MODES: [Mode; 4] = [
+    Mode::XtsPlain64,
+    Mode::XtsPlain,
+    Mode::CbcEssivSha256,
+    Mode::CbcPlain64,
+];
+
+#[test]
+fn names(rt: HostRuntime) -> Result<(), Fail> {
+    for (name, mode) in [
+        ("xts-plain64", Some(Mode::XtsPlain64)),
+        ("xts-plain", Some(Mode::XtsPlain)),
+        ("cbc-essiv:sha256", Some(Mode::CbcEssivSha256)),
+        ("cbc-plain64", Some(Mode::CbcPlain64)),
+        ("", None),
+        ("XTS-plain64", None),
+        ("xts-plain65", None),
+        ("cbc-plain", None),
+        ("cbc-essiv:sha1", None),
+        ("cbc-plain64 ", None),
+    ] {
+        assert!(rt; Mode::from_name(name) == mode, "{name}");
+    }
+    for mode in MODES {
+        assert!(rt; Mode::from_name(mode.name()) == Some(mode));
+    }
+    Ok(())
+}
+
+#[test]
+fn lengths_of_keys(rt: HostRuntime) -> Result<(), Fail> {
+    for (length, is_xts, is_cbc) in [
+        (0, false, false),
+        (15, false, false),
+        (16, false, true),
+        (17, false, false),
+        (24, false, false),
+        (32, true, true),
+        (33, false, false),
+        (48, false, false),
+        (64, true, false),
+        (65, false, false),
+    ] {
+        let key = vec![in rt.alloc(); 0u8; length]?;
+        for (mode, is) in [
+            (Mode::XtsPlain64, is_xts),
+            (Mode::XtsPlain, is_xts),
+            (Mode::CbcEssivSha256, is_cbc),
+            (Mode::CbcPlain64, is_cbc),
+        ] {
+            let made = SectorCipher::new(mode, &key).is_some();
+            assert_eq!(rt; made, is, "{length} bytes");
+        }
+    }
+    Ok(())
+}
+
+// The line's unit is encrypted to the other one, and back.
+fn chain_holds(alloc: Global, line: &str) -> Result<bool, Fail> {
+    let mut words = line.split(' ');
+    let key = bytes(alloc, words.next().ok_or("no key")?)?;
+    let vector = bytes(alloc, words.next().ok_or("no vector")?)?;
+    let plain = bytes(alloc, words.next().ok_or("no unit")?)?;
+    let encrypted = bytes(alloc, words.next().ok_or("no answer")?)?;
+    let key = AesKey::new(&key).ok_or("no length of a key")?;
+    if vector.len() != 16 || plain.len() % 16 != 0 || encrypted.len() % 16 != 0 {
+        return Err("no unit".into());
+    }
+    let mut first = [0; 16];
+    first.copy_from_slice(&vector);
+    let mut there = plain.clone()?;
+    if there.len() % 16 != 0 {
+        return Err("no unit".into());
+    }
+    encrypt_chain(&key, first, &mut there);
+    let mut back = encrypted.clone()?;
+    if back.len() % 16 != 0 {
+        return Err("no unit".into());
+    }
+    decrypt_chain(&key, first, &mut back);
+    Ok(there == encrypted && back == plain)
+}
+
+#[test]
+fn chains(rt: HostRuntime) -> Result<(), Fail> {
+    for line in CHAINS.lines() {
+        assert!(rt; chain_holds(rt.alloc(), line)?, "{line}");
+    }
+    Ok(())
+}
+
+// The sector encrypted and the other one decrypted, under a key of the mode.
+fn both_ways(
+    mode: Mode,
+    key: &[u8],
+    number: u64,
+    there: &mut [u8],
+    back: &mut [u8],
+) -> Result<(), Fail> {
+    let cipher = SectorCipher::new(mode, key).ok_or("no length of a key")?;
+    if there.len() % 16 != 0 || there.len() < 16 || there.len() > 4096 {
+        return Err("no sector".into());
+    }
+    if back.len() % 16 != 0 || back.len() < 16 || back.len() > 4096 {
+        return Err("no sector".into());
+    }
+    cipher.encrypt_unit(number, there);
+    cipher.decrypt_unit(number, back);
+    Ok(())
+}
+
+fn sector_holds(alloc: Global, line: &str) -> Result<bool, Fail> {
+    let mut words = line.split(' ');
+    let mode = Mode::from_name(words.next().ok_or("no mode")?).ok_or("no mode")?;
+    let key = bytes(alloc, words.next().ok_or("no key")?)?;
+    let number = words.next().ok_or("no number")?.parse::<u64>()?;
+    let plain = bytes(alloc, words.next().ok_or("no sector")?)?;
+    let encrypted = bytes(alloc, words.next().ok_or("no answer")?)?;
+    let mut there = plain.clone()?;
+    let mut back = encrypted.clone()?;
+    both_ways(mode, &key, number, &mut there, &mut back)?;
+    Ok(there == encrypted && back == plain)
+}
+
+#[test]
+fn sectors(rt: HostRuntime) -> Result<(), Fail> {
+    for line in SECTORS.lines() {
+        assert!(rt; sector_holds(rt.alloc(), line)?, "{line}");
+    }
+    Ok(())
+}
+
+// Worked by hand: in CBC under the bytes 00 to 0f, FIPS 197's example block comes out of each of these.
+const WORKED: &str = "\
+cbc-plain64 000102030405060708090a0b0c0d0e0f 0 00112233445566778899aabbccddeeff69d5c2eb2e2e624750541d3bbc692ba5 69c4e0d86a7b0430d8cdb78070b4c55a69c4e0d86a7b0430d8cdb78070b4c55a
+cbc-plain64 000102030405060708090a0b0c0d0e0f 1 01112233445566778899aabbccddeeff 69c4e0d86a7b0430d8cdb78070b4c55a
+cbc-plain64 000102030405060708090a0b0c0d0e0f 4294967296 00112233455566778899aabbccddeeff 69c4e0d86a7b0430d8cdb78070b4c55a
+xts-plain 0000000000000000000000000000000000000000000000000000000000000000 4294967296 0000000000000000000000000000000000000000000000000000000000000000 917cf69ebd68b2ec9b9fe9a3eadda692cd43d2f59598ed858c02c2652fbf922e
+xts-plain64 0000000000000000000000000000000000000000000000000000000000000000 0 0000000000000000000000000000000000000000000000000000000000000000 917cf69ebd68b2ec9b9fe9a3eadda692cd43d2f59598ed858c02c2652fbf922e
+";
+
+#[test]
+fn worked_sectors(rt: HostRuntime) -> Result<(), Fail> {
+    for line in WORKED.lines() {
+        assert!(rt; sector_holds(rt.alloc(), line)?, "{line}");
+    }
+    Ok(())
+}

@@ -1,0 +1,15 @@
+-- What a run comes to.
+use Rattle.std.specs.Prelude.{ℕ, List, []}
+use Rattle.luks_report.specs.declared.message.Message.{Message}
+
+-- what is written, what is told, and how many bytes of both inputs are taken
+pub record Outcome : Type 0 where
+  pub output : List ℕ
+  pub message : Message
+  pub image_taken : ℕ
+  pub secret_taken : ℕ
+
+-- nothing is written
+abbrev pub unwritten : Message → ℕ → ℕ → Outcome
+unwritten message image_taken secret_taken =
+    record { output = []; message = message; image_taken = image_taken; secret_taken = secret_taken }

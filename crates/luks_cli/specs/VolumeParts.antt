@@ -1,0 +1,85 @@
+-- What the parts of the commands on volumes leave in their devices.
+use Rattle.std.specs.Prelude.{◌≡◌, ℕ, ◌+◌, ◌-◌, ◌*◌, ◌/◌, ◌<◌, ◌≤◌, List, length, max, min, take, Option, Ok, Err}
+use Rattle.luks_io.specs.Bytes.{Adds, Took, TookUpTo}
+use Rattle.luks_header.specs.Header.{cost_of, header_of}
+use Rattle.luks_header.specs.Segment.{segment_of}
+use Rattle.luks_header.specs.declared.header.Header.{Header}
+use Rattle.luks_verdict.specs.declared.segment.Segment.{Segment}
+use Rattle.luks_open.specs.declared.opening.Opened.{Opened}
+use Rattle.luks_volume.specs.Plain.{ending_of, payload_end_of, plain_of, sector_len, sector_start, sectors_of}
+use Rattle.luks_command.specs.Request.{OpeningRequest}
+use Rattle.luks_report.specs.Faults.{message_at_end}
+use Rattle.luks_report.specs.declared.message.Message.{Message}
+use Rattle.luks_report.specs.declared.message.Message.TheVariants.{KeyFileLength, OutOfMemory, ReadFailed, WriteFailed}
+use Rattle.luks_cli.specs.Volume.{OnOpened, longest_key_file, volume_of, volume_outcome}
+
+-- ---- the header
+
+-- the image has a header with this segment
+abbrev pub HasSegment : List ℕ → Segment → Type 0
+HasSegment image segment = (header : Header) × (header_of image ≡ Ok header) × (segment_of header ≡ Ok segment)
+
+-- finding the volume of an image ended without one
+abbrev pub StopsFinding : OpeningRequest → List ℕ → Option (List ℕ) → Message → Type 0
+StopsFinding o image left ReadFailed = TookUpTo image left (cost_of image)
+StopsFinding o image left OutOfMemory = TookUpTo image left (cost_of image)
+StopsFinding o image left message = (volume_of o image ≡ Err message) × Took image left (cost_of image)
+
+-- ---- the key file
+
+-- how reading a key file failed: of one that is too long one byte more is taken than the longest has
+abbrev pub NoSecretRead : List ℕ → Option (List ℕ) → Message → Type 0
+NoSecretRead secret left KeyFileLength = (longest_key_file < length secret) × Took secret left (longest_key_file + 1)
+NoSecretRead secret left OutOfMemory = TookUpTo secret left (min (length secret) (longest_key_file + 1))
+NoSecretRead secret left ReadFailed = TookUpTo secret left (min (length secret) (longest_key_file + 1))
+NoSecretRead secret left _ = ⊥
+
+-- ---- opening
+
+-- what is done with a volume takes no less of its image than is held, and the whole key file
+pub record TakesHeld (secret : List ℕ) (on_opened : OnOpened) : Type 0 where
+  pub held : (segment : Segment) (opened : Opened) (held : ℕ) → held ≤ (on_opened segment opened held).image_taken
+  pub whole : (segment : Segment) (opened : Opened) (held : ℕ)
+      → (on_opened segment opened held).secret_taken ≡ length secret
+
+-- the volume of an image was opened: its segment and its key are these, and so many bytes of the image are held
+pub record Unlocks (o : OpeningRequest) (image secret : List ℕ) (segment : Segment) (opened : Opened) (held : ℕ)
+    (image' secret' : Option (List ℕ)) : Type 0 where
+  pub outcome : (on_opened : OnOpened) → volume_outcome on_opened o image secret ≡ on_opened segment opened held
+  pub has : HasSegment image segment
+  pub cost : cost_of image ≤ held
+  pub image_taken : Took image image' held
+  pub secret_taken : Took secret secret' (length secret)
+
+-- ---- the payload
+
+-- passing on a payload is broken off: where a write fails, no byte of the image past the sector of the last byte
+-- written was taken, but for the header's; where a read fails past the header, the whole sectors that were taken are
+-- written
+abbrev pub passed_promptly : Segment → ℕ → Message → ℕ → ℕ → Type 0
+passed_promptly s cost WriteFailed taken output = taken ≤ max cost (sector_start s (output / sector_len s + 1))
+passed_promptly s cost ReadFailed taken output = cost < taken
+    → output ≡ (taken - s.offset) / sector_len s * sector_len s
+passed_promptly s cost _ taken output = Unit {0}
+
+-- `luksCat` is broken off: it owes this of the image's payload
+abbrev pub cat_promptly : List ℕ → Message → ℕ → ℕ → ℕ → Type 0
+cat_promptly image message image_taken secret_taken output =
+    (segment : Segment) → HasSegment image segment → passed_promptly segment (cost_of image) message image_taken output
+
+-- passing on the payload of an image ended with this message: all of it was written and taken, or it was broken off
+-- within a sector
+abbrev pub PassesPayload : Segment → List ℕ → List ℕ → Option (List ℕ) → Option (List ℕ) → Option (List ℕ) → Message
+    → Type 0
+PassesPayload s key image left before after ReadFailed =
+    (place : ℕ) × (count : ℕ) × (count ≡ (place - s.offset) / sector_len s) × (count ≤ sectors_of s image)
+    × (place ≤ payload_end_of s image)
+    × Took image left place × Adds before after (take (count * sector_len s) (plain_of s key image))
+PassesPayload s key image left before after WriteFailed =
+    (count : ℕ) × (written : ℕ) × (count < sectors_of s image) × (written < sector_len s)
+    × (sector_start s (count + 1) ≤ payload_end_of s image)
+    × Took image left (sector_start s (count + 1))
+    × Adds before after (take (count * sector_len s + written) (plain_of s key image))
+PassesPayload s key image left before after message =
+    (message ≡ message_at_end (ending_of s image)) × Took image left (payload_end_of s image)
+    × Adds before after (plain_of s key image)

@@ -1,0 +1,31 @@
+use Rattle.std.proofs.Common.{◌≡◌, Ok, Err, rules, arith, refl}
+use Rattle.std.proofs.lemmas.Bool.{ne_eqb}
+use Rattle.luks_io.specs.Answers.{told_of_write}
+use Rattle.luks_io.proofs.Telling.{tells_again, tells_failed, tells_last, tells_moved}
+use Rattle.luks_io.proofs.adapters.writing.write_counted.Goals as goal
+
+pub tries-preserved : goal.tries-preserved
+tries-preserved g c = record {
+  told = λ told after rest. c.tries.invariant.told told after
+      (tells_again told_of_write _ _ told after c.tries.tries (omega arith) c.in-Interrupted.ensures.next rest);
+  kept = search rules;
+  failures = search rules;
+}
+
+pub returns-in-Interrupted-2-clause-told : goal.returns-in-Interrupted-2-clause-told
+returns-in-Interrupted-2-clause-told g c some =
+    c.tries.invariant.told _ _ (tells_last told_of_write _ _ c.tries.tries (omega arith) c.in-Interrupted.ensures.next)
+
+pub returns-in-Failed-clause-told : goal.returns-in-Failed-clause-told
+returns-in-Failed-clause-told g c some =
+    c.tries.invariant.told _ _ (tells_failed told_of_write _ _ c.tries.tries c.in-Failed.ensures.next)
+
+pub returns-in-Moved-eq0-clause-told : goal.returns-in-Moved-eq0-clause-told
+returns-in-Moved-eq0-clause-told g c some =
+    let none : told_of_write c.in-Moved-eq0.field-0 ≡ Err record {} = rw c.in-Moved-eq0.field-0-test refl in
+    c.tries.invariant.told _ _ (tells_moved told_of_write _ _ c.tries.tries c.in-Moved-eq0.field-0 _ none c.in-Moved-eq0.ensures.next)
+
+pub returns-in-Moved-clause-told : goal.returns-in-Moved-clause-told
+returns-in-Moved-clause-told g c some =
+    let moved : told_of_write c.in-Moved.count ≡ Ok c.in-Moved.count = rw (ne_eqb c.in-Moved.count 0 c.in-Moved.count-test.1) refl in
+    c.tries.invariant.told _ _ (tells_moved told_of_write _ _ c.tries.tries c.in-Moved.count _ moved c.in-Moved.ensures.next)
