@@ -1,10 +1,9 @@
 -- What is known of a header whose segment is not refused.
-use Rattle.std.proofs.Common.{◌≡◌, ◌∙◌, ℕ, ◌*◌, ◌≤◌, ap, sym, refl, Bool, true, false, List, [], ◌∷◌, Option, Some, None, Ok, ◌⊎◌}
+use Rattle.std.proofs.Common.{◌≡◌, ℕ, ◌*◌, ◌≤◌, ap, refl, Bool, true, false, List, [], ◌∷◌, Option, Some, None, Ok, ◌⊎◌}
 use Rattle.std.specs.Prelude.{◌==◌, ◌||◌, not, nat_lt, is_none}
 use Rattle.std.proofs.lemmas.Bool.{ltb-false}
 use Rattle.std.proofs.lemmas.Bool.Decides.{nat_tests}
 use Rattle.std.proofs.Common.{arith}
-use Rattle.std.proofs.lemmas.Option.{same_Some}
 use Rattle.luks_kdf.specs.declared.hash.Hash.{Hash}
 use Rattle.luks_verdict.specs.Digest.{digest_of}
 use Rattle.luks_verdict.specs.Segment.{refused_or, segment_from, segment_of_all, segment_with}

@@ -1,13 +1,12 @@
 -- What is known of a slot that there is no reason to skip.
-use Rattle.std.proofs.Common.{◌≡◌, ◌∙◌, ℕ, ◌+◌, ◌*◌, ◌≤◌, ap, sym, subst, refl, Bool, true, false, List, [], ◌∷◌, Option, Some, None, length, arith}
-use Rattle.std.specs.Prelude.{◌||◌, nat_lt, if◌then◌else◌, option_map, option_and_then, slice_get}
-use Rattle.std.proofs.lemmas.Bool.{ltb-false}
+use Rattle.std.proofs.Common.{◌≡◌, ◌∙◌, ℕ, ◌+◌, ◌*◌, ◌≤◌, sym, subst, refl, Bool, true, false, List, [], ◌∷◌, Option, Some, None, arith}
+use Rattle.std.specs.Prelude.{if◌then◌else◌, option_map, option_and_then, slice_get}
 use Rattle.std.proofs.lemmas.Bool.Decides.{nat_tests}
 use Rattle.std.proofs.lemmas.Option.{same_Some}
-use Rattle.luks_verdict.specs.Digest.{digest_from, is_undigested}
+use Rattle.luks_area.specs.Area.{longest_area}
+use Rattle.luks_verdict.specs.Digest.{is_undigested}
 use Rattle.luks_verdict.specs.Rule.{is_beyond, is_in_range, is_misplaced, is_unstriped, need_of}
-use Rattle.luks_verdict.specs.Slot.{are_in_range, end_of, judged, judgement_of, slot_from, slot_of}
-use Rattle.luks_verdict.specs.Table.{first_holding}
+use Rattle.luks_verdict.specs.Slot.{are_in_range, end_of, judged, judgement_of, slot_of}
 use Rattle.luks_verdict.proofs.MadeLemmas.{slot_from-yes}
 use Rattle.luks_verdict.proofs.TableLemmas.{first_not}
 use Rattle.luks_verdict.specs.declared.digest.KeyDigest.{KeyDigest}
@@ -44,7 +43,7 @@ no_reason header limit slot none =
 -- its key material is in its place
 placed : (header : Header1) (slot : KeySlot) → is_misplaced1 header slot ≡ false
     → (512 * slot.offset + need_of header.key_bytes slot.stripes ≤ 512 * header.payload_offset)
-    × (512 * slot.offset + need_of header.key_bytes slot.stripes ≤ 33554432)
+    × (512 * slot.offset + need_of header.key_bytes slot.stripes ≤ longest_area)
 unfolding is_misplaced1 is_misplaced
 placed header slot is = (grind (arith, nat_tests), grind (arith, nat_tests))
 

@@ -193,13 +193,7 @@ fn fault(header: &Header1) -> Option<SegmentFault>
 }
 
 /// The segment of a header, or its first fault. This takes no memory.
-#[tactic(
-    auto,
-    unfolding(
-        crate::specs::Segment1::segment1_of,
-        crate::specs::Segment1::segment_parts1_of
-    )
-)]
+#[tactic(auto, unfolding(crate::specs::Segment1::segment1_of, crate::specs::Segment1::segment_parts1_of))]
 pub fn segment(header: &Header1) -> Result<Segment, SegmentFault>
     ensures { result ≡ segment1_of header.now }
 {

@@ -1,9 +1,9 @@
 -- Reading a header.
-use Rattle.std.proofs.Common.{◌≡◌, ℕ, ◌-◌, ◌<◌, ◌≤◌, List, [], Option, Some, Ok, Err, Bool, true, false, ◌∙◌, ap, sym, subst, refl, inl, inr, lit≤, take, drop, length, min, take_all, arith}
+use Rattle.std.proofs.Common.{◌≡◌, ℕ, ◌-◌, ◌<◌, ◌≤◌, List, [], Option, Ok, Err, Bool, true, false, ◌∙◌, ap, sym, subst, refl, inl, inr, lit≤, take, length, min, take_all, arith}
 use Rattle.std.specs.Prelude.{nat_lt, IsTrue, ◌↔◌}
 use Rattle.std.proofs.lemmas.Bool.{cases_lt, le-ltb, lt-ltb}
 use Rattle.std.proofs.lemmas.List.{length-take, take-take, take_min}
-use Rattle.luks_io.specs.Bytes.{Took, WhereKnown}
+use Rattle.luks_io.specs.Bytes.{Took}
 use Rattle.luks_area.specs.Area.{BreaksTaking, TookBehind}
 use Rattle.luks_area.specs.declared.fault.HeaderFault.{HeaderFault}
 use Rattle.luks_area.specs.declared.fault.HeaderFault.TheVariants.{NotLuks, Cut, Json, Read, Memory}

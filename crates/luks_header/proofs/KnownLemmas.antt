@@ -1,16 +1,14 @@
 -- What is known of the key slots and digests of a header, whatever its format.
-use Rattle.std.proofs.Common.{◌≡◌, ◌∙◌, ℕ, ◌+◌, ◌≤◌, ◌⊎◌, inl, inr, List, Option, Some, Ok, ap, sym, subst, min, length, arith}
+use Rattle.std.proofs.Common.{◌≡◌, ◌∙◌, ℕ, ◌≤◌, ◌⊎◌, inl, inr, Option, Some, Ok, arith}
 use Rattle.luks_kdf.specs.declared.hash.Hash.{Hash}
 use Rattle.luks_verdict.specs.Slot.{end_of}
 use Rattle.luks_verdict.specs.declared.digest.KeyDigest.{KeyDigest}
 use Rattle.luks_verdict.specs.declared.segment.Segment.{Segment}
 use Rattle.luks_verdict.specs.declared.slot.Slot.{Slot}
 use Rattle.luks_verdict.specs.declared.slot.Verdict.TheVariants.{Usable}
-use Rattle.luks1_header.specs.declared.header.Header1.{Header1}
 use Rattle.luks1_header.proofs.SegmentLemmas.{IsReadable-ok, digest_hash}
 use Rattle.luks1_header.proofs.SlotLemmas.{usable_at}
 use Rattle.luks_header.specs.Digest.{digest_for}
-use Rattle.luks_header.specs.Header.{cost_of}
 use Rattle.luks_header.specs.Segment.{segment_of}
 use Rattle.luks_header.specs.Slot.{slot_at, verdict_at}
 use Rattle.luks_header.specs.declared.header.Header.{Header}

@@ -2,7 +2,6 @@ pub mod Digest
 pub mod Header
 pub mod Segment
 pub mod Slot
-
 pub use Rattle.luks_area.specs.Area
 pub use Rattle.luks_area.specs.Field
 pub use Rattle.luks_verdict.specs.Rule

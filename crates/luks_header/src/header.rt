@@ -1,15 +1,15 @@
 //! Which header an image has.
 
-ghost use Rattle.std.specs.Prelude.{◌≡◌, ◌≢◌, List, ℕ, Some, Ok, Err, IfOk, IfErr, drop, length, take};
+ghost use Rattle.std.specs.Prelude.{◌≡◌, ◌≢◌, Bool, List, ℕ, Some, Ok, Err, IfOk, IfErr, drop, length, take};
 ghost use Rattle.luks_io.specs.Bytes.{Took, WhereKnown, counted};
 ghost use Rattle.luks_area.specs.Area.{is_read};
 ghost use Rattle.luks_header.specs.Header.{BreaksReading, StopsReading, cost_of, header_of};
 
-use luks1_header::header::{HEADER1_LEN, is_header1};
-pub use luks1_header::header::{Header1, KeySlot, SlotState};
 use luks_area::area::HeaderArea;
 use luks_area::fault::HeaderFault;
 use luks_io::source::Source;
+use luks1_header::header::{HEADER1_LEN, is_header1};
+pub use luks1_header::header::{Header1, KeySlot, SlotState};
 use std::alloc::Global;
 
 /// A header, by the version of its format.
@@ -40,6 +40,8 @@ pub fn read_header<S: Source>(
     ensures memory { result ≡ Err HeaderFault.Memory → source.new ≡ source.old }
     ensures refusals { IfErr result (λ fault. fault ≢ HeaderFault.Json) }
     ensures reads { S.failures source.new ≡ counted (is_read result) (S.failures source.old) }
+    ensures ends { IfOk result (λ read. S.ends source.new ≡ S.ends source.old) }
+    ensures once { (short : Bool) × (S.ends source.new ≡ counted short (S.ends source.old)) }
 
     // In words of before, which go once nothing cites them:
     ensures ok { IfOk result (λ read. (image : List ℕ) → S.to_come source.old ≡ Some image →

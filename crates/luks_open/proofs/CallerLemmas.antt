@@ -12,7 +12,6 @@ use Rattle.luks_verdict.specs.Rule.{need_of}
 use Rattle.luks_verdict.specs.Slot.{end_of}
 use Rattle.luks_header.specs.declared.header.Header.{Header}
 use Rattle.luks_verdict.specs.declared.segment.Segment.{Segment}
-use Rattle.luks_verdict.specs.declared.slot.Slot.{Slot}
 use Rattle.luks_header.proofs.KnownLemmas.{before_payload}
 use Rattle.luks_open.specs.Candidate.{candidate_by, candidate_of, material_of, material_sector, unlocked}
 use Rattle.luks_open.specs.Opening.{first_opening, if_meets, key_of, opened_or, opening_of, answer_of}

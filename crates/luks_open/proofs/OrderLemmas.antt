@@ -1,10 +1,11 @@
 -- What holds of the key slots that are tried, and where the last of their key material ends.
-use Rattle.std.proofs.Common.{◌≡◌, ◌∙◌, ℕ, ◌+◌, ◌==◌, ◌<◌, ◌≤◌, max, Bool, true, false, List, [], ◌∷◌, ◌++◌, length, drop, get_or, Option, Some, None, Result, Ok, Err, IsOk, IsSome, refl, sym, ap, subst, arith}
+use Rattle.std.proofs.Common.{◌≡◌, ◌∙◌, ℕ, ◌+◌, ◌==◌, ◌<◌, ◌≤◌, max, Bool, true, false, List, [], ◌∷◌, length, drop, get_or, Option, Some, None, Ok, IsOk, IsSome, refl, sym, ap, subst, arith}
 use Rattle.std.specs.Prelude.{if◌then◌else◌, option_map}
 use Rattle.std.specs.List.{AllByRecursion}
 use Rattle.std.proofs.lemmas.Bool.{eq-eqb}
 use Rattle.std.proofs.lemmas.List.{drop_more}
 use Rattle.std.proofs.lemmas.Option.{same_Some}
+use Rattle.luks_area.specs.Area.{longest_area}
 use Rattle.luks_verdict.specs.Rule.{most_slots}
 use Rattle.luks_verdict.specs.Slot.{end_of, judgement_of}
 use Rattle.luks_verdict.specs.Table.{rising}
@@ -22,7 +23,6 @@ use Rattle.luks_header.specs.declared.header.Header.{Header}
 use Rattle.luks_header.proofs.KnownLemmas.{digest_of_usable, slot_of_usable}
 use Rattle.luks_open.specs.Order.{Tries, entry_at, entry_of, held_of, order_of, skipped_at, tried_alone, tries_of_all, tries_of_named, unless_none, usable_at, where_usable}
 use Rattle.luks_open.specs.declared.entry.Entry.{Entry}
-use Rattle.luks_open.specs.declared.fault.OpenFault.{OpenFault}
 
 -- what is tried of a key slot is of this header: it can be tried, and this is its digest
 pub record IsOf (header : Header) (limit : Option ℕ) (entry : Entry) : Type 0 where
@@ -151,7 +151,7 @@ All-held_of most [] all = tt
 All-held_of most (entry ∷ entries) all = (omega arith, All-held_of most entries (omega arith))
 
 -- key material that can be used ends within what can be held of an image
-pub held_of-within : (entries : List Entry) → held_of entries ≤ 33554432
+pub held_of-within : (entries : List Entry) → held_of entries ≤ longest_area
 unfolding held_of
 held_of-within [] = omega arith
 held_of-within (entry ∷ entries) = omega (arith, held_of-within entries, entry.slot.in_range.held)

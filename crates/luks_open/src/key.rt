@@ -5,7 +5,7 @@ ghost use Rattle.std.specs.Int.{div_ceil};
 ghost use Rattle.luks_cipher.specs.Xts.{is_xts_key_length};
 ghost use Rattle.luks_kdf.specs.Hash.{size_of};
 ghost use Rattle.luks_kdf.specs.Pbkdf2.{capped, derived_key};
-ghost use Rattle.luks_verdict.specs.Rule.{need_of};
+ghost use Rattle.luks_verdict.specs.Rule.{most_stripes, need_of};
 ghost use Rattle.luks_open.specs.Candidate.{unlocked};
 
 use crate::material;
@@ -60,7 +60,7 @@ impl Key {
     fn unlock(&mut self, af: Hash, key: &XtsKey, image: &[u8], offset: usize, stripes: usize)
         requires key_bytes { is_xts_key_length (length self.old) ≡ true }
         requires some { 1 ≤ stripes }
-        requires few { stripes ≤ 4000 }
+        requires few { stripes ≤ most_stripes }
         requires there { offset + need_of (length self.old) stripes ≤ length image.now }
         ensures key { self.new ≡ unlocked af key.now image.now offset (length self.old) stripes }
         ensures len { length self.new ≡ length self.old }
@@ -101,7 +101,7 @@ impl Key {
     ) -> Key
         requires key_bytes { is_xts_key_length len ≡ true }
         requires some { 1 ≤ stripes }
-        requires few { stripes ≤ 4000 }
+        requires few { stripes ≤ most_stripes }
         requires there { offset + need_of len stripes ≤ length image.now }
         ensures key { result ≡ unlocked af key.now image.now offset len stripes }
         ensures len { length result ≡ len }

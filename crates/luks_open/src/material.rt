@@ -5,7 +5,7 @@ ghost use Rattle.std.specs.Prelude.{◌≡◌, ◌+◌, ◌*◌, ◌≤◌, ◌+
 ghost use Rattle.luks_cipher.specs.Xts.{is_xts_key_length};
 ghost use Rattle.luks_kdf.specs.declared.hash.Hash.{Hash as AnyHash};
 ghost use Rattle.luks_kdf.specs.Stripes.{chain_after};
-ghost use Rattle.luks_verdict.specs.Rule.{need_of};
+ghost use Rattle.luks_verdict.specs.Rule.{most_stripes, need_of};
 ghost use Rattle.luks_open.specs.Candidate.{material_sector, unlocked};
 
 use luks_cipher::XtsKey;
@@ -53,7 +53,7 @@ fn unlock_by(
     requires room { length sector.old ≡ 512 }
     requires key_bytes { is_xts_key_length (length out.old) ≡ true }
     requires some { 1 ≤ stripes }
-    requires few { stripes ≤ 4000 }
+    requires few { stripes ≤ most_stripes }
     requires there { offset + need_of (length out.old) stripes ≤ length image.now }
     ensures { out.new ≡ unlocked af key.now image.now offset (length out.old) stripes }
 {
@@ -84,7 +84,7 @@ pub(crate) fn unlock(
 )
     requires key_bytes { is_xts_key_length (length out.old) ≡ true }
     requires some { 1 ≤ stripes }
-    requires few { stripes ≤ 4000 }
+    requires few { stripes ≤ most_stripes }
     requires there { offset + need_of (length out.old) stripes ≤ length image.now }
     ensures { out.new ≡ unlocked af key.now image.now offset (length out.old) stripes }
 {

@@ -78,12 +78,7 @@ fn key(entry: &Entry, image: &[u8], pass: &[u8], work: &mut Work) -> Option<Key>
 }
 
 // The first of these key slots that opens.
-fn first_opening(
-    entries: &[Entry],
-    image: &[u8],
-    pass: &[u8],
-    work: &mut Work,
-) -> Option<Opened>
+fn first_opening(entries: &[Entry], image: &[u8], pass: &[u8], work: &mut Work) -> Option<Opened>
     requires { All (λ entry. IsTriable (length image.now) entry.slot) entries.now }
     ensures value { result ≡ first_opening entries.now image.now pass.now }
     ensures work { work.new ≡ capped (work.old

@@ -1,11 +1,10 @@
 -- What becomes of a key slot, with and without what it takes to open it.
-use Rattle.std.proofs.Common.{◌≡◌, ℕ, Option, Some, None, refl, ap, sym, ◌∙◌}
+use Rattle.std.proofs.Common.{◌≡◌, ℕ, Option, Some, None, refl}
 use Rattle.std.specs.Prelude.{option_map}
 use Rattle.luks_verdict.specs.Slot.{judgement_of}
 use Rattle.luks_verdict.specs.declared.slot.Slot.{Slot}
 use Rattle.luks_verdict.specs.declared.slot.Verdict.{Verdict}
 use Rattle.luks_verdict.specs.declared.slot.Verdict.TheVariants.{Usable, Disabled, Skipped}
-use Rattle.luks_verdict.specs.declared.slot.Judgement.{Judgement}
 use Rattle.luks_verdict.specs.declared.slot.Judgement.TheVariants.{Usable as Open, Disabled as Unused, Skipped as Shut}
 use Rattle.luks_verdict.specs.declared.refusal.SkipReason.{SkipReason}
 

@@ -6,7 +6,6 @@ use Rattle.std.proofs.Math.Bool.{Bool-set}
 use Rattle.std.proofs.Math.Nat.{ℕ_set}
 use Rattle.std.proofs.lemmas.Option.{none-some, same_Some}
 use Rattle.std.specs.Option.{ForSome}
-use Rattle.luks_kdf.specs.declared.hash.Hash.{Hash}
 use Rattle.luks_verdict.specs.Digest.{digest_from, digest_of, is_undigested, is_usable}
 use Rattle.luks_verdict.specs.Evidence.{where_true}
 use Rattle.luks_verdict.specs.Rule.{InRange, IsDigest, in_range, is_beyond, usable_digest}

@@ -1,5 +1,5 @@
 -- Segments, made of what was read of them.
-use Rattle.std.specs.Prelude.{◌≡◌, ℕ, Bool, true, Option, Some, None, Result, Ok, Err, option_map}
+use Rattle.std.specs.Prelude.{◌≡◌, ℕ, true, Option, Some, None, Result, Ok, Err, option_map}
 use Rattle.luks_verdict.specs.Evidence.{where_true}
 use Rattle.luks_verdict.specs.SectorSize.{are_sectors, whole_sectors}
 use Rattle.luks_verdict.specs.declared.refusal.SegmentFault.{SegmentFault}

@@ -48,13 +48,7 @@ impl Segment {
     ghost use Rattle.luks_verdict.specs.Segment.{segment_from};
 
     /// The segment of which this was read, where each part is there and in range.
-    #[tactic(
-        auto,
-        unfolding(
-            crate::specs::Segment::segment_from,
-            crate::specs::Segment::segment_of_all
-        )
-    )]
+    #[tactic(auto, unfolding(crate::specs::Segment::segment_from, crate::specs::Segment::segment_of_all))]
     pub fn from_parts(parts: SegmentParts) -> Option<Segment>
         ensures { result ≡ segment_from parts }
     {

@@ -328,7 +328,7 @@ fn drawn_header(state: &mut u64) -> [u8; 592] {
 fn slots_and_digests_are_told_of_any_header(rt: HostRuntime) -> Result<(), Fail> {
     let alloc = rt.alloc();
     let mut state = 1;
-    let mut usable = 0;
+    let mut usable = 0u32;
     for run in 0..2000u32 {
         let header = parse(alloc, &drawn_header(&mut state))?;
         let limit = if run % 2 == 0 { None } else { Some(1000) };
@@ -336,7 +336,7 @@ fn slots_and_digests_are_told_of_any_header(rt: HostRuntime) -> Result<(), Fail>
         assert_eq!(rt; verdicts.len(), 8, "run {run}");
         for (number, verdict) in verdicts.iter() {
             if matches!(verdict, Verdict::Usable(_)) {
-                usable += 1;
+                usable = usable.saturating_add(1);
                 assert!(rt; digest_for(alloc, &header, *number)?.is_some(), "run {run}");
                 assert!(rt; slot(alloc, &header, *number)?.is_some(), "run {run}");
             }
@@ -352,7 +352,10 @@ fn slots_and_digests_are_told_of_any_header(rt: HostRuntime) -> Result<(), Fail>
 fn a_slot_is_judged_by_its_number(rt: HostRuntime) -> Result<(), Fail> {
     let header = parse(rt.alloc(), &volume_header())?;
     assert_eq!(rt; judge(&header, None, 0), Some(Judgement::Usable(1)));
-    assert_eq!(rt; judge(&header, Some(999), 0), Some(Judgement::Skipped(SkipReason::Iterations)));
+    assert_eq!(rt;
+        judge(&header, Some(999), 0),
+        Some(Judgement::Skipped(SkipReason::Iterations))
+    );
     assert_eq!(rt; judge(&header, None, 7), Some(Judgement::Disabled));
     for number in [8, 31, 32, 255] {
         assert_eq!(rt; judge(&header, None, number), None);

@@ -1,5 +1,4 @@
-use Rattle.std.proofs.Common.{◌≡◌, ◌∙◌, sym, false}
-use Rattle.luks1_header.specs.Slot1.{is_disabled}
+use Rattle.std.proofs.Common.{◌∙◌, sym}
 use Rattle.luks1_header.proofs.SlotLemmas.{judged_usable}
 use Rattle.luks1_header.proofs.judging.judge_slot.Goals as goal
 

@@ -1,4 +1,4 @@
-use Rattle.std.proofs.Common.{◌≡◌, ◌-◌, ◌∙◌, ap, sym, length, take, vec_len, arith}
+use Rattle.std.proofs.Common.{◌≡◌, ◌-◌, ◌∙◌, ap, sym, length, vec_len, arith}
 use Rattle.luks_area.proofs.AreaLemmas.{front_filled, length-room, took_all_behind, took_behind}
 use Rattle.luks_area.proofs.area.extend.Goals as goal
 

@@ -1,5 +1,6 @@
 use Rattle.std.proofs.Common.{◌≡◌, ◌≤◌, ◌∙◌, Err, ap, sym, length, true, arith}
 use Rattle.std.proofs.lemmas.Result.{err_from_is_err_and}
+use Rattle.luks_area.specs.Area.{is_short}
 use Rattle.luks_header.specs.Header.{header_of}
 use Rattle.luks1_header.specs.Header1.{header1_of, is_luks1}
 use Rattle.luks_header.specs.declared.header.Header.TheVariants.{V1}
@@ -60,3 +61,16 @@ pub returns-clause-only : goal.returns-clause-only
 returns-clause-only g c =
     let none : length c.new-area.result ≡ 0 = ap length c.new-area.ensures in
     all_cost c.extend_to.new.self (omega (arith, c.in_ok-whole.ensures.within))
+
+-- the end is found once at most
+pub returns-in_err-whole-clause-once : goal.returns-in_err-whole-clause-once
+returns-in_err-whole-clause-once g c = (is_short c.extend_to.result, c.extend_to.ensures.ends)
+
+pub returns-then-not-is_header1-clause-once : goal.returns-then-not-is_header1-clause-once
+returns-then-not-is_header1-clause-once g c = (is_short c.extend_to.result, c.extend_to.ensures.ends)
+
+pub returns-then-not-whole-clause-once : goal.returns-then-not-whole-clause-once
+returns-then-not-whole-clause-once g c = (is_short c.extend_to.result, c.extend_to.ensures.ends)
+
+pub returns-clause-once : goal.returns-clause-once
+returns-clause-once g c = (is_short c.extend_to.result, c.extend_to.ensures.ends)

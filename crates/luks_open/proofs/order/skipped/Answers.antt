@@ -1,6 +1,5 @@
 use Rattle.std.proofs.Common.{◌≡◌, ◌∙◌, ◌∷◌, ◌++◌, [], ℕ, List, Option, Some, None, ap, sym, length, arith}
 use Rattle.std.specs.Prelude.{option_map}
-use Rattle.luks_verdict.specs.Table.{rising}
 use Rattle.luks_verdict.specs.declared.refusal.SkipReason.{SkipReason}
 use Rattle.luks_verdict.proofs.TableLemmas.{length-rising, rising_none, rising_not, rising_one}
 use Rattle.luks_open.specs.Order.{skipped_at}

@@ -1,5 +1,4 @@
-use Rattle.std.proofs.Common.{rules, ◌≡◌, ◌∙◌, Some, ap, sym, IsSome}
-use Rattle.luks_verdict.specs.declared.slot.Judgement.TheVariants.{Usable as Open}
+use Rattle.std.proofs.Common.{rules, ◌∙◌, Some, ap, sym, IsSome}
 use Rattle.luks_open.specs.Order.{usable_at}
 use Rattle.luks_open.proofs.OrderLemmas.{usable_there}
 use Rattle.luks_open.proofs.order.usable.Goals as goal

@@ -1,4 +1,4 @@
-use Rattle.std.proofs.Common.{◌≡◌, ◌∙◌, ap, sym, refl, length, true, false}
+use Rattle.std.proofs.Common.{◌≡◌, ◌∙◌, ap, sym, refl, true, false}
 use Rattle.std.specs.Prelude.{not}
 use Rattle.luks_verdict.specs.Digest.{is_usable}
 use Rattle.luks_verdict.proofs.MadeLemmas.{undigested-no, undigested-yes}
