@@ -4,7 +4,7 @@ use Rattle.std.proofs.lemmas.List.{take-append-le, take-take, length-replicate}
 use Rattle.std.proofs.Math.ListN.{replicate}
 use Rattle.std.proofs.Math.Seq.{take-append_seam, take-append-add}
 use Rattle.luks_io.specs.Bytes.{TookInto, WhereKnown}
-use Rattle.luks_area.specs.Area.{BreaksTaking, Grows, StopsGrowing, TookBehind}
+use Rattle.luks_area.specs.Area.{BreaksTaking, TookBehind}
 use Rattle.luks_area.specs.declared.fault.HeaderFault.{HeaderFault}
 use Rattle.luks_area.specs.declared.fault.HeaderFault.TheVariants.{NotLuks, Cut, Json, Read, Memory}
 
@@ -42,21 +42,3 @@ pub took_all_behind : (old new known buf : List ℕ) (left : Option (List ℕ)) 
     → count ≡ min asked (length known) → asked ≡ most → TookBehind old new known left (min most (length known))
 took_all_behind old new known buf left count asked most is taken all is-most =
     subst (TookBehind old new known left) (all ∙ ap (λ k. min k (length known)) is-most) (took_behind old new known buf left count is taken)
-
--- the same in words of before
-pub grows : (old new known : List ℕ) (left : Option (List ℕ)) (count : ℕ) → TookBehind old new known left count → Grows old new known left count
-grows old new known left count took = record { there = took.0.within; holds = took.1; leaves = took.0.left }
-
-pub stops_growing : (most : ℕ) (old new known : List ℕ) (left : Option (List ℕ)) (fault : HeaderFault) → BreaksTaking most old new known left fault
-    → StopsGrowing most old new known left fault
-stops_growing most old new known left Read (count, below, took) = (count, below, grows old new known left count took)
-stops_growing most old new known left Memory took = grows old new known left 0 took
-stops_growing most old new known left NotLuks h = absurd h
-stops_growing most old new known left Cut h = absurd h
-stops_growing most old new known left Json h = absurd h
-
-pub IfErr-stops_growing : (most : ℕ) (old new : List ℕ) (before left : Option (List ℕ)) (result : Result Bool HeaderFault)
-    → IfErr result (λ fault. WhereKnown before (λ known. BreaksTaking most old new known left fault))
-    → IfErr result (λ fault. (told : List ℕ) → before ≡ Some told → StopsGrowing most old new told left fault)
-IfErr-stops_growing most old new before left (Ok whole) broken = tt
-IfErr-stops_growing most old new before left (Err fault) broken = λ told is. stops_growing most old new told left fault (broken told is)

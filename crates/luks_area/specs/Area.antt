@@ -27,21 +27,3 @@ is_read _ = false
 abbrev pub is_short : Result Bool HeaderFault → Bool
 is_short (Ok whole) = not whole
 is_short (Err _) = false
-
--- Words of before, which go once nothing cites them:
-
--- of the bytes that a source tells, the first `count` went behind those that were held, and the others are left
-pub record Grows (held held' told : List ℕ) (left : Option (List ℕ)) (count : ℕ) : Type 0 where
-  pub there : count ≤ length told
-  pub holds : held' ≡ held ++ take count told
-  pub leaves : left ≡ Some (drop count told)
-
--- taking up to `most` bytes was broken off
-abbrev pub StopsGrowing : ℕ → List ℕ → List ℕ → List ℕ → Option (List ℕ) → HeaderFault → Type 0
-StopsGrowing most held held' told left Read = (count : ℕ) × (count < most) × Grows held held' told left count
-StopsGrowing most held held' told left Memory = Grows held held' told left 0
-StopsGrowing most held held' told left _ = ⊥
-
--- a count of failed reads after a call with this result
-abbrev pub failures_after : {T : Type 0} → Result T HeaderFault → ℕ → ℕ
-failures_after result count = counted (is_read result) count

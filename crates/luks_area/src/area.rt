@@ -2,7 +2,7 @@
 
 ghost use Rattle.std.specs.Prelude.{◌≡◌, ◌-◌, ◌<◌, ◌≤◌, ◌↔◌, ◌++◌, ◌⊎◌, true, List, ℕ, [], Some, IsTrue, IfOk, IfErr, OnOk, OnErr, Ok, Err, length, max, min, replicate, take, vec_capacity, vec_len};
 ghost use Rattle.luks_io.specs.Bytes.{WhereKnown, counted};
-ghost use Rattle.luks_area.specs.Area.{BreaksTaking, Grows, StopsGrowing, TookBehind, is_read, is_short, longest_area};
+ghost use Rattle.luks_area.specs.Area.{BreaksTaking, TookBehind, is_read, is_short, longest_area};
 
 use crate::fault::HeaderFault;
 use luks_io::source::{ReadFault, Source, fill};
@@ -72,14 +72,6 @@ impl HeaderArea {
             (fault ≡ HeaderFault.Read) ⊎ (fault ≡ HeaderFault.Memory)) }
         ensures reads { S.failures source.new ≡ counted (is_read result) (S.failures source.old) }
         ensures ends { S.ends source.new ≡ counted (is_short result) (S.ends source.old) }
-
-        // In words of before, which go once nothing cites them:
-        ensures ok { IfOk result (λ whole. (told : List ℕ) → S.to_come source.old ≡ Some told →
-            Grows self.old self.new told (S.to_come source.new)
-            (min (end - length self.old) (length told))) }
-        ensures err { IfErr result (λ fault. (told : List ℕ) → S.to_come source.old ≡ Some told →
-            StopsGrowing (end - length self.old) self.old self.new told (S.to_come source.new)
-            fault) }
     {
         if end <= self.bytes.len() {
             return Ok(true);

@@ -9,7 +9,7 @@ use Rattle.luks_area.specs.declared.fault.HeaderFault.{HeaderFault}
 use Rattle.luks_area.specs.declared.fault.HeaderFault.TheVariants.{NotLuks, Cut, Json, Read, Memory}
 use Rattle.luks1_header.specs.Header1.{header1_of, is_luks1}
 use Rattle.luks1_header.specs.declared.header.Header1.{Header1}
-use Rattle.luks_header.specs.Header.{BreaksReading, StopsReading, cost_of, header_of}
+use Rattle.luks_header.specs.Header.{BreaksReading, cost_of, header_of}
 use Rattle.luks_header.specs.declared.header.Header.{Header}
 use Rattle.luks_header.specs.declared.header.Header.TheVariants.{V1}
 
@@ -75,14 +75,6 @@ pub one_read : (area image : List ℕ) (left : Option (List ℕ)) (header : Head
     → (area ≡ take (cost_of image) image) × Took image left (cost_of image) → header_of area ≡ Ok header
     → (header_of image ≡ Ok header) × (area ≡ take (cost_of image) image) × Took image left (cost_of image)
 one_read area image left header is one = (sym (header_of-take image) ∙ ap header_of (sym is.0) ∙ one, is.0, is.1)
-
--- the same in words of before
-pub stops_reading : (image : List ℕ) (left : Option (List ℕ)) (fault : HeaderFault) → BreaksReading image left fault → StopsReading image left fault
-stops_reading image left Read (count, below, took) = (count, below, took.left)
-stops_reading image left Memory took = (0, omega arith, took.left)
-stops_reading image left NotLuks breaks = (breaks.0, breaks.1.left)
-stops_reading image left Cut breaks = (breaks.0, breaks.1.left)
-stops_reading image left Json breaks = (breaks.0, breaks.1.left)
 
 -- an area that is not whole is short
 pub short_from_not_whole : (whole : Bool) (end len : ℕ) → (IsTrue whole ↔ (end ≤ len)) → whole ≡ false → len < end

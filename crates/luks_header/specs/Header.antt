@@ -24,15 +24,3 @@ abbrev pub BreaksReading : List ℕ → Option (List ℕ) → HeaderFault → Ty
 BreaksReading image left Read = TookUpTo image left (cost_of image)
 BreaksReading image left Memory = Took image left 0
 BreaksReading image left fault = (header_of image ≡ Err fault) × Took image left (cost_of image)
-
--- Words of before, which go once nothing cites them:
-
--- an image is left with all but some of its first bytes, of which at most so many are gone
-abbrev pub LosesUpTo : List ℕ → Option (List ℕ) → ℕ → Type 0
-LosesUpTo image left most = (count : ℕ) × (count ≤ most) × (left ≡ Some (drop count image))
-
--- reading the header ended without one
-abbrev pub StopsReading : List ℕ → Option (List ℕ) → HeaderFault → Type 0
-StopsReading image left Read = LosesUpTo image left (cost_of image)
-StopsReading image left Memory = LosesUpTo image left (cost_of image)
-StopsReading image left fault = (header_of image ≡ Err fault) × (left ≡ Some (drop (cost_of image) image))

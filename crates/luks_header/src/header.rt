@@ -3,7 +3,7 @@
 ghost use Rattle.std.specs.Prelude.{◌≡◌, ◌≢◌, Bool, List, ℕ, Some, Ok, Err, IfOk, IfErr, drop, length, take};
 ghost use Rattle.luks_io.specs.Bytes.{Took, WhereKnown, counted};
 ghost use Rattle.luks_area.specs.Area.{is_read};
-ghost use Rattle.luks_header.specs.Header.{BreaksReading, StopsReading, cost_of, header_of};
+ghost use Rattle.luks_header.specs.Header.{BreaksReading, cost_of, header_of};
 
 use luks_area::area::HeaderArea;
 use luks_area::fault::HeaderFault;
@@ -42,13 +42,6 @@ pub fn read_header<S: Source>(
     ensures reads { S.failures source.new ≡ counted (is_read result) (S.failures source.old) }
     ensures ends { IfOk result (λ read. S.ends source.new ≡ S.ends source.old) }
     ensures once { (short : Bool) × (S.ends source.new ≡ counted short (S.ends source.old)) }
-
-    // In words of before, which go once nothing cites them:
-    ensures ok { IfOk result (λ read. (image : List ℕ) → S.to_come source.old ≡ Some image →
-        (header_of image ≡ Ok read.0) × (read.1 ≡ take (cost_of image) image)
-        × (S.to_come source.new ≡ Some (drop (cost_of image) image))) }
-    ensures err { IfErr result (λ fault. (image : List ℕ) → S.to_come source.old ≡ Some image →
-        StopsReading image (S.to_come source.new) fault) }
 {
     let mut area = HeaderArea::new(alloc);
     let whole = area.extend_to(source, HEADER1_LEN)?;

@@ -5,19 +5,13 @@ use Rattle.luks_header.specs.Header.{header_of}
 use Rattle.luks1_header.specs.Header1.{header1_of, is_luks1}
 use Rattle.luks_header.specs.declared.header.Header.TheVariants.{V1}
 use Rattle.luks_area.specs.declared.fault.HeaderFault.TheVariants.{NotLuks, Cut}
-use Rattle.luks_header.proofs.HeaderLemmas.{all_cost, area_is, header_of-cut, header_of-other, header_of-whole, none_read, one_read, breaks_reading, short_from_not_whole, stops_reading}
+use Rattle.luks_header.proofs.HeaderLemmas.{all_cost, area_is, header_of-cut, header_of-other, header_of-whole, none_read, one_read, breaks_reading, short_from_not_whole}
 use Rattle.luks_header.proofs.header.read_header.Goals as goal
 
 pub returns-in_err-whole-clause-broken : goal.returns-in_err-whole-clause-broken
 returns-in_err-whole-clause-broken g c =
     let p = err_from_is_err_and c.from_residual.result c.from_residual.ensures.1 in
     rw (p.1, p.2) (λ image knows. breaks_reading _ _ image _ _ c.new-area.ensures (let h = c.in_err-whole.ensures.broken in h image knows))
-
-pub returns-in_err-whole-clause-err : goal.returns-in_err-whole-clause-err
-returns-in_err-whole-clause-err g c =
-    let p = err_from_is_err_and c.from_residual.result c.from_residual.ensures.1 in
-    rw (p.1, p.2) (λ image tells. stops_reading image _ _
-    (breaks_reading _ _ image _ _ c.new-area.ensures (let h = c.in_err-whole.ensures.broken in h image tells)))
 
 pub returns-then-not-is_header1-clause-broken : goal.returns-then-not-is_header1-clause-broken
 returns-then-not-is_header1-clause-broken g c =
@@ -26,9 +20,6 @@ returns-then-not-is_header1-clause-broken g c =
     header_of-other c.extend_to.new.self (ap is_luks1 (sym c.as_slice-bytes.ensures.value) ∙ sym c.is_header1.ensures ∙ c.if-not-is_header1.true) in
     none_read c.extend_to.new.self image _ NotLuks (area_is c.new-area.result c.extend_to.new.self image _ c.new-area.ensures (c.in_ok-whole.ensures.taken image knows)) none
 
-pub returns-then-not-is_header1-clause-err : goal.returns-then-not-is_header1-clause-err
-returns-then-not-is_header1-clause-err g c = λ image tells. stops_reading image _ NotLuks (returns-then-not-is_header1-clause-broken g c image tells)
-
 pub returns-then-not-whole-clause-broken : goal.returns-then-not-whole-clause-broken
 returns-then-not-whole-clause-broken g c =
     λ image knows.
@@ -36,9 +27,6 @@ returns-then-not-whole-clause-broken g c =
     let short = short_from_not_whole c.in_ok-whole.whole 592 (length c.extend_to.new.self) c.in_ok-whole.ensures.whole c.if-not-whole.true in
     none_read c.extend_to.new.self image _ Cut (area_is c.new-area.result c.extend_to.new.self image _ c.new-area.ensures (c.in_ok-whole.ensures.taken image knows))
     (header_of-cut c.extend_to.new.self is short)
-
-pub returns-then-not-whole-clause-err : goal.returns-then-not-whole-clause-err
-returns-then-not-whole-clause-err g c = λ image tells. stops_reading image _ Cut (returns-then-not-whole-clause-broken g c image tells)
 
 pub returns-clause-held : goal.returns-clause-held
 returns-clause-held g c =
@@ -53,9 +41,6 @@ returns-clause-taken g c =
     λ image knows.
     one_read c.extend_to.new.self image _ (V1 c.from_bytes-header.result)
     (area_is c.new-area.result c.extend_to.new.self image _ c.new-area.ensures (c.in_ok-whole.ensures.taken image knows)) (returns-clause-held g c)
-
-pub returns-clause-ok : goal.returns-clause-ok
-returns-clause-ok g c = λ image tells. let read = returns-clause-taken g c image tells in (read.0, read.1, read.2.left)
 
 pub returns-clause-only : goal.returns-clause-only
 returns-clause-only g c =
