@@ -1,6 +1,6 @@
 //! Times `pbkdf2`: `bench_pbkdf2 sha256 100000` derives one digest's length in that many turns, and
-//! writes the turns, the nanoseconds of processor time and the first eight bytes of the key to standard
-//! error. With no words, or with others, it does nothing.
+//! writes the turns, the nanoseconds of processor time and the first eight bytes of the key to
+//! standard error. With no words, or with others, it does nothing.
 #![tactic(auto)]
 
 use luks_kdf::{Hash, Work, pbkdf2};

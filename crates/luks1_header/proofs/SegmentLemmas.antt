@@ -40,8 +40,10 @@ IsReadable-none : (header : Header1) → fault1_of header ≡ None → IsReadabl
 unfolding fault1_of
 IsReadable-none header none =
     let last : List (Bool × SegmentFault) = (nat_lt (512 * header.payload_offset) 592, Offset) ∷ [] in
-    let third : List (Bool × SegmentFault) = (not (header.key_bytes == 32 || header.key_bytes == 64), KeyBytes) ∷ last in
-    let cipher = first_not (not (is_aes_xts1 header)) Encryption ((is_none (hash1_of header), UnknownHash) ∷ third) none in
+    let third : List (Bool × SegmentFault) = (not (header.key_bytes == 32 || header.key_bytes == 64), KeyBytes)
+    ∷ last in
+    let cipher = first_not (not (is_aes_xts1 header)) Encryption ((is_none (hash1_of header), UnknownHash) ∷ third)
+    none in
     let hash = first_not (is_none (hash1_of header)) UnknownHash third cipher.1 in
     let key = first_not (not (header.key_bytes == 32 || header.key_bytes == 64)) KeyBytes last hash.1 in
     let offset = first_not (nat_lt (512 * header.payload_offset) 592) Offset [] key.1 in
@@ -58,13 +60,15 @@ pub IsReadable-ok : (header : Header1) (segment : Segment) → segment1_of heade
 unfolding segment1_of segment_parts1_of segment_from segment_of_all segment_with
 IsReadable-ok header segment is = of_fault (fault1_of header) refl is
   where
-    of_fault : (fault : Option SegmentFault) → fault1_of header ≡ fault → refused_or fault (segment_from (segment_parts1_of header)) ≡ Ok segment
+    of_fault : (fault : Option SegmentFault) → fault1_of header ≡ fault
+        → refused_or fault (segment_from (segment_parts1_of header)) ≡ Ok segment
         → (segment.offset ≡ 512 * header.payload_offset) × IsReadable header
     of_fault None none h = (cc, IsReadable-none header none)
     of_fault (Some fault) some h = absurd cc
 
 -- the digest has the header's hash
-pub digest_hash : (header : Header1) (digest : KeyDigest) → digest1_of header ≡ Some digest → digest.hash ≡ hash1_of header
+pub digest_hash : (header : Header1) (digest : KeyDigest) → digest1_of header ≡ Some digest
+    → digest.hash ≡ hash1_of header
 unfolding digest1_of digest_of digest_parts1_of
 digest_hash header digest is =
     let made = digest_from-some (digest_parts1_of header) digest is in

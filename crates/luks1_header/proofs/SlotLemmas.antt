@@ -27,7 +27,8 @@ record NoReason (header : Header1) (limit : Option ℕ) (slot : KeySlot) : Type 
   area : is_misplaced1 header slot ≡ false
   digest : is_undigested limit (digest1_of header) ≡ false
 
-no_reason : (header : Header1) (limit : Option ℕ) (slot : KeySlot) → reason1_of header limit slot ≡ None → NoReason header limit slot
+no_reason : (header : Header1) (limit : Option ℕ) (slot : KeySlot) → reason1_of header limit slot ≡ None
+    → NoReason header limit slot
 unfolding reason1_of
 no_reason header limit slot none =
     let last : List (Bool × SkipReason) = (is_undigested limit (digest1_of header), Digest) ∷ [] in
@@ -48,7 +49,8 @@ unfolding is_misplaced1 is_misplaced
 placed header slot is = (grind (arith, nat_tests), grind (arith, nat_tests))
 
 -- so its numbers are in range
-range_of : (header : Header1) (limit : Option ℕ) (slot : KeySlot) → NoReason header limit slot → are_in_range (slot_parts1_of header slot) ≡ true
+range_of : (header : Header1) (limit : Option ℕ) (slot : KeySlot) → NoReason header limit slot
+    → are_in_range (slot_parts1_of header slot) ≡ true
 unfolding is_in_range is_beyond is_unstriped slot_parts1_of
 range_of header limit slot none =
     let place = placed header slot none.area in
@@ -58,14 +60,16 @@ range_of header limit slot none =
 
 -- and it can be opened
 pub slot_there : (header : Header1) (limit : Option ℕ) (slot : KeySlot) → reason1_of header limit slot ≡ None
-    → (is : are_in_range (slot_parts1_of header slot) ≡ true) × (slot1_of header slot ≡ Some (slot_of (slot_parts1_of header slot) is))
+    → (is : are_in_range (slot_parts1_of header slot) ≡ true)
+    × (slot1_of header slot ≡ Some (slot_of (slot_parts1_of header slot) is))
 unfolding slot1_of
 slot_there header limit slot none =
     let is = range_of header limit slot (no_reason header limit slot none) in
     (is, slot_from-yes (slot_parts1_of header slot) is)
 
 -- what becomes of it, without what it takes to open it
-pub judged_usable : (header : Header1) (limit : Option ℕ) (slot : KeySlot) → is_disabled slot.state ≡ false → reason1_of header limit slot ≡ None
+pub judged_usable : (header : Header1) (limit : Option ℕ) (slot : KeySlot) → is_disabled slot.state ≡ false
+    → reason1_of header limit slot ≡ None
     → judgement_of (verdict1_of header limit slot) ≡ Open 1
 unfolding verdict1_of slot_of slot_parts1_of
 judged_usable header limit slot enabled none =
@@ -83,25 +87,31 @@ pub record IsOf (header : Header1) (usable : Slot) : Type 0 where
   pub before_payload : end_of usable ≤ 512 * header.payload_offset
   pub digest : (digest : KeyDigest) × (digest1_of header ≡ Some digest)
 
-digest_there : (limit : Option ℕ) (digest : Option KeyDigest) → is_undigested limit digest ≡ false → (there : KeyDigest) × (digest ≡ Some there)
+digest_there : (limit : Option ℕ) (digest : Option KeyDigest) → is_undigested limit digest ≡ false
+    → (there : KeyDigest) × (digest ≡ Some there)
 unfolding is_undigested
 digest_there limit None is = absurd cc
 digest_there limit (Some digest) is = (digest, refl)
 
 -- a verdict that it can be tried says that there is no reason to skip it, and what it takes to open it
-of_verdict : (header : Header1) (limit : Option ℕ) (slot : KeySlot) (usable : Slot) → verdict1_of header limit slot ≡ Usable usable
+of_verdict : (header : Header1) (limit : Option ℕ) (slot : KeySlot) (usable : Slot)
+    → verdict1_of header limit slot ≡ Usable usable
     → (reason1_of header limit slot ≡ None) × (slot1_of header slot ≡ Some usable)
 unfolding verdict1_of
-of_verdict header limit slot usable is = of_all (is_disabled slot.state) (reason1_of header limit slot) refl (slot1_of header slot) refl is
+of_verdict header limit slot usable is =
+    of_all (is_disabled slot.state) (reason1_of header limit slot) refl (slot1_of header slot) refl is
   where
-    of_all : (disabled : Bool) (reason : Option SkipReason) → reason1_of header limit slot ≡ reason → (made : Option Slot) → slot1_of header slot ≡ made
-        → (if disabled then Unused else judged reason made) ≡ Usable usable → (reason1_of header limit slot ≡ None) × (slot1_of header slot ≡ Some usable)
+    of_all : (disabled : Bool) (reason : Option SkipReason) → reason1_of header limit slot ≡ reason
+        → (made : Option Slot) → slot1_of header slot ≡ made
+        → (if disabled then Unused else judged reason made) ≡ Usable usable
+        → (reason1_of header limit slot ≡ None) × (slot1_of header slot ≡ Some usable)
     of_all true reason r made m h = absurd cc
     of_all false (Some reason) r made m h = absurd cc
     of_all false None r (Some made) m h = (r, cc)
     of_all false None r None m h = absurd cc
 
-usable_is : (header : Header1) (limit : Option ℕ) (slot : KeySlot) (usable : Slot) → verdict1_of header limit slot ≡ Usable usable → IsOf header usable
+usable_is : (header : Header1) (limit : Option ℕ) (slot : KeySlot) (usable : Slot)
+    → verdict1_of header limit slot ≡ Usable usable → IsOf header usable
 unfolding slot_of slot_parts1_of
 usable_is header limit slot usable is =
     let verdict = of_verdict header limit slot usable is in
@@ -118,7 +128,8 @@ usable_is header limit slot usable is =
     })
 
 -- of the slot of a number
-pub usable_at : (header : Header1) (limit : Option ℕ) (number : ℕ) (usable : Slot) → verdict1_at header limit number ≡ Some (Usable usable)
+pub usable_at : (header : Header1) (limit : Option ℕ) (number : ℕ) (usable : Slot)
+    → verdict1_at header limit number ≡ Some (Usable usable)
     → IsOf header usable × (slot1_at header number ≡ Some usable)
 unfolding verdict1_at slot1_at
 usable_at header limit number usable is = of_slot (slice_get header.slots number) is

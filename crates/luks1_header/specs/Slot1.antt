@@ -52,7 +52,8 @@ digest1_of header = digest_from (digest_parts1_of header)
 -- the key material of a slot does not fit. Its area has just the bytes that it needs
 unfoldable pub is_misplaced1 : Header1 → KeySlot → Bool
 is_misplaced1 header slot =
-    is_misplaced header1_len (Some (512 * header.payload_offset)) (512 * slot.offset) (need_of header.key_bytes slot.stripes) (need_of header.key_bytes slot.stripes)
+    is_misplaced header1_len (Some (512 * header.payload_offset)) (512 * slot.offset)
+    (need_of header.key_bytes slot.stripes) (need_of header.key_bytes slot.stripes)
 
 -- the first reason to skip a slot that is not disabled
 unfoldable pub reason1_of : Header1 → Option ℕ → KeySlot → Option SkipReason
@@ -85,7 +86,8 @@ slot1_of header slot = slot_from (slot_parts1_of header slot)
 
 -- what becomes of a slot
 unfoldable pub verdict1_of : Header1 → Option ℕ → KeySlot → Verdict
-verdict1_of header limit slot = if is_disabled slot.state then Unused else judged (reason1_of header limit slot) (slot1_of header slot)
+verdict1_of header limit slot =
+    if is_disabled slot.state then Unused else judged (reason1_of header limit slot) (slot1_of header slot)
 
 -- what becomes of the slot of this number, 0 to 7
 unfoldable pub verdict1_at : Header1 → Option ℕ → ℕ → Option Verdict

@@ -78,7 +78,8 @@ word_bytes f all =
 
 column_bytes : (f : ℕ → ℕ → ℕ) → ((r c : ℕ) → f r c < 256) → (c : ℕ) {rest : List ℕ} → IsBytes rest
     → IsBytes (f 0 c ∷ f 1 c ∷ f 2 c ∷ f 3 c ∷ rest)
-column_bytes f all c rest = bytes_cons (all 0 c) (bytes_cons (all 1 c) (bytes_cons (all 2 c) (bytes_cons (all 3 c) rest)))
+column_bytes f all c rest =
+    bytes_cons (all 0 c) (bytes_cons (all 1 c) (bytes_cons (all 2 c) (bytes_cons (all 3 c) rest)))
 
 pub state_bytes : (f : ℕ → ℕ → ℕ) → ((r c : ℕ) → f r c < 256) → IsBytes (state_of f)
 state_bytes f all =
@@ -96,7 +97,8 @@ word_at_bytes w i all = word_bytes (λ k. slice_index w (4 * i + k)) (λ k. all.
 word_sum_bytes : (a b : List ℕ) → IsBytes a → IsBytes b → IsBytes (word_sum a b)
 unfolding word_sum
 word_sum_bytes a b first second =
-    word_bytes (λ k. slice_index a k ⊕ slice_index b k) (λ k. xor_byte (slice_index a k) (slice_index b k) (first.each k) (second.each k))
+    word_bytes (λ k. slice_index a k ⊕ slice_index b k)
+    (λ k. xor_byte (slice_index a k) (slice_index b k) (first.each k) (second.each k))
 
 sub_word_bytes : (a : List ℕ) → IsBytes a → IsBytes (sub_word a)
 unfolding sub_word
@@ -108,7 +110,8 @@ rot_word_bytes a all = word_bytes (λ k. slice_index a ((k + 1) % 4)) (λ k. all
 
 constant_bytes : (j : ℕ) → IsBytes (round_constant j)
 constant_bytes j =
-    bytes_cons (power_byte (j - 1)) (bytes_cons (omega arith) (bytes_cons (omega arith) (bytes_cons (omega arith) bytes_nil)))
+    bytes_cons (power_byte (j - 1))
+    (bytes_cons (omega arith) (bytes_cons (omega arith) (bytes_cons (omega arith) bytes_nil)))
 
 next_word_bytes : (nk : ℕ) (w : List ℕ) (i : ℕ) → IsBytes w → IsBytes (next_word nk w i)
 unfolding next_word
@@ -151,8 +154,11 @@ pub columns_state : (a s : List ℕ) → IsState s → IsState (multiplied_colum
 unfolding multiplied_columns
 columns_state a s is =
     made_state _ (λ r c.
-    let one : (k q : ℕ) → slice_index a k • cell s q c < 256 = λ k q. product_byte (slice_index a k) (cell s q c) (is.bytes.each (q + 4 * c)) in
-    xor_byte _ _ (xor_byte _ _ (xor_byte _ _ (one 0 r) (one 1 ((r + 1) % 4))) (one 2 ((r + 2) % 4))) (one 3 ((r + 3) % 4)))
+    let one : (k q : ℕ)
+    → slice_index a k • cell s q c
+    < 256 = λ k q. product_byte (slice_index a k) (cell s q c) (is.bytes.each (q + 4 * c)) in
+    xor_byte _ _ (xor_byte _ _ (xor_byte _ _ (one 0 r) (one 1 ((r + 1) % 4))) (one 2 ((r + 2) % 4)))
+    (one 3 ((r + 3) % 4)))
 
 pub add_round_key_state : (s w : List ℕ) (round : ℕ) → IsState s → IsBytes w → IsState (add_round_key s w round)
 unfolding add_round_key
@@ -163,7 +169,8 @@ pub after_state : (block w : List ℕ) (n : ℕ) → IsState block → IsBytes w
 unfolding state_after
 after_state block w zero is keys = add_round_key_state block w 0 is keys
 after_state block w (suc n) is keys =
-    add_round_key_state _ w (suc n) (columns_state _ _ (shift_rows_state _ (sub_bytes_state _ (after_state block w n is keys)))) keys
+    add_round_key_state _ w (suc n)
+    (columns_state _ _ (shift_rows_state _ (sub_bytes_state _ (after_state block w n is keys)))) keys
 
 pub cipher_state : (block : List ℕ) (nr : ℕ) (w : List ℕ) → IsState block → IsBytes w → IsState (cipher block nr w)
 unfolding cipher

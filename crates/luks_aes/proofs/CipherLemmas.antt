@@ -7,7 +7,8 @@ pub round_after : (block w s : List ℕ) (n round : ℕ) → s ≡ state_after b
 unfolding state_after
 round_after block w s n round at e = rw (e, at) refl
 
-pub inv_round_after : (block w s : List ℕ) (nr n m round : ℕ) → s ≡ inv_state_after block nr w n → m ≡ suc n → round ≡ nr - m
+pub inv_round_after : (block w s : List ℕ) (nr n m round : ℕ) → s ≡ inv_state_after block nr w n → m ≡ suc n
+    → round ≡ nr - m
     → inv_mix_columns (add_round_key (inv_sub_bytes (inv_shift_rows s)) w round) ≡ inv_state_after block nr w m
 unfolding inv_state_after
 inv_round_after block w s nr n m round at e down = rw (down, e, at) refl

@@ -10,10 +10,18 @@ use Rattle.luks_aes.proofs.ByteLists.{IsState, bytes_nil, bytes_cons}
 pub columns_mixed : (s a b c d : List ℕ) (p q r t : ℕ)
     → a ≡ to_le_bytes w32 (slice_index s 0) → b ≡ to_le_bytes w32 (slice_index s 1)
     → c ≡ to_le_bytes w32 (slice_index s 2) → d ≡ to_le_bytes w32 (slice_index s 3)
-    → to_le_bytes w32 p ≡ column_product (2 ∷ 3 ∷ 1 ∷ 1 ∷ []) (sbox (slice_index a 0) ∷ sbox (slice_index b 1) ∷ sbox (slice_index c 2) ∷ sbox (slice_index d 3) ∷ [])
-    → to_le_bytes w32 q ≡ column_product (2 ∷ 3 ∷ 1 ∷ 1 ∷ []) (sbox (slice_index b 0) ∷ sbox (slice_index c 1) ∷ sbox (slice_index d 2) ∷ sbox (slice_index a 3) ∷ [])
-    → to_le_bytes w32 r ≡ column_product (2 ∷ 3 ∷ 1 ∷ 1 ∷ []) (sbox (slice_index c 0) ∷ sbox (slice_index d 1) ∷ sbox (slice_index a 2) ∷ sbox (slice_index b 3) ∷ [])
-    → to_le_bytes w32 t ≡ column_product (2 ∷ 3 ∷ 1 ∷ 1 ∷ []) (sbox (slice_index d 0) ∷ sbox (slice_index a 1) ∷ sbox (slice_index b 2) ∷ sbox (slice_index c 3) ∷ [])
+    → to_le_bytes w32 p
+    ≡ column_product (2 ∷ 3 ∷ 1 ∷ 1 ∷ [])
+    (sbox (slice_index a 0) ∷ sbox (slice_index b 1) ∷ sbox (slice_index c 2) ∷ sbox (slice_index d 3) ∷ [])
+    → to_le_bytes w32 q
+    ≡ column_product (2 ∷ 3 ∷ 1 ∷ 1 ∷ [])
+    (sbox (slice_index b 0) ∷ sbox (slice_index c 1) ∷ sbox (slice_index d 2) ∷ sbox (slice_index a 3) ∷ [])
+    → to_le_bytes w32 r
+    ≡ column_product (2 ∷ 3 ∷ 1 ∷ 1 ∷ [])
+    (sbox (slice_index c 0) ∷ sbox (slice_index d 1) ∷ sbox (slice_index a 2) ∷ sbox (slice_index b 3) ∷ [])
+    → to_le_bytes w32 t
+    ≡ column_product (2 ∷ 3 ∷ 1 ∷ 1 ∷ [])
+    (sbox (slice_index d 0) ∷ sbox (slice_index a 1) ∷ sbox (slice_index b 2) ∷ sbox (slice_index c 3) ∷ [])
     → spelt (p ∷ q ∷ r ∷ t ∷ []) ≡ mix_columns (shift_rows (sub_bytes (spelt s)))
 unfolding spelt multiplied_columns shift_rows sub_bytes
 columns_mixed s a b c d p q r t at_a at_b at_c at_d first second third fourth =
@@ -26,10 +34,22 @@ columns_mixed s a b c d p q r t at_a at_b at_c at_d first second third fourth =
 pub columns_unmixed : (s a b c d : List ℕ) (p q r t : ℕ)
     → a ≡ to_le_bytes w32 (slice_index s 0) → b ≡ to_le_bytes w32 (slice_index s 1)
     → c ≡ to_le_bytes w32 (slice_index s 2) → d ≡ to_le_bytes w32 (slice_index s 3)
-    → to_le_bytes w32 p ≡ column_product (14 ∷ 11 ∷ 13 ∷ 9 ∷ []) (inv_sbox (slice_index a 0) ∷ inv_sbox (slice_index d 1) ∷ inv_sbox (slice_index c 2) ∷ inv_sbox (slice_index b 3) ∷ [])
-    → to_le_bytes w32 q ≡ column_product (14 ∷ 11 ∷ 13 ∷ 9 ∷ []) (inv_sbox (slice_index b 0) ∷ inv_sbox (slice_index a 1) ∷ inv_sbox (slice_index d 2) ∷ inv_sbox (slice_index c 3) ∷ [])
-    → to_le_bytes w32 r ≡ column_product (14 ∷ 11 ∷ 13 ∷ 9 ∷ []) (inv_sbox (slice_index c 0) ∷ inv_sbox (slice_index b 1) ∷ inv_sbox (slice_index a 2) ∷ inv_sbox (slice_index d 3) ∷ [])
-    → to_le_bytes w32 t ≡ column_product (14 ∷ 11 ∷ 13 ∷ 9 ∷ []) (inv_sbox (slice_index d 0) ∷ inv_sbox (slice_index c 1) ∷ inv_sbox (slice_index b 2) ∷ inv_sbox (slice_index a 3) ∷ [])
+    → to_le_bytes w32 p
+    ≡ column_product (14 ∷ 11 ∷ 13 ∷ 9 ∷ [])
+    (inv_sbox (slice_index a 0) ∷ inv_sbox (slice_index d 1) ∷ inv_sbox (slice_index c 2)
+    ∷ inv_sbox (slice_index b 3) ∷ [])
+    → to_le_bytes w32 q
+    ≡ column_product (14 ∷ 11 ∷ 13 ∷ 9 ∷ [])
+    (inv_sbox (slice_index b 0) ∷ inv_sbox (slice_index a 1) ∷ inv_sbox (slice_index d 2)
+    ∷ inv_sbox (slice_index c 3) ∷ [])
+    → to_le_bytes w32 r
+    ≡ column_product (14 ∷ 11 ∷ 13 ∷ 9 ∷ [])
+    (inv_sbox (slice_index c 0) ∷ inv_sbox (slice_index b 1) ∷ inv_sbox (slice_index a 2)
+    ∷ inv_sbox (slice_index d 3) ∷ [])
+    → to_le_bytes w32 t
+    ≡ column_product (14 ∷ 11 ∷ 13 ∷ 9 ∷ [])
+    (inv_sbox (slice_index d 0) ∷ inv_sbox (slice_index c 1) ∷ inv_sbox (slice_index b 2)
+    ∷ inv_sbox (slice_index a 3) ∷ [])
     → spelt (p ∷ q ∷ r ∷ t ∷ []) ≡ inv_mix_columns (inv_sub_bytes (inv_shift_rows (spelt s)))
 unfolding spelt multiplied_columns inv_shift_rows inv_sub_bytes
 columns_unmixed s a b c d p q r t at_a at_b at_c at_d first second third fourth =
@@ -43,17 +63,22 @@ columns_unmixed s a b c d p q r t at_a at_b at_c at_d first second third fourth 
 pub key_column : (s w : List ℕ) (round k at p q : ℕ) → at ≡ 4 * (4 * round + k)
     → to_le_bytes w32 q ≡ word_of (λ r. slice_index w (r + at))
     → to_le_bytes w32 p ≡ word_sum (to_le_bytes w32 (slice_index s k)) (to_le_bytes w32 q)
-    → to_le_bytes w32 p ≡ word_of (λ r. slice_index (to_le_bytes w32 (slice_index s k)) r ⊕ slice_index w (r + 4 * (4 * round + k)))
+    → to_le_bytes w32 p
+    ≡ word_of (λ r. slice_index (to_le_bytes w32 (slice_index s k)) r ⊕ slice_index w (r + 4 * (4 * round + k)))
 unfolding word_sum
 key_column s w round k at p q place read added =
     let there = rw place at read in
     added ∙ ap (word_sum (to_le_bytes w32 (slice_index s k))) there
 
 pub round_key_added : (s w : List ℕ) (round p q r t : ℕ)
-    → to_le_bytes w32 p ≡ word_of (λ r. slice_index (to_le_bytes w32 (slice_index s 0)) r ⊕ slice_index w (r + 4 * (4 * round + 0)))
-    → to_le_bytes w32 q ≡ word_of (λ r. slice_index (to_le_bytes w32 (slice_index s 1)) r ⊕ slice_index w (r + 4 * (4 * round + 1)))
-    → to_le_bytes w32 r ≡ word_of (λ r. slice_index (to_le_bytes w32 (slice_index s 2)) r ⊕ slice_index w (r + 4 * (4 * round + 2)))
-    → to_le_bytes w32 t ≡ word_of (λ r. slice_index (to_le_bytes w32 (slice_index s 3)) r ⊕ slice_index w (r + 4 * (4 * round + 3)))
+    → to_le_bytes w32 p
+    ≡ word_of (λ r. slice_index (to_le_bytes w32 (slice_index s 0)) r ⊕ slice_index w (r + 4 * (4 * round + 0)))
+    → to_le_bytes w32 q
+    ≡ word_of (λ r. slice_index (to_le_bytes w32 (slice_index s 1)) r ⊕ slice_index w (r + 4 * (4 * round + 1)))
+    → to_le_bytes w32 r
+    ≡ word_of (λ r. slice_index (to_le_bytes w32 (slice_index s 2)) r ⊕ slice_index w (r + 4 * (4 * round + 2)))
+    → to_le_bytes w32 t
+    ≡ word_of (λ r. slice_index (to_le_bytes w32 (slice_index s 3)) r ⊕ slice_index w (r + 4 * (4 * round + 3)))
     → spelt (p ∷ q ∷ r ∷ t ∷ []) ≡ add_round_key (spelt s) w round
 unfolding spelt add_round_key
 round_key_added s w round p q r t first second third fourth = λ i. first i ++ (second i ++ (third i ++ fourth i))

@@ -27,14 +27,16 @@ choice_sum : (t : Bool) (a b : ℕ) → cond t (a ⊕ b) 0 ≡ cond t a 0 ⊕ co
 choice_sum true a b = refl
 choice_sum false a b = refl
 
-bits_sum : (n c a b : ℕ) → a < 256 → b < 256 → product_of_bits n c (a ⊕ b) ≡ product_of_bits n c a ⊕ product_of_bits n c b
+bits_sum : (n c a b : ℕ) → a < 256 → b < 256
+    → product_of_bits n c (a ⊕ b) ≡ product_of_bits n c a ⊕ product_of_bits n c b
 unfolding product_of_bits
 bits_sum zero c a b p q = refl
 bits_sum (suc n) c a b p q =
     let rest = bits_sum n (c / 2) (times_x a) (times_x b) (times_x_byte a p) (times_x_byte b q) in
     let here = choice_sum (eqb (c % 2) 1) a b in
     rw (here, times_x_sum a b p q, rest)
-    (exchanged (cond (eqb (c % 2) 1) a 0) (cond (eqb (c % 2) 1) b 0) (product_of_bits n (c / 2) (times_x a)) (product_of_bits n (c / 2) (times_x b)))
+    (exchanged (cond (eqb (c % 2) 1) a 0) (cond (eqb (c % 2) 1) b 0) (product_of_bits n (c / 2) (times_x a))
+    (product_of_bits n (c / 2) (times_x b)))
 
 -- a product of a sum
 pub product_sum : (c a b : ℕ) → a < 256 → b < 256 → c • (a ⊕ b) ≡ c • a ⊕ c • b
@@ -45,7 +47,8 @@ pub product_sum4 : (k a b c d : ℕ) → a < 256 → b < 256 → c < 256 → d <
     → k • (a ⊕ b ⊕ c ⊕ d) ≡ k • a ⊕ k • b ⊕ k • c ⊕ k • d
 product_sum4 k a b c d p q r s =
     let ab = xor_byte a b p q in
-    rw (product_sum k (a ⊕ b ⊕ c) d (xor_byte (a ⊕ b) c ab r) s, product_sum k (a ⊕ b) c ab r, product_sum k a b p q) refl
+    rw (product_sum k (a ⊕ b ⊕ c) d (xor_byte (a ⊕ b) c ab r) s, product_sum k (a ⊕ b) c ab r, product_sum k a b p q)
+    refl
 
 -- what becomes of one byte of a column: in its own row it comes back, and from the three others it falls away
 own_row : (x : ℕ) → x < 256 → 14 • (2 • x) ⊕ 11 • (1 • x) ⊕ 13 • (1 • x) ⊕ 9 • (3 • x) ≡ x
@@ -80,12 +83,21 @@ unmixed a b c d = 14 • a ⊕ 11 • b ⊕ 13 • c ⊕ 9 • d
 products_of : (k a b c d : ℕ) → a < 256 → b < 256 → c < 256 → d < 256
     → k • mixed a b c d ≡ k • (2 • a) ⊕ k • (3 • b) ⊕ k • (1 • c) ⊕ k • (1 • d)
 products_of k a b c d p q r s =
-    product_sum4 k (2 • a) (3 • b) (1 • c) (1 • d) (product_byte 2 a p) (product_byte 3 b q) (product_byte 1 c r) (product_byte 1 d s)
+    product_sum4 k (2 • a) (3 • b) (1 • c) (1 • d) (product_byte 2 a p) (product_byte 3 b q) (product_byte 1 c r)
+    (product_byte 1 d s)
 
 pub unmixed_is : (a b c d : ℕ) → a < 256 → b < 256 → c < 256 → d < 256
     → unmixed (mixed a b c d) (mixed b c d a) (mixed c d a b) (mixed d a b c) ≡ a
 unmixed_is a b c d p q r s =
-    rw (products_of 14 a b c d p q r s, products_of 11 b c d a q r s p, products_of 13 c d a b r s p q, products_of 9 d a b c s p q r)
-    (gathered (14 • (2 • a)) (11 • (1 • a)) (13 • (1 • a)) (9 • (3 • a)) (14 • (3 • b)) (11 • (2 • b)) (13 • (1 • b)) (9 • (1 • b))
-    (14 • (1 • c)) (11 • (3 • c)) (13 • (2 • c)) (9 • (1 • c)) (14 • (1 • d)) (11 • (1 • d)) (13 • (3 • d)) (9 • (2 • d))
-    ∙ rw (own_row a p, next_row b q, second_row c r, third_row d s) (xor_zero_r (a ⊕ 0 ⊕ 0) ∙ xor_zero_r (a ⊕ 0) ∙ xor_zero_r a))
+    rw (
+      products_of 14 a b c d p q r s,
+      products_of 11 b c d a q r s p,
+      products_of 13 c d a b r s p q,
+      products_of 9 d a b c s p q r,
+    )
+    (gathered (14 • (2 • a)) (11 • (1 • a)) (13 • (1 • a)) (9 • (3 • a)) (14 • (3 • b)) (11 • (2 • b)) (13 • (1 • b))
+    (9 • (1 • b))
+    (14 • (1 • c)) (11 • (3 • c)) (13 • (2 • c)) (9 • (1 • c)) (14 • (1 • d)) (11 • (1 • d)) (13 • (3 • d))
+    (9 • (2 • d))
+    ∙ rw (own_row a p, next_row b q, second_row c r, third_row d s)
+    (xor_zero_r (a ⊕ 0 ⊕ 0) ∙ xor_zero_r (a ⊕ 0) ∙ xor_zero_r a))

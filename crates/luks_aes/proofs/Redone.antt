@@ -14,27 +14,32 @@ use Rattle.luks_aes.proofs.Undone.{whole_state, same_states, add_round_key_undon
 
 pub inv_sub_bytes_state : (s : List ℕ) → IsState s → IsState (inv_sub_bytes s)
 unfolding inv_sub_bytes
-inv_sub_bytes_state s is = made_state (λ r c. inv_sbox (cell s r c)) (λ r c. inv_sbox_byte (cell s r c) (is.bytes.each (r + 4 * c)))
+inv_sub_bytes_state s is =
+    made_state (λ r c. inv_sbox (cell s r c)) (λ r c. inv_sbox_byte (cell s r c) (is.bytes.each (r + 4 * c)))
 
 pub inv_shift_rows_state : (s : List ℕ) → IsState s → IsState (inv_shift_rows s)
 unfolding inv_shift_rows
-inv_shift_rows_state s is = made_state (λ r c. cell s r ((c + 4 - r) % 4)) (λ r c. is.bytes.each (r + 4 * ((c + 4 - r) % 4)))
+inv_shift_rows_state s is =
+    made_state (λ r c. cell s r ((c + 4 - r) % 4)) (λ r c. is.bytes.each (r + 4 * ((c + 4 - r) % 4)))
 
 pub inv_after_state : (block w : List ℕ) (nr n : ℕ) → IsState block → IsBytes w → IsState (inv_state_after block nr w n)
 unfolding inv_state_after
 inv_after_state block w nr zero is keys = add_round_key_state block w nr is keys
 inv_after_state block w nr (suc n) is keys =
     columns_state _ _
-    (add_round_key_state _ w (nr - suc n) (inv_sub_bytes_state _ (inv_shift_rows_state _ (inv_after_state block w nr n is keys))) keys)
+    (add_round_key_state _ w (nr - suc n)
+    (inv_sub_bytes_state _ (inv_shift_rows_state _ (inv_after_state block w nr n is keys))) keys)
 
 pub inv_cipher_state : (block w : List ℕ) (nr : ℕ) → IsState block → IsBytes w → IsState (inv_cipher block nr w)
 unfolding inv_cipher
 inv_cipher_state block w nr is keys =
-    add_round_key_state _ w 0 (inv_sub_bytes_state _ (inv_shift_rows_state _ (inv_after_state block w nr (nr - 1) is keys))) keys
+    add_round_key_state _ w 0
+    (inv_sub_bytes_state _ (inv_shift_rows_state _ (inv_after_state block w nr (nr - 1) is keys))) keys
 
 pub decrypted_state : (key block : List ℕ) → IsBytes key → IsState block → IsState (decrypted key block)
 unfolding decrypted
-decrypted_state key block keys is = inv_cipher_state block (key_expansion key) (rounds_of key) is (expansion_bytes key keys)
+decrypted_state key block keys is =
+    inv_cipher_state block (key_expansion key) (rounds_of key) is (expansion_bytes key keys)
 
 -- ---- the steps
 
@@ -46,7 +51,8 @@ inv_sbox_undone b low =
 inv_sub_bytes_undone : (s : List ℕ) → IsState s → sub_bytes (inv_sub_bytes s) ≡ s
 unfolding sub_bytes inv_sub_bytes
 inv_sub_bytes_undone s is =
-    same_states (λ r c. sbox (inv_sbox (cell s r c))) (cell s) (λ r c. inv_sbox_undone (cell s r c) (is.bytes.each (r + 4 * c)))
+    same_states (λ r c. sbox (inv_sbox (cell s r c))) (cell s)
+    (λ r c. inv_sbox_undone (cell s r c) (is.bytes.each (r + 4 * c)))
     ∙ sym (whole_state s is.len)
 
 inv_shift_rows_undone : (s : List ℕ) → length s ≡ 16 → shift_rows (inv_shift_rows s) ≡ s
@@ -73,15 +79,24 @@ third_row = same_below (λ x. 2 • (9 • x) ⊕ 3 • (13 • x) ⊕ 1 • (11
 products_of : (k a b c d : ℕ) → a < 256 → b < 256 → c < 256 → d < 256
     → k • unmixed a b c d ≡ k • (14 • a) ⊕ k • (11 • b) ⊕ k • (13 • c) ⊕ k • (9 • d)
 products_of k a b c d p q r s =
-    product_sum4 k (14 • a) (11 • b) (13 • c) (9 • d) (product_byte 14 a p) (product_byte 11 b q) (product_byte 13 c r) (product_byte 9 d s)
+    product_sum4 k (14 • a) (11 • b) (13 • c) (9 • d) (product_byte 14 a p) (product_byte 11 b q) (product_byte 13 c r)
+    (product_byte 9 d s)
 
 mixed_is : (a b c d : ℕ) → a < 256 → b < 256 → c < 256 → d < 256
     → mixed (unmixed a b c d) (unmixed b c d a) (unmixed c d a b) (unmixed d a b c) ≡ a
 mixed_is a b c d p q r s =
-    rw (products_of 2 a b c d p q r s, products_of 3 b c d a q r s p, products_of 1 c d a b r s p q, products_of 1 d a b c s p q r)
-    (gathered (2 • (14 • a)) (3 • (9 • a)) (1 • (13 • a)) (1 • (11 • a)) (2 • (11 • b)) (3 • (14 • b)) (1 • (9 • b)) (1 • (13 • b))
-    (2 • (13 • c)) (3 • (11 • c)) (1 • (14 • c)) (1 • (9 • c)) (2 • (9 • d)) (3 • (13 • d)) (1 • (11 • d)) (1 • (14 • d))
-    ∙ rw (own_row a p, next_row b q, second_row c r, third_row d s) (xor_zero_r (a ⊕ 0 ⊕ 0) ∙ xor_zero_r (a ⊕ 0) ∙ xor_zero_r a))
+    rw (
+      products_of 2 a b c d p q r s,
+      products_of 3 b c d a q r s p,
+      products_of 1 c d a b r s p q,
+      products_of 1 d a b c s p q r,
+    )
+    (gathered (2 • (14 • a)) (3 • (9 • a)) (1 • (13 • a)) (1 • (11 • a)) (2 • (11 • b)) (3 • (14 • b)) (1 • (9 • b))
+    (1 • (13 • b))
+    (2 • (13 • c)) (3 • (11 • c)) (1 • (14 • c)) (1 • (9 • c)) (2 • (9 • d)) (3 • (13 • d)) (1 • (11 • d))
+    (1 • (14 • d))
+    ∙ rw (own_row a p, next_row b q, second_row c r, third_row d s)
+    (xor_zero_r (a ⊕ 0 ⊕ 0) ∙ xor_zero_r (a ⊕ 0) ∙ xor_zero_r a))
 
 inv_mix_columns_undone : (s : List ℕ) → IsState s → mix_columns (inv_mix_columns s) ≡ s
 unfolding multiplied_columns
@@ -105,8 +120,10 @@ half_round_undone s is =
     ap shift_rows (inv_sub_bytes_undone (inv_shift_rows s) (inv_shift_rows_state s is)) ∙ inv_shift_rows_undone s is.len
 
 -- an inverse round without its substitution and its shift comes back
-round_undone : (block w : List ℕ) (nr m : ℕ) → IsState (inv_sub_bytes (inv_shift_rows (inv_state_after block nr w m))) → IsBytes w
-    → add_round_key (mix_columns (inv_state_after block nr w (suc m))) w (nr - suc m) ≡ inv_sub_bytes (inv_shift_rows (inv_state_after block nr w m))
+round_undone : (block w : List ℕ) (nr m : ℕ) → IsState (inv_sub_bytes (inv_shift_rows (inv_state_after block nr w m)))
+    → IsBytes w
+    → add_round_key (mix_columns (inv_state_after block nr w (suc m))) w (nr - suc m)
+    ≡ inv_sub_bytes (inv_shift_rows (inv_state_after block nr w m))
 unfolding inv_state_after
 round_undone block w nr m is keys =
     let shifted = inv_sub_bytes (inv_shift_rows (inv_state_after block nr w m)) in
@@ -114,7 +131,8 @@ round_undone block w nr m is keys =
     ap (λ s. add_round_key s w (nr - suc m)) (inv_mix_columns_undone (add_round_key shifted w (nr - suc m)) added)
     ∙ add_round_key_undone shifted w (nr - suc m) is.len
 
-start_undone : (block w : List ℕ) (nr : ℕ) → length block ≡ 16 → add_round_key (inv_state_after block nr w 0) w nr ≡ block
+start_undone : (block w : List ℕ) (nr : ℕ) → length block ≡ 16
+    → add_round_key (inv_state_after block nr w 0) w nr ≡ block
 unfolding inv_state_after
 start_undone block w nr len = add_round_key_undone block w nr len
 
@@ -133,19 +151,30 @@ rounds_undone block w nr (suc n) is keys low =
     let before = inv_after_state block w nr m is keys in
     let reached = inv_after_state block w nr (suc m) is keys in
     let shifted = inv_sub_bytes_state _ (inv_shift_rows_state _ before) in
-    rw (rounds_undone block w nr n is keys (omega arith), here, half_round_undone (inv_state_after block nr w (suc m)) reached)
-    (ap (add_round_key (mix_columns (inv_state_after block nr w (suc m))) w) key ∙ round_undone block w nr m shifted keys)
+    rw (
+      rounds_undone block w nr n is keys (omega arith),
+      here,
+      half_round_undone (inv_state_after block nr w (suc m)) reached,
+    )
+    (ap (add_round_key (mix_columns (inv_state_after block nr w (suc m))) w) key
+    ∙ round_undone block w nr m shifted keys)
 
-inv_cipher_undone : (block w : List ℕ) (nr : ℕ) → IsState block → IsBytes w → 0 < nr → cipher (inv_cipher block nr w) nr w ≡ block
+inv_cipher_undone : (block w : List ℕ) (nr : ℕ) → IsState block → IsBytes w → 0 < nr
+    → cipher (inv_cipher block nr w) nr w ≡ block
 unfolding cipher
 inv_cipher_undone block w nr is keys some =
     let first : nr - 1 - (nr - 1) ≡ 0 = omega arith in
     let start = inv_after_state block w nr 0 is keys in
-    rw (rounds_undone block w nr (nr - 1) is keys (omega arith), first, half_round_undone (inv_state_after block nr w 0) start)
+    rw (
+      rounds_undone block w nr (nr - 1) is keys (omega arith),
+      first,
+      half_round_undone (inv_state_after block nr w 0) start,
+    )
     (start_undone block w nr is.len)
 
 -- encryption undoes decryption
-pub encrypted-decrypted : (key block : List ℕ) → IsBytes key → IsState block → encrypted key (decrypted key block) ≡ block
+pub encrypted-decrypted : (key block : List ℕ) → IsBytes key → IsState block
+    → encrypted key (decrypted key block) ≡ block
 unfolding decrypted encrypted
 encrypted-decrypted key block keys is =
     inv_cipher_undone block (key_expansion key) (rounds_of key) is (expansion_bytes key keys) (omega arith)

@@ -101,7 +101,8 @@ words_of_schedule words schedule unmixed len is =
     rw (length-take-le (4 * words) schedule (omega arith)) (omega arith)
 
 -- the cipher over the schedule is that of the key
-pub encrypted_is : (words : ℕ) (schedule unmixed key block : List ℕ) → length schedule ≡ 240 → IsSchedule words schedule unmixed
+pub encrypted_is : (words : ℕ) (schedule unmixed key block : List ℕ) → length schedule ≡ 240
+    → IsSchedule words schedule unmixed
     → take (4 * words) schedule ≡ key
     → cipher block (words + 6) (take (16 * (words + 6 + 1)) schedule) ≡ encrypted key block
 unfolding encrypted
@@ -110,7 +111,8 @@ encrypted_is words schedule unmixed key block len is view =
     let same : words + 6 + 1 ≡ words + 7 = omega arith in
     rw (← view, nk, same, is.expanded) refl
 
-pub decrypted_is : (words : ℕ) (schedule unmixed key block : List ℕ) → length schedule ≡ 240 → IsSchedule words schedule unmixed
+pub decrypted_is : (words : ℕ) (schedule unmixed key block : List ℕ) → length schedule ≡ 240
+    → IsSchedule words schedule unmixed
     → take (4 * words) schedule ≡ key
     → inv_cipher block (words + 6) (take (16 * (words + 6 + 1)) schedule) ≡ decrypted key block
 unfolding decrypted

@@ -36,5 +36,6 @@ pub cell_at : (s : List ℕ) (i : ℕ) → slice_index s i ≡ cell s (i % 4) (i
 cell_at s i = ap (slice_index s) (omega arith)
 
 -- and it meets byte i of round key `round`
-pub round_key_at : (w : List ℕ) (round i : ℕ) → slice_index w (16 * round + i) ≡ slice_index w (i % 4 + 4 * (4 * round + i / 4))
+pub round_key_at : (w : List ℕ) (round i : ℕ)
+    → slice_index w (16 * round + i) ≡ slice_index w (i % 4 + 4 * (4 * round + i / 4))
 round_key_at w round i = ap (slice_index w) (omega arith)

@@ -31,7 +31,8 @@ sbox_undone b low =
 sub_bytes_undone : (s : List ℕ) → IsState s → inv_sub_bytes (sub_bytes s) ≡ s
 unfolding sub_bytes inv_sub_bytes
 sub_bytes_undone s is =
-    same_states (λ r c. inv_sbox (sbox (cell s r c))) (cell s) (λ r c. sbox_undone (cell s r c) (is.bytes.each (r + 4 * c)))
+    same_states (λ r c. inv_sbox (sbox (cell s r c))) (cell s)
+    (λ r c. sbox_undone (cell s r c) (is.bytes.each (r + 4 * c)))
     ∙ sym (whole_state s is.len)
 
 shift_rows_undone : (s : List ℕ) → length s ≡ 16 → inv_shift_rows (shift_rows s) ≡ s
@@ -53,10 +54,12 @@ mix_columns_undone s is =
     unmixed_is _ _ _ _ (byte r) (byte ((r + 1) % 4)) (byte ((r + 2) % 4)) (byte ((r + 3) % 4)))
     ∙ sym (whole_state s is.len)
 
-pub add_round_key_undone : (s w : List ℕ) (round : ℕ) → length s ≡ 16 → add_round_key (add_round_key s w round) w round ≡ s
+pub add_round_key_undone : (s w : List ℕ) (round : ℕ) → length s ≡ 16
+    → add_round_key (add_round_key s w round) w round ≡ s
 unfolding add_round_key
 add_round_key_undone s w round len =
-    same_states (λ r c. (cell s r c ⊕ slice_index w (r + 4 * (4 * round + c))) ⊕ slice_index w (r + 4 * (4 * round + c))) (cell s)
+    same_states (λ r c.
+    (cell s r c ⊕ slice_index w (r + 4 * (4 * round + c))) ⊕ slice_index w (r + 4 * (4 * round + c))) (cell s)
     (λ r c. xor_twice (cell s r c) _)
     ∙ sym (whole_state s len)
 
@@ -69,7 +72,8 @@ half_round_undone s is =
 
 -- a round without its substitution and its shift comes back
 round_undone : (block w : List ℕ) (m : ℕ) → IsState (shift_rows (sub_bytes (state_after block w m)))
-    → inv_mix_columns (add_round_key (state_after block w (suc m)) w (suc m)) ≡ shift_rows (sub_bytes (state_after block w m))
+    → inv_mix_columns (add_round_key (state_after block w (suc m)) w (suc m))
+    ≡ shift_rows (sub_bytes (state_after block w m))
 unfolding state_after
 round_undone block w m is =
     let shifted = shift_rows (sub_bytes (state_after block w m)) in
@@ -97,11 +101,17 @@ rounds_undone block w nr (suc n) is keys low =
     let before = after_state block w m is keys in
     let reached = after_state block w (suc m) is keys in
     let shifted = shift_rows_state _ (sub_bytes_state _ before) in
-    rw (rounds_undone block w nr n is keys (omega arith), here, key, half_round_undone (state_after block w (suc m)) reached)
+    rw (
+      rounds_undone block w nr n is keys (omega arith),
+      here,
+      key,
+      half_round_undone (state_after block w (suc m)) reached,
+    )
     (round_undone block w m shifted)
 
 -- the cipher's result leads back to its block
-pub cipher_undone : (block w : List ℕ) (nr : ℕ) → IsState block → IsBytes w → 0 < nr → inv_cipher (cipher block nr w) nr w ≡ block
+pub cipher_undone : (block w : List ℕ) (nr : ℕ) → IsState block → IsBytes w → 0 < nr
+    → inv_cipher (cipher block nr w) nr w ≡ block
 unfolding inv_cipher
 cipher_undone block w nr is keys some =
     let first : nr - 1 - (nr - 1) ≡ 0 = omega arith in
@@ -110,7 +120,8 @@ cipher_undone block w nr is keys some =
     (start_undone block w is.len)
 
 -- decryption undoes encryption
-pub decrypted-encrypted : (key block : List ℕ) → IsBytes key → IsState block → decrypted key (encrypted key block) ≡ block
+pub decrypted-encrypted : (key block : List ℕ) → IsBytes key → IsState block
+    → decrypted key (encrypted key block) ≡ block
 unfolding decrypted encrypted
 decrypted-encrypted key block keys is =
     cipher_undone block (key_expansion key) (rounds_of key) is (expansion_bytes key keys) (omega arith)

@@ -16,7 +16,8 @@ use Rattle.luks_aes.proofs.MixingLemmas.{product_sum, unmixed}
 
 -- ---- a word written behind the words before it
 
-word_put : (xs ys : List ℕ) (at k j : ℕ) → at ≤ length xs → length ys ≡ 4 → j < 4 → slice_index (put_mid at k xs ys) (at + j) ≡ slice_index ys j
+word_put : (xs ys : List ℕ) (at k j : ℕ) → at ≤ length xs → length ys ≡ 4 → j < 4
+    → slice_index (put_mid at k xs ys) (at + j) ≡ slice_index ys j
 word_put xs ys at k j inside four low =
     let place : at + j - at ≡ j = omega arith in
     sym (get_or-take (at + 4) (put_mid at k xs ys) (at + j) 0 (omega arith))
@@ -24,7 +25,8 @@ word_put xs ys at k j inside four low =
     ∙ get_or-append_right (take at xs) ys at (at + j) 0 (length-take-le at xs inside) (omega arith)
     ∙ ap (slice_index ys) place
 
-word_kept : (xs ys : List ℕ) (at k j : ℕ) → at ≤ length xs → j < at → slice_index (put_mid at k xs ys) j ≡ slice_index xs j
+word_kept : (xs ys : List ℕ) (at k j : ℕ) → at ≤ length xs → j < at
+    → slice_index (put_mid at k xs ys) j ≡ slice_index xs j
 word_kept xs ys at k j inside low =
     sym (get_or-take at (put_mid at k xs ys) j 0 low)
     ∙ ap (λ l. slice_index l j) (take-put_mid_below at k xs ys at (omega arith) inside)
@@ -37,15 +39,20 @@ products_more a words old word i k before room is = record {
       let four : length word ≡ 4 = ap length is in
       elim (cases_lt j i) [
         | inl below ↦
-            let kept : (n : ℕ) → n < 4 → slice_index (put_mid (4 * i) k old word) (4 * j + n) ≡ slice_index old (4 * j + n) =
+            let kept : (n : ℕ) → n < 4
+            → slice_index (put_mid (4 * i) k old word) (4 * j + n) ≡ slice_index old (4 * j + n) =
             λ n small. word_kept old word (4 * i) k (4 * j + n) (omega arith) (omega arith) in
-            (λ t. kept 0 (omega arith) t ∷ kept 1 (omega arith) t ∷ kept 2 (omega arith) t ∷ kept 3 (omega arith) t ∷ [])
+            (λ t. kept 0 (omega arith) t ∷ kept 1 (omega arith) t ∷ kept 2 (omega arith) t ∷ kept 3 (omega arith) t
+            ∷ [])
             ∙ before.at j below
         | inr above ↦
             let here : j ≡ i = omega arith in
-            let put : (n : ℕ) → n < 4 → slice_index (put_mid (4 * i) k old word) (4 * i + n) ≡ slice_index (column_product a (word_at words i)) n =
+            let put : (n : ℕ) → n < 4
+            → slice_index (put_mid (4 * i) k old word) (4 * i + n)
+            ≡ slice_index (column_product a (word_at words i)) n =
             λ n small. word_put old word (4 * i) k n (omega arith) four small ∙ ap (λ l. slice_index l n) is in
-            rw here (λ t. put 0 (omega arith) t ∷ put 1 (omega arith) t ∷ put 2 (omega arith) t ∷ put 3 (omega arith) t ∷ [])
+            rw here (λ t. put 0 (omega arith) t ∷ put 1 (omega arith) t ∷ put 2 (omega arith) t ∷ put 3 (omega arith) t
+            ∷ [])
       ];
 }
 
@@ -63,18 +70,23 @@ row_sum a b c d k l m n p q r s t u v w =
 -- row r of word i
 product_at : (w u : List ℕ) (n i r : ℕ) → IsMultiplied (14 ∷ 11 ∷ 13 ∷ 9 ∷ []) w u n → i < n → r < 4
     → slice_index u (r + 4 * i)
-    ≡ unmixed (slice_index w (r + 4 * i)) (slice_index w ((r + 1) % 4 + 4 * i)) (slice_index w ((r + 2) % 4 + 4 * i)) (slice_index w ((r + 3) % 4 + 4 * i))
+    ≡ unmixed (slice_index w (r + 4 * i)) (slice_index w ((r + 1) % 4 + 4 * i)) (slice_index w ((r + 2) % 4 + 4 * i))
+    (slice_index w ((r + 3) % 4 + 4 * i))
 product_at w u n i zero is low row =
-    let e : (xs : List ℕ) (k : ℕ) → slice_index xs (4 * i + k) ≡ slice_index xs (k + 4 * i) = λ xs k. ap (slice_index xs) (omega arith) in
+    let e : (xs : List ℕ) (k : ℕ)
+    → slice_index xs (4 * i + k) ≡ slice_index xs (k + 4 * i) = λ xs k. ap (slice_index xs) (omega arith) in
     sym (e u 0) ∙ ap (λ l. slice_index l 0) (is.at i low) ∙ (λ t. unmixed (e w 0 t) (e w 1 t) (e w 2 t) (e w 3 t))
 product_at w u n i (suc zero) is low row =
-    let e : (xs : List ℕ) (k : ℕ) → slice_index xs (4 * i + k) ≡ slice_index xs (k + 4 * i) = λ xs k. ap (slice_index xs) (omega arith) in
+    let e : (xs : List ℕ) (k : ℕ)
+    → slice_index xs (4 * i + k) ≡ slice_index xs (k + 4 * i) = λ xs k. ap (slice_index xs) (omega arith) in
     sym (e u 1) ∙ ap (λ l. slice_index l 1) (is.at i low) ∙ (λ t. unmixed (e w 1 t) (e w 2 t) (e w 3 t) (e w 0 t))
 product_at w u n i (suc (suc zero)) is low row =
-    let e : (xs : List ℕ) (k : ℕ) → slice_index xs (4 * i + k) ≡ slice_index xs (k + 4 * i) = λ xs k. ap (slice_index xs) (omega arith) in
+    let e : (xs : List ℕ) (k : ℕ)
+    → slice_index xs (4 * i + k) ≡ slice_index xs (k + 4 * i) = λ xs k. ap (slice_index xs) (omega arith) in
     sym (e u 2) ∙ ap (λ l. slice_index l 2) (is.at i low) ∙ (λ t. unmixed (e w 2 t) (e w 3 t) (e w 0 t) (e w 1 t))
 product_at w u n i (suc (suc (suc zero))) is low row =
-    let e : (xs : List ℕ) (k : ℕ) → slice_index xs (4 * i + k) ≡ slice_index xs (k + 4 * i) = λ xs k. ap (slice_index xs) (omega arith) in
+    let e : (xs : List ℕ) (k : ℕ)
+    → slice_index xs (4 * i + k) ≡ slice_index xs (k + 4 * i) = λ xs k. ap (slice_index xs) (omega arith) in
     sym (e u 3) ∙ ap (λ l. slice_index l 3) (is.at i low) ∙ (λ t. unmixed (e w 3 t) (e w 0 t) (e w 1 t) (e w 2 t))
 product_at w u n i (suc (suc (suc (suc r)))) is low row = absurd (omega arith)
 
@@ -85,8 +97,10 @@ same_cells f g same =
     let b : 1 < 4 = omega arith in
     let c : 2 < 4 = omega arith in
     let d : 3 < 4 = omega arith in
-    λ i. same 0 0 a a i ∷ same 1 0 b a i ∷ same 2 0 c a i ∷ same 3 0 d a i ∷ same 0 1 a b i ∷ same 1 1 b b i ∷ same 2 1 c b i ∷ same 3 1 d b i
-    ∷ same 0 2 a c i ∷ same 1 2 b c i ∷ same 2 2 c c i ∷ same 3 2 d c i ∷ same 0 3 a d i ∷ same 1 3 b d i ∷ same 2 3 c d i ∷ same 3 3 d d i ∷ []
+    λ i. same 0 0 a a i ∷ same 1 0 b a i ∷ same 2 0 c a i ∷ same 3 0 d a i ∷ same 0 1 a b i ∷ same 1 1 b b i
+    ∷ same 2 1 c b i ∷ same 3 1 d b i
+    ∷ same 0 2 a c i ∷ same 1 2 b c i ∷ same 2 2 c c i ∷ same 3 2 d c i ∷ same 0 3 a d i ∷ same 1 3 b d i
+    ∷ same 2 3 c d i ∷ same 3 3 d d i ∷ []
 
 pub round_key_unmixed : (s w u : List ℕ) (n round : ℕ) → IsState s → IsBytes w
     → IsMultiplied (14 ∷ 11 ∷ 13 ∷ 9 ∷ []) w u n → 4 * round + 4 ≤ n
@@ -97,11 +111,14 @@ round_key_unmixed s w u n round is bytes products inside =
     same_cells
     (λ r c. unmixed (cell s r c ⊕ key r c) (cell s ((r + 1) % 4) c ⊕ key ((r + 1) % 4) c)
     (cell s ((r + 2) % 4) c ⊕ key ((r + 2) % 4) c) (cell s ((r + 3) % 4) c ⊕ key ((r + 3) % 4) c))
-    (λ r c. unmixed (cell s r c) (cell s ((r + 1) % 4) c) (cell s ((r + 2) % 4) c) (cell s ((r + 3) % 4) c) ⊕ slice_index u (r + 4 * (4 * round + c)))
+    (λ r c. unmixed (cell s r c) (cell s ((r + 1) % 4) c) (cell s ((r + 2) % 4) c) (cell s ((r + 3) % 4) c) ⊕
+    slice_index u (r + 4 * (4 * round + c)))
     (λ r c row column.
     let byte : (q : ℕ) → cell s q c < 256 = λ q. is.bytes.each (q + 4 * c) in
     let key_byte : (q : ℕ) → key q c < 256 = λ q. bytes.each (q + 4 * (4 * round + c)) in
-    row_sum (cell s r c) (cell s ((r + 1) % 4) c) (cell s ((r + 2) % 4) c) (cell s ((r + 3) % 4) c) (key r c) (key ((r + 1) % 4) c) (key ((r + 2) % 4) c) (key ((r + 3) % 4) c)
-    (byte r) (byte ((r + 1) % 4)) (byte ((r + 2) % 4)) (byte ((r + 3) % 4)) (key_byte r) (key_byte ((r + 1) % 4)) (key_byte ((r + 2) % 4)) (key_byte ((r + 3) % 4))
+    row_sum (cell s r c) (cell s ((r + 1) % 4) c) (cell s ((r + 2) % 4) c) (cell s ((r + 3) % 4) c) (key r c)
+    (key ((r + 1) % 4) c) (key ((r + 2) % 4) c) (key ((r + 3) % 4) c)
+    (byte r) (byte ((r + 1) % 4)) (byte ((r + 2) % 4)) (byte ((r + 3) % 4)) (key_byte r) (key_byte ((r + 1) % 4))
+    (key_byte ((r + 2) % 4)) (key_byte ((r + 3) % 4))
     ∙ ap (bit_xor (unmixed (cell s r c) (cell s ((r + 1) % 4) c) (cell s ((r + 2) % 4) c) (cell s ((r + 3) % 4) c)))
     (sym (product_at w u n (4 * round + c) r products (omega arith) row)))

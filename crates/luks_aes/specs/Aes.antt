@@ -6,8 +6,8 @@ use Rattle.luks_aes.specs.Field.{◌⊕◌, ◌•◌, power_of_x, the_element, 
 
 -- ---- the S-box (5.1.1, 5.3.2)
 
--- the inverse in the field, then the affine map: each bit i becomes the sum of the bits i, i + 4, i + 5, i + 6 and i + 7
--- (modulo 8) and of bit i of 0x63
+-- the inverse in the field, then the affine map: each bit i becomes the sum of the bits i, i + 4, i + 5, i + 6 and i +
+-- 7 (modulo 8) and of bit i of 0x63
 unfoldable pub sbox : ℕ → ℕ
 sbox b =
     let a = inverse b in

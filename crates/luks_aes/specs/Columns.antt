@@ -1,4 +1,5 @@
--- Columns of a state as words of 32 bits, and what a table of such words holds. The lowest byte of a word stands in row 0.
+-- Columns of a state as words of 32 bits, and what a table of such words holds. The lowest byte of a word stands in row
+-- 0.
 use Rattle.std.specs.Prelude.{◌≡◌, ℕ, ◌+◌, ◌-◌, ◌%◌, ◌<◌, List, ◌++◌, slice_index}
 use Rattle.std.specs.Int.{w32, to_le_bytes}
 use Rattle.luks_aes.specs.Field.{◌•◌}

@@ -1,6 +1,6 @@
--- The field of 256 elements in which AES computes (FIPS 197, update of 2023, section 4). A byte stands for the polynomial
--- whose coefficients are its bits, the lowest for the constant. Polynomials are taken modulo
--- m(x) = x^8 + x^4 + x^3 + x + 1, which is 0x11b.
+-- The field of 256 elements in which AES computes (FIPS 197, update of 2023, section 4). A byte stands for the
+-- polynomial whose coefficients are its bits, the lowest for the constant. Polynomials are taken modulo m(x) = x^8 +
+-- x^4 + x^3 + x + 1, which is 0x11b.
 use Rattle.std.specs.Prelude.{ℕ, zero, suc, ◌*◌, ◌/◌, ◌%◌, Bool, nat_lt, ◌==◌, bit_xor, unwrap_or, if◌then◌else◌, List}
 use Rattle.std.specs.List.{find, range_with_len}
 

@@ -23,8 +23,8 @@ pub fn cipher(block: [u8; 16], rounds: usize, schedule: &[u8]) -> [u8; 16]
     add_round_key(shift_rows(sub_bytes(last)), schedule, rounds)
 }
 
-/// The block whose cipher under the same round keys is `block`. `unmixed` has each word of the schedule
-/// after InvMixColumns.
+/// The block whose cipher under the same round keys is `block`. `unmixed` has each word of the
+/// schedule after InvMixColumns.
 pub fn inv_cipher(block: [u8; 16], rounds: usize, schedule: &[u8], unmixed: &[u8]) -> [u8; 16]
     requires some { 0 < rounds }
     requires words { length schedule.now ≡ 16 * (rounds + 1) }

@@ -1,5 +1,5 @@
-//! SubBytes and MixColumns of a column in one step, and the inverse of both, by tables (FIPS 197, 5.1.3 and
-//! 5.3.3). A column is a word of 32 bits whose lowest byte stands in row 0.
+//! SubBytes and MixColumns of a column in one step, and the inverse of both, by tables (FIPS 197,
+//! 5.1.3 and 5.3.3). A column is a word of 32 bits whose lowest byte stands in row 0.
 
 ghost use Rattle.std.specs.Prelude.{◌≡◌, ℕ, ◌<◌, [], ◌∷◌, slice_index};
 ghost use Rattle.std.specs.Int.{w32, to_le_bytes};
@@ -76,7 +76,8 @@ static UNMIXED: [u32; 256] = [
     0x7101a839, 0xdeb30c08, 0x9ce4b4d8, 0x90c15664, 0x6184cb7b, 0x70b632d5, 0x745c6c48, 0x4257b8d0,
 ];
 
-// The S-box, then the first column of MixColumns' matrix, as a table: each entry is the definition's value.
+// The S-box, then the first column of MixColumns' matrix, as a table: each entry is the
+// definition's value.
 #[derive(Drop)]
 struct Mixing {
     entries: &'static [u32; 256],
@@ -121,7 +122,8 @@ impl Unmixing {
 /// The column of these bytes, from row 0 on, after SubBytes and MixColumns.
 #[inline(always)]
 pub fn mixed(a: u8, b: u8, c: u8, d: u8) -> u32
-    ensures { to_le_bytes w32 result ≡ column_product (2 ∷ 3 ∷ 1 ∷ 1 ∷ []) (sbox a ∷ sbox b ∷ sbox c ∷ sbox d ∷ []) }
+    ensures { to_le_bytes w32 result
+        ≡ column_product (2 ∷ 3 ∷ 1 ∷ 1 ∷ []) (sbox a ∷ sbox b ∷ sbox c ∷ sbox d ∷ []) }
 {
     let table = Mixing::new();
     table.entry(a)
@@ -133,7 +135,9 @@ pub fn mixed(a: u8, b: u8, c: u8, d: u8) -> u32
 /// The column of these bytes after InvSubBytes and InvMixColumns.
 #[inline(always)]
 pub fn unmixed(a: u8, b: u8, c: u8, d: u8) -> u32
-    ensures { to_le_bytes w32 result ≡ column_product (14 ∷ 11 ∷ 13 ∷ 9 ∷ []) (inv_sbox a ∷ inv_sbox b ∷ inv_sbox c ∷ inv_sbox d ∷ []) }
+    ensures { to_le_bytes w32 result
+        ≡ column_product (14 ∷ 11 ∷ 13 ∷ 9 ∷ [])
+        (inv_sbox a ∷ inv_sbox b ∷ inv_sbox c ∷ inv_sbox d ∷ []) }
 {
     let table = Unmixing::new();
     table.entry(a)

@@ -9,7 +9,8 @@ use crate::sbox::sbox;
 /// The length in bytes of the longest schedule, that of a key of 32 bytes.
 pub const LONGEST: usize = 240;
 
-// Under a key of more words than this, a word in the middle between two turned ones is substituted too.
+// Under a key of more words than this, a word in the middle between two turned ones is substituted
+// too.
 const PLAIN_WORDS: usize = 6;
 
 // Word `i` of the schedule.

@@ -1,5 +1,5 @@
-//! The transformations of a state in the last round (FIPS 197, 5.1 and 5.3). Byte `i` of a state stands in row `i % 4` and
-//! column `i / 4`.
+//! The transformations of a state in the last round (FIPS 197, 5.1 and 5.3). Byte `i` of a state
+//! stands in row `i % 4` and column `i / 4`.
 
 ghost use Rattle.std.specs.Prelude.{◌≡◌, ◌+◌, ◌*◌, ◌<◌, ◌≤◌, [], ◌∷◌, length};
 ghost use Rattle.luks_aes.specs.Aes.{sub_bytes, shift_rows, add_round_key, inv_shift_rows, inv_sub_bytes};

@@ -26,7 +26,8 @@ fn unmixed_word(schedule: &[u8; LONGEST], i: usize) -> [u8; 4]
 // Writes word `i`.
 fn write_unmixed(schedule: &[u8; LONGEST], unmixed: &mut [u8], i: usize)
     requires place { 4 * i + 4 ≤ LONGEST }
-    requires before { (length unmixed.old ≡ LONGEST) × IsMultiplied (14 ∷ 11 ∷ 13 ∷ 9 ∷ []) schedule.now unmixed.old i }
+    requires before { (length unmixed.old ≡ LONGEST)
+        × IsMultiplied (14 ∷ 11 ∷ 13 ∷ 9 ∷ []) schedule.now unmixed.old i }
     ensures { IsMultiplied (14 ∷ 11 ∷ 13 ∷ 9 ∷ []) schedule.now unmixed.new (i + 1) }
 {
     let at = 4 * i;

@@ -1,12 +1,10 @@
 -- An area that takes further bytes: room is made behind those that it holds, and a source fills its front.
-use Rattle.std.proofs.Common.{◌≡◌, ℕ, ◌+◌, ◌-◌, ◌≤◌, List, ◌++◌, Bool, Option, Some, Result, Ok, Err, IfErr, ◌∙◌, ap, subst, take, drop, length, min, arith, length-append, length-drop, take_all}
+use Rattle.std.proofs.Common.{◌≡◌, ℕ, ◌+◌, ◌-◌, ◌≤◌, List, ◌++◌, Option, ◌∙◌, ap, subst, take, drop, length, min, arith, length-append, length-drop, take_all}
 use Rattle.std.proofs.lemmas.List.{take-append-le, take-take, length-replicate}
 use Rattle.std.proofs.Math.ListN.{replicate}
 use Rattle.std.proofs.Math.Seq.{take-append_seam, take-append-add}
-use Rattle.luks_io.specs.Bytes.{TookInto, WhereKnown}
-use Rattle.luks_area.specs.Area.{BreaksTaking, TookBehind}
-use Rattle.luks_area.specs.declared.fault.HeaderFault.{HeaderFault}
-use Rattle.luks_area.specs.declared.fault.HeaderFault.TheVariants.{NotLuks, Cut, Json, Read, Memory}
+use Rattle.luks_io.specs.Bytes.{TookInto}
+use Rattle.luks_area.specs.Area.{TookBehind}
 
 module _ (old whole buf : List ℕ) (held n : ℕ) (is-whole : whole ≡ old ++ replicate n 0) (is-held : held ≡ length old)
     (kept : length buf ≡ length (take (length whole - held) (drop held whole))) where
@@ -14,15 +12,18 @@ module _ (old whole buf : List ℕ) (held n : ℕ) (is-whole : whole ≡ old ++ 
   pub length-room : length buf ≡ n
   length-room =
       kept ∙ ap length (take_all (length whole - held) (drop held whole) (omega (arith, length-drop held whole)))
-      ∙ (let all : length whole ≡ length old + n = ap length is-whole ∙ length-append old (replicate n 0) ∙ ap (λ k. length old + k) (length-replicate n 0) in
+      ∙ (let all : length whole ≡ length old + n = ap length is-whole ∙ length-append old (replicate n 0)
+      ∙ ap (λ k. length old + k) (length-replicate n 0) in
       omega (arith, length-drop held whole))
 
   -- the front of a list whose room was filled: the bytes that were held, and those that were given
   pub front_filled : (rest more new : List ℕ) (len count : ℕ) → len ≡ length whole → count ≤ length buf
       → new ≡ take (held + count) (take len (take held whole ++ (buf ++ rest) ++ more)) → new ≡ old ++ take count buf
   front_filled rest more new len count is-len few is =
-      let front : take held whole ≡ old = ap (take held) is-whole ∙ ap (λ k. take k (old ++ replicate n 0)) is-held ∙ take-append_seam old (replicate n 0) in
-      let all : length whole ≡ length old + n = ap length is-whole ∙ length-append old (replicate n 0) ∙ ap (λ k. length old + k) (length-replicate n 0) in
+      let front : take held whole ≡ old = ap (take held) is-whole ∙ ap (λ k. take k (old ++ replicate n 0)) is-held
+      ∙ take-append_seam old (replicate n 0) in
+      let all : length whole ≡ length old + n = ap length is-whole ∙ length-append old (replicate n 0)
+      ∙ ap (λ k. length old + k) (length-replicate n 0) in
       let room = length-room in
       is ∙ take-take (held + count) len (take held whole ++ (buf ++ rest) ++ more) (omega arith)
       ∙ take-append-le (held + count) (take held whole ++ (buf ++ rest)) more
@@ -33,12 +34,15 @@ module _ (old whole buf : List ℕ) (held n : ℕ) (is-whole : whole ≡ old ++ 
       ∙ ap (λ l. old ++ l) (take-append-le count buf rest few)
 
 -- the bytes that a source gave went behind those that were held
-pub took_behind : (old new known buf : List ℕ) (left : Option (List ℕ)) (count : ℕ) → new ≡ old ++ take count buf → TookInto known left buf count
+pub took_behind : (old new known buf : List ℕ) (left : Option (List ℕ)) (count : ℕ) → new ≡ old ++ take count buf
+    → TookInto known left buf count
     → TookBehind old new known left count
 took_behind old new known buf left count is taken = (taken.0, is ∙ ap (λ l. old ++ l) taken.1)
 
 -- all that were asked for, or all that there were
-pub took_all_behind : (old new known buf : List ℕ) (left : Option (List ℕ)) (count asked most : ℕ) → new ≡ old ++ take count buf → TookInto known left buf count
+pub took_all_behind : (old new known buf : List ℕ) (left : Option (List ℕ)) (count asked most : ℕ)
+    → new ≡ old ++ take count buf → TookInto known left buf count
     → count ≡ min asked (length known) → asked ≡ most → TookBehind old new known left (min most (length known))
 took_all_behind old new known buf left count asked most is taken all is-most =
-    subst (TookBehind old new known left) (all ∙ ap (λ k. min k (length known)) is-most) (took_behind old new known buf left count is taken)
+    subst (TookBehind old new known left) (all ∙ ap (λ k. min k (length known)) is-most)
+    (took_behind old new known buf left count is taken)

@@ -12,5 +12,6 @@ unfolding be32
 big_number-be32 bytes = omega arith
 
 -- the text ends before the first zero byte, or with its field
-pub take-first_zero : (field : List ℕ) → take (unwrap_or (position (λ b. b == 0) field) (length field)) field ≡ text_of field
+pub take-first_zero : (field : List ℕ)
+    → take (unwrap_or (position (λ b. b == 0) field) (length field)) field ≡ text_of field
 take-first_zero field = grind (arith, prefix_len-le-length {X = ℕ})

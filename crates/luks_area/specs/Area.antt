@@ -1,6 +1,6 @@
 -- The front of an image: how an area that holds it takes further bytes.
-use Rattle.std.specs.Prelude.{◌≡◌, ℕ, ◌<◌, ◌≤◌, ◌++◌, not, Bool, true, false, List, Option, Some, Result, Ok, Err, drop, length, take}
-use Rattle.luks_io.specs.Bytes.{Took, counted}
+use Rattle.std.specs.Prelude.{◌≡◌, ℕ, ◌<◌, ◌++◌, not, Bool, true, false, List, Option, Result, Ok, Err, take}
+use Rattle.luks_io.specs.Bytes.{Took}
 use Rattle.luks_area.specs.declared.fault.HeaderFault.{HeaderFault}
 use Rattle.luks_area.specs.declared.fault.HeaderFault.TheVariants.{Read, Memory}
 
@@ -12,7 +12,8 @@ longest_area = 33554432
 abbrev pub TookBehind : List ℕ → List ℕ → List ℕ → Option (List ℕ) → ℕ → Type 0
 TookBehind held held' known left count = Took known left count × (held' ≡ held ++ take count known)
 
--- taking up to `most` bytes was broken off: by a failed read before the last of them, or at the start for want of memory
+-- taking up to `most` bytes was broken off: by a failed read before the last of them, or at the start for want of
+-- memory
 abbrev pub BreaksTaking : ℕ → List ℕ → List ℕ → List ℕ → Option (List ℕ) → HeaderFault → Type 0
 BreaksTaking most held held' known left Read = (count : ℕ) × (count < most) × TookBehind held held' known left count
 BreaksTaking most held held' known left Memory = TookBehind held held' known left 0

@@ -1,5 +1,5 @@
--- How the fields of a header are written: bytes at fixed places, numbers with the highest byte first, and texts that end
--- before a zero byte.
+-- How the fields of a header are written: bytes at fixed places, numbers with the highest byte first, and texts that
+-- end before a zero byte.
 use Rattle.std.specs.Prelude.{ℕ, ◌==◌, List, drop, take}
 use Rattle.std.specs.Int.{from_be_bytes, w32}
 use Rattle.std.specs.List.{before_first}

@@ -10,7 +10,8 @@ use Rattle.luks_cipher.specs.Xts.{block_sum, block_at, joined}
 use Rattle.luks_cipher.specs.Cbc.{block_before, chained, cbc_encrypted, cbc_decrypted}
 use Rattle.luks_cipher.proofs.UnitsUndone.{sum_state, sum_twice, joined_same, joined_length, joined_at, joined_count, joined_blocks, block_state}
 
-chained_state : (key vector unit : List ℕ) (n j : ℕ) → IsBytes key → IsState vector → length unit ≡ 16 * n → IsBytes unit → j ≤ n
+chained_state : (key vector unit : List ℕ) (n j : ℕ) → IsBytes key → IsState vector → length unit ≡ 16 * n
+    → IsBytes unit → j ≤ n
     → IsState (chained key vector unit j)
 unfolding chained
 chained_state key vector unit n zero keys first size all low = first
@@ -18,25 +19,31 @@ chained_state key vector unit n (suc j) keys first size all low =
     let before = chained_state key vector unit n j keys first size all (omega arith) in
     encrypted_state key _ keys (sum_state (block_at unit j) _ (block_state unit n j size (omega arith) all) before)
 
-chained_len : (key vector unit : List ℕ) (n j : ℕ) → IsBytes key → IsState vector → length unit ≡ 16 * n → IsBytes unit → j < n
+chained_len : (key vector unit : List ℕ) (n j : ℕ) → IsBytes key → IsState vector → length unit ≡ 16 * n → IsBytes unit
+    → j < n
     → length (chained key vector unit (suc j)) ≡ 16
-chained_len key vector unit n j keys first size all low = (chained_state key vector unit n (suc j) keys first size all (omega arith)).len
+chained_len key vector unit n j keys first size all low =
+    (chained_state key vector unit n (suc j) keys first size all (omega arith)).len
 
 -- before block j of the encrypted unit stands what it was chained with
-before_encrypted : (key vector unit : List ℕ) (n j : ℕ) → IsBytes key → IsState vector → length unit ≡ 16 * n → IsBytes unit → j < n
+before_encrypted : (key vector unit : List ℕ) (n j : ℕ) → IsBytes key → IsState vector → length unit ≡ 16 * n
+    → IsBytes unit → j < n
     → block_before vector (joined (λ j. chained key vector unit (suc j)) n) j ≡ chained key vector unit j
 unfolding block_before chained
 before_encrypted key vector unit n zero keys first size all low = refl
 before_encrypted key vector unit n (suc j) keys first size all low =
-    joined_at (λ j. chained key vector unit (suc j)) n j (λ k below. chained_len key vector unit n k keys first size all below) (omega arith)
+    joined_at (λ j. chained key vector unit (suc j)) n j
+    (λ k below. chained_len key vector unit n k keys first size all below) (omega arith)
 
-link_undone : (key vector unit : List ℕ) (n j : ℕ) → IsBytes key → IsState vector → length unit ≡ 16 * n → IsBytes unit → j < n
+link_undone : (key vector unit : List ℕ) (n j : ℕ) → IsBytes key → IsState vector → length unit ≡ 16 * n → IsBytes unit
+    → j < n
     → block_sum (decrypted key (chained key vector unit (suc j))) (chained key vector unit j) ≡ block_at unit j
 unfolding chained
 link_undone key vector unit n j keys first size all low =
     let before = chained_state key vector unit n j keys first size all (omega arith) in
     let block = block_state unit n j size low all in
-    rw (decrypted-encrypted key (block_sum (block_at unit j) (chained key vector unit j)) keys (sum_state _ _ block before))
+    rw (decrypted-encrypted key (block_sum (block_at unit j) (chained key vector unit j)) keys
+    (sum_state _ _ block before))
     (sum_twice (block_at unit j) (chained key vector unit j) block.len)
 
 pub cbc_decrypted-cbc_encrypted : (key vector unit : List ℕ) → IsBytes key → IsState vector → IsBytes unit
@@ -46,16 +53,21 @@ cbc_decrypted-cbc_encrypted key vector unit keys first all whole =
     let n = length unit / 16 in
     let size : length unit ≡ 16 * n = omega arith in
     let there : ℕ → List ℕ = λ j. chained key vector unit (suc j) in
-    let sizes : (j : ℕ) → j < n → length (there j) ≡ 16 = λ j low. chained_len key vector unit n j keys first size all low in
+    let sizes : (j : ℕ) → j < n
+    → length (there j) ≡ 16 = λ j low. chained_len key vector unit n j keys first size all low in
     let count : length (joined there n) / 16 ≡ n = rw (joined_length there n sizes) (omega arith) in
     rw count
-    (joined_same (λ j. block_sum (decrypted key (block_at (joined there n) j)) (block_before vector (joined there n) j)) (block_at unit) n
+    (joined_same (λ j.
+    block_sum (decrypted key (block_at (joined there n) j)) (block_before vector (joined there n) j))
+    (block_at unit) n
     (λ j low.
-    (λ i. block_sum (decrypted key (joined_at there n j sizes low i)) (before_encrypted key vector unit n j keys first size all low i))
+    (λ i. block_sum (decrypted key (joined_at there n j sizes low i))
+    (before_encrypted key vector unit n j keys first size all low i))
     ∙ link_undone key vector unit n j keys first size all low)
     ∙ joined_blocks unit n ∙ take_all (16 * n) unit (omega arith))
 
-before_state : (vector unit : List ℕ) (n j : ℕ) → IsState vector → length unit ≡ 16 * n → IsBytes unit → j ≤ n → IsState (block_before vector unit j)
+before_state : (vector unit : List ℕ) (n j : ℕ) → IsState vector → length unit ≡ 16 * n → IsBytes unit → j ≤ n
+    → IsState (block_before vector unit j)
 unfolding block_before
 before_state vector unit n zero first size all low = first
 before_state vector unit n (suc j) first size all low = block_state unit n j size (omega arith) all
@@ -65,23 +77,31 @@ unfolding block_sum
 decrypted_len a b = refl
 
 -- what block j of the decrypted unit is chained with stands before it in the encrypted one
-chained_decrypted : (key vector unit : List ℕ) (n j : ℕ) → IsBytes key → IsState vector → length unit ≡ 16 * n → IsBytes unit → j ≤ n
-    → chained key vector (joined (λ j. block_sum (decrypted key (block_at unit j)) (block_before vector unit j)) n) j ≡ block_before vector unit j
+chained_decrypted : (key vector unit : List ℕ) (n j : ℕ) → IsBytes key → IsState vector → length unit ≡ 16 * n
+    → IsBytes unit → j ≤ n
+    → chained key vector (joined (λ j. block_sum (decrypted key (block_at unit j)) (block_before vector unit j)) n) j
+    ≡ block_before vector unit j
 unfolding chained block_before
 chained_decrypted key vector unit n zero keys first size all low = refl
 chained_decrypted key vector unit n (suc j) keys first size all low =
     let back : ℕ → List ℕ = λ j. block_sum (decrypted key (block_at unit j)) (block_before vector unit j) in
-    let here = joined_at back n j (λ k below. decrypted_len (decrypted key (block_at unit k)) (block_before vector unit k)) (omega arith) in
+    let here = joined_at back n j
+    (λ k below. decrypted_len (decrypted key (block_at unit k)) (block_before vector unit k)) (omega arith) in
     let before = chained_decrypted key vector unit n j keys first size all (omega arith) in
     let block = block_state unit n j size (omega arith) all in
     (λ i. encrypted key (block_sum (here i) (before i)))
-    ∙ ap (encrypted key) (sum_twice (decrypted key (block_at unit j)) (block_before vector unit j) (decrypted_state key _ keys block).len)
+    ∙ ap (encrypted key)
+    (sum_twice (decrypted key (block_at unit j)) (block_before vector unit j)
+    (decrypted_state key _ keys block).len)
     ∙ encrypted-decrypted key (block_at unit j) keys block
 
-block_after : (key vector unit : List ℕ) (n j : ℕ) → IsBytes key → IsState vector → length unit ≡ 16 * n → IsBytes unit → j < n
-    → chained key vector (joined (λ j. block_sum (decrypted key (block_at unit j)) (block_before vector unit j)) n) (suc j) ≡ block_at unit j
+block_after : (key vector unit : List ℕ) (n j : ℕ) → IsBytes key → IsState vector → length unit ≡ 16 * n → IsBytes unit
+    → j < n
+    → chained key vector (joined (λ j. block_sum (decrypted key (block_at unit j)) (block_before vector unit j)) n)
+    (suc j) ≡ block_at unit j
 unfolding block_before
-block_after key vector unit n j keys first size all low = chained_decrypted key vector unit n (suc j) keys first size all (omega arith)
+block_after key vector unit n j keys first size all low =
+    chained_decrypted key vector unit n (suc j) keys first size all (omega arith)
 
 pub cbc_encrypted-cbc_decrypted : (key vector unit : List ℕ) → IsBytes key → IsState vector → IsBytes unit
     → length unit % 16 ≡ 0 → cbc_encrypted key vector (cbc_decrypted key vector unit) ≡ unit
@@ -90,15 +110,18 @@ cbc_encrypted-cbc_decrypted key vector unit keys first all whole =
     let n = length unit / 16 in
     let size : length unit ≡ 16 * n = omega arith in
     let back : ℕ → List ℕ = λ j. block_sum (decrypted key (block_at unit j)) (block_before vector unit j) in
-    let count = joined_count back n (λ j. decrypted_len (decrypted key (block_at unit j)) (block_before vector unit j)) in
+    let count = joined_count back n
+    (λ j. decrypted_len (decrypted key (block_at unit j)) (block_before vector unit j)) in
     rw count
     (joined_same (λ j. chained key vector (joined back n) (suc j)) (block_at unit) n
     (λ j low. block_after key vector unit n j keys first size all low)
     ∙ joined_blocks unit n ∙ take_all (16 * n) unit (omega arith))
 
 -- the same chain from an equal vector
-pub to_vector : (f : List ℕ → List ℕ → List ℕ → List ℕ) (key v w unit new : List ℕ) → v ≡ w → new ≡ f key v unit → new ≡ f key w unit
+pub to_vector : (f : List ℕ → List ℕ → List ℕ → List ℕ) (key v w unit new : List ℕ) → v ≡ w → new ≡ f key v unit
+    → new ≡ f key w unit
 to_vector f key v w unit new same is = is ∙ ap (λ x. f key x unit) same
 
-pub from_vector : (f : List ℕ → List ℕ → List ℕ → List ℕ) (key v w unit old : List ℕ) → v ≡ w → f key v unit ≡ old → f key w unit ≡ old
+pub from_vector : (f : List ℕ → List ℕ → List ℕ → List ℕ) (key v w unit old : List ℕ) → v ≡ w → f key v unit ≡ old
+    → f key w unit ≡ old
 from_vector f key v w unit old same is = sym (ap (λ x. f key x unit) same) ∙ is

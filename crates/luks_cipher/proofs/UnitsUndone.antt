@@ -32,7 +32,8 @@ unfolding block_encrypted block_decrypted
 block_undone key tweak block keys masks is =
     let k1 = bytes_take (length key / 2) key keys in
     let masked = sum_state block tweak is masks in
-    let inside = sum_twice (encrypted (data_key key) (block_sum block tweak)) tweak (encrypted_state _ _ k1 masked).len in
+    let inside = sum_twice (encrypted (data_key key) (block_sum block tweak)) tweak
+    (encrypted_state _ _ k1 masked).len in
     rw (inside, decrypted-encrypted (data_key key) (block_sum block tweak) k1 masked) (sum_twice block tweak is.len)
 
 block_redone : (key tweak block : List ℕ) → IsBytes key → IsState tweak → IsState block
@@ -41,7 +42,8 @@ unfolding block_encrypted block_decrypted
 block_redone key tweak block keys masks is =
     let k1 = bytes_take (length key / 2) key keys in
     let masked = sum_state block tweak is masks in
-    let inside = sum_twice (decrypted (data_key key) (block_sum block tweak)) tweak (decrypted_state _ _ k1 masked).len in
+    let inside = sum_twice (decrypted (data_key key) (block_sum block tweak)) tweak
+    (decrypted_state _ _ k1 masked).len in
     rw (inside, encrypted-decrypted (data_key key) (block_sum block tweak) k1 masked) (sum_twice block tweak is.len)
 
 -- ---- the tweaks
@@ -71,7 +73,8 @@ joined_length f (suc n) sizes =
     let before = joined_length f n (λ j low. sizes j (omega arith)) in
     rw (length-append (joined f n) (f n), before, sizes n (omega arith)) (omega arith)
 
-pub joined_at : (f : ℕ → List ℕ) (n j : ℕ) → ((j : ℕ) → j < n → length (f j) ≡ 16) → j < n → block_at (joined f n) j ≡ f j
+pub joined_at : (f : ℕ → List ℕ) (n j : ℕ) → ((j : ℕ) → j < n → length (f j) ≡ 16) → j < n
+    → block_at (joined f n) j ≡ f j
 unfolding joined
 joined_at f zero j sizes low = absurd (omega arith)
 joined_at f (suc n) j sizes low =
@@ -85,7 +88,8 @@ joined_at f (suc n) j sizes low =
           ∙ take-append-le 16 rest (f n) room ∙ joined_at f n j smaller inside
       | inr last ↦
           let e : j ≡ n = omega arith in
-          rw e (ap (take 16) (drop_at (joined f n) (f n) (16 * n) before) ∙ take_all 16 (f n) (omega (arith, sizes n (omega arith))))
+          rw e (ap (take 16) (drop_at (joined f n) (f n) (16 * n) before)
+          ∙ take_all 16 (f n) (omega (arith, sizes n (omega arith))))
     ]
 
 pub joined_same : (f g : ℕ → List ℕ) (n : ℕ) → ((j : ℕ) → j < n → f j ≡ g j) → joined f n ≡ joined g n
@@ -120,7 +124,8 @@ pub length-xts_encrypted : (key : List ℕ) (number : ℕ) (unit : List ℕ) →
     → length (xts_encrypted key number unit) ≡ length unit
 unfolding xts_encrypted
 length-xts_encrypted key number unit whole =
-    joined_length _ (length unit / 16) (λ j low. block_encrypted_len key (tweak_of key number j) (block_at unit j)) ∙ omega arith
+    joined_length _ (length unit / 16) (λ j low. block_encrypted_len key (tweak_of key number j) (block_at unit j))
+    ∙ omega arith
 
 -- two ways of work on blocks that undo each other block by block do so on units
 both_ways : (f g : ℕ → List ℕ → List ℕ) (unit : List ℕ) (n : ℕ) → length unit ≡ 16 * n → IsBytes unit
@@ -151,7 +156,8 @@ xts_decrypted-xts_encrypted key number unit keys all whole =
     let count = joined_count (λ j. block_encrypted key (tweak_of key number j) (block_at unit j)) n
     (λ j. block_encrypted_len key (tweak_of key number j) (block_at unit j)) in
     rw count
-    (both_ways (λ j. block_encrypted key (tweak_of key number j)) (λ j. block_decrypted key (tweak_of key number j)) unit n (omega arith) all
+    (both_ways (λ j. block_encrypted key (tweak_of key number j)) (λ j. block_decrypted key (tweak_of key number j))
+    unit n (omega arith) all
     (λ j block. block_encrypted_len key (tweak_of key number j) block)
     (λ j block is. block_undone key (tweak_of key number j) block keys (tweak_state key number j keys) is))
 
@@ -164,6 +170,7 @@ xts_encrypted-xts_decrypted key number unit keys all whole =
     let count = joined_count (λ j. block_decrypted key (tweak_of key number j) (block_at unit j)) n
     (λ j. block_decrypted_len key (tweak_of key number j) (block_at unit j)) in
     rw count
-    (both_ways (λ j. block_decrypted key (tweak_of key number j)) (λ j. block_encrypted key (tweak_of key number j)) unit n (omega arith) all
+    (both_ways (λ j. block_decrypted key (tweak_of key number j)) (λ j. block_encrypted key (tweak_of key number j))
+    unit n (omega arith) all
     (λ j block. block_decrypted_len key (tweak_of key number j) block)
     (λ j block is. block_redone key (tweak_of key number j) block keys (tweak_state key number j keys) is))

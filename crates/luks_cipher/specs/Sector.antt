@@ -1,5 +1,5 @@
--- How a disk's sectors are encrypted under AES: the modes that dm-crypt's documentation calls by these names. A sector is a
--- unit of whole blocks, and is known by a number.
+-- How a disk's sectors are encrypted under AES: the modes that dm-crypt's documentation calls by these names. A sector
+-- is a unit of whole blocks, and is known by a number.
 use Rattle.std.specs.Prelude.{ℕ, ◌%◌, ◌^◌, Bool, ◌||◌, ◌==◌, if◌then◌else◌, bytes_eq, codes, List, Option, Some, None}
 use Rattle.std.specs.Int.{w128, to_le_bytes}
 use Rattle.sha2.specs.Sha256.{sha256}

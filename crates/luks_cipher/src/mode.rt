@@ -3,7 +3,8 @@
 ghost use Rattle.std.specs.Prelude.{◌≡◌};
 ghost use Rattle.luks_cipher.specs.Sector.{name_of, mode_named};
 
-/// A mode of AES over sectors, and how a sector's number enters it (the kernel's documentation of dm-crypt).
+/// A mode of AES over sectors, and how a sector's number enters it (the kernel's documentation of
+/// dm-crypt).
 #[derive(Clone, Copy, PartialEq, Eq, Debug)]
 pub enum Mode {
     /// XTS under the sector's number.

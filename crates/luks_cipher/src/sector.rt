@@ -54,7 +54,8 @@ fn number_block(number: u64) -> [u8; 16]
 
 // A key of AES for CBC. There are 16 or 32 bytes of it; at any other number it is `None`.
 fn cbc_key(key: &[u8]) -> Option<AesKey>
-    ensures { result ≡ (if (length key.now == 16) || (length key.now == 32) then Some key.now else None) }
+    ensures { result
+        ≡ (if (length key.now == 16) || (length key.now == 32) then Some key.now else None) }
 {
     match key.len() {
         16 | 32 => AesKey::new(key),
@@ -64,37 +65,46 @@ fn cbc_key(key: &[u8]) -> Option<AesKey>
 
 impl SectorCipher {
     fn xts_plain64(key: &[u8]) -> Option<SectorCipher>
-        ensures { result ≡ (if is_mode_key_length XtsPlain64 (length key.now) then Some (XtsPlain64, key.now) else None) }
+        ensures { result
+            ≡ (if is_mode_key_length XtsPlain64 (length key.now) then Some
+            (XtsPlain64, key.now) else None) }
     {
         let keys = Keys::XtsPlain64(XtsKey::new(key)?);
         Some(SectorCipher { keys })
     }
 
     fn xts_plain(key: &[u8]) -> Option<SectorCipher>
-        ensures { result ≡ (if is_mode_key_length XtsPlain (length key.now) then Some (XtsPlain, key.now) else None) }
+        ensures { result
+            ≡ (if is_mode_key_length XtsPlain (length key.now) then Some
+            (XtsPlain, key.now) else None) }
     {
         let keys = Keys::XtsPlain(XtsKey::new(key)?);
         Some(SectorCipher { keys })
     }
 
     fn cbc_essiv(key: &[u8]) -> Option<SectorCipher>
-        ensures { result ≡ (if is_mode_key_length CbcEssivSha256 (length key.now) then Some (CbcEssivSha256, key.now) else None) }
+        ensures { result
+            ≡ (if is_mode_key_length CbcEssivSha256 (length key.now) then Some
+            (CbcEssivSha256, key.now) else None) }
     {
         let keys = Keys::CbcEssivSha256(cbc_key(key)?, vector_key(key)?);
         Some(SectorCipher { keys })
     }
 
     fn cbc_plain64(key: &[u8]) -> Option<SectorCipher>
-        ensures { result ≡ (if is_mode_key_length CbcPlain64 (length key.now) then Some (CbcPlain64, key.now) else None) }
+        ensures { result
+            ≡ (if is_mode_key_length CbcPlain64 (length key.now) then Some
+            (CbcPlain64, key.now) else None) }
     {
         let keys = Keys::CbcPlain64(cbc_key(key)?);
         Some(SectorCipher { keys })
     }
 
-    /// The cipher of this mode and key. The key has 32 or 64 bytes for XTS, and 16 or 32 for CBC; at any
-    /// other number it is `None`.
+    /// The cipher of this mode and key. The key has 32 or 64 bytes for XTS, and 16 or 32 for CBC;
+    /// at any other number it is `None`.
     pub fn new(mode: Mode, key: &[u8]) -> Option<SectorCipher>
-        ensures { result ≡ (if is_mode_key_length mode (length key.now) then Some (mode, key.now) else None) }
+        ensures { result
+            ≡ (if is_mode_key_length mode (length key.now) then Some (mode, key.now) else None) }
     {
         match mode {
             Mode::XtsPlain64 => SectorCipher::xts_plain64(key),

@@ -18,8 +18,8 @@ fn doubled(tweak: [u8; 16]) -> [u8; 16]
     ((number << 1) ^ reduction).to_le_bytes()
 }
 
-/// A key of XTS-AES-128 or XTS-AES-256 (IEEE 1619). Contracts see it as its bytes, of which the first
-/// half is the key for the data and the second the key for the tweaks.
+/// A key of XTS-AES-128 or XTS-AES-256 (IEEE 1619). Contracts see it as its bytes, of which the
+/// first half is the key for the data and the second the key for the tweaks.
 #[derive(Drop)]
 pub struct XtsKey {
     data_key: AesKey,
@@ -85,8 +85,8 @@ impl XtsKey {
         piece.copy_from_slice(&block_sum(masked, tweak));
     }
 
-    /// Encrypts the data unit of this number (IEEE 1619, 5.3.2). Its length is a multiple of 16 bytes, from
-    /// 16 to 4096.
+    /// Encrypts the data unit of this number (IEEE 1619, 5.3.2). Its length is a multiple of 16
+    /// bytes, from 16 to 4096.
     pub fn encrypt_unit(&self, number: u64, unit: &mut [u8])
         requires whole_blocks { length unit.old % 16 ≡ 0 }
         requires shortest { 16 ≤ length unit.old }
@@ -102,8 +102,8 @@ impl XtsKey {
         }
     }
 
-    /// Decrypts the data unit of this number (IEEE 1619, 5.4.2). Its length is a multiple of 16 bytes, from
-    /// 16 to 4096.
+    /// Decrypts the data unit of this number (IEEE 1619, 5.4.2). Its length is a multiple of 16
+    /// bytes, from 16 to 4096.
     pub fn decrypt_unit(&self, number: u64, unit: &mut [u8])
         requires whole_blocks { length unit.old % 16 ≡ 0 }
         requires shortest { 16 ≤ length unit.old }

@@ -26,7 +26,8 @@ header_of-take image =
     rw (take_min 592 image, take-take 8 592 image (lit≤ tt), take-take 592 592 image (lit≤ tt), few) refl
 
 -- the area that took what there was, up to 592 bytes, holds the first bytes of the image
-pub area_is : (area area' image : List ℕ) (left : Option (List ℕ)) → area ≡ [] → TookBehind area area' image left (min (592 - length area) (length image))
+pub area_is : (area area' image : List ℕ) (left : Option (List ℕ)) → area ≡ []
+    → TookBehind area area' image left (min (592 - length area) (length image))
     → (area' ≡ take (cost_of image) image) × Took image left (cost_of image)
 unfolding cost_of
 area_is area area' image left none took =
@@ -35,7 +36,8 @@ area_is area area' image left none took =
     (at_first.1, at_first.0)
 
 -- an area that begins as one of LUKS1 and is whole has this header
-pub header_of-whole : (area : List ℕ) (header : Header1) → is_luks1 area ≡ true → length area ≡ 592 → header ≡ header1_of area → header_of area ≡ Ok (V1 header)
+pub header_of-whole : (area : List ℕ) (header : Header1) → is_luks1 area ≡ true → length area ≡ 592
+    → header ≡ header1_of area → header_of area ≡ Ok (V1 header)
 unfolding header_of
 header_of-whole area header is whole read =
     let no : nat_lt (length area) 592 ≡ false = le-ltb (length area) 592 (omega arith) in
@@ -78,7 +80,8 @@ one_read area image left header is one = (sym (header_of-take image) ∙ ap head
 
 -- an area that is not whole is short
 pub short_from_not_whole : (whole : Bool) (end len : ℕ) → (IsTrue whole ↔ (end ≤ len)) → whole ≡ false → len < end
-short_from_not_whole whole end len iff is = elim (cases_lt len end) [ inl short ↦ short | inr all ↦ (let yes : whole ≡ true = iff.1 all in cc) ]
+short_from_not_whole whole end len iff is =
+    elim (cases_lt len end) [ inl short ↦ short | inr all ↦ (let yes : whole ≡ true = iff.1 all in cc) ]
 
 -- of an area that is no longer than the header, nothing costs more
 pub all_cost : (area : List ℕ) → length area ≤ 592 → length area ≡ cost_of area

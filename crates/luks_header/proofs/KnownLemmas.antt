@@ -26,19 +26,22 @@ same_length m n is (inl h) = inl (is ∙ h)
 same_length m n is (inr h) = inr (is ∙ h)
 
 -- of a key slot that can be tried there is what it takes to open it
-pub slot_of_usable : (header : Header) (limit : Option ℕ) (number : ℕ) (slot : Slot) → verdict_at header limit number ≡ Some (Usable slot)
+pub slot_of_usable : (header : Header) (limit : Option ℕ) (number : ℕ) (slot : Slot)
+    → verdict_at header limit number ≡ Some (Usable slot)
     → slot_at header number ≡ Some slot
 unfolding verdict_at slot_at
 slot_of_usable (V1 header) limit number slot is = (usable_at header limit number slot is).1
 
 -- and a digest
-pub digest_of_usable : (header : Header) (limit : Option ℕ) (number : ℕ) (slot : Slot) → verdict_at header limit number ≡ Some (Usable slot)
+pub digest_of_usable : (header : Header) (limit : Option ℕ) (number : ℕ) (slot : Slot)
+    → verdict_at header limit number ≡ Some (Usable slot)
     → (digest : KeyDigest) × (digest_for header number ≡ Some digest)
 unfolding verdict_at digest_for
 digest_of_usable (V1 header) limit number slot is = (usable_at header limit number slot is).0.digest
 
 -- where the segment is not refused, its hash functions and key lengths are known ones
-pub known_usable : (header : Header) (segment : Segment) (limit : Option ℕ) (number : ℕ) (slot : Slot) → segment_of header ≡ Ok segment
+pub known_usable : (header : Header) (segment : Segment) (limit : Option ℕ) (number : ℕ) (slot : Slot)
+    → segment_of header ≡ Ok segment
     → verdict_at header limit number ≡ Some (Usable slot) → IsKnown slot
 unfolding verdict_at segment_of
 known_usable (V1 header) segment limit number slot is_segment is =
@@ -52,7 +55,8 @@ known_usable (V1 header) segment limit number slot is_segment is =
     }
 
 -- and so is the digest's
-pub known_digest : (header : Header) (segment : Segment) (number : ℕ) (digest : KeyDigest) → segment_of header ≡ Ok segment
+pub known_digest : (header : Header) (segment : Segment) (number : ℕ) (digest : KeyDigest)
+    → segment_of header ≡ Ok segment
     → digest_for header number ≡ Some digest → (hash : Hash) × (digest.hash ≡ Some hash)
 unfolding digest_for segment_of
 known_digest (V1 header) segment number digest is_segment is =
@@ -60,7 +64,8 @@ known_digest (V1 header) segment number digest is_segment is =
     (readable.hash.0, digest_hash header digest is ∙ readable.hash.1)
 
 -- its key material ends at or before the payload's start
-pub before_payload : (header : Header) (segment : Segment) (limit : Option ℕ) (number : ℕ) (slot : Slot) → segment_of header ≡ Ok segment
+pub before_payload : (header : Header) (segment : Segment) (limit : Option ℕ) (number : ℕ) (slot : Slot)
+    → segment_of header ≡ Ok segment
     → verdict_at header limit number ≡ Some (Usable slot) → end_of slot ≤ segment.offset
 unfolding verdict_at segment_of
 before_payload (V1 header) segment limit number slot is_segment is =

@@ -21,7 +21,8 @@ use Rattle.luks_open.specs.declared.opening.Opened.{Opened}
 use Rattle.luks_open.proofs.OrderLemmas.{All-held_of, All-tries, IsOf, held_of-le}
 
 -- the key material of all key slots that are tried ends at or before the payload's start
-pub held_before_payload : (header : Header) (segment : Segment) (named limit : Option ℕ) (tries : Tries) → segment_of header ≡ Ok segment
+pub held_before_payload : (header : Header) (segment : Segment) (named limit : Option ℕ) (tries : Tries)
+    → segment_of header ≡ Ok segment
     → order_of header named limit ≡ Ok tries → held_of tries.slots ≤ segment.offset
 held_before_payload header segment named limit tries is_segment is_order =
     held_of-le segment.offset tries.slots (of_entries tries.slots (All-tries header named limit tries is_order))
@@ -36,33 +37,41 @@ held_before_payload header segment named limit tries is_segment is_order =
 at_beginning : (place len n : ℕ) (image : List ℕ) → place + len ≤ n → at place len (take n image) ≡ at place len image
 at_beginning place len n image before =
     let count : n ≡ place + (n - place) = omega arith in
-    ap (take len) (ap (λ m. drop place (take m image)) count ∙ drop-take place (n - place) image) ∙ take-take len (n - place) (drop place image) (omega arith)
+    ap (take len) (ap (λ m. drop place (take m image)) count ∙ drop-take place (n - place) image)
+    ∙ take-take len (n - place) (drop place image) (omega arith)
 
 -- pieces that are the same one by one are the same together
 joined_same : (f g : ℕ → List ℕ) (count : ℕ) → ((i : ℕ) → i < count → f i ≡ g i) → joined f count ≡ joined g count
 unfolding joined
 joined_same f g zero same = refl
 joined_same f g (suc i) same =
-    ap (λ l. l ++ f i) (joined_same f g i (λ j below. same j (omega arith))) ∙ ap (λ l. joined g i ++ l) (same i (omega arith))
+    ap (λ l. l ++ f i) (joined_same f g i (λ j below. same j (omega arith)))
+    ∙ ap (λ l. joined g i ++ l) (same i (omega arith))
 
 -- key material that stands before place n stands in the first n bytes
-unlocked_beginning : (af : Hash) (key image : List ℕ) (offset key_bytes stripes n : ℕ) → offset + need_of key_bytes stripes ≤ n
+unlocked_beginning : (af : Hash) (key image : List ℕ) (offset key_bytes stripes n : ℕ)
+    → offset + need_of key_bytes stripes ≤ n
     → unlocked af key (take n image) offset key_bytes stripes ≡ unlocked af key image offset key_bytes stripes
 unfolding unlocked material_of
 unlocked_beginning af key image offset key_bytes stripes n before =
-    let sectors : (i : ℕ) → i < need_of key_bytes stripes / 512 → material_sector key (take n image) offset i ≡ material_sector key image offset i =
+    let sectors : (i : ℕ) → i < need_of key_bytes stripes / 512
+    → material_sector key (take n image) offset i ≡ material_sector key image offset i =
     λ i below. ap (xts_decrypted key i) (at_beginning (offset + 512 * i) 512 n image (omega arith)) in
-    ap (λ material. merged af key_bytes (take (key_bytes * stripes) material)) (joined_same _ _ (need_of key_bytes stripes / 512) sectors)
+    ap (λ material. merged af key_bytes (take (key_bytes * stripes) material))
+    (joined_same _ _ (need_of key_bytes stripes / 512) sectors)
 
 -- and so do the candidate and the volume key that it gives
-key_beginning : (entry : Entry) (n : ℕ) (image pass : List ℕ) → end_of entry.slot ≤ n → key_of entry (take n image) pass ≡ key_of entry image pass
+key_beginning : (entry : Entry) (n : ℕ) (image pass : List ℕ) → end_of entry.slot ≤ n
+    → key_of entry (take n image) pass ≡ key_of entry image pass
 unfolding key_of candidate_of
 key_beginning entry n image pass before = ap (if_meets entry.digest) (of_hashes entry.slot.kdf_hash entry.slot.af_hash)
   where
-    of_hashes : (kdf af : Option Hash) → candidate_by kdf af entry.slot (take n image) pass ≡ candidate_by kdf af entry.slot image pass
+    of_hashes : (kdf af : Option Hash)
+        → candidate_by kdf af entry.slot (take n image) pass ≡ candidate_by kdf af entry.slot image pass
     of_hashes (Some kdf) (Some af) =
         let slot = entry.slot in
-        ap Some (unlocked_beginning af (derived_key kdf pass slot.salt slot.iterations slot.area_key_bytes) image slot.area_offset slot.key_bytes slot.stripes n before)
+        ap Some (unlocked_beginning af (derived_key kdf pass slot.salt slot.iterations slot.area_key_bytes) image
+        slot.area_offset slot.key_bytes slot.stripes n before)
     of_hashes (Some kdf) None = refl
     of_hashes None af = refl
 
@@ -71,11 +80,13 @@ pub opening_beginning : (tries : Tries) (n : ℕ) (image pass : List ℕ) → he
     → opening_of tries (take n image) pass ≡ opening_of tries image pass
 unfolding opening_of first_opening
 opening_beginning tries n image pass held =
-    ap (λ (first : Option Opened). answer_of first tries.skipped) (of_entries tries.slots (All-held_of n tries.slots held))
+    ap (λ (first : Option Opened). answer_of first tries.skipped)
+    (of_entries tries.slots (All-held_of n tries.slots held))
   where
     of_entries : (entries : List Entry) → AllByRecursion (λ (entry : Entry). end_of entry.slot ≤ n) entries
         → first_opening entries (take n image) pass ≡ first_opening entries image pass
     of_entries [] ends = refl
     of_entries (entry ∷ entries) ends =
-        ap (λ (key : Option (List ℕ)). opened_or entry.number key (first_opening entries (take n image) pass)) (key_beginning entry n image pass ends.0)
+        ap (λ (key : Option (List ℕ)). opened_or entry.number key (first_opening entries (take n image) pass))
+        (key_beginning entry n image pass ends.0)
         ∙ ap (opened_or entry.number (key_of entry image pass)) (of_entries entries ends.1)

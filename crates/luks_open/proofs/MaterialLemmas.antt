@@ -26,37 +26,59 @@ pub record AreInSectors (len stripes whole rest : ℕ) : Type 0 where
   pub before : (whole * (512 / len) + rest) * len ≡ whole * 512 + rest * len
   pub all : len * stripes ≡ whole * 512 + (rest * len + len)
 
-pub in_sectors : (len stripes whole rest : ℕ) → is_xts_key_length len ≡ true → 1 ≤ stripes → whole ≡ (stripes - 1) / (512 / len)
+pub in_sectors : (len stripes whole rest : ℕ) → is_xts_key_length len ≡ true → 1 ≤ stripes
+    → whole ≡ (stripes - 1) / (512 / len)
     → rest ≡ (stripes - 1) % (512 / len) → AreInSectors len stripes whole rest
 unfolding need_of
 in_sectors len stripes whole rest is some is_whole is_rest = of_len (one_of_two len is)
   where
     of_32 : whole ≡ (stripes - 1) / 16 → rest ≡ (stripes - 1) % 16 → AreInSectors 32 stripes whole rest
-    of_32 w r = record { fits = refl; some = omega arith; there = omega arith; within = omega arith; before = omega arith; all = omega arith }
+    of_32 w r = record {
+      fits = refl;
+      some = omega arith;
+      there = omega arith;
+      within = omega arith;
+      before = omega arith;
+      all =
+          omega arith;
+    }
 
     of_64 : whole ≡ (stripes - 1) / 8 → rest ≡ (stripes - 1) % 8 → AreInSectors 64 stripes whole rest
-    of_64 w r = record { fits = refl; some = omega arith; there = omega arith; within = omega arith; before = omega arith; all = omega arith }
+    of_64 w r = record {
+      fits = refl;
+      some = omega arith;
+      there = omega arith;
+      within = omega arith;
+      before = omega arith;
+      all =
+          omega arith;
+    }
 
     of_len : (len ≡ 32) ⊎ (len ≡ 64) → AreInSectors len stripes whole rest
     of_len (inl h) = subst (λ n. AreInSectors n stripes whole rest) (sym h) (of_32 (rw h at is_whole) (rw h at is_rest))
     of_len (inr h) = subst (λ n. AreInSectors n stripes whole rest) (sym h) (of_64 (rw h at is_whole) (rw h at is_rest))
 
 -- the chain one stripe further
-pub taken_more : (h : Hash) (len : ℕ) (before stripes stripe : List ℕ) (number i : ℕ) (chain : Chain) → (i + 1) * len ≤ length stripes
+pub taken_more : (h : Hash) (len : ℕ) (before stripes stripe : List ℕ) (number i : ℕ) (chain : Chain)
+    → (i + 1) * len ≤ length stripes
     → length before ≡ number * len → stripe ≡ take len (drop (i * len) stripes)
     → chain ≡ chain_after h len (before ++ take (i * len) stripes) (number + i)
     → extended chain stripe ≡ chain_after h len (before ++ take ((i + 1) * len) stripes) (number + (i + 1))
 taken_more h len before stripes stripe number i chain there whole is_stripe is =
     let front = take (i * len) stripes in
-    let one : length stripe ≡ len = ap length is_stripe ∙ length-take-le len (drop (i * len) stripes) (omega (arith, length-drop (i * len) stripes)) in
+    let one : length stripe ≡ len = ap length is_stripe
+    ∙ length-take-le len (drop (i * len) stripes) (omega (arith, length-drop (i * len) stripes)) in
     let all : length (before ++ front) ≡ (number + i) * len =
     omega (arith, length-append before front, length-take-le (i * len) stripes (omega arith)) in
     let further : (before ++ front) ++ stripe ≡ before ++ take ((i + 1) * len) stripes =
     append_assoc before front stripe
-    ∙ ap (λ s. before ++ s) (ap (λ s. front ++ s) is_stripe ∙ (sym (take-add (i * len) len stripes) ∙ ap (λ n. take n stripes) (next i len))) in
+    ∙ ap (λ s. before ++ s)
+    (ap (λ s. front ++ s) is_stripe
+    ∙ (sym (take-add (i * len) len stripes) ∙ ap (λ n. take n stripes) (next i len))) in
     let count : number + i + 1 ≡ number + (i + 1) = omega arith in
     chain_push h len (before ++ front) stripe (number + i) chain all one is
-    ∙ (ap (λ s. chain_after h len s (number + i + 1)) further ∙ ap (λ n. chain_after h len (before ++ take ((i + 1) * len) stripes) n) count)
+    ∙ (ap (λ s. chain_after h len s (number + i + 1)) further
+    ∙ ap (λ n. chain_after h len (before ++ take ((i + 1) * len) stripes) n) count)
   where
     next : (i len : ℕ) → i * len + len ≡ (i + 1) * len
     next i len = omega arith
@@ -67,8 +89,11 @@ unfolding joined
 joined_front f q zero = let same : q + 0 ≡ q = omega arith in ([], ap (joined f) same ∙ sym (append-nil (joined f q)))
 joined_front f q (suc m) =
     let before = joined_front f q m in
-    let same : q + suc m ≡ suc (q + m) = omega arith in
-    (before.0 ++ f (q + m), ap (joined f) same ∙ (ap (λ s. s ++ f (q + m)) before.1 ∙ append_assoc (joined f q) before.0 (f (q + m))))
+    let same : q + suc m ≡ suc (q + m) = omega arith in (
+      before.0 ++ f (q + m),
+      ap (joined f) same
+          ∙ (ap (λ s. s ++ f (q + m)) before.1 ∙ append_assoc (joined f q) before.0 (f (q + m))),
+    )
 
 -- the first bytes of pieces of 512 bytes: q pieces, and a part of the next
 front_of_joined : (f : ℕ → List ℕ) (q n part : ℕ) → q < n → length (joined f q) ≡ q * 512 → part ≤ length (f q)
@@ -81,10 +106,12 @@ front_of_joined f q n part below whole short =
     ap (joined f) (sym count) ∙ (further.1 ∙ append_assoc (joined f q) (f q) further.0) in
     ap (take (q * 512 + part)) all
     ∙ (ap (λ n. take (n + part) (joined f q ++ (f q ++ further.0))) (sym whole)
-    ∙ (take-append-add (joined f q) (f q ++ further.0) part ∙ ap (λ s. joined f q ++ s) (take-append-le part (f q) further.0 short)))
+    ∙ (take-append-add (joined f q) (f q ++ further.0) part
+    ∙ ap (λ s. joined f q ++ s) (take-append-le part (f q) further.0 short)))
 
 -- the length of one sector more
-pub length-joined_more : (f : ℕ → List ℕ) (i : ℕ) (sector : List ℕ) → length (joined f i) ≡ i * 512 → sector ≡ f i → length sector ≡ 512
+pub length-joined_more : (f : ℕ → List ℕ) (i : ℕ) (sector : List ℕ) → length (joined f i) ≡ i * 512 → sector ≡ f i
+    → length sector ≡ 512
     → length (joined f (i + 1)) ≡ (i + 1) * 512
 unfolding joined
 length-joined_more f i sector before is whole =
@@ -99,31 +126,40 @@ pub whole_sectors : (number in_sector len : ℕ) → in_sector * len ≡ 512 →
 whole_sectors number in_sector len fits = ap (λ n. number * n) (sym fits) ∙ sym (mul_assoc number in_sector len)
 
 -- the chain before any sector
-pub sectors_none : (h : Hash) (len in_sector : ℕ) (f : ℕ → List ℕ) (chain : Chain) → chain ≡ record { hash = h; block = replicate len 0 }
+pub sectors_none : (h : Hash) (len in_sector : ℕ) (f : ℕ → List ℕ) (chain : Chain)
+    → chain ≡ record { hash = h; block = replicate len 0 }
     → chain ≡ chain_after h len (joined f 0) (0 * in_sector)
 sectors_none h len in_sector f chain start =
     let nothing : 0 * in_sector ≡ 0 = omega arith in
     rw nothing (chain_start h len (joined f 0) chain start)
 
 -- the chain one sector further
-pub sector_more : (h : Hash) (len in_sector : ℕ) (f : ℕ → List ℕ) (i : ℕ) (sector : List ℕ) (chain : Chain) → in_sector * len ≡ 512 → sector ≡ f i → length sector ≡ 512
+pub sector_more : (h : Hash) (len in_sector : ℕ) (f : ℕ → List ℕ) (i : ℕ) (sector : List ℕ) (chain : Chain)
+    → in_sector * len ≡ 512 → sector ≡ f i → length sector ≡ 512
     → chain ≡ chain_after h len (joined f i ++ take (in_sector * len) sector) (i * in_sector + in_sector)
     → chain ≡ chain_after h len (joined f (i + 1)) ((i + 1) * in_sector)
 unfolding joined
 sector_more h len in_sector f i sector chain fits is whole h_is =
-    let all : take (in_sector * len) sector ≡ f i = ap (λ n. take n sector) fits ∙ (take_all 512 sector (omega arith) ∙ is) in
+    let all : take (in_sector * len) sector ≡ f i = ap (λ n. take n sector) fits
+    ∙ (take_all 512 sector (omega arith) ∙ is) in
     let count : i * in_sector + in_sector ≡ suc i * in_sector = omega arith in
-    rw add-one (h_is ∙ (ap (λ s. chain_after h len (joined f i ++ s) (i * in_sector + in_sector)) all ∙ ap (λ n. chain_after h len (joined f i ++ f i) n) count))
+    rw add-one (h_is
+    ∙ (ap (λ s. chain_after h len (joined f i ++ s) (i * in_sector + in_sector)) all
+    ∙ ap (λ n. chain_after h len (joined f i ++ f i) n) count))
 
 -- the key that key material holds, by the chain before the last stripe
-pub unlocked_by_last : (h : Hash) (key image : List ℕ) (offset len stripes whole rest : ℕ) (sector last : List ℕ) (chain : Chain)
+pub unlocked_by_last : (h : Hash) (key image : List ℕ) (offset len stripes whole rest : ℕ) (sector last : List ℕ)
+    (chain : Chain)
     → AreInSectors len stripes whole rest
-    → length (joined (material_sector key image offset) whole) ≡ whole * 512 → sector ≡ material_sector key image offset whole → length sector ≡ 512
+    → length (joined (material_sector key image offset) whole) ≡ whole * 512
+    → sector ≡ material_sector key image offset whole → length sector ≡ 512
     → last ≡ take len (drop (rest * len) sector)
-    → chain ≡ chain_after h len (joined (material_sector key image offset) whole ++ take (rest * len) sector) (whole * (512 / len) + rest)
+    → chain ≡ chain_after h len (joined (material_sector key image offset) whole ++ take (rest * len) sector)
+    (whole * (512 / len) + rest)
     → xor chain.block last ≡ unlocked h key image offset len stripes
 unfolding unlocked material_of
-unlocked_by_last h key image offset len stripes whole rest sector last chain place before is_sector full is_last is_chain =
+unlocked_by_last h key image offset len stripes whole rest sector last chain place before is_sector full is_last
+    is_chain =
     let f = material_sector key image offset in
     let front = joined f whole ++ take (rest * len) sector in
     let count = need_of len stripes / 512 in
@@ -133,11 +169,20 @@ unlocked_by_last h key image offset len stripes whole rest sector last chain pla
     ap (λ n. take n (joined f count)) place.all
     ∙ (front_of_joined f whole count (rest * len + len) below before long
     ∙ (ap (λ s. joined f whole ++ take (rest * len + len) s) (sym is_sector)
-    ∙ (ap (λ s. joined f whole ++ s) (take-add (rest * len) len sector ∙ ap (λ s. take (rest * len) sector ++ s) (sym is_last))
+    ∙ (ap (λ s. joined f whole ++ s)
+    (take-add (rest * len) len sector ∙ ap (λ s. take (rest * len) sector ++ s) (sym is_last))
     ∙ sym (append_assoc (joined f whole) (take (rest * len) sector) last)))) in
     let one : length last ≡ len =
-    ap length is_last ∙ length-take-le len (drop (rest * len) sector) (omega (arith, length-drop (rest * len) sector, place.within)) in
+    ap length is_last
+    ∙ length-take-le len (drop (rest * len) sector)
+    (omega (arith, length-drop (rest * len) sector, place.within)) in
     let number : length front ≡ (whole * (512 / len) + rest) * len =
-    omega (arith, length-append (joined f whole) (take (rest * len) sector), length-take-le (rest * len) sector (omega (arith, place.within)), place.before) in
+    omega (
+      arith,
+      length-append (joined f whole) (take (rest * len) sector),
+      length-take-le (rest * len) sector (omega (arith, place.within)),
+      place.before,
+    ) in
     ap (λ (c : Chain). xor c.block last) is_chain
-    ∙ (sym (merged_push h len front last (whole * (512 / len) + rest) place.some number one) ∙ ap (merged h len) (sym stripes_are))
+    ∙ (sym (merged_push h len front last (whole * (512 / len) + rest) place.some number one)
+    ∙ ap (merged h len) (sym stripes_are))

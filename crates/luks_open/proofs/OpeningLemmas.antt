@@ -24,7 +24,8 @@ tried_past entries image pass entry none =
     )
 
 -- or it did
-tried_last : (entries : List Entry) (image pass : List ℕ) (entry : Entry) (key : List ℕ) → key_of entry image pass ≡ Some key
+tried_last : (entries : List Entry) (image pass : List ℕ) (entry : Entry) (key : List ℕ)
+    → key_of entry image pass ≡ Some key
     → (first_opening (entry ∷ entries) image pass ≡ Some record { slot = entry.number; key = key })
     × (work_on (entry ∷ entries) image pass ≡ evaluations_of entry)
 unfolding first_opening tried_of
@@ -41,15 +42,20 @@ pub record GoesOn (entries : List Entry) (image pass : List ℕ) (i start now : 
   pub work : capped (now + work_on (drop i entries) image pass) ≡ capped (start + work_on entries image pass)
   pub count : now ≡ capped now
 
-pub go_first : (entries : List Entry) (image pass : List ℕ) (start : ℕ) → start < 2 ^ 128 → GoesOn entries image pass 0 start start
+pub go_first : (entries : List Entry) (image pass : List ℕ) (start : ℕ) → start < 2 ^ 128
+    → GoesOn entries image pass 0 start start
 go_first entries image pass start few = record { value = refl; work = refl; count = omega arith }
 
 -- what is left of the key entries, from number i on
-from_entry : (entries : List Entry) (i : ℕ) (entry : Entry) → i < length entries → entry ≡ get_or entries i entry → drop i entries ≡ entry ∷ drop (i + 1) entries
-from_entry entries i entry there is = drop_more entries i entry there ∙ ap (λ (e : Entry). e ∷ drop (i + 1) entries) (sym is)
+from_entry : (entries : List Entry) (i : ℕ) (entry : Entry) → i < length entries → entry ≡ get_or entries i entry
+    → drop i entries ≡ entry ∷ drop (i + 1) entries
+from_entry entries i entry there is = drop_more entries i entry there
+    ∙ ap (λ (e : Entry). e ∷ drop (i + 1) entries) (sym is)
 
-pub go_on : (entries : List Entry) (image pass : List ℕ) (i start now new : ℕ) (entry : Entry) → GoesOn entries image pass i start now
-    → i < length entries → entry ≡ get_or entries i entry → key_of entry image pass ≡ None → new ≡ capped (now + evaluations_of entry)
+pub go_on : (entries : List Entry) (image pass : List ℕ) (i start now new : ℕ) (entry : Entry)
+    → GoesOn entries image pass i start now
+    → i < length entries → entry ≡ get_or entries i entry → key_of entry image pass ≡ None
+    → new ≡ capped (now + evaluations_of entry)
     → GoesOn entries image pass (i + 1) start new
 go_on entries image pass i start now new entry before there is none is_new =
     let rest = from_entry entries i entry there is in
@@ -62,9 +68,11 @@ go_on entries image pass i start now new entry before there is none is_new =
     }
 
 pub go_last : (entries : List Entry) (image pass : List ℕ) (i start now new : ℕ) (entry : Entry) (key : List ℕ)
-    → GoesOn entries image pass i start now → i < length entries → entry ≡ get_or entries i entry → key_of entry image pass ≡ Some key
+    → GoesOn entries image pass i start now → i < length entries → entry ≡ get_or entries i entry
+    → key_of entry image pass ≡ Some key
     → new ≡ capped (now + evaluations_of entry)
-    → (first_opening entries image pass ≡ Some record { slot = entry.number; key = key }) × (new ≡ capped (start + work_on entries image pass))
+    → (first_opening entries image pass ≡ Some record { slot = entry.number; key = key })
+    × (new ≡ capped (start + work_on entries image pass))
 go_last entries image pass i start now new entry key before there is some is_new =
     let rest = from_entry entries i entry there is in
     let last = tried_last (drop (i + 1) entries) image pass entry key some in
@@ -73,7 +81,8 @@ go_last entries image pass i start now new entry key before there is some is_new
       omega (arith, is_new, left, before.work),
     )
 
-pub go_out : (entries : List Entry) (image pass : List ℕ) (i start now : ℕ) → GoesOn entries image pass i start now → length entries ≤ i
+pub go_out : (entries : List Entry) (image pass : List ℕ) (i start now : ℕ) → GoesOn entries image pass i start now
+    → length entries ≤ i
     → (first_opening entries image pass ≡ None) × (now ≡ capped (start + work_on entries image pass))
 unfolding first_opening tried_of
 go_out entries image pass i start now before all =

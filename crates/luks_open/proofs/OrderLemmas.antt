@@ -30,7 +30,8 @@ pub record IsOf (header : Header) (limit : Option ℕ) (entry : Entry) : Type 0 
   pub digest : digest_for header entry.number ≡ Some entry.digest
 
 -- what it is made of
-entry_of-some : (number : ℕ) (slot : Option Slot) (digest : Option KeyDigest) (entry : Entry) → entry_of number slot digest ≡ Some entry
+entry_of-some : (number : ℕ) (slot : Option Slot) (digest : Option KeyDigest) (entry : Entry)
+    → entry_of number slot digest ≡ Some entry
     → (entry.number ≡ number) × (slot ≡ Some entry.slot) × (digest ≡ Some entry.digest)
 entry_of-some number (Some slot) (Some digest) entry is =
     let same : entry ≡ record { number = number; slot = slot; digest = digest } = same_Some _ _ (sym is) in (
@@ -42,7 +43,8 @@ entry_of-some number (Some slot) None entry is = absurd cc
 entry_of-some number None digest entry is = absurd cc
 
 -- of a key slot that can be tried
-usable_entry : (header : Header) (limit : Option ℕ) (number : ℕ) (slot : Slot) (entry : Entry) → verdict_at header limit number ≡ Some (Usable slot)
+usable_entry : (header : Header) (limit : Option ℕ) (number : ℕ) (slot : Slot) (entry : Entry)
+    → verdict_at header limit number ≡ Some (Usable slot)
     → entry_at header number ≡ Some entry → IsOf header limit entry
 unfolding entry_at
 usable_entry header limit number slot entry usable is =
@@ -54,7 +56,8 @@ usable_entry header limit number slot entry usable is =
     }
 
 -- there is what it takes to open it, and a digest
-pub entry_there : (header : Header) (limit : Option ℕ) (number : ℕ) (slot : Slot) → verdict_at header limit number ≡ Some (Usable slot)
+pub entry_there : (header : Header) (limit : Option ℕ) (number : ℕ) (slot : Slot)
+    → verdict_at header limit number ≡ Some (Usable slot)
     → (entry : Entry) × (entry_at header number ≡ Some entry)
 unfolding entry_at
 entry_there header limit number slot usable =
@@ -63,7 +66,8 @@ entry_there header limit number slot usable =
     (record { number = number; slot = slot; digest = its_digest.0 }, rw (its_slot, its_digest.1) refl)
 
 -- of one that can be tried and has a priority
-usable_at-some : (header : Header) (limit : Option ℕ) (priority number : ℕ) (entry : Entry) → usable_at header limit priority number ≡ Some entry → IsOf header limit entry
+usable_at-some : (header : Header) (limit : Option ℕ) (priority number : ℕ) (entry : Entry)
+    → usable_at header limit priority number ≡ Some entry → IsOf header limit entry
 usable_at-some header limit priority number entry is = of_verdict (verdict_at header limit number) refl is
   where
     of_test : (slot : Slot) → verdict_at header limit number ≡ Some (Usable slot) → (test : Bool)
@@ -71,7 +75,8 @@ usable_at-some header limit priority number entry is = of_verdict (verdict_at he
     of_test slot v true h = usable_entry header limit number slot entry v h
     of_test slot v false h = absurd cc
 
-    of_verdict : (verdict : Option Verdict) → verdict_at header limit number ≡ verdict → where_usable priority (entry_at header number) verdict ≡ Some entry
+    of_verdict : (verdict : Option Verdict) → verdict_at header limit number ≡ verdict
+        → where_usable priority (entry_at header number) verdict ≡ Some entry
         → IsOf header limit entry
     of_verdict None v h = absurd cc
     of_verdict (Some Disabled) v h = absurd cc
@@ -79,29 +84,35 @@ usable_at-some header limit priority number entry is = of_verdict (verdict_at he
     of_verdict (Some (Usable slot)) v h = of_test slot v (slot.priority == priority) h
 
 -- what is tried where no key slot is named
-tries-unless_none : (entries : List Entry) (skipped : List (ℕ × SkipReason)) (tries : Tries) → unless_none entries skipped ≡ Ok tries → entries ≡ tries.slots
+tries-unless_none : (entries : List Entry) (skipped : List (ℕ × SkipReason)) (tries : Tries)
+    → unless_none entries skipped ≡ Ok tries → entries ≡ tries.slots
 tries-unless_none [] skipped tries is = absurd cc
 tries-unless_none (entry ∷ entries) skipped tries is =
     let same : record { slots = entry ∷ entries; skipped = skipped } ≡ tries = cc in ap (λ (t : Tries). t.slots) same
 
 -- all that is tried is of the header
-pub All-tries : (header : Header) (named limit : Option ℕ) (tries : Tries) → order_of header named limit ≡ Ok tries → AllByRecursion (IsOf header limit) tries.slots
+pub All-tries : (header : Header) (named limit : Option ℕ) (tries : Tries) → order_of header named limit ≡ Ok tries
+    → AllByRecursion (IsOf header limit) tries.slots
 unfolding order_of tries_of_all
 All-tries header None limit tries is =
-    subst (AllByRecursion (IsOf header limit)) (tries-unless_none _ (rising (skipped_at header limit) most_slots) tries is)
+    subst (AllByRecursion (IsOf header limit))
+    (tries-unless_none _ (rising (skipped_at header limit) most_slots) tries is)
     (AllByRecursion-append (IsOf header limit) _ _
     (All-rising (IsOf header limit) (usable_at header limit 2) most_slots (usable_at-some header limit 2))
     (All-rising (IsOf header limit) (usable_at header limit 1) most_slots (usable_at-some header limit 1)))
 All-tries header (Some number) limit tries is = of_verdict (verdict_at header limit number) refl is
   where
-    of_entry : (slot : Slot) → verdict_at header limit number ≡ Some (Usable slot) → (entry : Option Entry) → entry_at header number ≡ entry
+    of_entry : (slot : Slot) → verdict_at header limit number ≡ Some (Usable slot) → (entry : Option Entry)
+        → entry_at header number ≡ entry
         → tried_alone entry ≡ Ok tries → AllByRecursion (IsOf header limit) tries.slots
     of_entry slot v None e h = absurd cc
     of_entry slot v (Some entry) e h =
         let same : record { slots = entry ∷ []; skipped = [] } ≡ tries = cc in
-        subst (λ (t : Tries). AllByRecursion (IsOf header limit) t.slots) same (usable_entry header limit number slot entry v e, tt)
+        subst (λ (t : Tries). AllByRecursion (IsOf header limit) t.slots) same
+        (usable_entry header limit number slot entry v e, tt)
 
-    of_verdict : (verdict : Option Verdict) → verdict_at header limit number ≡ verdict → tries_of_named (entry_at header number) verdict ≡ Ok tries
+    of_verdict : (verdict : Option Verdict) → verdict_at header limit number ≡ verdict
+        → tries_of_named (entry_at header number) verdict ≡ Ok tries
         → AllByRecursion (IsOf header limit) tries.slots
     of_verdict None v h = absurd cc
     of_verdict (Some Disabled) v h = absurd cc
@@ -111,12 +122,14 @@ All-tries header (Some number) limit tries is = of_verdict (verdict_at header li
 -- ---- where there is something to try
 
 -- where some key slots can be tried, they are
-pub some_tried : (entries : List Entry) (skipped : List (ℕ × SkipReason)) → 1 ≤ length entries → IsOk (unless_none entries skipped)
+pub some_tried : (entries : List Entry) (skipped : List (ℕ × SkipReason)) → 1 ≤ length entries
+    → IsOk (unless_none entries skipped)
 some_tried [] skipped some = absurd (omega arith)
 some_tried (entry ∷ entries) skipped some = refl
 
 -- of a key slot that is judged one of this priority
-pub usable_there : (header : Header) (limit : Option ℕ) (priority number : ℕ) → option_map judgement_of (verdict_at header limit number) ≡ Some (Open priority)
+pub usable_there : (header : Header) (limit : Option ℕ) (priority number : ℕ)
+    → option_map judgement_of (verdict_at header limit number) ≡ Some (Open priority)
     → IsSome (usable_at header limit priority number)
 usable_there header limit priority number is =
     let usable = usable_from_open (verdict_at header limit number) priority is in
@@ -124,14 +137,16 @@ usable_there header limit priority number is =
     rw (usable.1, eq-eqb usable.0.priority priority usable.2, there.1) refl
 
 -- where the one that is named can be tried, it is
-pub named_tried : (header : Header) (limit : Option ℕ) (number : ℕ) (slot : Slot) → verdict_at header limit number ≡ Some (Usable slot)
+pub named_tried : (header : Header) (limit : Option ℕ) (number : ℕ) (slot : Slot)
+    → verdict_at header limit number ≡ Some (Usable slot)
     → IsOk (tries_of_named (entry_at header number) (verdict_at header limit number))
 named_tried header limit number slot usable =
     let there = entry_there header limit number slot usable in
     rw (usable, there.1) refl
 
 -- the one that is named is judged one that can be tried
-pub named_open : (header : Header) (limit : Option ℕ) (priority number : ℕ) → option_map judgement_of (verdict_at header limit number) ≡ Some (Open priority)
+pub named_open : (header : Header) (limit : Option ℕ) (priority number : ℕ)
+    → option_map judgement_of (verdict_at header limit number) ≡ Some (Open priority)
     → IsOk (tries_of_named (entry_at header number) (verdict_at header limit number))
 named_open header limit priority number is =
     let usable = usable_from_open (verdict_at header limit number) priority is in
@@ -140,12 +155,14 @@ named_open header limit priority number is =
 -- ---- where the last of the key material ends
 
 -- what ends there one by one ends there together, and the other way round
-pub held_of-le : (most : ℕ) (entries : List Entry) → AllByRecursion (λ (entry : Entry). end_of entry.slot ≤ most) entries → held_of entries ≤ most
+pub held_of-le : (most : ℕ) (entries : List Entry)
+    → AllByRecursion (λ (entry : Entry). end_of entry.slot ≤ most) entries → held_of entries ≤ most
 unfolding held_of
 held_of-le most [] all = omega arith
 held_of-le most (entry ∷ entries) all = omega (arith, held_of-le most entries all.1, all.0)
 
-pub All-held_of : (most : ℕ) (entries : List Entry) → held_of entries ≤ most → AllByRecursion (λ (entry : Entry). end_of entry.slot ≤ most) entries
+pub All-held_of : (most : ℕ) (entries : List Entry) → held_of entries ≤ most
+    → AllByRecursion (λ (entry : Entry). end_of entry.slot ≤ most) entries
 unfolding held_of
 All-held_of most [] all = tt
 All-held_of most (entry ∷ entries) all = (omega arith, All-held_of most entries (omega arith))

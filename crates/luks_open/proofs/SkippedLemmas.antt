@@ -5,7 +5,8 @@ use Rattle.std.proofs.lemmas.List.{length-replicate, take_more_set}
 use Rattle.luks_verdict.specs.declared.refusal.SkipReason.{SkipReason}
 use Rattle.luks_open.specs.Skipped.{IsFilled, nothing}
 
-pub filled_more : (places : List (ℕ × SkipReason)) (taken : ℕ) (entry : ℕ × SkipReason) → IsFilled places taken → taken < 32
+pub filled_more : (places : List (ℕ × SkipReason)) (taken : ℕ) (entry : ℕ × SkipReason) → IsFilled places taken
+    → taken < 32
     → IsFilled (set places taken entry) (taken + 1)
 filled_more places taken entry filled room =
     let front = take taken places in
@@ -13,11 +14,20 @@ filled_more places taken entry filled room =
     let one_less : 32 - taken ≡ suc (32 - (taken + 1)) = omega arith in
     let split : places ≡ front ++ nothing ∷ rest = filled.others ∙ ap (λ n. front ++ replicate n nothing) one_less in
     let all : length places ≡ 32 =
-    omega (arith, ap length filled.others, length-append front (replicate (32 - taken) nothing), length-replicate (32 - taken) nothing, filled.there) in
+    omega (
+      arith,
+      ap length filled.others,
+      length-append front (replicate (32 - taken) nothing),
+      length-replicate (32 - taken) nothing,
+      filled.there,
+    ) in
     let there : taken < length places = omega arith in
     let written : set places taken entry ≡ front ++ entry ∷ rest =
-    ap (λ all. set all taken entry) split ∙ (ap (λ n. set (front ++ nothing ∷ rest) n entry) (sym filled.there) ∙ set-append_seam front nothing rest entry) in
-    let more : take (taken + 1) (set places taken entry) ≡ front ++ entry ∷ [] = take_more_set places taken entry there in
+    ap (λ all. set all taken entry) split
+    ∙ (ap (λ n. set (front ++ nothing ∷ rest) n entry) (sym filled.there)
+    ∙ set-append_seam front nothing rest entry) in
+    let more : take (taken + 1) (set places taken entry) ≡ front ++ entry
+    ∷ [] = take_more_set places taken entry there in
     record {
       room = omega arith;
       there = ap length more ∙ (let sum = length-append front (entry ∷ []) in omega (arith, sum, filled.there));

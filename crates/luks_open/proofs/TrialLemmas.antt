@@ -19,8 +19,10 @@ is_one_of_two n (inl h) = subst (λ n. is_xts_key_length n ≡ true) (sym h) ref
 is_one_of_two n (inr h) = subst (λ n. is_xts_key_length n ≡ true) (sym h) refl
 
 -- the key slots that are tried can be, where their key material is held
-pub All-IsTriable : (header : Header) (segment : Segment) (named limit : Option ℕ) (tries : Tries) (held : ℕ) → segment_of header ≡ Ok segment
-    → order_of header named limit ≡ Ok tries → held_of tries.slots ≤ held → All (λ (entry : Entry). IsTriable held entry.slot) tries.slots
+pub All-IsTriable : (header : Header) (segment : Segment) (named limit : Option ℕ) (tries : Tries) (held : ℕ)
+    → segment_of header ≡ Ok segment
+    → order_of header named limit ≡ Ok tries → held_of tries.slots ≤ held
+    → All (λ (entry : Entry). IsTriable held entry.slot) tries.slots
 All-IsTriable header segment named limit tries held is_segment is_order there =
     All-from_recursion (λ (entry : Entry). IsTriable held entry.slot) tries.slots
     (of_entries tries.slots (All-tries header named limit tries is_order) (All-held_of held tries.slots there))
@@ -36,7 +38,8 @@ All-IsTriable header segment named limit tries held is_segment is_order there =
           there = ends;
         }
 
-    of_entries : (entries : List Entry) → AllByRecursion (IsOf header limit) entries → AllByRecursion (λ (entry : Entry). end_of entry.slot ≤ held) entries
+    of_entries : (entries : List Entry) → AllByRecursion (IsOf header limit) entries
+        → AllByRecursion (λ (entry : Entry). end_of entry.slot ≤ held) entries
         → AllByRecursion (λ (entry : Entry). IsTriable held entry.slot) entries
     of_entries [] all ends = tt
     of_entries (entry ∷ entries) all ends = (of_entry entry all.0 ends.0, of_entries entries all.1 ends.1)

@@ -1,5 +1,5 @@
--- What key a passphrase gives by a key slot, and whether it is the volume's (LUKS1 On-Disk Format Specification 1.2.3, "Master key recovery").
--- Stripes are those of the same standard, PBKDF2 is that of RFC 8018 and XTS that of IEEE 1619.
+-- What key a passphrase gives by a key slot, and whether it is the volume's (LUKS1 On-Disk Format Specification 1.2.3,
+-- "Master key recovery"). Stripes are those of the same standard, PBKDF2 is that of RFC 8018 and XTS that of IEEE 1619.
 use Rattle.std.specs.Prelude.{ℕ, ◌+◌, ◌*◌, ◌/◌, Bool, false, bytes_eq, List, Option, Some, None, length, take}
 use Rattle.luks_cipher.specs.Xts.{joined, xts_decrypted}
 use Rattle.luks_kdf.specs.Pbkdf2.{derived_key}
@@ -10,7 +10,8 @@ use Rattle.luks_verdict.specs.Rule.{need_of}
 use Rattle.luks_verdict.specs.declared.digest.KeyDigest.{KeyDigest}
 use Rattle.luks_verdict.specs.declared.slot.Slot.{Slot}
 
--- sector i of key material from `offset` on, decrypted: the sectors have 512 bytes and are numbered from the material's start
+-- sector i of key material from `offset` on, decrypted: the sectors have 512 bytes and are numbered from the material's
+-- start
 abbrev pub material_sector : List ℕ → List ℕ → ℕ → ℕ → List ℕ
 material_sector key image offset i = xts_decrypted key i (at (offset + 512 * i) 512 image)
 
@@ -26,7 +27,8 @@ unlocked af key image offset key_bytes stripes =
 -- the key that a key slot's material holds under a passphrase, by these hash functions
 abbrev pub candidate_by : Option Hash → Option Hash → Slot → List ℕ → List ℕ → Option (List ℕ)
 candidate_by (Some kdf) (Some af) slot image pass =
-    Some (unlocked af (derived_key kdf pass slot.salt slot.iterations slot.area_key_bytes) image slot.area_offset slot.key_bytes slot.stripes)
+    Some (unlocked af (derived_key kdf pass slot.salt slot.iterations slot.area_key_bytes) image slot.area_offset
+    slot.key_bytes slot.stripes)
 candidate_by (Some kdf) None slot image pass = None
 candidate_by None af slot image pass = None
 
@@ -36,7 +38,8 @@ candidate_of slot image pass = candidate_by slot.kdf_hash slot.af_hash slot imag
 
 -- by this hash function PBKDF2 of the key gives the whole value
 abbrev pub meets_by : Option Hash → KeyDigest → List ℕ → Bool
-meets_by (Some hash) digest key = bytes_eq (derived_key hash key digest.salt digest.iterations (length digest.value)) digest.value
+meets_by (Some hash) digest key =
+    bytes_eq (derived_key hash key digest.salt digest.iterations (length digest.value)) digest.value
 meets_by None digest key = false
 
 -- the key meets the digest

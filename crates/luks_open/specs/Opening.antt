@@ -29,7 +29,8 @@ opened_or number None further = further
 -- the first of these key slots that opens, and the volume key that it gives
 unfoldable pub first_opening : List Entry → List ℕ → List ℕ → Option Opened
 first_opening [] image pass = None
-first_opening (entry ∷ entries) image pass = opened_or entry.number (key_of entry image pass) (first_opening entries image pass)
+first_opening (entry ∷ entries) image pass =
+    opened_or entry.number (key_of entry image pass) (first_opening entries image pass)
 
 -- what is opened, where something is
 abbrev pub answer_of : Option Opened → List (ℕ × SkipReason) → Result Opened OpenFault
@@ -54,7 +55,8 @@ evaluations_of entry =
 -- the key slots that are tried: up to the first that opens, or all
 unfoldable pub tried_of : List Entry → List ℕ → List ℕ → List Entry
 tried_of [] image pass = []
-tried_of (entry ∷ entries) image pass = entry ∷ (if is_some (key_of entry image pass) then [] else tried_of entries image pass)
+tried_of (entry ∷ entries) image pass = entry
+    ∷ (if is_some (key_of entry image pass) then [] else tried_of entries image pass)
 
 -- the evaluations of HMAC that opening takes: those of all key slots that are tried
 unfoldable pub work_of : Tries → List ℕ → List ℕ → ℕ

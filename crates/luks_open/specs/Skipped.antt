@@ -19,7 +19,9 @@ pub record IsFilled (places : List (ℕ × SkipReason)) (taken : ℕ) : Type 0 w
   pub others : places ≡ take taken places ++ replicate (32 - taken) nothing
 
 -- the places that hold the list of those that are taken are the same
-pub filled_up_again : {T : Type 0} (make : List (ℕ × SkipReason) → ℕ → T) (places : List (ℕ × SkipReason)) (taken : ℕ) → IsFilled places taken
+pub filled_up_again : {T : Type 0} (make : List (ℕ × SkipReason) → ℕ → T) (places : List (ℕ × SkipReason)) (taken : ℕ)
+    → IsFilled places taken
     → make (filled_up (take taken places)) (length (take taken places)) ≡ make places taken
 filled_up_again make places taken filled =
-    ap (λ n. make (take taken places ++ replicate (32 - n) nothing) n) filled.there ∙ ap (λ all. make all taken) (sym filled.others)
+    ap (λ n. make (take taken places ++ replicate (32 - n) nothing) n) filled.there
+    ∙ ap (λ all. make all taken) (sym filled.others)

@@ -5,7 +5,8 @@ use Rattle.luks_kdf.specs.declared.hash.Hash.{Hash}
 use Rattle.luks_verdict.specs.Slot.{end_of}
 use Rattle.luks_verdict.specs.declared.slot.Slot.{Slot}
 
--- the hash functions of a key slot are known ones, its keys have lengths that XTS has, and its key material ends within the
+-- the hash functions of a key slot are known ones, its keys have lengths that XTS has, and its key material ends within
+-- the
 -- `held` bytes
 pub record IsTriable (held : ℕ) (slot : Slot) : Type 0 where
   pub kdf : (hash : Hash) × (slot.kdf_hash ≡ Some hash)

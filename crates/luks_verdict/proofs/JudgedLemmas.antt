@@ -9,7 +9,8 @@ use Rattle.luks_verdict.specs.declared.slot.Judgement.TheVariants.{Usable as Ope
 use Rattle.luks_verdict.specs.declared.refusal.SkipReason.{SkipReason}
 
 -- of a slot that is judged one that can be tried, there is what it takes to open it
-pub usable_from_open : (verdict : Option Verdict) (priority : ℕ) → option_map judgement_of verdict ≡ Some (Open priority)
+pub usable_from_open : (verdict : Option Verdict) (priority : ℕ)
+    → option_map judgement_of verdict ≡ Some (Open priority)
     → (slot : Slot) × (verdict ≡ Some (Usable slot)) × (slot.priority ≡ priority)
 usable_from_open (Some (Usable slot)) priority is = (slot, refl, cc)
 usable_from_open (Some Disabled) priority is = absurd cc
@@ -17,14 +18,16 @@ usable_from_open (Some (Skipped reason)) priority is = absurd cc
 usable_from_open None priority is = absurd cc
 
 -- of one that is not in use
-pub unused_from_unused : (verdict : Option Verdict) → option_map judgement_of verdict ≡ Some Unused → verdict ≡ Some Disabled
+pub unused_from_unused : (verdict : Option Verdict) → option_map judgement_of verdict ≡ Some Unused
+    → verdict ≡ Some Disabled
 unused_from_unused (Some (Usable slot)) is = absurd cc
 unused_from_unused (Some Disabled) is = refl
 unused_from_unused (Some (Skipped reason)) is = absurd cc
 unused_from_unused None is = absurd cc
 
 -- of one that is skipped
-pub skipped_from_shut : (verdict : Option Verdict) (reason : SkipReason) → option_map judgement_of verdict ≡ Some (Shut reason) → verdict ≡ Some (Skipped reason)
+pub skipped_from_shut : (verdict : Option Verdict) (reason : SkipReason)
+    → option_map judgement_of verdict ≡ Some (Shut reason) → verdict ≡ Some (Skipped reason)
 skipped_from_shut (Some (Usable slot)) reason is = absurd cc
 skipped_from_shut (Some Disabled) reason is = absurd cc
 skipped_from_shut (Some (Skipped other)) reason is = cc

@@ -52,7 +52,8 @@ made parts range = record {
   in_range = range;
 }
 
-pub slot_made : (parts : SlotParts) (range : InRange parts.iterations parts.stripes (parts_end parts)) → are_in_range parts ≡ true
+pub slot_made : (parts : SlotParts) (range : InRange parts.iterations parts.stripes (parts_end parts))
+    → are_in_range parts ≡ true
     → Some record {
       priority = parts.priority;
       kdf_hash = parts.kdf_hash;
@@ -69,10 +70,12 @@ pub slot_made : (parts : SlotParts) (range : InRange parts.iterations parts.stri
 unfolding made slot_of
 slot_made parts range is =
     let all : IsProp (InRange parts.iterations parts.stripes (parts_end parts)) = hlevel (le_prop) in
-    ap (λ (r : InRange parts.iterations parts.stripes (parts_end parts)). Some (made parts r)) (all range (in_range parts.iterations parts.stripes (parts_end parts) is))
+    ap (λ (r : InRange parts.iterations parts.stripes (parts_end parts)). Some (made parts r))
+    (all range (in_range parts.iterations parts.stripes (parts_end parts) is))
     ∙ sym (slot_from-yes parts is)
 
-pub digest_from-yes : (parts : DigestParts) (is : is_usable parts ≡ true) → digest_from parts ≡ Some (digest_of parts is)
+pub digest_from-yes : (parts : DigestParts) (is : is_usable parts ≡ true)
+    → digest_from parts ≡ Some (digest_of parts is)
 unfolding digest_from
 digest_from-yes parts is = ap (option_map (digest_of parts)) (where_true-yes (is_usable parts) is)
 
@@ -81,53 +84,79 @@ unfolding digest_from
 digest_from-no parts is = ap (option_map (digest_of parts)) (where_true-no (is_usable parts) is)
 
 made_digest : (parts : DigestParts) → IsDigest parts.iterations (length parts.value) → KeyDigest
-made_digest parts usable = record { hash = parts.hash; iterations = parts.iterations; salt = parts.salt; value = parts.value; usable = usable }
+made_digest parts usable =
+    record { hash = parts.hash; iterations = parts.iterations; salt = parts.salt; value = parts.value; usable = usable }
 
-pub digest_made : (parts : DigestParts) (usable : IsDigest parts.iterations (length parts.value)) → is_usable parts ≡ true
-    → Some record { hash = parts.hash; iterations = parts.iterations; salt = parts.salt; value = parts.value; usable = usable } ≡ digest_from parts
+pub digest_made : (parts : DigestParts) (usable : IsDigest parts.iterations (length parts.value))
+    → is_usable parts ≡ true
+    → Some record {
+      hash = parts.hash;
+      iterations = parts.iterations;
+      salt = parts.salt;
+      value = parts.value;
+      usable =
+          usable;
+    } ≡ digest_from parts
 unfolding made_digest digest_of
 digest_made parts usable is =
     let all : IsProp (IsDigest parts.iterations (length parts.value)) = hlevel (le_prop) in
-    ap (λ (u : IsDigest parts.iterations (length parts.value)). Some (made_digest parts u)) (all usable (usable_digest parts.iterations (length parts.value) is))
+    ap (λ (u : IsDigest parts.iterations (length parts.value)). Some (made_digest parts u))
+    (all usable (usable_digest parts.iterations (length parts.value) is))
     ∙ sym (digest_from-yes parts is)
 
-pub segment_of_all-yes : (offset : ℕ) (size : Option ℕ) (iv_tweak : ℕ) (sector_size : SectorSize) (is : are_sectors size sector_size ≡ true)
-    → segment_of_all (Some offset) (Some size) (Some iv_tweak) (Some sector_size) ≡ Some (segment_with offset size iv_tweak sector_size is)
+pub segment_of_all-yes : (offset : ℕ) (size : Option ℕ) (iv_tweak : ℕ) (sector_size : SectorSize)
+    (is : are_sectors size sector_size ≡ true)
+    → segment_of_all (Some offset) (Some size) (Some iv_tweak) (Some sector_size)
+    ≡ Some (segment_with offset size iv_tweak sector_size is)
 unfolding segment_of_all
 segment_of_all-yes offset size iv_tweak sector_size is =
     ap (option_map (segment_with offset size iv_tweak sector_size)) (where_true-yes (are_sectors size sector_size) is)
 
-pub segment_of_all-no : (offset : ℕ) (size : Option ℕ) (iv_tweak : ℕ) (sector_size : SectorSize) → are_sectors size sector_size ≡ false
+pub segment_of_all-no : (offset : ℕ) (size : Option ℕ) (iv_tweak : ℕ) (sector_size : SectorSize)
+    → are_sectors size sector_size ≡ false
     → segment_of_all (Some offset) (Some size) (Some iv_tweak) (Some sector_size) ≡ None
 unfolding segment_of_all
 segment_of_all-no offset size iv_tweak sector_size is =
     ap (option_map (segment_with offset size iv_tweak sector_size)) (where_true-no (are_sectors size sector_size) is)
 
-made_segment : (offset : ℕ) (size : Option ℕ) (iv_tweak : ℕ) (sector_size : SectorSize) → ForSome size (λ bytes. bytes % bytes_of sector_size ≡ 0) → Segment
+made_segment : (offset : ℕ) (size : Option ℕ) (iv_tweak : ℕ) (sector_size : SectorSize)
+    → ForSome size (λ bytes. bytes % bytes_of sector_size ≡ 0) → Segment
 made_segment offset size iv_tweak sector_size whole =
     record { offset = offset; size = size; iv_tweak = iv_tweak; sector_size = sector_size; whole_sectors = whole }
 
-pub segment_made : (offset : ℕ) (size : Option ℕ) (iv_tweak : ℕ) (sector_size : SectorSize) (whole : ForSome size (λ bytes. bytes % bytes_of sector_size ≡ 0))
+pub segment_made : (offset : ℕ) (size : Option ℕ) (iv_tweak : ℕ) (sector_size : SectorSize)
+    (whole : ForSome size (λ bytes. bytes % bytes_of sector_size ≡ 0))
     → are_sectors size sector_size ≡ true
-    → Some record { offset = offset; size = size; iv_tweak = iv_tweak; sector_size = sector_size; whole_sectors = whole }
+    → Some record {
+      offset = offset;
+      size = size;
+      iv_tweak = iv_tweak;
+      sector_size = sector_size;
+      whole_sectors =
+          whole;
+    }
     ≡ segment_of_all (Some offset) (Some size) (Some iv_tweak) (Some sector_size)
 unfolding made_segment segment_with
 segment_made offset size iv_tweak sector_size whole is =
     let all : IsProp (ForSome size (λ bytes. bytes % bytes_of sector_size ≡ 0)) = hlevel (ℕ_set) in
-    ap (λ (w : ForSome size (λ bytes. bytes % bytes_of sector_size ≡ 0)). Some (made_segment offset size iv_tweak sector_size w)) (all whole (whole_sectors size sector_size is))
+    ap (λ (w : ForSome size (λ bytes. bytes % bytes_of sector_size ≡ 0)). Some
+    (made_segment offset size iv_tweak sector_size w)) (all whole (whole_sectors size sector_size is))
     ∙ sym (segment_of_all-yes offset size iv_tweak sector_size is)
 
 -- whether a slot is tried against the digest of which this was read
-pub undigested-yes : (limit : Option ℕ) (parts : DigestParts) → is_usable parts ≡ true → is_undigested limit (digest_from parts) ≡ is_beyond limit parts.iterations
+pub undigested-yes : (limit : Option ℕ) (parts : DigestParts) → is_usable parts ≡ true
+    → is_undigested limit (digest_from parts) ≡ is_beyond limit parts.iterations
 unfolding is_undigested digest_of
 undigested-yes limit parts is = ap (is_undigested limit) (digest_from-yes parts is)
 
-pub undigested-no : (limit : Option ℕ) (parts : DigestParts) → is_usable parts ≡ false → is_undigested limit (digest_from parts) ≡ true
+pub undigested-no : (limit : Option ℕ) (parts : DigestParts) → is_usable parts ≡ false
+    → is_undigested limit (digest_from parts) ≡ true
 unfolding is_undigested
 undigested-no limit parts is = ap (is_undigested limit) (digest_from-no parts is)
 
 -- a digest that was made has the numbers that were read
-pub digest_from-some : (parts : DigestParts) (digest : KeyDigest) → digest_from parts ≡ Some digest → (is : is_usable parts ≡ true) × (digest ≡ digest_of parts is)
+pub digest_from-some : (parts : DigestParts) (digest : KeyDigest) → digest_from parts ≡ Some digest
+    → (is : is_usable parts ≡ true) × (digest ≡ digest_of parts is)
 digest_from-some parts digest made = of_test (is_usable parts) refl
   where
     of_test : (test : Bool) → is_usable parts ≡ test → (is : is_usable parts ≡ true) × (digest ≡ digest_of parts is)

@@ -27,7 +27,8 @@ pub rising_not : {T : Type 0} (f : ℕ → Option T) (n : ℕ) → f n ≡ None 
 rising_not f n none = rising_more f n ∙ (ap (λ o. rising f n ++ cons_option o []) none ∙ append-nil (rising f n))
 
 -- of which something is made
-pub rising_one : {T : Type 0} (f : ℕ → Option T) (n : ℕ) (x : T) → f n ≡ Some x → rising f (n + 1) ≡ rising f n ++ x ∷ []
+pub rising_one : {T : Type 0} (f : ℕ → Option T) (n : ℕ) (x : T) → f n ≡ Some x
+    → rising f (n + 1) ≡ rising f n ++ x ∷ []
 rising_one f n x one = rising_more f n ∙ ap (λ o. rising f n ++ cons_option o []) one
 
 -- no more than there are numbers
@@ -41,15 +42,18 @@ length-rising {T = T} f (suc n) = of_one (f n) (length-rising f n)
     of_one (Some x) few = omega (arith, length-append (rising f n) (x ∷ []))
 
 -- what holds of each of two lists holds of both together
-pub AllByRecursion-append : {X : Type 0} (P : X → Type 0) (xs ys : List X) → AllByRecursion P xs → AllByRecursion P ys → AllByRecursion P (xs ++ ys)
+pub AllByRecursion-append : {X : Type 0} (P : X → Type 0) (xs ys : List X) → AllByRecursion P xs → AllByRecursion P ys
+    → AllByRecursion P (xs ++ ys)
 AllByRecursion-append P [] ys all others = others
 AllByRecursion-append P (x ∷ xs) ys all others = (all.0, AllByRecursion-append P xs ys all.1 others)
 
 -- what holds of whatever is made holds of all that is made
-pub All-rising : {X : Type 0} (P : X → Type 0) (f : ℕ → Option X) (n : ℕ) → ((i : ℕ) (x : X) → f i ≡ Some x → P x) → AllByRecursion P (rising f n)
+pub All-rising : {X : Type 0} (P : X → Type 0) (f : ℕ → Option X) (n : ℕ) → ((i : ℕ) (x : X) → f i ≡ Some x → P x)
+    → AllByRecursion P (rising f n)
 unfolding rising
 All-rising P f zero each = tt
-All-rising {X = X} P f (suc n) each = AllByRecursion-append P (rising f n) (cons_option (f n) []) (All-rising P f n each) (of_one (f n) refl)
+All-rising {X = X} P f (suc n) each =
+    AllByRecursion-append P (rising f n) (cons_option (f n) []) (All-rising P f n each) (of_one (f n) refl)
   where
     of_one : (o : Option X) → f n ≡ o → AllByRecursion P (cons_option o [])
     of_one None is = tt

@@ -1,5 +1,5 @@
--- Rules that hold for both formats. They speak of numbers: of a limit and a start of the payload that may be missing, and of an
--- area's own size.
+-- Rules that hold for both formats. They speak of numbers: of a limit and a start of the payload that may be missing,
+-- and of an area's own size.
 use Rattle.std.specs.Prelude.{◌≡◌, ℕ, ◌+◌, ◌*◌, ◌/◌, ◌≤◌, ◌==◌, ◌&&◌, ◌||◌, not, nat_lt, Bool, true, false, Option, Some, None}
 use Rattle.std.proofs.Common.{arith}
 use Rattle.std.proofs.lemmas.Bool.Decides.{nat_tests}
@@ -45,19 +45,21 @@ is_unstriped stripes = stripes == 0 || nat_lt most_stripes stripes
 unfoldable pub need_of : ℕ → ℕ → ℕ
 need_of key_bytes stripes = (key_bytes * stripes + 511) / 512 * 512
 
--- key material from `offset` on does not fit: it starts below `start`, its area has fewer bytes than it needs, or it ends past the
--- payload's start, where that is known, or past what is held of an image
+-- key material from `offset` on does not fit: it starts below `start`, its area has fewer bytes than it needs, or it
+-- ends past the payload's start, where that is known, or past what is held of an image
 unfoldable pub is_misplaced : ℕ → Option ℕ → ℕ → ℕ → ℕ → Bool
 is_misplaced start payload offset size need =
     nat_lt offset start || nat_lt size need || exceeds payload (offset + need) || nat_lt longest_area (offset + need)
 
 -- the numbers of a slot are in range: its iterations, its stripes and where its key material ends
 unfoldable pub is_in_range : ℕ → ℕ → ℕ → Bool
-is_in_range iterations stripes end = not (is_beyond None iterations) && not (is_unstriped stripes) && not (nat_lt longest_area end)
+is_in_range iterations stripes end = not (is_beyond None iterations) && not (is_unstriped stripes)
+    && not (nat_lt longest_area end)
 
 -- a digest of so many iterations and bytes can be used
 unfoldable pub is_digest : ℕ → ℕ → Bool
-is_digest iterations len = not (is_beyond None iterations) && not (nat_lt len least_digest) && not (nat_lt most_digest len)
+is_digest iterations len = not (is_beyond None iterations) && not (nat_lt len least_digest)
+    && not (nat_lt most_digest len)
 
 -- what it says that the numbers of a slot are in range
 pub record InRange (iterations stripes end : ℕ) : Type 0 where

@@ -9,7 +9,8 @@ use Rattle.luks_verdict.specs.declared.segment.Segment.{Segment}
 use Rattle.luks_verdict.specs.declared.segment.SegmentParts.{SegmentParts}
 
 -- the segment of these numbers, whose length is one of whole sectors
-unfoldable pub segment_with : (offset : ℕ) (size : Option ℕ) (iv_tweak : ℕ) (sector_size : SectorSize) → are_sectors size sector_size ≡ true → Segment
+unfoldable pub segment_with : (offset : ℕ) (size : Option ℕ) (iv_tweak : ℕ) (sector_size : SectorSize)
+    → are_sectors size sector_size ≡ true → Segment
 segment_with offset size iv_tweak sector_size is = record {
   offset = offset;
   size = size;

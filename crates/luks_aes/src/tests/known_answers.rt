@@ -1,6 +1,6 @@
-//! NIST's known answers for AES (the CAVP's sets GFSbox and KeySbox whole, and 16 each of VarKey and
-//! VarTxt), as Debian's package python3-cryptography-vectors has them. A line is a key, a block and that
-//! block encrypted.
+//! NIST's known answers for AES (the CAVP's sets GFSbox and KeySbox whole, and 16 each of VarKey
+//! and VarTxt), as Debian's package python3-cryptography-vectors has them. A line is a key, a block
+//! and that block encrypted.
 
 pub const AES_128: &str = "\
 00000000000000000000000000000000 f34481ec3cc627bacd5dc3fb08f273e6 0336763e966d92595a567cc9ce537f5e

@@ -137,7 +137,8 @@ fn sectors(rt: HostRuntime) -> Result<(), Fail> {
     Ok(())
 }
 
-// Worked by hand: in CBC under the bytes 00 to 0f, FIPS 197's example block comes out of each of these.
+// Worked by hand: in CBC under the bytes 00 to 0f, FIPS 197's example block comes out of each of
+// these.
 const WORKED: &str = "\
 cbc-plain64 000102030405060708090a0b0c0d0e0f 0 00112233445566778899aabbccddeeff69d5c2eb2e2e624750541d3bbc692ba5 69c4e0d86a7b0430d8cdb78070b4c55a69c4e0d86a7b0430d8cdb78070b4c55a
 cbc-plain64 000102030405060708090a0b0c0d0e0f 1 01112233445566778899aabbccddeeff 69c4e0d86a7b0430d8cdb78070b4c55a

@@ -5,4 +5,13 @@ use Rattle.luks1_header.proofs.header.key_slots.Goals as goal
 pub returns : goal.returns
 unfolding key_slots_of
 returns c =
-    rw (c.key_slot.ensures, c.key_slot-2.ensures, c.key_slot-3.ensures, c.key_slot-4.ensures, c.key_slot-5.ensures, c.key_slot-6.ensures, c.key_slot-7.ensures, c.key_slot-8.ensures) refl
+    rw (
+      c.key_slot.ensures,
+      c.key_slot-2.ensures,
+      c.key_slot-3.ensures,
+      c.key_slot-4.ensures,
+      c.key_slot-5.ensures,
+      c.key_slot-6.ensures,
+      c.key_slot-7.ensures,
+      c.key_slot-8.ensures,
+    ) refl

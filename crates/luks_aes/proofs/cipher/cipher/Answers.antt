@@ -5,7 +5,8 @@ use Rattle.luks_aes.proofs.cipher.cipher.Goals as goal
 
 pub loop-round-init : goal.loop-round-init
 unfolding state_after
-loop-round-init c = c.with_round_key-state.ensures ∙ ap (λ s. add_round_key s c.args.schedule.now 0) c.columns_of.ensures
+loop-round-init c = c.with_round_key-state.ensures
+    ∙ ap (λ s. add_round_key s c.args.schedule.now 0) c.columns_of.ensures
 
 pub loop-round-preserved : goal.loop-round-preserved
 loop-round-preserved c =
@@ -23,4 +24,5 @@ returns c =
     let last : c.loop-round.round ≡ c.args.rounds = omega arith in
     let state = c.bytes_of-last.ensures ∙ c.loop-round.invariant ∙ ap (λ n. state_after c.args.block w (n - 1)) last in
     c.add_round_key.ensures
-    ∙ ap (λ s. add_round_key s w c.args.rounds) (c.shift_rows.ensures ∙ ap shift_rows (c.sub_bytes.ensures ∙ ap sub_bytes state))
+    ∙ ap (λ s. add_round_key s w c.args.rounds)
+    (c.shift_rows.ensures ∙ ap shift_rows (c.sub_bytes.ensures ∙ ap sub_bytes state))

@@ -10,8 +10,12 @@ use Rattle.luks_aes.proofs.cipher.inv_cipher.Goals as goal
 pub loop-round-init : goal.loop-round-init
 unfolding inv_state_after
 loop-round-init c =
-    let none : c.args.rounds - c.args.rounds ≡ 0 = omega arith in
-    (omega arith, rw none (c.with_round_key-state.ensures ∙ ap (λ s. add_round_key s c.args.schedule.now c.args.rounds) c.columns_of.ensures))
+    let none : c.args.rounds - c.args.rounds ≡ 0 = omega arith in (
+      omega arith,
+      rw none
+          (c.with_round_key-state.ensures
+          ∙ ap (λ s. add_round_key s c.args.schedule.now c.args.rounds) c.columns_of.ensures),
+    )
 
 pub loop-round-preserved : goal.loop-round-preserved
 loop-round-preserved c =
@@ -22,9 +26,11 @@ loop-round-preserved c =
     let bytes : IsBytes w = record { each = λ i. search rules } in
     let shifted = inv_sub_bytes_state _ (inv_shift_rows_state _ (spelt_state c.loop-round.state)) in (
       omega arith,
-      c.with_round_key-state-in-loop-round.ensures ∙ ap (λ s. add_round_key s u (round - 1)) c.unmixed_columns-substituted.ensures
+      c.with_round_key-state-in-loop-round.ensures
+          ∙ ap (λ s. add_round_key s u (round - 1)) c.unmixed_columns-substituted.ensures
           ∙ sym (round_key_unmixed _ w u _ (round - 1) shifted bytes c.requires.products (omega arith))
-          ∙ inv_round_after c.args.block w _ nr (nr - round) (nr - (round - 1)) (round - 1) c.loop-round.invariant.1 (omega arith) (omega arith),
+          ∙ inv_round_after c.args.block w _ nr (nr - round) (nr - (round - 1)) (round - 1) c.loop-round.invariant.1
+          (omega arith) (omega arith),
     )
 
 pub returns : goal.returns
@@ -32,6 +38,8 @@ unfolding inv_cipher
 returns c =
     let w = c.args.schedule.now in
     let last : c.args.rounds - c.loop-round.round ≡ c.args.rounds - 1 = omega arith in
-    let state = c.bytes_of-last.ensures ∙ c.loop-round.invariant.1 ∙ ap (inv_state_after c.args.block c.args.rounds w) last in
+    let state = c.bytes_of-last.ensures ∙ c.loop-round.invariant.1
+    ∙ ap (inv_state_after c.args.block c.args.rounds w) last in
     c.add_round_key.ensures
-    ∙ ap (λ s. add_round_key s w 0) (c.inv_sub_bytes.ensures ∙ ap inv_sub_bytes (c.inv_shift_rows.ensures ∙ ap inv_shift_rows state))
+    ∙ ap (λ s. add_round_key s w 0)
+    (c.inv_sub_bytes.ensures ∙ ap inv_sub_bytes (c.inv_shift_rows.ensures ∙ ap inv_shift_rows state))

@@ -11,6 +11,8 @@ returns c =
     let second : at + 1 ≡ 1 + at = omega arith in
     let third : at + 2 ≡ 2 + at = omega arith in
     let fourth : at + 3 ≡ 3 + at = omega arith in
-    le_bytes_4 (slice_index bytes at ∷ slice_index bytes (at + 1) ∷ slice_index bytes (at + 2) ∷ slice_index bytes (at + 3) ∷ [])
+    le_bytes_4 (slice_index bytes at ∷ slice_index bytes (at + 1) ∷ slice_index bytes (at + 2)
+    ∷ slice_index bytes (at + 3) ∷ [])
     c.from_le_bytes.result refl (search rules) c.from_le_bytes.ensures
-    ∙ (λ i. slice_index bytes (first i) ∷ slice_index bytes (second i) ∷ slice_index bytes (third i) ∷ slice_index bytes (fourth i) ∷ [])
+    ∙ (λ i. slice_index bytes (first i) ∷ slice_index bytes (second i) ∷ slice_index bytes (third i)
+    ∷ slice_index bytes (fourth i) ∷ [])

@@ -6,5 +6,6 @@ use Rattle.luks_aes.proofs.columns.columns_of.Goals as goal
 pub returns : goal.returns
 unfolding spelt
 returns c =
-    (λ i. c.column_from.ensures i ++ (c.column_from-2.ensures i ++ (c.column_from-3.ensures i ++ c.column_from-4.ensures i)))
+    (λ i. c.column_from.ensures i
+    ++ (c.column_from-2.ensures i ++ (c.column_from-3.ensures i ++ c.column_from-4.ensures i)))
     ∙ sym (whole_state c.args.block (omega arith))

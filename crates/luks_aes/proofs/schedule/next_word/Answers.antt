@@ -21,11 +21,13 @@ returns c =
           let not_first : eqb place 0 ≡ false = ne_eqb place 0 w.if-i-key_words-eq0.false in
           elim w.else-key_words-gt-PLAIN_WORDS.branch [
             | else-key_words-gt-PLAIN_WORDS-via-then-key_words-gt-PLAIN_WORDS+else-i-key_words-eq4 v ↦
-                let long : ltb 6 c.args.key_words ≡ true = lt-ltb 6 c.args.key_words v.if-key_words-gt-PLAIN_WORDS.true in
+                let long : ltb 6 c.args.key_words
+                ≡ true = lt-ltb 6 c.args.key_words v.if-key_words-gt-PLAIN_WORDS.true in
                 let not_middle : eqb place 4 ≡ false = ne_eqb place 4 v.if-i-key_words-eq4.false in
                 rw (not_first, long, not_middle) cc
             | else-key_words-gt-PLAIN_WORDS-via-else-key_words-gt-PLAIN_WORDS v ↦
-                let short : ltb 6 c.args.key_words ≡ false = le-ltb 6 c.args.key_words v.if-key_words-gt-PLAIN_WORDS.false in
+                let short : ltb 6 c.args.key_words
+                ≡ false = le-ltb 6 c.args.key_words v.if-key_words-gt-PLAIN_WORDS.false in
                 rw (not_first, short) cc
           ]
     ]

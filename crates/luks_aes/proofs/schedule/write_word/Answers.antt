@@ -10,7 +10,13 @@ returns c =
     let at = 4 * c.args.i in
     let old = c.args.schedule.now in
     let word = c.copy_from_slice.new.self in
-    let four : length word ≡ 4 = omega (arith, c.copy_from_slice.ensures.len, length-take (at + 4 - at) (drop at old), length-drop at old) in
+    let four : length word
+    ≡ 4 = omega (
+      arith,
+      c.copy_from_slice.ensures.len,
+      length-take (at + 4 - at) (drop at old),
+      length-drop at old,
+    ) in
     let place : length (take at old) / 4 ≡ c.args.i = rw (length-take-le at old (omega arith)) (omega arith) in
     take-put_mid at (at + 4 - at) old word (at + 4) (omega arith) (omega arith)
     ∙ rw place (ap (λ w. take at old ++ w) (c.copy_from_slice.ensures.after ∙ c.next_word-word.ensures))

@@ -7,7 +7,9 @@ pub loop-i-init : goal.loop-i-init
 loop-i-init c = filled_none _ _ refl
 
 pub loop-i-preserved : goal.loop-i-preserved
-loop-i-preserved c = filled_more _ _ _ _ c.loop-i.invariant (omega arith) (c.inv_sbox.ensures ∙ ap inv_sbox (cell_at c.args.s c.loop-i.i))
+loop-i-preserved c =
+    filled_more _ _ _ _ c.loop-i.invariant (omega arith)
+    (c.inv_sbox.ensures ∙ ap inv_sbox (cell_at c.args.s c.loop-i.i))
 
 pub returns : goal.returns
 unfolding inv_sub_bytes

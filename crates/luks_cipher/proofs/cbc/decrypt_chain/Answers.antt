@@ -24,16 +24,19 @@ loop-j-preserved c =
       bytes = before.bytes;
       vector = before.vector;
       last = rw add-one (c.decrypt_link-next.ensures.next ∙ block);
-      done = done_more _ _ _ _ j before.done (omega arith) (omega arith) (c.decrypt_link-next.ensures.value ∙ rw (block, last) refl);
+      done = done_more _ _ _ _ j before.done (omega arith) (omega arith)
+          (c.decrypt_link-next.ensures.value ∙ rw (block, last) refl);
     }
 
 pub returns-clause-value : goal.returns-clause-value
 unfolding cbc_decrypted
 returns-clause-value c =
     let last = c.loop-j.j in
-    done_all _ c.args.unit.now c.loop-j.unit last (length c.args.unit.now / 16) c.loop-j.invariant.done (omega arith) (omega arith)
+    done_all _ c.args.unit.now c.loop-j.unit last (length c.args.unit.now / 16) c.loop-j.invariant.done (omega arith)
+    (omega arith)
 
 pub returns-clause-undone : goal.returns-clause-undone
 returns-clause-undone c = λ keys.
     ap (cbc_encrypted c.args.key.now c.args.vector) (returns-clause-value c)
-    ∙ cbc_encrypted-cbc_decrypted c.args.key.now c.args.vector c.args.unit.now keys c.loop-j.invariant.vector c.loop-j.invariant.bytes (omega arith)
+    ∙ cbc_encrypted-cbc_decrypted c.args.key.now c.args.vector c.args.unit.now keys c.loop-j.invariant.vector
+    c.loop-j.invariant.bytes (omega arith)

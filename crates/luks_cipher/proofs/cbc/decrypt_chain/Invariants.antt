@@ -13,5 +13,6 @@ invariant-loop-j l = record {
   bytes : IsBytes l.fn.unit;
   vector : IsState l.fn.vector;
   last : l.before ≡ block_before l.fn.vector l.fn.unit l.j;
-  done : IsDoneBefore (λ j. block_sum (decrypted l.key (block_at l.fn.unit j)) (block_before l.fn.vector l.fn.unit j)) l.fn.unit l.unit l.j;
+  done : IsDoneBefore (λ j. block_sum (decrypted l.key (block_at l.fn.unit j)) (block_before l.fn.vector l.fn.unit j))
+      l.fn.unit l.unit l.j;
 }

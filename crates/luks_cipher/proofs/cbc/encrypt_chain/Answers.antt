@@ -32,9 +32,11 @@ pub returns-clause-value : goal.returns-clause-value
 unfolding cbc_encrypted
 returns-clause-value c =
     let last = c.loop-j.j in
-    done_all _ c.args.unit.now c.loop-j.unit last (length c.args.unit.now / 16) c.loop-j.invariant.done (omega arith) (omega arith)
+    done_all _ c.args.unit.now c.loop-j.unit last (length c.args.unit.now / 16) c.loop-j.invariant.done (omega arith)
+    (omega arith)
 
 pub returns-clause-undone : goal.returns-clause-undone
 returns-clause-undone c = λ keys.
     ap (cbc_decrypted c.args.key.now c.args.vector) (returns-clause-value c)
-    ∙ cbc_decrypted-cbc_encrypted c.args.key.now c.args.vector c.args.unit.now keys c.loop-j.invariant.vector c.loop-j.invariant.bytes (omega arith)
+    ∙ cbc_decrypted-cbc_encrypted c.args.key.now c.args.vector c.args.unit.now keys c.loop-j.invariant.vector
+    c.loop-j.invariant.bytes (omega arith)

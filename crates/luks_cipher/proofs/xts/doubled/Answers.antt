@@ -13,6 +13,7 @@ returns c =
     let next : bit_xor (number * 2 % 2 ^ 128) c.if-number-eq0.reduction ≡ doubled_number number =
     elim c.if-number-eq0.branch [
       | then-number-eq0 w ↦ rw w.reduction-is (doubled_low number (omega (arith, w.if-number-eq0.true)))
-      | else-number-eq0 w ↦ rw w.reduction-is (doubled_high number (omega (arith, w.if-number-eq0.false)) c.from_le_bytes-number.type_inv)
+      | else-number-eq0 w ↦ rw w.reduction-is
+          (doubled_high number (omega (arith, w.if-number-eq0.false)) c.from_le_bytes-number.type_inv)
     ] in
     c.to_le_bytes.ensures ∙ ap (λ n. to_le_bytes w128 n) (next ∙ ap doubled_number c.from_le_bytes-number.ensures)

@@ -23,7 +23,10 @@ loop-number-preserved c =
     elim c.match-branch-2.branch [
       | in-Some+in_ok-push w ↦
           (let one : f n ≡ Some (n, w.in-Some.verdict) = ap (beside n) (sym c.in_ok-verdict.ensures ∙ w.in-Some.is) in
-          rw w.verdicts-is (w.in_ok-push.ensures.items ∙ (ap (λ (l : List (ℕ × Verdict)). l ++ (n, w.in-Some.verdict) ∷ []) before ∙ sym (rising_one f n (n, w.in-Some.verdict) one))))
+          rw w.verdicts-is
+          (w.in_ok-push.ensures.items
+          ∙ (ap (λ (l : List (ℕ × Verdict)). l ++ (n, w.in-Some.verdict) ∷ []) before
+          ∙ sym (rising_one f n (n, w.in-Some.verdict) one))))
       | in_default w ↦
           (let none : f n ≡ None = ap (beside n) (sym c.in_ok-verdict.ensures ∙ w.in_default.is) in
           rw w.verdicts-is (before ∙ sym (rising_not f n none)))
@@ -38,4 +41,9 @@ returns-clause-value c =
 pub returns-clause-few : goal.returns-clause-few
 returns-clause-few c =
     let end : c.loop-number.number ≡ 32 = omega arith in
-    omega (arith, ap length c.loop-number.invariant, length-rising (numbered c.args.header.now c.args.limit) c.loop-number.number, c.loop-number.verdicts.ok.0)
+    omega (
+      arith,
+      ap length c.loop-number.invariant,
+      length-rising (numbered c.args.header.now c.args.limit) c.loop-number.number,
+      c.loop-number.verdicts.ok.0,
+    )

@@ -10,7 +10,8 @@ unreachable-requires c =
     let usable = usable_from_open (verdict_at c.args.header.now c.args.limit c.args.number) _ judged in
     let there : slot_at c.args.header.now c.args.number ≡ Some usable.0 =
     slot_of_usable c.args.header.now c.args.limit c.args.number usable.0 usable.1 in
-    let made : c.in_ok-slot-in-Some-Usable.field-0 ≡ slot_at c.args.header.now c.args.number = c.in_ok-slot-in-Some-Usable.ensures in
+    let made : c.in_ok-slot-in-Some-Usable.field-0
+    ≡ slot_at c.args.header.now c.args.number = c.in_ok-slot-in-Some-Usable.ensures in
     let none : c.in_ok-slot-in-Some-Usable.field-0 ≡ None = c.in-None-2.is in
     cc
 
@@ -20,7 +21,8 @@ returns-in-Some c =
     let usable = usable_from_open (verdict_at c.args.header.now c.args.limit c.args.number) _ judged in
     let there : slot_at c.args.header.now c.args.number ≡ Some usable.0 =
     slot_of_usable c.args.header.now c.args.limit c.args.number usable.0 usable.1 in
-    let made : c.in_ok-slot-in-Some-Usable.field-0 ≡ slot_at c.args.header.now c.args.number = c.in_ok-slot-in-Some-Usable.ensures in
+    let made : c.in_ok-slot-in-Some-Usable.field-0
+    ≡ slot_at c.args.header.now c.args.number = c.in_ok-slot-in-Some-Usable.ensures in
     let some : c.in_ok-slot-in-Some-Usable.field-0 ≡ Some c.in-Some.slot = c.in-Some.is in
     let is = usable.1 in
     cc

@@ -8,12 +8,14 @@ stripes-preserved c =
     let i = c.stripes.i in
     let len = c.args.len in
     let stripes = c.args.stripes.now in
-    let there : (i + 1) * len ≤ length stripes = omega (arith, mul-le-mul_right {m = i + 1} {n = c.args.count} len (omega arith)) in
+    let there : (i + 1) * len
+    ≤ length stripes = omega (arith, mul-le-mul_right {m = i + 1} {n = c.args.count} len (omega arith)) in
     let is_stripe : take (i * len + len - i * len) (drop (i * len) stripes) ≡ take len (drop (i * len) stripes) =
     ap (λ n. take n (drop (i * len) stripes)) (omega arith) in
     record {
       len = c.stripe.ensures.len ∙ c.stripes.invariant.len;
       taken = λ hash before number whole start.
           c.stripe.ensures.next
-          ∙ taken_more hash len before stripes _ number i c.stripes.splitter there whole is_stripe (c.stripes.invariant.taken hash before number whole start);
+          ∙ taken_more hash len before stripes _ number i c.stripes.splitter there whole is_stripe
+          (c.stripes.invariant.taken hash before number whole start);
     }

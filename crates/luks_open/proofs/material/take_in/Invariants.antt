@@ -7,6 +7,7 @@ use Rattle.luks_open.proofs.material.take_in.Given as goal
 abbrev pub invariant-stripes : goal.invariant-stripes
 invariant-stripes l = record {
   len : length l.splitter.block ≡ l.len;
-  taken : (hash : Hash) (before : List ℕ) (number : ℕ) → length before ≡ number * l.len → l.initial.splitter ≡ chain_after hash l.len before number
+  taken : (hash : Hash) (before : List ℕ) (number : ℕ) → length before ≡ number * l.len
+      → l.initial.splitter ≡ chain_after hash l.len before number
       → l.splitter ≡ chain_after hash l.len (before ++ take (l.i * l.len) l.stripes) (number + l.i);
 }

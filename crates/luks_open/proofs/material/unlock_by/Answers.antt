@@ -35,8 +35,10 @@ sectors-preserved c =
     c.sectors.invariant.before ∙ whole_sectors number (512 / len) len place.fits in
     record {
       len = c.take_in.ensures.len;
-      before = length-joined_more f number c.decrypt_sector.new.sector c.sectors.invariant.before c.decrypt_sector.ensures full;
-      taken = sector_more c.args.af len (512 / len) f number c.decrypt_sector.new.sector c.take_in.new.splitter place.fits c.decrypt_sector.ensures full
+      before = length-joined_more f number c.decrypt_sector.new.sector c.sectors.invariant.before
+          c.decrypt_sector.ensures full;
+      taken = sector_more c.args.af len (512 / len) f number c.decrypt_sector.new.sector c.take_in.new.splitter
+          place.fits c.decrypt_sector.ensures full
           (c.take_in.ensures.taken c.args.af (joined f number) (number * (512 / len)) before c.sectors.invariant.taken);
     }
 
@@ -52,9 +54,12 @@ returns c =
     let at_end : c.sectors.number ≡ whole = omega arith in
     let before : length (joined f whole) ≡ whole * 512 = rw at_end at c.sectors.invariant.before in
     let taken = rw at_end at c.sectors.invariant.taken in
-    let is_last : take (rest * len + len - rest * len) (drop (rest * len) sector) ≡ take len (drop (rest * len) sector) =
+    let is_last : take (rest * len + len - rest * len) (drop (rest * len) sector)
+    ≡ take len (drop (rest * len) sector) =
     ap (λ n. take n (drop (rest * len) sector)) (omega arith) in
     c.last.ensures
-    ∙ unlocked_by_last c.args.af c.args.key.now c.args.image.now c.args.offset len c.args.stripes whole rest sector _ c.take_in-2.new.splitter place
+    ∙ unlocked_by_last c.args.af c.args.key.now c.args.image.now c.args.offset len c.args.stripes whole rest sector _
+    c.take_in-2.new.splitter place
     before c.decrypt_sector-2.ensures full is_last
-    (c.take_in-2.ensures.taken c.args.af (joined f whole) (whole * (512 / len)) (before ∙ whole_sectors whole (512 / len) len place.fits) taken)
+    (c.take_in-2.ensures.taken c.args.af (joined f whole) (whole * (512 / len))
+    (before ∙ whole_sectors whole (512 / len) len place.fits) taken)

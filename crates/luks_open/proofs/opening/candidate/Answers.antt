@@ -9,7 +9,8 @@ never : After-from_residual-in_err-area_key → ⊥
 never c =
     let len : length c.as_slice-2.result.now ≡ c.args.slot.now.area_key_bytes =
     ap length (c.as_slice-2.ensures ∙ c.derived-area_key.ensures.key) ∙ length-derived_key _ _ _ _ _ in
-    let known : is_xts_key_length (length c.as_slice-2.result.now) ≡ true = ap is_xts_key_length len ∙ c.requires.area_key in
+    let known : is_xts_key_length (length c.as_slice-2.result.now) ≡ true = ap is_xts_key_length len
+    ∙ c.requires.area_key in
     let some : c.new.result ≡ Some c.as_slice-2.result.now = rw known at c.new.ensures in
     let none : c.new.result ≡ None = c.in_err-area_key.was in
     cc

@@ -7,4 +7,5 @@ first_opening-requires c =
     let order = c.requires.order in
     let segment = c.requires.segment in
     rw (c.entries.ensures, c.as_slice.ensures.value)
-    (All-IsTriable c.args.header.now segment.0 order.0 order.1 c.args.order.now (length c.args.area.now) segment.1 order.2 c.requires.held)
+    (All-IsTriable c.args.header.now segment.0 order.0 order.1 c.args.order.now (length c.args.area.now) segment.1
+    order.2 c.requires.held)

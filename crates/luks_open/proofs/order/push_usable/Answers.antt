@@ -10,12 +10,14 @@ use Rattle.luks_open.proofs.order.push_usable.Goals.{in-Some+in_ok-push, in_defa
 pub loop-number-init : goal.loop-number-init
 loop-number-init c =
     let f = usable_at c.args.header.now c.args.limit c.args.priority in
-    sym (append-nil c.args.entries.now.items) ∙ ap (λ (l : List Entry). c.args.entries.now.items ++ l) (sym (rising_none f))
+    sym (append-nil c.args.entries.now.items)
+    ∙ ap (λ (l : List Entry). c.args.entries.now.items ++ l) (sym (rising_none f))
 
 pub returns-in_err-entry-clause-err : goal.returns-in_err-entry-clause-err
 returns-in_err-entry-clause-err c =
     let f = usable_at c.args.header.now c.args.limit c.args.priority in
-    let many : 1 ≤ length (rising f 32) = some_rising f c.loop-number.number 32 c.in_err-entry.ensures.err (omega arith) in
+    let many : 1 ≤ length (rising f 32) =
+    some_rising f c.loop-number.number 32 c.in_err-entry.ensures.err (omega arith) in
     search (rules, many)
 
 pub returns-in_err-push-clause-err : goal.returns-in_err-push-clause-err
@@ -35,7 +37,8 @@ loop-number-preserved c =
       | in-Some+in_ok-push w ↦
           (let one : f n ≡ Some w.in-Some.entry = sym c.in_ok-entry.ensures.ok ∙ w.in-Some.is in
           rw w.entries-is (w.in_ok-push.ensures.items ∙ (ap (λ (l : List Entry). l ++ w.in-Some.entry ∷ []) before
-          ∙ (append_assoc old (rising f n) (w.in-Some.entry ∷ []) ∙ ap (λ (l : List Entry). old ++ l) (sym (rising_one f n w.in-Some.entry one))))))
+          ∙ (append_assoc old (rising f n) (w.in-Some.entry ∷ [])
+          ∙ ap (λ (l : List Entry). old ++ l) (sym (rising_one f n w.in-Some.entry one))))))
       | in_default w ↦
           (let none : f n ≡ None = sym c.in_ok-entry.ensures.ok ∙ w.in_default.is in
           rw w.entries-is (before ∙ ap (λ (l : List Entry). old ++ l) (sym (rising_not f n none))))

@@ -5,4 +5,5 @@ use Rattle.luks_open.proofs.order.push_usable.Given as goal
 
 -- the key slots before this number stand behind the others
 abbrev pub invariant-loop-number : goal.invariant-loop-number
-invariant-loop-number l = l.entries.items ≡ l.fn.entries.items ++ rising (usable_at l.header l.limit l.priority) l.number
+invariant-loop-number l = l.entries.items ≡ l.fn.entries.items
+    ++ rising (usable_at l.header l.limit l.priority) l.number

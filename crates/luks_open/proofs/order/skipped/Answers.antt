@@ -14,7 +14,11 @@ loop-number-init c = c.new-skipped.ensures ∙ sym (rising_none (skipped_at c.ar
 
 pub push-requires : goal.push-requires
 push-requires c =
-    omega (arith, ap length c.loop-number.invariant, length-rising (skipped_at c.args.header.now c.args.limit) c.loop-number.number)
+    omega (
+      arith,
+      ap length c.loop-number.invariant,
+      length-rising (skipped_at c.args.header.now c.args.limit) c.loop-number.number,
+    )
 
 pub loop-number-preserved : goal.loop-number-preserved
 unfolding beside
@@ -24,7 +28,8 @@ loop-number-preserved c =
     elim c.match-skip_reason.branch [
       | in-Some w ↦
           (let one : f n ≡ Some (n, w.in-Some.reason) = sym c.skip_reason.ensures ∙ ap (beside n) w.in-Some.is in
-          rw w.skipped-is (w.push.ensures ∙ (ap (λ (l : List (ℕ × SkipReason)). l ++ (n, w.in-Some.reason) ∷ []) c.loop-number.invariant
+          rw w.skipped-is (w.push.ensures
+          ∙ (ap (λ (l : List (ℕ × SkipReason)). l ++ (n, w.in-Some.reason) ∷ []) c.loop-number.invariant
           ∙ sym (rising_one f n (n, w.in-Some.reason) one))))
       | in_default w ↦
           (let none : f n ≡ None = sym c.skip_reason.ensures ∙ ap (beside n) w.in_default.is in

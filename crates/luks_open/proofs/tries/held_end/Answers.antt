@@ -6,12 +6,14 @@ use Rattle.luks_open.proofs.tries.held_end.Goals as goal
 
 pub overflow_add-slot : goal.overflow_add-slot
 overflow_add-slot c =
-    let next = held_of-drop c.entries-entry-items.result.now c.loop-entry.entry-index c.entry-item.result c.loop-entry-test.true c.entry-item.is in
+    let next = held_of-drop c.entries-entry-items.result.now c.loop-entry.entry-index c.entry-item.result
+    c.loop-entry-test.true c.entry-item.is in
     omega (arith, next, c.loop-entry.invariant, c.need.ensures, held_of-within c.args.order.now.slots)
 
 pub loop-entry-preserved : goal.loop-entry-preserved
 loop-entry-preserved c =
-    let next = held_of-drop c.entries-entry-items.result.now c.loop-entry.entry-index c.entry-item.result c.loop-entry-test.true c.entry-item.is in
+    let next = held_of-drop c.entries-entry-items.result.now c.loop-entry.entry-index c.entry-item.result
+    c.loop-entry-test.true c.entry-item.is in
     omega (arith, next, c.loop-entry.invariant, c.need.ensures, c.max-end.ensures)
 
 pub returns-clause-value : goal.returns-clause-value

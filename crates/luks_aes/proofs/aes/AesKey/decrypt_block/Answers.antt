@@ -12,7 +12,8 @@ returns c =
     let unmixed = c.self.inside.unmixed in
     let key = c.args.self.now in
     let block = c.args.block.now in
-    let value = c.inv_cipher.ensures ∙ decrypted_is words schedule unmixed key block c.self.told.0 c.self.invariant c.self.view_is in
+    let value = c.inv_cipher.ensures
+    ∙ decrypted_is words schedule unmixed key block c.self.told.0 c.self.invariant c.self.view_is in
     let keys = key_bytes words schedule key c.self.invariant.bytes c.self.view_is in
     record {
       value = value;

@@ -4,7 +4,8 @@ use Rattle.luks_aes.proofs.aes.AesKey.new.Goals as goal
 
 pub invariant_of-result : goal.invariant_of-result
 invariant_of-result c =
-    expanded_is c.args.key.now c.key_expansion-schedule.result _ (is_key_length _ c.in-16.is) (record { each = search rules })
+    expanded_is c.args.key.now c.key_expansion-schedule.result _ (is_key_length _ c.in-16.is) (record
+    { each = search rules })
     c.unmixed_words-unmixed.ensures c.key_expansion-schedule.ensures
 
 pub returns-in-16 : goal.returns-in-16

@@ -17,11 +17,14 @@ pub returns-in-CbcPlain64-clause-value : goal.returns-in-CbcPlain64-clause-value
 returns-in-CbcPlain64-clause-value c =
     let view = c.self.view_is in
     let arm = c.in-CbcPlain64.is in
-    rw (← view, arm) (to_vector cbc_encrypted _ _ _ _ _ c.number_block.ensures c.encrypt_chain-in-CbcPlain64.ensures.value)
+    rw (← view, arm)
+    (to_vector cbc_encrypted _ _ _ _ _ c.number_block.ensures c.encrypt_chain-in-CbcPlain64.ensures.value)
 
 pub returns-in-CbcPlain64-clause-undone : goal.returns-in-CbcPlain64-clause-undone
 returns-in-CbcPlain64-clause-undone c =
     let view = c.self.view_is in
     let arm = c.in-CbcPlain64.is in
     let bytes = rw arm at c.self.invariant.bytes in
-    rw (← view, arm) (from_vector cbc_decrypted _ _ _ _ _ c.number_block.ensures (c.encrypt_chain-in-CbcPlain64.ensures.undone bytes))
+    rw (← view, arm)
+    (from_vector cbc_decrypted _ _ _ _ _ c.number_block.ensures
+    (c.encrypt_chain-in-CbcPlain64.ensures.undone bytes))

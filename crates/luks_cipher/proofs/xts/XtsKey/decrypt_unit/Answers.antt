@@ -5,7 +5,8 @@ use Rattle.luks_cipher.proofs.UnitsUndone.{xts_decrypted-xts_encrypted, xts_encr
 use Rattle.luks_cipher.proofs.xts.XtsKey.decrypt_unit.Goals as goal
 
 pub loop-j-init : goal.loop-j-init
-loop-j-init c = record { bytes = record { each = search rules }; next_tweak = c.first_tweak-tweak.ensures.value; done = done_none _ _ }
+loop-j-init c = record
+    { bytes = record { each = search rules }; next_tweak = c.first_tweak-tweak.ensures.value; done = done_none _ _ }
 
 pub loop-j-preserved : goal.loop-j-preserved
 unfolding tweak_of
@@ -17,7 +18,8 @@ loop-j-preserved c =
     record {
       bytes = before.bytes;
       next_tweak = rw add-one (c.doubled-next.ensures ∙ ap doubled tweak);
-      done = done_more _ _ _ _ j before.done (omega arith) (omega arith) (c.decrypt_piece.ensures ∙ rw (block, tweak) refl);
+      done = done_more _ _ _ _ j before.done (omega arith) (omega arith)
+          (c.decrypt_piece.ensures ∙ rw (block, tweak) refl);
     }
 
 pub returns : goal.returns
@@ -25,12 +27,15 @@ returns c =
     let last = c.loop-j.j in
     let key = c.args.self.now in
     let unit = c.args.unit.now in
-    let value = decrypted_unit key c.args.number unit c.loop-j.unit last c.loop-j.invariant.done (omega arith) (omega arith) in
+    let value = decrypted_unit key c.args.number unit c.loop-j.unit last c.loop-j.invariant.done (omega arith)
+    (omega arith) in
     record {
       value = value;
       undoes = λ plain bytes same is.
           value ∙ ap (xts_decrypted key c.args.number) is
-          ∙ xts_decrypted-xts_encrypted key c.args.number plain c.first_tweak-tweak.ensures.key_bytes bytes (rw same c.requires.whole_blocks);
+          ∙ xts_decrypted-xts_encrypted key c.args.number plain c.first_tweak-tweak.ensures.key_bytes bytes
+          (rw same c.requires.whole_blocks);
       undone = ap (xts_encrypted key c.args.number) value
-          ∙ xts_encrypted-xts_decrypted key c.args.number unit c.first_tweak-tweak.ensures.key_bytes c.loop-j.invariant.bytes c.requires.whole_blocks;
+          ∙ xts_encrypted-xts_decrypted key c.args.number unit c.first_tweak-tweak.ensures.key_bytes
+          c.loop-j.invariant.bytes c.requires.whole_blocks;
     }

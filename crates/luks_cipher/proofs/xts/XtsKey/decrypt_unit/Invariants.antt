@@ -9,5 +9,6 @@ abbrev pub invariant-loop-j : goal.invariant-loop-j
 invariant-loop-j l = record {
   bytes : IsBytes l.fn.unit;
   next_tweak : l.tweak ≡ tweak_of l.self l.number l.j;
-  done : IsDoneBefore (λ j. block_decrypted l.self (tweak_of l.self l.number j) (block_at l.fn.unit j)) l.fn.unit l.unit l.j;
+  done : IsDoneBefore (λ j. block_decrypted l.self (tweak_of l.self l.number j) (block_at l.fn.unit j)) l.fn.unit
+      l.unit l.j;
 }

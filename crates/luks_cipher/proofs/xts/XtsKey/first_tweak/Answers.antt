@@ -11,6 +11,8 @@ returns c =
     record {
       value = c.encrypt_block.ensures.value
           ∙ first_tweak_is first second c.args.self.now c.to_le_bytes-tweak.result c.args.number
-          c.self.invariant.same_length c.self.view_is (c.to_le_bytes-tweak.ensures ∙ ap (to_le_bytes w128) c.from.ensures);
-      key_bytes = rw (← c.self.view_is) (bytes_append first second c.self.invariant.data_bytes c.self.invariant.tweak_bytes);
+          c.self.invariant.same_length c.self.view_is
+          (c.to_le_bytes-tweak.ensures ∙ ap (to_le_bytes w128) c.from.ensures);
+      key_bytes = rw (← c.self.view_is)
+          (bytes_append first second c.self.invariant.data_bytes c.self.invariant.tweak_bytes);
     }

@@ -9,4 +9,5 @@ returns-clause-key c =
     let cut = length-take c.self.inside.len c.self.inside.bytes in
     let whole : length c.pbkdf2.new.out ≡ c.self.inside.len = omega (arith, cut) in
     let key = derived_key c.args.hash c.args.secret.now c.args.salt.now c.args.iterations in
-    take_front c.self.inside.len c.pbkdf2.new.out _ whole ∙ (c.pbkdf2.ensures.key ∙ ap (λ bytes. key (length bytes)) c.self.view_is)
+    take_front c.self.inside.len c.pbkdf2.new.out _ whole
+    ∙ (c.pbkdf2.ensures.key ∙ ap (λ bytes. key (length bytes)) c.self.view_is)

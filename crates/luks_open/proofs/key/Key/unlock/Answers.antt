@@ -9,4 +9,6 @@ returns-clause-key c =
     let cut = length-take c.self.inside.len c.self.inside.bytes in
     let whole : length c.unlock.new.out ≡ c.self.inside.len = omega (arith, cut) in
     take_front c.self.inside.len c.unlock.new.out _ whole
-    ∙ (c.unlock.ensures ∙ ap (λ bytes. unlocked c.args.af c.args.key.now c.args.image.now c.args.offset (length bytes) c.args.stripes) c.self.view_is)
+    ∙ (c.unlock.ensures
+    ∙ ap (λ bytes. unlocked c.args.af c.args.key.now c.args.image.now c.args.offset (length bytes) c.args.stripes)
+    c.self.view_is)

@@ -6,10 +6,12 @@ use Rattle.luks_verdict.proofs.digest.DigestParts.undigested.Goals as goal
 
 pub returns-then-not-usable_digest : goal.returns-then-not-usable_digest
 returns-then-not-usable_digest c parts iterations len =
-    let is : is_usable parts ≡ false = rw (iterations, len, ← c.from.ensures, ← c.usable_digest.ensures) c.if-not-usable_digest.true in
+    let is : is_usable parts
+    ≡ false = rw (iterations, len, ← c.from.ensures, ← c.usable_digest.ensures) c.if-not-usable_digest.true in
     ap not c.if-not-usable_digest.true ∙ sym (undigested-no c.args.limit parts is)
 
 pub returns-else-not-usable_digest : goal.returns-else-not-usable_digest
 returns-else-not-usable_digest c parts iterations len =
-    let is : is_usable parts ≡ true = rw (iterations, len, ← c.from.ensures, ← c.usable_digest.ensures) c.if-not-usable_digest.false in
+    let is : is_usable parts
+    ≡ true = rw (iterations, len, ← c.from.ensures, ← c.usable_digest.ensures) c.if-not-usable_digest.false in
     rw (c.beyond.ensures, c.from-else-not-usable_digest.ensures, undigested-yes c.args.limit parts is, iterations) refl
