@@ -1,6 +1,6 @@
 -- What calls do to one device: which bytes a source gave, which bytes a sink took, and what is counted.
--- A device may know its bytes: `Some` of a list, or `None` where it doesn't. std's words `Consumes`, `Appends` and `IsAtEnd` say
--- what one call does to them, and claim nothing at `None`.
+-- A device may know its bytes: `Some` of a list, or `None` where it doesn't. std's words `Consumes`, `Appends` and
+-- `IsAtEnd` say what one call does to them, and claim nothing at `None`.
 use Rattle.std.specs.Prelude.{◌≡◌, ℕ, ◌+◌, ◌-◌, ◌^◌, ◌<◌, ◌≤◌, ◌++◌, ◌==◌, ◌&&◌, min, nat_lt, Bool, true, false, List, drop, length, take, MatchResult, Result, Ok, Err, Option, Some}
 
 -- where a device knows its bytes, this holds of them
@@ -58,18 +58,3 @@ is_short (Err _) asked = false
 -- a sink took between one byte and all of a buffer that has any, and of an empty one none
 abbrev pub TakesSome : {E : Type 0} → Result ℕ E → List ℕ → Type 0
 TakesSome r buf = MatchResult r (λ n. (n ≤ length buf) × (0 < length buf → 0 < n)) (λ _. Unit {0})
-
--- Words of before, which go once nothing cites them:
-
--- count bytes were the next ones of a source, as far as it tells them: they are these, and the ones behind them are left
-abbrev pub TakesNext : Option (List ℕ) → Option (List ℕ) → ℕ → List ℕ → Type 0
-TakesNext old new count bytes =
-    (told : List ℕ) → old ≡ Some told → (count ≤ length told) × (bytes ≡ take count told) × (new ≡ Some (drop count told))
-
--- a source was asked for so many bytes and gave count of them: all that it had, if that is fewer
-abbrev pub GivesAll : Option (List ℕ) → ℕ → ℕ → Type 0
-GivesAll old asked count = (told : List ℕ) → old ≡ Some told → count ≡ min asked (length told)
-
--- a call that ended well leaves the count, and one that failed raises it by one
-abbrev pub CountsFailure : {T E : Type 0} → ℕ → ℕ → Result T E → Type 0
-CountsFailure old new r = MatchResult r (λ _. new ≡ old) (λ _. new ≡ raised old)

@@ -1,7 +1,9 @@
-//! Sources of bytes and sinks for them, whose contracts say which bytes went where and which calls failed.
+//! Sources of bytes and sinks for them, whose contracts say which bytes went where and which calls
+//! failed.
 //!
-//! A [`Source`](source::Source) gives the next bytes, a [`Sink`](sink::Sink) appends them. Each counts the calls
-//! that failed, so that a caller can say "this was told as a failure exactly where one failed".
+//! A [`Source`](source::Source) gives the next bytes, a [`Sink`](sink::Sink) appends them. Each
+//! counts the calls that failed, so that a caller can say "this was told as a failure exactly where
+//! one failed".
 #![tactic(auto)]
 
 ghost use Rattle.std.specs.Prelude.{◌≡◌};
@@ -14,7 +16,8 @@ pub mod source;
 #[cfg(test)]
 mod tests;
 
-/// A device did not do what it was asked. The call that answers it has raised the device's count of failures by one.
+/// A device did not do what it was asked. The call that answers it has raised the device's count of
+/// failures by one.
 #[derive(Clone, Copy, Debug, PartialEq, Eq)]
 pub struct DeviceFault;
 

@@ -11,7 +11,8 @@ use crate::source::{Source, count_end};
 use std::alloc::{AllocError, Global};
 use std::marker::Model;
 
-/// Reads from bytes in memory. No read of it fails. A clause sees the bytes that are left, and how often the end was found.
+/// Reads from bytes in memory. No read of it fails. A clause sees the bytes that are left, and how
+/// often the end was found.
 #[derive(Drop)]
 pub struct MemSource<'a> {
     left: &'a [u8],
@@ -52,7 +53,8 @@ impl<'a> Source for MemSource<'a> {
 
     ghost ends = { λ s. s.ends };
 
-    /// Gives as many of the bytes that are left as the buffer has room for. The buffer stays as it was behind them.
+    /// Gives as many of the bytes that are left as the buffer has room for. The buffer stays as it
+    /// was behind them.
     fn read(&mut self, buf: &mut [u8]) -> Result<usize, DeviceFault>
         ensures bound { ReadsAtMost result buf.new }
         ensures bytes { ReadConsumes (Some self.old.left) (Some self.new.left) result buf.new }
@@ -70,7 +72,8 @@ impl<'a> Source for MemSource<'a> {
     }
 }
 
-/// Writes into memory that was taken beforehand. It takes what still fits; a write to a full one fails.
+/// Writes into memory that was taken beforehand. It takes what still fits; a write to a full one
+/// fails.
 #[derive(Drop)]
 pub struct MemSink {
     bytes: Vec<u8>,
@@ -125,7 +128,8 @@ impl Sink for MemSink {
     /// Takes as many of the bytes as still fit. It fails only where there are some and none fits.
     fn write(&mut self, buf: &[u8]) -> Result<usize, DeviceFault>
         ensures bound { TakesSome result buf.now }
-        ensures bytes { WriteAppends (Some self.old.written) (Some self.new.written) result buf.now }
+        ensures bytes { WriteAppends (Some self.old.written)
+            (Some self.new.written) result buf.now }
         ensures counts { self.new.failures ≡ counted (is_err result) self.old.failures }
         ensures count { IfOk result (λ n. n ≡ min (length buf.now) self.old.room) }
         ensures room { IfOk result (λ n. self.new.room ≡ self.old.room - n) }

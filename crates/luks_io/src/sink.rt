@@ -14,8 +14,8 @@ pub trait Sink {
     /// How many writes have failed. It stays at its greatest value.
     ghost failures: { Self → ℕ };
 
-    /// Writes a beginning of the buffer, and answers its length: at least one byte where there are any.
-    /// A failure writes nothing.
+    /// Writes a beginning of the buffer, and answers its length: at least one byte where there are
+    /// any. A failure writes nothing.
     fn write(&mut self, buf: &[u8]) -> Result<usize, DeviceFault>
         ensures bound { TakesSome result buf.now }
         ensures bytes { WriteAppends (written self.old) (written self.new) result buf.now }
@@ -30,7 +30,8 @@ pub struct WriteFault {
 
 /// Writes all the bytes.
 ///
-/// A [`WriteFault`] says that a write failed, and that exactly the first `written` bytes went out before.
+/// A [`WriteFault`] says that a write failed, and that exactly the first `written` bytes went out
+/// before.
 pub fn put_all<S: Sink>(sink: &mut S, bytes: &[u8]) -> Result<(), WriteFault>
     ensures ok { OnOk result (Adds (S.written sink.old) (S.written sink.new) bytes.now) }
     ensures err { IfErr result (λ fault. (fault.written < length bytes.now)

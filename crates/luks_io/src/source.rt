@@ -1,9 +1,9 @@
 //! What gives bytes.
 
-ghost use Rattle.std.specs.Prelude.{◌≡◌, ◌<◌, ◌≤◌, ◌==◌, ◌&&◌, ℕ, List, Option, length, min, nat_lt, take, is_err, IfOk, IfErr, MatchResult};
+ghost use Rattle.std.specs.Prelude.{◌≡◌, ◌<◌, ◌≤◌, ◌==◌, ◌&&◌, ℕ, List, Option, length, min, nat_lt, is_err, IfOk, MatchResult};
 ghost use Rattle.std.specs.Io.{ReadsAtMost};
 ghost use Rattle.std.specs.Io.KnownBytes.{ReadConsumes};
-ghost use Rattle.luks_io.specs.Bytes.{GivesAll, TakesNext, TookInto, WhereKnown, counted, is_end, is_short};
+ghost use Rattle.luks_io.specs.Bytes.{TookInto, WhereKnown, counted, is_end, is_short};
 ghost use Rattle.luks_io.specs.Reads.{got_in};
 
 use crate::DeviceFault;
@@ -16,7 +16,8 @@ pub trait Source {
     /// How many reads have failed. It stays at its greatest value.
     ghost failures: { Self → ℕ };
 
-    /// How many reads have found the end: they gave nothing to a buffer with room. It stays at its greatest value.
+    /// How many reads have found the end: they gave nothing to a buffer with room. It stays at its
+    /// greatest value.
     ghost ends: { Self → ℕ };
 
     /// Reads the next bytes into the front of the buffer, and answers how many.
@@ -28,7 +29,8 @@ pub trait Source {
         ensures ends { ends self.new ≡ counted (is_end result (length buf.new)) (ends self.old) };
 }
 
-/// Counts a read that found the end: it gave nothing to a buffer with room. For a source's own `read`.
+/// Counts a read that found the end: it gave nothing to a buffer with room. For a source's own
+/// `read`.
 pub fn count_end(ends: &mut u64, got: usize, room: usize)
     ensures { ends.new ≡ counted (got == 0 && nat_lt 0 room) ends.old }
 {
@@ -44,20 +46,20 @@ pub struct ReadFault {
 }
 
 /// Fills the buffer with the next bytes of the source, and answers how many there were:
-/// fewer than the buffer's length only where the source is at its end. That is found by one read, the last.
+/// fewer than the buffer's length only where the source is at its end. That is found by one read,
+/// the last.
 ///
 /// A [`ReadFault`] says how many bytes were consumed before a read failed. They stand in front.
 pub fn fill<S: Source>(source: &mut S, buf: &mut [u8]) -> Result<usize, ReadFault>
-    ensures bound { MatchResult result (λ count. count ≤ length buf.new) (λ fault. fault.got < length buf.new) }
+    ensures bound { MatchResult result (λ count. count ≤ length buf.new)
+        (λ fault. fault.got < length buf.new) }
     ensures bytes { WhereKnown (S.to_come source.old)
         (λ known. TookInto known (S.to_come source.new) buf.new (got_in result)) }
-    ensures ok { IfOk result (λ count. (count ≤ length buf.new)
-        × TakesNext (S.to_come source.old) (S.to_come source.new) count (take count buf.new)) }
-    ensures end { IfOk result (GivesAll (S.to_come source.old) (length buf.new)) }
-    ensures err { IfErr result (λ fault. (fault.got < length buf.new)
-        × TakesNext (S.to_come source.old) (S.to_come source.new) fault.got (take fault.got buf.new)) }
+    ensures end { IfOk result (λ count. WhereKnown (S.to_come source.old)
+        (λ known. count ≡ min (length buf.new) (length known))) }
     ensures counts { S.failures source.new ≡ counted (is_err result) (S.failures source.old) }
-    ensures ends { S.ends source.new ≡ counted (is_short result (length buf.new)) (S.ends source.old) }
+    ensures ends { S.ends source.new ≡ counted (is_short result (length buf.new))
+        (S.ends source.old) }
 {
     let mut at = 0;
     while at < buf.len() {

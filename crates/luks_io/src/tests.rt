@@ -1,4 +1,5 @@
-//! What no clause says: that calls can succeed, how often an interruption is waited for, and devices that fail.
+//! What no clause says: that calls can succeed, how often an interruption is waited for, and
+//! devices that fail.
 
 ghost use Rattle.std.specs.Prelude.{◌≤◌, IfOk};
 
@@ -11,8 +12,8 @@ use std::io::{self, ErrorKind, Read, Write};
 use std::process::Abort;
 use std::test::Fail;
 
-/// A reader and a writer that is interrupted so many times, and then moves at most `piece` bytes a call,
-/// each of them 7. It refuses for good once `left` calls moved bytes.
+/// A reader and a writer that is interrupted so many times, and then moves at most `piece` bytes a
+/// call, each of them 7. It refuses for good once `left` calls moved bytes.
 #[derive(Drop)]
 struct Device {
     interruptions: u32,

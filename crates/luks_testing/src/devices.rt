@@ -8,8 +8,8 @@ use luks_io::sink::Sink;
 use luks_io::source::{Source, count_end};
 use std::alloc::{AllocError, Global};
 
-/// A source that gives at most `piece` bytes a call, or all that are asked for where `piece` is 0. Call number `failing`, from 0,
-/// fails, and later ones go on.
+/// A source that gives at most `piece` bytes a call, or all that are asked for where `piece` is 0.
+/// Call number `failing`, from 0, fails, and later ones go on.
 #[derive(Drop)]
 pub struct Flaky<'a> {
     left: &'a [u8],
@@ -39,7 +39,8 @@ impl<'a> Flaky<'a> {
 
     /// How many bytes are left.
     pub fn left(&self) -> usize
-        ensures { (known : List ℕ) → ⟦<Flaky<'a> as Source>⟧.to_come self.now ≡ Some known → result ≡ length known }
+        ensures { (known : List ℕ) → ⟦<Flaky<'a> as Source>⟧.to_come self.now ≡ Some known
+            → result ≡ length known }
     {
         self.left.len()
     }
@@ -78,7 +79,8 @@ impl<'a> Source for Flaky<'a> {
     }
 }
 
-/// A sink that takes at most `piece` bytes a call, and at least one. Call number `failing`, from 0, fails, and later ones go on.
+/// A sink that takes at most `piece` bytes a call, and at least one. Call number `failing`, from 0,
+/// fails, and later ones go on.
 #[derive(Drop)]
 pub struct Leaky {
     sink: MemSink,
@@ -175,7 +177,8 @@ impl<'a> Broken<'a> {
 
     /// How many bytes are left.
     pub fn left(&self) -> usize
-        ensures { (known : List ℕ) → ⟦<Broken<'a> as Source>⟧.to_come self.now ≡ Some known → result ≡ length known }
+        ensures { (known : List ℕ) → ⟦<Broken<'a> as Source>⟧.to_come self.now ≡ Some known
+            → result ≡ length known }
     {
         self.left.len()
     }

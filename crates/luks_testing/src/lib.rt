@@ -1,4 +1,5 @@
-//! What the tests of several crates share: devices of which one call fails, and memory that is taken away.
+//! What the tests of several crates share: devices of which one call fails, and memory that is
+//! taken away.
 //!
 //! Nothing but tests uses it.
 #![tactic(auto)]

@@ -2,8 +2,8 @@
 //!
 //! The allocator is the system's and cannot be told to fail. So a test takes the whole address
 //! space away and gives it back in small pieces: with each piece a run gets a little further, until
-//! one meets no refusal. Nothing else can be allocated meanwhile: make what a test needs before, and
-//! assert after. Under `rt try`, whose allocator is another, nothing is refused.
+//! one meets no refusal. Nothing else can be allocated meanwhile: make what a test needs before,
+//! and assert after. Under `rt try`, whose allocator is another, nothing is refused.
 
 use std::alloc::{AllocError, Global};
 
@@ -23,9 +23,9 @@ pub struct Scarcity {
 }
 
 impl Scarcity {
-    /// Takes all memory, `count` pieces of `size` bytes of it to be given back one by one. Pieces of
-    /// less than 129 bytes serve only requests of their own size, and so do the first seven of less
-    /// than 1,033.
+    /// Takes all memory, `count` pieces of `size` bytes of it to be given back one by one. Pieces
+    /// of less than 129 bytes serve only requests of their own size, and so do the first seven of
+    /// less than 1,033.
     pub fn new(alloc: Global, count: usize, size: usize) -> Result<Scarcity, AllocError> {
         let mut pieces = Vec::with_capacity(alloc, count)?;
         let mut blocks = Vec::with_capacity(alloc, BLOCKS)?;

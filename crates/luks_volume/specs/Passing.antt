@@ -1,6 +1,6 @@
 -- What the parts of a pump leave in its source and its sink.
 use Rattle.std.specs.Prelude.{◌≡◌, ℕ, ◌-◌, ◌/◌, ◌^◌, ◌<◌, Bool, true, false, List, length, take, Option, None, Some, Result, Err}
-use Rattle.luks_io.specs.Bytes.{Adds, Took, TookFewer, raised}
+use Rattle.luks_io.specs.Bytes.{Adds, Took, TookFewer}
 use Rattle.luks_verdict.specs.declared.segment.Segment.{Segment}
 use Rattle.luks_volume.specs.Plain.{unit_plain, sector_len}
 use Rattle.luks_volume.specs.declared.fault.VolumeFault.{VolumeFault}
@@ -49,13 +49,3 @@ limit_within (Some size) sector = size / sector
 
 abbrev pub limit_of : Segment → ℕ
 limit_of s = limit_within s.size (sector_len s)
-
--- Words of before, which go once nothing cites them:
-
-abbrev pub count_reads : {T : Type 0} → Result T VolumeFault → ℕ → ℕ
-count_reads (Err Read) count = raised count
-count_reads _ count = count
-
-abbrev pub count_writes : {T : Type 0} → Result T VolumeFault → ℕ → ℕ
-count_writes (Err Write) count = raised count
-count_writes _ count = count

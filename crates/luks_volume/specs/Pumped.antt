@@ -11,8 +11,8 @@ use Rattle.luks_volume.specs.declared.state.State.TheVariants.{BeforePayload, In
 use Rattle.luks_volume.specs.declared.state.Step.{Step}
 use Rattle.luks_volume.specs.declared.state.Step.TheVariants.{Sector, End}
 
--- a pump: the payload and its key, how many bytes of the image were taken before it was made, how many sectors it has passed
--- on, and where it stands
+-- a pump: the payload and its key, how many bytes of the image were taken before it was made, how many sectors it has
+-- passed on, and where it stands
 pub record Pumped : Type 0 where
   pub segment : Segment
   pub key : List ℕ
@@ -89,7 +89,8 @@ WritesSectors (Err (Short _)) unwritten = unwritten
 WritesSectors (Err Read) unwritten = unwritten
 WritesSectors (Err Write) unwritten = Unit {0}
 
--- how the payload ends where so many sectors were passed on: at its limit, or where the source has less than one sector more
+-- how the payload ends where so many sectors were passed on: at its limit, or where the source has less than one sector
+-- more
 abbrev pub EndsAt : Segment → ℕ → Result Step VolumeFault → Type 0
 EndsAt s count answer = ((count ≡ limit_of s) × (answer ≡ Ok End))
     ⊎ ((count < limit_of s) × ((more : ℕ) × (more < sector_len s) × (answer ≡ ending_within s.size (sector_len s) (count * sector_len s + more))))

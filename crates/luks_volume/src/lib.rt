@@ -1,6 +1,7 @@
 //! The payload of a volume: the sectors that it stores, one after the other, as their plain text.
 //!
-//! A [`Pump`](pump::Pump) takes an image once and forwards, and writes each sector's plain bytes as it comes.
+//! A [`Pump`](pump::Pump) takes an image once and forwards, and writes each sector's plain bytes as
+//! it comes.
 #![tactic(auto)]
 
 pub mod fault;

@@ -22,8 +22,10 @@ pub(crate) fn discard<S: Source>(
         (λ known. Took known (S.to_come source.new) count)) }
     ensures err { IfErr result (λ fault. WhereKnown (S.to_come source.old)
         (λ known. StopsDiscarding count known (S.to_come source.new) fault)) }
-    ensures only { IfErr result (λ fault. (fault ≡ VolumeFault.CutBeforePayload) ⊎ (fault ≡ VolumeFault.Read)) }
-    ensures reads { S.failures source.new ≡ counted (is_failed_read result) (S.failures source.old) }
+    ensures only { IfErr result
+        (λ fault. (fault ≡ VolumeFault.CutBeforePayload) ⊎ (fault ≡ VolumeFault.Read)) }
+    ensures reads { S.failures source.new ≡ counted (is_failed_read result)
+        (S.failures source.old) }
     ensures ends { S.ends source.new ≡ counted (is_cut result) (S.ends source.old) }
 {
     let mut left = count;
@@ -37,7 +39,8 @@ pub(crate) fn discard<S: Source>(
     Ok(())
 }
 
-/// Takes the sector of this unit number, and writes its plain bytes where it is whole. Answers how many bytes there were.
+/// Takes the sector of this unit number, and writes its plain bytes where it is whole. Answers how
+/// many bytes there were.
 pub(crate) fn pass_sector<S: Source, O: Sink>(
     key: &XtsKey,
     number: u64,
@@ -50,9 +53,12 @@ pub(crate) fn pass_sector<S: Source, O: Sink>(
     requires longest { length sector.old ≤ 4096 }
     ensures most { IfOk result (λ got. got ≤ length sector.old) }
     ensures taken { IfOk result (λ got. WhereKnown (S.to_come source.old)
-        (λ known. (got ≡ min (length sector.old) (length known)) × Took known (S.to_come source.new) got)) }
-    ensures written { IfOk result (λ got. got ≡ length sector.old → WhereKnown (S.to_come source.old)
-        (λ known. Adds (O.written sink.old) (O.written sink.new) (unit_plain key.now number (take got known)))) }
+        (λ known. (got ≡ min (length sector.old) (length known))
+        × Took known (S.to_come source.new) got)) }
+    ensures written { IfOk result (λ got. got ≡ length sector.old
+        → WhereKnown (S.to_come source.old)
+        (λ known. Adds (O.written sink.old) (O.written sink.new) (unit_plain key.now number
+        (take got known)))) }
     ensures whole { IfOk result (λ got. got ≡ length sector.old
         → AddsUnit key.now number (length sector.old) (O.written sink.old) (O.written sink.new)) }
     ensures torn { IfOk result (λ got. got < length sector.old → sink.new ≡ sink.old) }
@@ -60,9 +66,12 @@ pub(crate) fn pass_sector<S: Source, O: Sink>(
         (λ known. StopsInSector key.now number (length sector.old) known
         (S.to_come source.new) (O.written sink.old) (O.written sink.new) fault)) }
     ensures unread { IfErr result (λ fault. fault ≡ VolumeFault.Read → sink.new ≡ sink.old) }
-    ensures only { IfErr result (λ fault. (fault ≡ VolumeFault.Read) ⊎ (fault ≡ VolumeFault.Write)) }
-    ensures reads { S.failures source.new ≡ counted (is_failed_read result) (S.failures source.old) }
-    ensures ends { S.ends source.new ≡ counted (is_short result (length sector.old)) (S.ends source.old) }
+    ensures only { IfErr result
+        (λ fault. (fault ≡ VolumeFault.Read) ⊎ (fault ≡ VolumeFault.Write)) }
+    ensures reads { S.failures source.new ≡ counted (is_failed_read result)
+        (S.failures source.old) }
+    ensures ends { S.ends source.new ≡ counted (is_short result (length sector.old))
+        (S.ends source.old) }
     ensures writes { O.failures sink.new ≡ counted (is_failed_write result) (O.failures sink.old) }
 {
     let got = fill(source, sector)?;

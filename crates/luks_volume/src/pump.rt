@@ -22,8 +22,8 @@ const ROOM: usize = 4096;
 
 /// Passes a payload on, sector by sector. It holds one sector and takes no memory.
 ///
-/// A clause sees its segment, its key, how many bytes of the image were consumed before it was made, how many sectors it has
-/// passed on, and where it stands.
+/// A clause sees its segment, its key, how many bytes of the image were consumed before it was
+/// made, how many sectors it has passed on, and where it stands.
 #[derive(Drop)]
 pub struct Pump {
     segment: Segment,
@@ -48,7 +48,8 @@ impl Model for Pump {
         × (p.state ≡ BeforePayload → p.count ≡ 0) };
 }
 
-/// Passes on the sector of this number, or says how the payload ends before it. The buffer has room for it.
+/// Passes on the sector of this number, or says how the payload ends before it. The buffer has room
+/// for it.
 fn next_sector<S: Source, O: Sink>(
     segment: &Segment,
     key: &XtsKey,
@@ -70,8 +71,10 @@ fn next_sector<S: Source, O: Sink>(
         → Steps segment.now key.now count (sector_start segment.now count) image result
         (S.to_come source.new) (O.written sink.old) (O.written sink.new) }
     ensures writes_sectors { WritesSectors result (sink.new ≡ sink.old) }
-    ensures reads { S.failures source.new ≡ counted (is_failed_read result) (S.failures source.old) }
-    ensures ends { S.ends source.new ≡ counted (is_found_end segment.now count result) (S.ends source.old) }
+    ensures reads { S.failures source.new ≡ counted (is_failed_read result)
+        (S.failures source.old) }
+    ensures ends { S.ends source.new ≡ counted (is_found_end segment.now count result)
+        (S.ends source.old) }
     ensures writes { O.failures sink.new ≡ counted (is_failed_write result) (O.failures sink.old) }
 {
     if count == limit(segment) {
@@ -92,8 +95,8 @@ fn next_sector<S: Source, O: Sink>(
 }
 
 impl Pump {
-    /// A pump of this payload under this key, for an image of which so many bytes are consumed already, none of them the
-    /// payload's.
+    /// A pump of this payload under this key, for an image of which so many bytes are consumed
+    /// already, none of them the payload's.
     pub fn new(segment: Segment, key: XtsKey, consumed: u64) -> Pump
         requires { consumed ≤ segment.offset }
         ensures { result ≡ record {
@@ -114,10 +117,11 @@ impl Pump {
         }
     }
 
-    /// Takes the image's bytes up to the payload's start and no more. Once that is done, it touches nothing.
+    /// Takes the image's bytes up to the payload's start and no more. Once that is done, it touches
+    /// nothing.
     ///
-    /// [`CutBeforePayload`](VolumeFault::CutBeforePayload) says that the image ends before, [`Read`](VolumeFault::Read)
-    /// that a read failed. A pump that has failed repeats its fault.
+    /// [`CutBeforePayload`](VolumeFault::CutBeforePayload) says that the image ends before,
+    /// [`Read`](VolumeFault::Read) that a read failed. A pump that has failed repeats its fault.
     pub fn skip<S: Source>(&mut self, source: &mut S) -> Result<(), VolumeFault>
         ensures pump { self.new ≡ record self.old { state = state_after_skip self.old.state result } }
         ensures again { SkipsAgain self.old.state result (source.new ≡ source.old) }
@@ -160,24 +164,29 @@ impl Pump {
         }
     }
 
-    /// Passes the next sector on, or ends. The first step skips to the payload if no skip came before.
+    /// Passes the next sector on, or ends. The first step skips to the payload if no skip came
+    /// before.
     ///
-    /// A sector that is torn is not written. A pump that has ended or failed gives its last answer again, and touches
-    /// nothing.
+    /// A sector that is torn is not written. A pump that has ended or failed gives its last answer
+    /// again, and touches nothing.
     pub fn step<S: Source, O: Sink>(
         &mut self,
         source: &mut S,
         sink: &mut O,
     ) -> Result<Step, VolumeFault>
         ensures pump { self.new ≡ after_step self.old result }
-        ensures again { StepsAgain self.old.state result ((source.new ≡ source.old) × (sink.new ≡ sink.old)) }
-        ensures limit { self.old.state ≡ State.InPayload → self.old.count ≡ limit_of self.old.segment
+        ensures again { StepsAgain self.old.state result ((source.new ≡ source.old)
+            × (sink.new ≡ sink.old)) }
+        ensures limit { self.old.state ≡ State.InPayload
+            → self.old.count ≡ limit_of self.old.segment
             → (result ≡ Ok Step.End) × (source.new ≡ source.old) × (sink.new ≡ sink.old) }
-        ensures run { (image : List ℕ) → length image < 2 ^ 64 → StandsIn image self.old (S.to_come source.old)
+        ensures run { (image : List ℕ) → length image < 2 ^ 64
+            → StandsIn image self.old (S.to_come source.old)
             → Steps self.old.segment self.old.key self.old.count (position self.old) image result
             (S.to_come source.new) (O.written sink.old) (O.written sink.new) }
         ensures passed { result ≡ Ok Step.Sector
-            → AddsUnit self.old.key (unit_number self.old.segment self.old.count) (sector_len self.old.segment)
+            → AddsUnit self.old.key (unit_number self.old.segment self.old.count)
+            (sector_len self.old.segment)
             (O.written sink.old) (O.written sink.new) }
         ensures only { is_running self.old.state ≡ true
             → MayAnswer self.old.state self.old.segment self.old.count result }

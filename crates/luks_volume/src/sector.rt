@@ -8,7 +8,8 @@ use crate::fault::VolumeFault;
 use crate::state::Step;
 use luks_header::segment::Segment;
 
-/// The most sectors that are passed on: those of a fixed size, and else as many as a count of them can say.
+/// The most sectors that are passed on: those of a fixed size, and else as many as a count of them
+/// can say.
 pub(crate) fn limit(segment: &Segment) -> u64
     ensures { result ≡ limit_of segment.now }
 {
@@ -30,7 +31,8 @@ pub(crate) fn number(segment: &Segment, sector: u64) -> u64
 pub(crate) fn ending(segment: &Segment, sectors: u64, more: usize) -> Result<Step, VolumeFault>
     requires below { sectors < limit_of segment.now }
     requires torn { more < sector_len segment.now }
-    ensures { result ≡ ending_within segment.now.size (sector_len segment.now) (sectors * sector_len segment.now + more) }
+    ensures { result ≡ ending_within segment.now.size (sector_len segment.now)
+        (sectors * sector_len segment.now + more) }
 {
     let sector = segment.sector_size.bytes() as u64;
     match segment.size {

@@ -12,8 +12,8 @@ use crate::DeviceFault;
 use crate::source::{Source, count_end};
 use std::io::Read;
 
-/// A device that answers one read at a time. Where a clause knows its answers, it says which of them are asked for and what
-/// is told of them.
+/// A device that answers one read at a time. Where a clause knows its answers, it says which of
+/// them are asked for and what is told of them.
 trait Reading {
     /// The bytes that are still to come, where they are known.
     ghost bytes: { Self → Option (List ℕ) };
@@ -36,7 +36,8 @@ impl<R: Read> Reading for R {
     }
 }
 
-/// Reads once, and again while the read is interrupted and a try is left. Ends and failures are counted.
+/// Reads once, and again while the read is interrupted and a try is left. Ends and failures are
+/// counted.
 fn read_counted<D: Reading>(
     device: &mut D,
     buf: &mut [u8],

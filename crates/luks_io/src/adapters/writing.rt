@@ -11,8 +11,8 @@ use crate::DeviceFault;
 use crate::sink::Sink;
 use std::io::Write;
 
-/// A device that answers one write at a time. Where a clause knows its answers, it says which of them are asked for and
-/// what is told of them.
+/// A device that answers one write at a time. Where a clause knows its answers, it says which of
+/// them are asked for and what is told of them.
 trait Writing {
     /// The bytes that were written, where they are known.
     ghost bytes: { Self → Option (List ℕ) };
@@ -35,8 +35,8 @@ impl<W: Write> Writing for W {
     }
 }
 
-/// Writes once, and again while the write is interrupted and a try is left. Failures are counted, and that a device takes
-/// nothing is one. An empty buffer is not written.
+/// Writes once, and again while the write is interrupted and a try is left. Failures are counted,
+/// and that a device takes nothing is one. An empty buffer is not written.
 fn write_counted<D: Writing>(
     device: &mut D,
     buf: &[u8],
@@ -96,8 +96,8 @@ impl<W: Write> Sink for WriteSink<W> {
 
     ghost failures = { λ s. s.failures };
 
-    /// Writes a beginning of the buffer. A writer that takes nothing of a buffer that has bytes has failed. An empty
-    /// buffer does not reach the writer.
+    /// Writes a beginning of the buffer. A writer that takes nothing of a buffer that has bytes has
+    /// failed. An empty buffer does not reach the writer.
     fn write(&mut self, buf: &[u8]) -> Result<usize, DeviceFault>
         ensures bound { TakesSome result buf.now }
         ensures bytes { WriteAppends (⟦<WriteSink<W> as Sink>⟧.written self.old)

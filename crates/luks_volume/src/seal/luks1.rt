@@ -17,10 +17,12 @@ const DISABLED: u32 = 0x0000_dead;
 
 /// Makes the image of a volume with the cipher `aes` in the mode `xts-plain64`.
 ///
-/// The area of slot i begins at sector `8 + i * a`, where `a` is the length of an area in sectors of 512 bytes, rounded up to
-/// a multiple of 8. The payload ends the image, and bytes that nothing is said of are zero.
+/// The area of slot i begins at sector `8 + i * a`, where `a` is the length of an area in sectors
+/// of 512 bytes, rounded up to a multiple of 8. The payload ends the image, and bytes that nothing
+/// is said of are zero.
 ///
-/// [`Parameters`](SealFault::Parameters) says that a parameter is outside its range, and comes before any memory is taken.
+/// [`Parameters`](SealFault::Parameters) says that a parameter is outside its range, and comes
+/// before any memory is taken.
 pub fn seal1(alloc: Global, seal: &Seal1<'_>) -> Result<Vec<u8>, SealFault>
     ensures { SealsOrSays (AreParameters seal.now) result }
 {
@@ -162,7 +164,8 @@ fn push_stripes(
     push_encrypted(alloc, image, &area_key, &stripes)
 }
 
-/// Adds these bytes, padded with zeros to whole sectors of 512 bytes and encrypted, the sectors numbered from 0.
+/// Adds these bytes, padded with zeros to whole sectors of 512 bytes and encrypted, the sectors
+/// numbered from 0.
 fn push_encrypted(
     alloc: Global,
     image: &mut Vec<u8>,

@@ -12,7 +12,8 @@ pub struct Seal1<'a> {
     pub key: &'a [u8],
     /// How many stripes hold the key, from 1 to 4000.
     pub stripes: u32,
-    /// Where the payload begins, in sectors of 512 bytes: behind the areas of eight slots, and 65,536 at most.
+    /// Where the payload begins, in sectors of 512 bytes: behind the areas of eight slots, and
+    /// 65,536 at most.
     pub payload_sectors: u32,
     /// The UUID, of at most 40 bytes, none of them zero.
     pub uuid: &'a [u8],

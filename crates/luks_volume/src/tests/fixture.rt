@@ -126,8 +126,8 @@ pub fn taker(alloc: Global, room: usize, piece: usize, bad: u64) -> Result<Leaky
 /// No call fails.
 pub const NEVER: u64 = u64::MAX;
 
-/// A run from the image's first byte, with source and sink in pieces of these sizes: what it gave, what it wrote, and how
-/// many bytes it took.
+/// A run from the image's first byte, with source and sink in pieces of these sizes: what it gave,
+/// what it wrote, and how many bytes it took.
 pub fn whole_run(
     alloc: Global,
     segment: Segment,

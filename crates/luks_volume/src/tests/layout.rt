@@ -1,6 +1,7 @@
-//! Whole images of sealed volumes, held against those that a Python program made of the same parameters by the LUKS1 On-Disk
-//! Format Specification, with hashlib and the AES and XTS of `cryptography`. An image of that program with 4000 stripes is
-//! opened by cryptsetup and read by qemu-img.
+//! Whole images of sealed volumes, held against those that a Python program made of the same
+//! parameters by the LUKS1 On-Disk Format Specification, with hashlib and the AES and XTS of
+//! `cryptography`. An image of that program with 4000 stripes is opened by cryptsetup and read by
+//! qemu-img.
 
 use super::fixture::counted;
 use super::sealed::{at, parameters, slot};
@@ -16,7 +17,8 @@ const SMALL: [u8; 32] = [
     0xe8, 0xbf, 0xb6, 0xec, 0x6a, 0x4b, 0x90, 0x7e, 0x0f, 0x86, 0x99, 0xfd, 0xcf, 0x5f, 0x02, 0xae,
 ];
 
-/// The SHA-256 of an image with a key of 64 bytes, areas of 13 sectors, the last one half used, and three slots.
+/// The SHA-256 of an image with a key of 64 bytes, areas of 13 sectors, the last one half used, and
+/// three slots.
 const LARGE: [u8; 32] = [
     0x64, 0x9d, 0x65, 0x78, 0x5d, 0x45, 0x5c, 0x56, 0x6e, 0x13, 0xef, 0xa9, 0x79, 0x98, 0xc3, 0x60,
     0x24, 0xca, 0x11, 0x51, 0x03, 0xbd, 0x40, 0x62, 0x60, 0xab, 0x14, 0xbd, 0x39, 0xae, 0x77, 0xdf,

@@ -189,7 +189,8 @@ fn a_second_skip_and_a_step_after_the_end_touch_nothing(rt: HostRuntime) -> Resu
     check_skip(&rt)
 }
 
-// A run in which read `bad_read` and write `bad_write` fail: its end, and what was written and taken.
+// A run in which read `bad_read` and write `bad_write` fail: its end, and what was written and
+// taken.
 fn broken_run(
     alloc: Global,
     image: &[u8],
@@ -215,7 +216,8 @@ fn broken_run(
 fn check_failures(rt: &(impl Abort + AllocGlobal)) -> Result<(), Fail> {
     let alloc = rt.alloc();
     let volume = make_volume(alloc, 1000, SectorSize::B512, &UNITS_512)?;
-    // Reads are of 200 bytes: five before the payload, then 200, 200 and 112 for each sector, and one at the end.
+    // Reads are of 200 bytes: five before the payload, then 200, 200 and 112 for each sector, and
+    // one at the end.
     for (bad, sectors, last, taken) in [
         (0, 0, Err(VolumeFault::Read), 0),
         (4, 0, Err(VolumeFault::Read), 800),

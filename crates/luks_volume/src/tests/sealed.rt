@@ -17,7 +17,8 @@ use std::test::Fail;
 
 const KEY: &[u8] = b"a volume key has thirty-two byte";
 
-/// PBKDF2 of the key with SHA-256, 32 bytes 5a as salt and 3 iterations: Python's hashlib.pbkdf2_hmac.
+/// PBKDF2 of the key with SHA-256, 32 bytes 5a as salt and 3 iterations: Python's
+/// hashlib.pbkdf2_hmac.
 const DIGEST: &[u8] = &[
     0xad, 0xb4, 0xdc, 0x9a, 0xfc, 0x19, 0x7c, 0xd7, 0xd4, 0xb5, 0x85, 0x3d, 0x2c, 0x1a, 0xd4, 0x54,
     0x5a, 0xf1, 0x34, 0xdb,

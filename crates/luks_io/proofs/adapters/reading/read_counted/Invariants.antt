@@ -5,7 +5,8 @@ use Rattle.luks_io.specs.declared.DeviceFault.{DeviceFault}
 use Rattle.luks_io.specs.declared.adapters.Answer.{Answer}
 use Rattle.luks_io.proofs.adapters.reading.read_counted.Given as goal
 
--- the calls so far were interrupted: they took nothing, nothing is counted, and what is told from here on is told of the whole
+-- the calls so far were interrupted: they took nothing, nothing is counted, and what is told from here on is told of
+-- the whole
 abbrev pub invariant-tries : goal.invariant-tries
 invariant-tries g l = record {
   told : (told : Result ℕ DeviceFault) (after : Option (List Answer)) →
