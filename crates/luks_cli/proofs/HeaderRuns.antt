@@ -1,5 +1,5 @@
 -- How the commands on headers end.
-use Rattle.std.proofs.Common.{◌≡◌, ℕ, ◌<◌, ◌≤◌, List, [], Option, Some, Result, Ok, Err, refl, take, drop, length, arith}
+use Rattle.std.proofs.Common.{◌≡◌, ℕ, ◌<◌, ◌≤◌, List, [], Option, Result, Ok, Err, refl, take, length, arith}
 use Rattle.luks_io.specs.Bytes.{Adds, Took}
 use Rattle.luks_io.proofs.Taking.{adds-none}
 use Rattle.luks_cli.proofs.HeaderTaking.{took_nothing}

@@ -1,5 +1,5 @@
 -- Finding the volume of an image.
-use Rattle.std.proofs.Common.{◌≡◌, ℕ, ◌⊎◌, inl, inr, List, Option, Some, Ok, Err, false, refl, drop, arith}
+use Rattle.std.proofs.Common.{◌≡◌, ℕ, ◌⊎◌, inl, inr, List, Option, Ok, Err, false, refl, arith}
 use Rattle.std.specs.Prelude.{is_err}
 use Rattle.luks_io.specs.Bytes.{Took}
 use Rattle.luks_header.specs.Header.{BreaksReading, cost_of, header_of}

@@ -17,14 +17,17 @@ module _ (known : List ℕ) (r r' : Option (List ℕ)) where
   took_more m n before next = took_behind m n before (next (drop m known) before.left)
 
   -- the same, of a sum that is told
-  pub took_sum : (m n sum : ℕ) → m + n ≡ sum → Took known r m → WhereKnown r (λ rest. Took rest r' n) → Took known r' sum
+  pub took_sum : (m n sum : ℕ) → m + n ≡ sum → Took known r m → WhereKnown r (λ rest. Took rest r' n)
+      → Took known r' sum
   took_sum m n sum is before next = subst (Took known r') is (took_more m n before next)
 
   -- m bytes were taken, and then fewer than were asked for
-  pub took_all : (m asked n : ℕ) → Took known r m → WhereKnown r (λ rest. Took rest r' n) → WhereKnown r (λ rest. n ≡ min asked (length rest)) → n < asked
+  pub took_all : (m asked n : ℕ) → Took known r m → WhereKnown r (λ rest. Took rest r' n)
+      → WhereKnown r (λ rest. n ≡ min asked (length rest)) → n < asked
       → (m + n ≡ length known) × Took known r' (length known)
   took_all m asked n before next all few =
-      let whole : m + n ≡ length known = omega (arith, all (drop m known) before.left, length-drop m known, before.within) in
+      let whole : m + n
+      ≡ length known = omega (arith, all (drop m known) before.left, length-drop m known, before.within) in
       (whole, took_sum m n (length known) whole before next)
 
 -- where all came that was asked for, no end was found
@@ -40,13 +43,21 @@ pub took-none : (known : List ℕ) (left : Option (List ℕ)) → left ≡ Some 
 took-none known left is = record { within = omega arith; left = is }
 
 -- all bytes were taken
-pub took-all : (known : List ℕ) (left : Option (List ℕ)) (count : ℕ) → length known ≤ count → left ≡ Some (drop count known) → Took known left (length known)
-took-all known left count all is = record { within = omega arith; left = is ∙ ap Some (drop_all count known all ∙ sym (drop_all (length known) known (omega arith))) }
+pub took-all : (known : List ℕ) (left : Option (List ℕ)) (count : ℕ) → length known ≤ count
+    → left ≡ Some (drop count known) → Took known left (length known)
+took-all known left count all is =
+    record {
+      within = omega arith;
+      left = is
+          ∙ ap Some (drop_all count known all ∙ sym (drop_all (length known) known (omega arith)));
+    }
 
 -- where nothing is written, the sink is as before
 pub adds-none : (before : Option (List ℕ)) → Adds before before []
 adds-none before known is = is ∙ ap Some (sym (append-nil known))
 
 -- some bytes were written, and then others
-pub adds-more : (before now after : Option (List ℕ)) (xs ys : List ℕ) → Adds before now xs → Adds now after ys → Adds before after (xs ++ ys)
-adds-more before now after xs ys first second known is = second (known ++ xs) (first known is) ∙ ap Some (append_assoc known xs ys)
+pub adds-more : (before now after : Option (List ℕ)) (xs ys : List ℕ) → Adds before now xs → Adds now after ys
+    → Adds before after (xs ++ ys)
+adds-more before now after xs ys first second known is = second (known ++ xs) (first known is)
+    ∙ ap Some (append_assoc known xs ys)

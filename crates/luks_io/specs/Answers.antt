@@ -23,7 +23,8 @@ abbrev pub told_of_write : ℕ → Result ℕ DeviceFault
 told_of_write count = if count == 0 then Err record {} else Ok count
 
 -- the first answer that is no interruption is told, with so many tries after the first, and no further one is asked for
-abbrev pub TellsFirst : (ℕ → Result ℕ DeviceFault) → ℕ → List Answer → Result ℕ DeviceFault → Option (List Answer) → Type 0
+abbrev pub TellsFirst : (ℕ → Result ℕ DeviceFault) → ℕ → List Answer → Result ℕ DeviceFault → Option (List Answer)
+    → Type 0
 TellsFirst told_of tries [] told after = Unit {0}
 TellsFirst told_of tries (Moved count ∷ rest) told after = (told ≡ told_of count) × (after ≡ Some rest)
 TellsFirst told_of tries (Failed ∷ rest) told after = (told ≡ Err record {}) × (after ≡ Some rest)
@@ -31,12 +32,15 @@ TellsFirst told_of zero (Interrupted ∷ rest) told after = (told ≡ Err record
 TellsFirst told_of (suc tries) (Interrupted ∷ rest) told after = TellsFirst told_of tries rest told after
 
 -- that, where the answers are known
-abbrev pub Tells : (ℕ → Result ℕ DeviceFault) → Option (List Answer) → ℕ → Result ℕ DeviceFault → Option (List Answer) → Type 0
-Tells told_of before tries told after = (known : List Answer) → before ≡ Some known → TellsFirst told_of tries known told after
+abbrev pub Tells : (ℕ → Result ℕ DeviceFault) → Option (List Answer) → ℕ → Result ℕ DeviceFault → Option (List Answer)
+    → Type 0
+Tells told_of before tries told after = (known : List Answer) → before ≡ Some known
+    → TellsFirst told_of tries known told after
 
 -- `read(buf)`: std's word for what its answer says of the bytes
 abbrev pub AnswerConsumes : Option (List ℕ) → Option (List ℕ) → Answer → List ℕ → Type 0
-AnswerConsumes before after (Moved n) buf = (n ≤ length buf) × Consumes before after (take n buf) × (n ≡ 0 → 0 < length buf → IsAtEnd after)
+AnswerConsumes before after (Moved n) buf = (n ≤ length buf) × Consumes before after (take n buf)
+    × (n ≡ 0 → 0 < length buf → IsAtEnd after)
 AnswerConsumes before after Interrupted buf = Keeps before after
 AnswerConsumes before after Failed buf = Keeps before after
 

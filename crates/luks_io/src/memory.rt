@@ -87,7 +87,13 @@ impl Model for MemSink {
 
     ghost Value = { Held };
 
-    ghost view = { λ s. record { written = take s.len s.bytes.items; room = vec_len s.bytes - s.len; failures = s.failures } };
+    ghost view = { λ s.
+        record {
+          written = take s.len s.bytes.items;
+          room = vec_len s.bytes - s.len;
+          failures =
+              s.failures;
+        } };
 
     ghost invariant = { λ s. s.len ≤ vec_len s.bytes };
 }

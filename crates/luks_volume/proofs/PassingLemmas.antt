@@ -4,12 +4,14 @@ use Rattle.luks_cipher.specs.Xts.{xts_decrypted}
 use Rattle.luks_volume.specs.Plain.{unit_plain}
 
 -- what a buffer decrypts to, in the payload's words
-pub unit_is : (key : List ℕ) (number : ℕ) (buf unit : List ℕ) → unit ≡ xts_decrypted key number buf → unit ≡ unit_plain key number buf
+pub unit_is : (key : List ℕ) (number : ℕ) (buf unit : List ℕ) → unit ≡ xts_decrypted key number buf
+    → unit ≡ unit_plain key number buf
 unfolding unit_plain
 unit_is key number buf unit is = is
 
 -- what a buffer of len bytes decrypts to that was filled with the next ones
-pub unit_filled : (key : List ℕ) (number len got : ℕ) (bytes buf unit : List ℕ) → length buf ≡ len → got ≡ len → take got buf ≡ take got bytes
+pub unit_filled : (key : List ℕ) (number len got : ℕ) (bytes buf unit : List ℕ) → length buf ≡ len → got ≡ len
+    → take got buf ≡ take got bytes
     → unit ≡ xts_decrypted key number buf → unit ≡ unit_plain key number (take len bytes)
 unfolding unit_plain
 unit_filled key number len got bytes buf unit long whole same is =

@@ -46,21 +46,24 @@ exact_sectors size z n exact is =
 
 module _ (z : ℕ) (some : 0 < z) where
   -- sector n is one of the payload's where the limit is above it and its bytes are there
-  pub is_whole : (size : Option ℕ) (n len : ℕ) → n < limit_within size z → n * z + z ≤ len → n < within_size size len / z
+  pub is_whole : (size : Option ℕ) (n len : ℕ) → n < limit_within size z → n * z + z ≤ len
+      → n < within_size size len / z
   is_whole None n len below there = omega (arith, fit (n + 1) len z some (omega arith))
   is_whole (Some size) n len below there =
       let whole = one_more_fits n size z below in
       omega (arith, fit (n + 1) (min size len) z some (omega arith))
 
   -- its bytes are before the payload's end
-  pub is_within : (size : Option ℕ) (n offset len place : ℕ) → n < limit_within size z → place < offset + (n * z + z) → place ≤ len → place ≤ end_within size offset len
+  pub is_within : (size : Option ℕ) (n offset len place : ℕ) → n < limit_within size z → place < offset + (n * z + z)
+      → place ≤ len → place ≤ end_within size offset len
   is_within None n offset len place below before there = there
   is_within (Some size) n offset len place below before there =
       let whole = one_more_fits n size z below in
       omega arith
 
   -- where the next sector is torn, the sectors so far are all
-  pub all_whole : (size : Option ℕ) (n more : ℕ) → n < limit_within size z → more < z → n ≡ within_size size (n * z + more) / z
+  pub all_whole : (size : Option ℕ) (n more : ℕ) → n < limit_within size z → more < z
+      → n ≡ within_size size (n * z + more) / z
   all_whole None n more below torn = sym (div-mul-add n z more torn)
   all_whole (Some size) n more below torn =
       let whole = one_more_fits n size z below in
@@ -76,7 +79,8 @@ module _ (z : ℕ) (some : 0 < z) where
       omega arith
 
   -- at the limit of an image that can be, the payload has its fixed size and ends well
-  pub at_limit : (size : Option ℕ) (n len : ℕ) → 512 ≤ z → ForSome size (λ bytes. bytes % z ≡ 0) → n ≡ limit_within size z → n * z ≤ len → len < 2 ^ 64
+  pub at_limit : (size : Option ℕ) (n len : ℕ) → 512 ≤ z → ForSome size (λ bytes. bytes % z ≡ 0)
+      → n ≡ limit_within size z → n * z ≤ len → len < 2 ^ 64
       → (n ≡ within_size size len / z) × (ending_within size z len ≡ Ok End)
   at_limit None n len least whole is there few =
       let many : n * 512 ≤ n * z = mul-le-mul_left n least in
@@ -88,7 +92,8 @@ module _ (z : ℕ) (some : 0 < z) where
       (rw smaller is, rw enough refl)
 
   -- and at its fixed end
-  pub at_limit_end : (size : Option ℕ) (n offset len : ℕ) → 512 ≤ z → ForSome size (λ bytes. bytes % z ≡ 0) → n ≡ limit_within size z → offset + n * z ≤ len
+  pub at_limit_end : (size : Option ℕ) (n offset len : ℕ) → 512 ≤ z → ForSome size (λ bytes. bytes % z ≡ 0)
+      → n ≡ limit_within size z → offset + n * z ≤ len
       → len < 2 ^ 64 → end_within size offset len ≡ offset + n * z
   at_limit_end None n offset len least whole is there few =
       let many : n * 512 ≤ n * z = mul-le-mul_left n least in
@@ -109,7 +114,8 @@ ends_before None offset len before = refl
 ends_before (Some size) offset len before = omega arith
 
 -- a place up to the payload's start is not behind its end
-pub before_end : (size : Option ℕ) (offset len place : ℕ) → place ≤ offset → place ≤ len → place ≤ end_within size offset len
+pub before_end : (size : Option ℕ) (offset len place : ℕ) → place ≤ offset → place ≤ len
+    → place ≤ end_within size offset len
 before_end None offset len place first there = there
 before_end (Some size) offset len place first there = omega arith
 
@@ -123,7 +129,8 @@ is_ending (Err (Short _)) = true
 is_ending (Err Read) = false
 is_ending (Err Write) = false
 
-either : (b : Bool) (x y : Result Step VolumeFault) → is_ending x ≡ true → is_ending y ≡ true → is_ending (if b then x else y) ≡ true
+either : (b : Bool) (x y : Result Step VolumeFault) → is_ending x ≡ true → is_ending y ≡ true
+    → is_ending (if b then x else y) ≡ true
 either true x y p q = p
 either false x y p q = q
 

@@ -31,13 +31,16 @@ StopsDiscarding count known left Write = ⊥
 
 -- the plain bytes of some unit of `len` bytes were written
 abbrev pub AddsUnit : List ℕ → ℕ → ℕ → Option (List ℕ) → Option (List ℕ) → Type 0
-AddsUnit key number len before after = (unit : List ℕ) × (length unit ≡ len) × Adds before after (unit_plain key number unit)
+AddsUnit key number len before after = (unit : List ℕ) × (length unit ≡ len)
+    × Adds before after (unit_plain key number unit)
 
 -- passing on a sector of `len` bytes was broken off
-abbrev pub StopsInSector : List ℕ → ℕ → ℕ → List ℕ → Option (List ℕ) → Option (List ℕ) → Option (List ℕ) → VolumeFault → Type 0
+abbrev pub StopsInSector : List ℕ → ℕ → ℕ → List ℕ → Option (List ℕ) → Option (List ℕ) → Option (List ℕ) → VolumeFault
+    → Type 0
 StopsInSector key number len known left before after Read = TookFewer known left len
 StopsInSector key number len known left before after Write =
-    Took known left len × ((count : ℕ) × (count < len) × Adds before after (take count (unit_plain key number (take len known))))
+    Took known left len
+    × ((count : ℕ) × (count < len) × Adds before after (take count (unit_plain key number (take len known))))
 StopsInSector key number len known left before after CutBeforePayload = ⊥
 StopsInSector key number len known left before after (Tail _) = ⊥
 StopsInSector key number len known left before after (Short _) = ⊥

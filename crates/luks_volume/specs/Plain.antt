@@ -53,7 +53,8 @@ ending_within (Some size) sector len = if nat_lt len size then Err (Short (size 
 -- how the payload ends
 abbrev pub ending_of : Segment → List ℕ → Result Step VolumeFault
 ending_of s image =
-    if nat_lt (length image) s.offset then Err CutBeforePayload else ending_within s.size (sector_len s) (payload_len s image)
+    if nat_lt (length image) s.offset then Err CutBeforePayload else ending_within s.size (sector_len s)
+    (payload_len s image)
 
 -- where a payload of this size from this offset on ends in an image of so many bytes
 abbrev pub end_within : Option ℕ → ℕ → ℕ → ℕ

@@ -93,7 +93,9 @@ WritesSectors (Err Write) unwritten = Unit {0}
 -- more
 abbrev pub EndsAt : Segment → ℕ → Result Step VolumeFault → Type 0
 EndsAt s count answer = ((count ≡ limit_of s) × (answer ≡ Ok End))
-    ⊎ ((count < limit_of s) × ((more : ℕ) × (more < sector_len s) × (answer ≡ ending_within s.size (sector_len s) (count * sector_len s + more))))
+    ⊎ ((count < limit_of s)
+    × ((more : ℕ) × (more < sector_len s)
+    × (answer ≡ ending_within s.size (sector_len s) (count * sector_len s + more))))
 
 -- the answers that a step may give, whatever its devices do
 abbrev pub MayAnswer : State → Segment → ℕ → Result Step VolumeFault → Type 0
@@ -121,13 +123,15 @@ pub record TakesSector (image : List ℕ) (segment : Segment) (count : ℕ) (lef
   pub took : Took image left (sector_start segment (count + 1))
 
 -- the payload came to its stated end after `count` sectors, and all of it was taken
-pub record Ends (image : List ℕ) (segment : Segment) (count : ℕ) (answer : Result Step VolumeFault) (left : Option (List ℕ)) : Type 0 where
+pub record Ends (image : List ℕ) (segment : Segment) (count : ℕ) (answer : Result Step VolumeFault)
+    (left : Option (List ℕ)) : Type 0 where
   pub all : count ≡ sectors_of segment image
   pub as_stated : answer ≡ ending_of segment image
   pub took : Took image left (payload_end_of segment image)
 
 -- what a step did from this place of the image on, with so many sectors passed on before
-abbrev pub Steps : Segment → List ℕ → ℕ → ℕ → List ℕ → Result Step VolumeFault → Option (List ℕ) → Option (List ℕ) → Option (List ℕ) → Type 0
+abbrev pub Steps : Segment → List ℕ → ℕ → ℕ → List ℕ → Result Step VolumeFault → Option (List ℕ) → Option (List ℕ)
+    → Option (List ℕ) → Type 0
 Steps s key count place image (Ok Sector) left before after =
     TakesSector image s count left × Adds before after (sector_of s key image count)
 Steps s key count place image (Ok End) left before after = Ends image s count (Ok End) left
@@ -137,4 +141,5 @@ Steps s key count place image (Err (Short bytes)) left before after = Ends image
 Steps s key count place image (Err Read) left before after =
     TookBetween image left place (min (sector_start s (count + 1)) (payload_end_of s image + 1))
 Steps s key count place image (Err Write) left before after =
-    TakesSector image s count left × ((written : ℕ) × (written < sector_len s) × Adds before after (take written (sector_of s key image count)))
+    TakesSector image s count left
+    × ((written : ℕ) × (written < sector_len s) × Adds before after (take written (sector_of s key image count)))

@@ -42,7 +42,15 @@ impl Model for Pump {
 
     ghost Value = { Pumped };
 
-    ghost view = { λ p. record { segment = p.segment; key = p.key; consumed = p.consumed; count = p.count; state = p.state } };
+    ghost view = { λ p.
+        record {
+          segment = p.segment;
+          key = p.key;
+          consumed = p.consumed;
+          count = p.count;
+          state =
+              p.state;
+        } };
 
     ghost invariant = { λ p. (p.consumed ≤ p.segment.offset) × (p.count ≤ limit_of p.segment)
         × (p.state ≡ BeforePayload → p.count ≡ 0) };
@@ -123,7 +131,8 @@ impl Pump {
     /// [`CutBeforePayload`](VolumeFault::CutBeforePayload) says that the image ends before,
     /// [`Read`](VolumeFault::Read) that a read failed. A pump that has failed repeats its fault.
     pub fn skip<S: Source>(&mut self, source: &mut S) -> Result<(), VolumeFault>
-        ensures pump { self.new ≡ record self.old { state = state_after_skip self.old.state result } }
+        ensures pump { self.new
+            ≡ record self.old { state = state_after_skip self.old.state result } }
         ensures again { SkipsAgain self.old.state result (source.new ≡ source.old) }
         ensures run { (image : List ℕ) → self.old.state ≡ State.BeforePayload
             → StandsIn image self.old (S.to_come source.old)

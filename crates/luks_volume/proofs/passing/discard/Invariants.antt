@@ -8,7 +8,8 @@ invariant-pieces g l = record {
   reads : g.S.Source.failures l.source ≡ g.S.Source.failures l.initial.source;
   ends : g.S.Source.ends l.source ≡ g.S.Source.ends l.initial.source;
   few : l.left ≤ l.count;
-  taken : WhereKnown (g.S.Source.to_come l.initial.source) (λ known. Took known (g.S.Source.to_come l.source) (l.count - l.left));
+  taken : WhereKnown (g.S.Source.to_come l.initial.source)
+      (λ known. Took known (g.S.Source.to_come l.source) (l.count - l.left));
 }
 
 -- the bytes that are still to be taken

@@ -11,7 +11,8 @@ use Rattle.luks_volume.proofs.pump.next_sector.Goals as goal
 pub returns-then-count-limit-clause-run : goal.returns-then-count-limit-clause-run
 returns-then-count-limit-clause-run g c image few took =
     let full : c.args.count ≡ limit_of c.args.segment.now = omega arith in
-    steps_at_limit c.args.segment.now image c.args.count _ took c.args.key.now (g.O.Sink.written c.args.sink.now) (g.O.Sink.written c.args.sink.now) full few
+    steps_at_limit c.args.segment.now image c.args.count _ took c.args.key.now (g.O.Sink.written c.args.sink.now)
+    (g.O.Sink.written c.args.sink.now) full few
 
 pub returns-in_err-got-clause-run : goal.returns-in_err-got-clause-run
 returns-in_err-got-clause-run g c =
@@ -21,7 +22,8 @@ returns-in_err-got-clause-run g c =
     let sized : length (take c.bytes-size.result c.args.buffer.now) ≡ sector_len c.args.segment.now =
     length-take-le c.bytes-size.result c.args.buffer.now (omega arith) ∙ c.bytes-size.ensures in
     rw (p.1, p.2) (λ image few took.
-    steps_broken c.args.segment.now image c.args.count _ took c.args.key.now _ _ _ _ below (rw (sized, c.number.ensures) at c.in_err-got.ensures.err))
+    steps_broken c.args.segment.now image c.args.count _ took c.args.key.now _ _ _ _ below
+    (rw (sized, c.number.ensures) at c.in_err-got.ensures.err))
 
 pub returns-then-got-size-clause-run : goal.returns-then-got-size-clause-run
 returns-then-got-size-clause-run g c image few took =
@@ -29,7 +31,8 @@ returns-then-got-size-clause-run g c image few took =
     let most = at_most_4096 c.args.segment.now.sector_size in
     let sized : length (take c.bytes-size.result c.args.buffer.now) ≡ sector_len c.args.segment.now =
     length-take-le c.bytes-size.result c.args.buffer.now (omega arith) ∙ c.bytes-size.ensures in
-    steps_torn c.args.segment.now image c.args.count _ took c.args.key.now _ _ _ _ c.in_ok-got.got below (rw sized at c.in_ok-got.ensures.taken) (omega arith) c.ending.ensures
+    steps_torn c.args.segment.now image c.args.count _ took c.args.key.now _ _ _ _ c.in_ok-got.got below
+    (rw sized at c.in_ok-got.ensures.taken) (omega arith) c.ending.ensures
 
 pub returns-clause-run : goal.returns-clause-run
 returns-clause-run g c image few took =
@@ -39,14 +42,16 @@ returns-clause-run g c image few took =
     length-take-le c.bytes-size.result c.args.buffer.now (omega arith) ∙ c.bytes-size.ensures in
     let got : c.in_ok-got.got ≡ sector_len c.args.segment.now = omega (arith, c.in_ok-got.ensures.most) in
     let full : c.in_ok-got.got ≡ length (take c.bytes-size.result c.args.buffer.now) = omega arith in (
-      takes_sector c.args.segment.now image c.args.count _ took _ below (rw got at (c.in_ok-got.ensures.taken _ took.left).1),
+      takes_sector c.args.segment.now image c.args.count _ took _ below
+          (rw got at (c.in_ok-got.ensures.taken _ took.left).1),
       rw (c.number.ensures, got) at (c.in_ok-got.ensures.written full _ took.left),
     )
 
 pub returns-then-got-size-clause-only : goal.returns-then-got-size-clause-only
 returns-then-got-size-clause-only g c =
     let below : c.args.count < limit_of c.args.segment.now = omega arith in
-    may_be_torn c.args.segment.now c.args.count c.in_ok-got.got _ below c.ending.ensures InPayload (rw c.bytes-size.ensures at c.if-got-size.true)
+    may_be_torn c.args.segment.now c.args.count c.in_ok-got.got _ below c.ending.ensures InPayload
+    (rw c.bytes-size.ensures at c.if-got-size.true)
 
 pub returns-then-got-size-clause-ends : goal.returns-then-got-size-clause-ends
 returns-then-got-size-clause-ends g c =
@@ -54,12 +59,14 @@ returns-then-got-size-clause-ends g c =
     let most = at_most_4096 c.args.segment.now.sector_size in
     let torn : c.in_ok-got.got < length (take c.bytes-size.result c.args.buffer.now) =
     omega (arith, length-take-le c.bytes-size.result c.args.buffer.now (omega arith), c.if-got-size.true) in
-    c.in_ok-got.ensures.ends ∙ counted-short _ _ _ torn ∙ found_torn c.args.segment.now c.args.count c.in_ok-got.got _ below c.ending.ensures _
+    c.in_ok-got.ensures.ends ∙ counted-short _ _ _ torn
+    ∙ found_torn c.args.segment.now c.args.count c.in_ok-got.got _ below c.ending.ensures _
 
 pub returns-clause-passed : goal.returns-clause-passed
 returns-clause-passed g c is =
     let most = at_most_4096 c.args.segment.now.sector_size in
     let sized : length (take c.bytes-size.result c.args.buffer.now) ≡ sector_len c.args.segment.now =
     length-take-le c.bytes-size.result c.args.buffer.now (omega arith) ∙ c.bytes-size.ensures in
-    let full : c.in_ok-got.got ≡ length (take c.bytes-size.result c.args.buffer.now) = omega (arith, c.in_ok-got.ensures.most) in
+    let full : c.in_ok-got.got
+    ≡ length (take c.bytes-size.result c.args.buffer.now) = omega (arith, c.in_ok-got.ensures.most) in
     rw (c.number.ensures, sized) at (c.in_ok-got.ensures.whole full)

@@ -5,7 +5,8 @@ use Rattle.luks_io.proofs.adapters.reading.read_counted.Goals as goal
 
 pub returns-in-Moved-clause-told : goal.returns-in-Moved-clause-told
 returns-in-Moved-clause-told g c =
-    c.tries.invariant.told _ _ (tells_moved told_of_read _ _ c.tries.tries c.in-Moved.count _ refl c.in-Moved.ensures.next)
+    c.tries.invariant.told _ _
+    (tells_moved told_of_read _ _ c.tries.tries c.in-Moved.count _ refl c.in-Moved.ensures.next)
 
 pub tries-preserved : goal.tries-preserved
 tries-preserved g c = record {

@@ -10,7 +10,8 @@ use Rattle.luks_io.proofs.adapters.reading.read_counted.Given as goal
 abbrev pub invariant-tries : goal.invariant-tries
 invariant-tries g l = record {
   told : (told : Result ℕ DeviceFault) (after : Option (List Answer)) →
-      Tells told_of_read (g.D.Reading.answers l.device) l.tries told after → Tells told_of_read (g.D.Reading.answers l.initial.device) l.initial.tries told after;
+      Tells told_of_read (g.D.Reading.answers l.device) l.tries told after
+      → Tells told_of_read (g.D.Reading.answers l.initial.device) l.initial.tries told after;
   kept : Keeps (g.D.Reading.bytes l.initial.device) (g.D.Reading.bytes l.device);
   failures : l.failures ≡ l.initial.failures;
   ends : l.ends ≡ l.initial.ends;

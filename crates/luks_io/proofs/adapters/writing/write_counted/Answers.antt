@@ -23,9 +23,12 @@ returns-in-Failed-clause-told g c some =
 pub returns-in-Moved-eq0-clause-told : goal.returns-in-Moved-eq0-clause-told
 returns-in-Moved-eq0-clause-told g c some =
     let none : told_of_write c.in-Moved-eq0.field-0 ≡ Err record {} = rw c.in-Moved-eq0.field-0-test refl in
-    c.tries.invariant.told _ _ (tells_moved told_of_write _ _ c.tries.tries c.in-Moved-eq0.field-0 _ none c.in-Moved-eq0.ensures.next)
+    c.tries.invariant.told _ _
+    (tells_moved told_of_write _ _ c.tries.tries c.in-Moved-eq0.field-0 _ none c.in-Moved-eq0.ensures.next)
 
 pub returns-in-Moved-clause-told : goal.returns-in-Moved-clause-told
 returns-in-Moved-clause-told g c some =
-    let moved : told_of_write c.in-Moved.count ≡ Ok c.in-Moved.count = rw (ne_eqb c.in-Moved.count 0 c.in-Moved.count-test.1) refl in
-    c.tries.invariant.told _ _ (tells_moved told_of_write _ _ c.tries.tries c.in-Moved.count _ moved c.in-Moved.ensures.next)
+    let moved : told_of_write c.in-Moved.count
+    ≡ Ok c.in-Moved.count = rw (ne_eqb c.in-Moved.count 0 c.in-Moved.count-test.1) refl in
+    c.tries.invariant.told _ _
+    (tells_moved told_of_write _ _ c.tries.tries c.in-Moved.count _ moved c.in-Moved.ensures.next)

@@ -10,7 +10,8 @@ use Rattle.luks_io.proofs.adapters.writing.write_counted.Given as goal
 abbrev pub invariant-tries : goal.invariant-tries
 invariant-tries g l = record {
   told : (told : Result ℕ DeviceFault) (after : Option (List Answer)) →
-      Tells told_of_write (g.D.Writing.answers l.device) l.tries told after → Tells told_of_write (g.D.Writing.answers l.initial.device) l.initial.tries told after;
+      Tells told_of_write (g.D.Writing.answers l.device) l.tries told after
+      → Tells told_of_write (g.D.Writing.answers l.initial.device) l.initial.tries told after;
   kept : Keeps (g.D.Writing.bytes l.initial.device) (g.D.Writing.bytes l.device);
   failures : l.failures ≡ l.initial.failures;
 }
