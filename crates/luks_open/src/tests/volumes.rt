@@ -48,23 +48,10 @@ pub const LONG_KEY: Volume = Volume {
     key: "a2a9dfed4a37caad14836d5c1606e071f59979b9a501cff54940e687216babfba438fcb6041fa17d5c67141834ee994d19be8553fc1840d6e6c0b171886ad705",
 };
 
-// The value of a hexadecimal digit.
-fn digit(c: u8) -> Result<u8, Fail> {
-    match c {
-        b'0'..=b'9' => Ok(c - b'0'),
-        b'a'..=b'f' => Ok(c - b'a' + 10),
-        _ => Err("no hexadecimal digit".into()),
-    }
-}
-
-// The bytes that the digits spell.
+// The bytes that the hexadecimal digits spell.
 fn bytes(alloc: Global, digits: &str) -> Result<Vec<u8>, Fail> {
-    let digits = digits.as_bytes();
-    let mut spelt = Vec::new(alloc);
-    for i in 0..digits.len() / 2 {
-        spelt.push((digit(digits[2 * i])? << 4) | digit(digits[2 * i + 1])?)?;
-    }
-    Ok(spelt)
+    let decoded = hex::decode(alloc, digits.as_bytes());
+    Ok(decoded.ok().ok_or("no hexadecimal digits")?)
 }
 
 // Puts a row into an image.
