@@ -44,6 +44,16 @@ told() {
     echo $?
 }
 
+# sealed_by_qemu OPTIONS IMAGE: qemu-img makes a LUKS volume of 1 MiB. It times its own key derivation by the processor's clock, and gives up
+# where that has not moved; so it is asked again.
+sealed_by_qemu() {
+    for _ in $(seq 50); do
+        qemu-img create -q -f luks --object secret,id=s,file=pass -o "key-secret=s,iter-time=10$1" "$2" 1M 2>qemu.err && return
+    done
+    cat qemu.err
+    exit 1
+}
+
 # run WORD..: the program on these words, with standard input from the file in
 run() {
     "$program" "$@" <in >out 2>err
