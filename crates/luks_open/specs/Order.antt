@@ -1,5 +1,5 @@
 -- Which key slots are tried, and in which order.
-use Rattle.std.specs.Prelude.{ℕ, ◌==◌, max, if◌then◌else◌, List, [], ◌∷◌, ◌++◌, Option, Some, None, Result, Ok, Err}
+use Rattle.std.specs.Prelude.{◌≡◌, ℕ, ◌==◌, ◌⊎◌, max, MatchResult, if◌then◌else◌, List, [], ◌∷◌, ◌++◌, Option, Some, None, Result, Ok, Err}
 use Rattle.luks_verdict.specs.Rule.{most_slots}
 use Rattle.luks_verdict.specs.Slot.{end_of}
 use Rattle.luks_verdict.specs.Table.{rising}
@@ -15,7 +15,7 @@ use Rattle.luks_header.specs.Slot.{slot_at, verdict_at}
 use Rattle.luks_header.specs.declared.header.Header.{Header}
 use Rattle.luks_open.specs.declared.entry.Entry.{Entry}
 use Rattle.luks_open.specs.declared.fault.OpenFault.{OpenFault}
-use Rattle.luks_open.specs.declared.fault.OpenFault.TheVariants.{NoSuchSlot, Disabled, NamedSkipped, NothingTried}
+use Rattle.luks_open.specs.declared.fault.OpenFault.TheVariants.{NoSuchSlot, Disabled, NamedSkipped, NothingTried, Memory}
 
 -- what is tried
 pub record Tries : Type 0 where
@@ -81,6 +81,11 @@ tries_of_named entry (Some (Skipped reason)) = Err (NamedSkipped reason)
 unfoldable pub order_of : Header → Option ℕ → Option ℕ → Result Tries OpenFault
 order_of header None limit = tries_of_all header limit
 order_of header (Some named) limit = tries_of_named (entry_at header named) (verdict_at header limit named)
+
+-- an answer is the stated one, or memory was refused
+abbrev pub IsOrMemory : {T : Type 0} → Result T OpenFault → Result T OpenFault → Type 0
+IsOrMemory stated answer =
+    MatchResult answer (λ value. stated ≡ Ok value) (λ fault. (fault ≡ Memory) ⊎ (stated ≡ Err fault))
 
 -- where the key material ends of all these key slots
 unfoldable pub held_of : List Entry → ℕ

@@ -1,9 +1,9 @@
 //! In which order key slots are tried.
 
-ghost use Rattle.std.specs.Prelude.{◌≡◌, ◌⊎◌, ◌++◌, Ok, Err, IfOk, IfErr, IsOk, IsSome, OnOk, OnErr, option_map, [], ◌∷◌, ◌≤◌, length};
+ghost use Rattle.std.specs.Prelude.{◌≡◌, ◌++◌, Err, IfOk, IsOk, IsSome, OnOk, OnErr, option_map, [], ◌∷◌, ◌≤◌, length};
 ghost use Rattle.luks_verdict.specs.Rule.{most_slots};
 ghost use Rattle.luks_verdict.specs.Table.{rising};
-ghost use Rattle.luks_open.specs.Order.{order_of, skipped_at, entry_at, tried_alone, tries_of_all, tries_of_named, usable_at};
+ghost use Rattle.luks_open.specs.Order.{IsOrMemory, order_of, skipped_at, entry_at, tried_alone, tries_of_all, tries_of_named, usable_at};
 ghost use Rattle.luks_header.specs.Slot.{verdict_at};
 
 use crate::entry::{Entry, entry_at};
@@ -80,9 +80,7 @@ fn skipped(header: &Header, limit: Option<u32>) -> SkippedSlots
 // No key slot is named.
 #[tactic(auto, unfolding(crate::specs::Order::tries_of_all))]
 fn order_all(alloc: Global, header: &Header, limit: Option<u32>) -> Result<Order, OpenFault>
-    ensures ok { IfOk result (λ order. tries_of_all header.now limit ≡ Ok order) }
-    ensures err { IfErr result (λ fault. (fault ≡ OpenFault.Memory)
-        ⊎ (tries_of_all header.now limit ≡ Err fault)) }
+    ensures answer { IsOrMemory (tries_of_all header.now limit) result }
     ensures memory { result ≡ Err OpenFault.Memory → IsOk (tries_of_all header.now limit) }
 {
     let mut entries = Vec::new(alloc);
@@ -105,9 +103,7 @@ fn order_one(alloc: Global, entry: Entry) -> Result<Order, AllocError>
 
 // A key slot that can be tried is named.
 fn order_usable(alloc: Global, header: &Header, named: u8) -> Result<Order, OpenFault>
-    ensures ok { IfOk result (λ order. tried_alone (entry_at header.now named) ≡ Ok order) }
-    ensures err { IfErr result (λ fault. (fault ≡ OpenFault.Memory)
-        ⊎ (tried_alone (entry_at header.now named) ≡ Err fault)) }
+    ensures answer { IsOrMemory (tried_alone (entry_at header.now named)) result }
 {
     match entry_at(alloc, header, named)? {
         Some(entry) => Ok(order_one(alloc, entry)?),
@@ -122,12 +118,8 @@ fn order_named(
     limit: Option<u32>,
     named: u8,
 ) -> Result<Order, OpenFault>
-    ensures ok { IfOk result (λ order.
-        tries_of_named (entry_at header.now named) (verdict_at header.now limit named)
-        ≡ Ok order) }
-    ensures err { IfErr result (λ fault. (fault ≡ OpenFault.Memory)
-        ⊎ (tries_of_named (entry_at header.now named) (verdict_at header.now limit named)
-        ≡ Err fault)) }
+    ensures answer { IsOrMemory
+        (tries_of_named (entry_at header.now named) (verdict_at header.now limit named)) result }
     ensures memory { result ≡ Err OpenFault.Memory
         → IsOk (tries_of_named (entry_at header.now named) (verdict_at header.now limit named)) }
 {
@@ -154,9 +146,7 @@ pub fn order(
     named: Option<u8>,
     limit: Option<u32>,
 ) -> Result<Order, OpenFault>
-    ensures ok { IfOk result (λ order. order_of header.now named limit ≡ Ok order) }
-    ensures err { IfErr result (λ fault. (fault ≡ OpenFault.Memory)
-        ⊎ (order_of header.now named limit ≡ Err fault)) }
+    ensures answer { IsOrMemory (order_of header.now named limit) result }
     ensures memory { result ≡ Err OpenFault.Memory → IsOk (order_of header.now named limit) }
 {
     match named {

@@ -24,7 +24,7 @@ returns-in-Err-clause-err g c =
     let read = c.in_ok-header.ensures.taken known is in
     stops_without_order (opening_request c.args.opening.now) known _ c.in_ok-header.header read.0 read.2
     c.in_ok-segment.segment c.in-Err.fault (sym c.in_ok-segment.ensures)
-    (rw (c.named_slot-named.ensures, c.limit.ensures) at c.in-Err.ensures.err))
+    (rw (c.named_slot-named.ensures, c.limit.ensures) at c.in-Err.ensures.answer))
 
 pub returns-in-Ok-clause-ok : goal.returns-in-Ok-clause-ok
 returns-in-Ok-clause-ok g c known is =
@@ -36,4 +36,4 @@ returns-in-Ok-clause-volume g c known is =
     let read = c.in_ok-header.ensures.taken known is in
     volume_found (opening_request c.args.opening.now) known None c.in_ok-header.header read.0 c.in_ok-segment.segment
     c.in-Ok.order (sym c.in_ok-segment.ensures)
-    (rw (c.named_slot-named.ensures, c.limit.ensures) at c.in-Ok.ensures.ok)
+    (rw (c.named_slot-named.ensures, c.limit.ensures) at c.in-Ok.ensures.answer)
