@@ -11,12 +11,11 @@ use Rattle.luks_verdict.specs.Evidence.{where_true}
 use Rattle.luks_verdict.specs.Rule.{InRange, IsDigest, in_range, is_beyond, usable_digest}
 use Rattle.luks_verdict.specs.SectorSize.{are_sectors, bytes_of, whole_sectors}
 use Rattle.luks_verdict.specs.Segment.{segment_of_all, segment_with}
-use Rattle.luks_verdict.specs.Slot.{are_in_range, parts_end, slot_from, slot_of}
+use Rattle.luks_verdict.specs.Slot.{are_in_range, parts_end, slot_from, slot_of, slot_with}
 use Rattle.luks_verdict.specs.declared.digest.DigestParts.{DigestParts}
 use Rattle.luks_verdict.specs.declared.digest.KeyDigest.{KeyDigest}
 use Rattle.luks_verdict.specs.declared.sector_size.SectorSize.{SectorSize}
 use Rattle.luks_verdict.specs.declared.segment.Segment.{Segment}
-use Rattle.luks_verdict.specs.declared.slot.Slot.{Slot}
 use Rattle.luks_verdict.specs.declared.slot.SlotParts.{SlotParts}
 
 -- where a test holds there is evidence, and there is but one
@@ -36,41 +35,12 @@ pub slot_from-no : (parts : SlotParts) → are_in_range parts ≡ false → slot
 unfolding slot_from
 slot_from-no parts is = ap (option_map (slot_of parts)) (where_true-no (are_in_range parts) is)
 
--- the slot with these numbers, whatever the evidence that they are in range
-made : (parts : SlotParts) → InRange parts.iterations parts.stripes (parts_end parts) → Slot
-made parts range = record {
-  priority = parts.priority;
-  kdf_hash = parts.kdf_hash;
-  iterations = parts.iterations;
-  salt = parts.salt;
-  af_hash = parts.af_hash;
-  stripes = parts.stripes;
-  key_bytes = parts.key_bytes;
-  area_key_bytes = parts.area_key_bytes;
-  area_offset = parts.area_offset;
-  area_size = parts.area_size;
-  in_range = range;
-}
-
 pub slot_made : (parts : SlotParts) (range : InRange parts.iterations parts.stripes (parts_end parts))
-    → are_in_range parts ≡ true
-    → Some record {
-      priority = parts.priority;
-      kdf_hash = parts.kdf_hash;
-      iterations = parts.iterations;
-      salt = parts.salt;
-      af_hash = parts.af_hash;
-      stripes = parts.stripes;
-      key_bytes = parts.key_bytes;
-      area_key_bytes = parts.area_key_bytes;
-      area_offset = parts.area_offset;
-      area_size = parts.area_size;
-      in_range = range;
-    } ≡ slot_from parts
-unfolding made slot_of
+    → are_in_range parts ≡ true → Some (slot_with parts range) ≡ slot_from parts
+unfolding slot_of
 slot_made parts range is =
     let all : IsProp (InRange parts.iterations parts.stripes (parts_end parts)) = hlevel (le_prop) in
-    ap (λ (r : InRange parts.iterations parts.stripes (parts_end parts)). Some (made parts r))
+    ap (λ (r : InRange parts.iterations parts.stripes (parts_end parts)). Some (slot_with parts r))
     (all range (in_range parts.iterations parts.stripes (parts_end parts) is))
     ∙ sym (slot_from-yes parts is)
 

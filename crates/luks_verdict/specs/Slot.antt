@@ -1,7 +1,7 @@
 -- Key slots, made of what was read of them, and what becomes of them.
 use Rattle.std.specs.Prelude.{◌≡◌, ℕ, ◌+◌, Bool, true, Option, Some, None, option_map}
 use Rattle.luks_verdict.specs.Evidence.{where_true}
-use Rattle.luks_verdict.specs.Rule.{in_range, is_in_range, need_of}
+use Rattle.luks_verdict.specs.Rule.{InRange, in_range, is_in_range, need_of}
 use Rattle.luks_verdict.specs.declared.refusal.SkipReason.{SkipReason}
 use Rattle.luks_verdict.specs.declared.refusal.SkipReason.TheVariants.{Member}
 use Rattle.luks_verdict.specs.declared.slot.Slot.{Slot}
@@ -23,9 +23,9 @@ end_of slot = slot.area_offset + need_of slot.key_bytes slot.stripes
 abbrev pub are_in_range : SlotParts → Bool
 are_in_range parts = is_in_range parts.iterations parts.stripes (parts_end parts)
 
--- the key slot of which this was read: its numbers are in range
-unfoldable pub slot_of : (parts : SlotParts) → are_in_range parts ≡ true → Slot
-slot_of parts is = record {
+-- the key slot with these numbers, which are in range
+abbrev pub slot_with : (parts : SlotParts) → InRange parts.iterations parts.stripes (parts_end parts) → Slot
+slot_with parts range = record {
   priority = parts.priority;
   kdf_hash = parts.kdf_hash;
   iterations = parts.iterations;
@@ -36,8 +36,12 @@ slot_of parts is = record {
   area_key_bytes = parts.area_key_bytes;
   area_offset = parts.area_offset;
   area_size = parts.area_size;
-  in_range = in_range parts.iterations parts.stripes (parts_end parts) is;
+  in_range = range;
 }
+
+-- the key slot of which this was read, where a test found its numbers in range
+unfoldable pub slot_of : (parts : SlotParts) → are_in_range parts ≡ true → Slot
+slot_of parts is = slot_with parts (in_range parts.iterations parts.stripes (parts_end parts) is)
 
 -- the key slot of which this was read, where its numbers are in range
 unfoldable pub slot_from : SlotParts → Option Slot

@@ -30,25 +30,9 @@ pub(super) fn read_secret<S: Source>(alloc: Global, source: &mut S) -> Result<Ve
         ≡ counted (is_failed_read (message_of result)) (S.failures source.old) }
 {
     let mut buffer = [0; PIECE];
-    gather(alloc, &mut buffer, source)
-}
-
-/// Reads the key file by pieces that fit into the buffer.
-fn gather<S: Source>(alloc: Global, buffer: &mut [u8], source: &mut S) -> Result<Vec<u8>, Message>
-    requires { 0 < length buffer.old }
-    ensures few { IfOk result (λ secret. vec_len secret ≤ longest_key_file) }
-    ensures ok { IfOk result (λ secret. WhereKnown (S.to_come source.old)
-        (λ known. (secret.items ≡ known) × Took known (S.to_come source.new) (length known))) }
-    ensures err { IfErr result (λ message. WhereKnown (S.to_come source.old)
-        (λ known. NoSecretRead known (S.to_come source.new) message)) }
-    ensures only { IfErr result (λ message. (message ≡ Message.KeyFileLength)
-        ⊎ ((message ≡ Message.OutOfMemory) ⊎ (message ≡ Message.ReadFailed))) }
-    ensures reads { S.failures source.new
-        ≡ counted (is_failed_read (message_of result)) (S.failures source.old) }
-{
     let mut secret = Vec::new(alloc);
     'pieces: while secret.len() <= LONGEST {
-        let size = buffer.len().min(LONGEST + 1 - secret.len());
+        let size = PIECE.min(LONGEST + 1 - secret.len());
         if take_piece(&mut buffer[..size], &mut secret, source)? < size {
             return Ok(secret);
         }

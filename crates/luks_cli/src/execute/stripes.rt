@@ -79,18 +79,13 @@ fn pass_stripes<R: Source, O: Sink>(
     Ok(splitter)
 }
 
-/// Splits the key that the first source gives into stripes, the random ones first. The buffers are
-/// for the key, with a byte more than the longest has, and for one stripe.
-fn write_split<K: Source, R: Source, O: Sink>(
+/// `afSplit`: the key that the first source gives in stripes, the random ones first.
+pub(super) fn split<K: Source, R: Source, O: Sink>(
     splitting: &Splitting<'_>,
-    key_buf: &mut [u8],
-    stripe_buf: &mut [u8],
     key: &mut K,
     random: &mut R,
     out: &mut O,
 ) -> Result<(), Message>
-    requires key_room { length key_buf.old ≡ longest_key + 1 }
-    requires stripe_room { length stripe_buf.old ≡ longest_key }
     ensures run { WhereKnown (K.to_come key.old)
         (λ known. WhereKnown (R.to_come random.old) (λ bytes.
         Runs (split_promptly (length known))
@@ -106,7 +101,9 @@ fn write_split<K: Source, R: Source, O: Sink>(
         (failures_of (K.failures key.old) (R.failures random.old) (O.failures out.old))
         (failures_of (K.failures key.new) (R.failures random.new) (O.failures out.new)) }
 {
-    let len = read_key(key, key_buf)?;
+    let mut key_buf = [0; LONGEST_KEY + 1];
+    let len = read_key(key, &mut key_buf)?;
+    let mut stripe_buf = [0; LONGEST_KEY];
     let stripe = &mut stripe_buf[..len];
     let splitter = pass_stripes(
         splitting.hash,
@@ -150,67 +147,7 @@ fn take_stripes<S: Source>(
     Ok(splitter)
 }
 
-/// Merges the stripes that the source gives first into their key, and writes it.
-fn write_merged<S: Source, O: Sink>(
-    merging: &Merging<'_>,
-    stripe_buf: &mut [u8],
-    key_buf: &mut [u8],
-    stripes: &mut S,
-    out: &mut O,
-) -> Result<(), Message>
-    requires stripe_room { length stripe_buf.old ≡ longest_key }
-    requires key_room { length key_buf.old ≡ longest_key }
-    ensures run { WhereKnown (S.to_come stripes.old) (λ known. let m = merging.now in
-        Runs at_any_pace (merge_outcome m.hash m.stripes.count m.key_bytes.bytes known) (message_of result)
-        (Took known (S.to_come stripes.new)) TookNone
-        (Adds (O.written out.old) (O.written out.new))) }
-    ensures memory { IfErr result (λ message. message ≢ Message.OutOfMemory) }
-    ensures only { MergeMessage (message_of result) }
-    ensures reads_first { message_of result ≡ Message.ReadFailed → out.new ≡ out.old }
-    ensures counts { (secret : ℕ) → Counts (message_of result)
-        (failures_of (S.failures stripes.old) secret (O.failures out.old))
-        (failures_of (S.failures stripes.new) secret (O.failures out.new)) }
-{
-    let len = merging.key_bytes.get();
-    let stripe = &mut stripe_buf[..len];
-    let key = &mut key_buf[..len];
-    let splitter = take_stripes(merging.hash, merging.stripes.get() - 1, stripe, stripes)?;
-    if fill(stripes, stripe)? < len {
-        return Err(Message::FewStripes);
-    }
-    splitter.last(stripe, key);
-    put_all(out, key)?;
-    Ok(())
-}
-
-/// `afSplit`.
-pub(super) fn split<K: Source, R: Source, O: Sink>(
-    splitting: &Splitting<'_>,
-    key: &mut K,
-    random: &mut R,
-    out: &mut O,
-) -> Result<(), Message>
-    ensures run { WhereKnown (K.to_come key.old)
-        (λ known. WhereKnown (R.to_come random.old) (λ bytes.
-        Runs (split_promptly (length known))
-        (split_outcome splitting.now.hash splitting.now.stripes.count known bytes)
-        (message_of result)
-        (Took known (K.to_come key.new)) (Took bytes (R.to_come random.new))
-        (Adds (O.written out.old) (O.written out.new)))) }
-    ensures only { SplitMessage (message_of result) }
-    ensures unneeded { WhereKnown (K.to_come key.old) (λ known. (length known ≡ 0) ⊎ (longest_key < length known)
-        → random.new ≡ random.old) }
-    ensures memory { IfErr result (λ message. message ≢ Message.OutOfMemory) }
-    ensures counts { Counts (message_of result)
-        (failures_of (K.failures key.old) (R.failures random.old) (O.failures out.old))
-        (failures_of (K.failures key.new) (R.failures random.new) (O.failures out.new)) }
-{
-    let mut key_buf = [0; LONGEST_KEY + 1];
-    let mut stripe_buf = [0; LONGEST_KEY];
-    write_split(splitting, &mut key_buf, &mut stripe_buf, key, random, out)
-}
-
-/// `afMerge`.
+/// `afMerge`: the key of the stripes that the source gives first.
 pub(super) fn merge<S: Source, O: Sink>(
     merging: &Merging<'_>,
     stripes: &mut S,
@@ -227,7 +164,16 @@ pub(super) fn merge<S: Source, O: Sink>(
         (failures_of (S.failures stripes.old) secret (O.failures out.old))
         (failures_of (S.failures stripes.new) secret (O.failures out.new)) }
 {
+    let len = merging.key_bytes.get();
     let mut stripe_buf = [0; LONGEST_KEY];
     let mut key_buf = [0; LONGEST_KEY];
-    write_merged(merging, &mut stripe_buf, &mut key_buf, stripes, out)
+    let stripe = &mut stripe_buf[..len];
+    let key = &mut key_buf[..len];
+    let splitter = take_stripes(merging.hash, merging.stripes.get() - 1, stripe, stripes)?;
+    if fill(stripes, stripe)? < len {
+        return Err(Message::FewStripes);
+    }
+    splitter.last(stripe, key);
+    put_all(out, key)?;
+    Ok(())
 }

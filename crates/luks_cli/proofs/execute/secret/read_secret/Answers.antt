@@ -2,7 +2,7 @@ use Rattle.std.proofs.Common.{◌≡◌, ◌∙◌, ◌+◌, length-take-le, vec
 use Rattle.std.proofs.lemmas.Result.{err_from_is_err_and}
 use Rattle.luks_cli.proofs.SecretLemmas.{piece_last, piece_lost, piece_more}
 use Rattle.luks_cli.specs.Volume.{longest_key_file}
-use Rattle.luks_cli.proofs.execute.secret.gather.Goals as goal
+use Rattle.luks_cli.proofs.execute.secret.read_secret.Goals as goal
 
 pub returns-in_err-take_piece-clause-err : goal.returns-in_err-take_piece-clause-err
 returns-in_err-take_piece-clause-err g c =

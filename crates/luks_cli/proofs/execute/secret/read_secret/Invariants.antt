@@ -1,7 +1,7 @@
 use Rattle.std.proofs.Common.{◌≡◌, ◌+◌, ◌≤◌, ◌-◌, take, vec_len}
 use Rattle.luks_io.specs.Bytes.{Took, WhereKnown}
 use Rattle.luks_cli.specs.Volume.{longest_key_file}
-use Rattle.luks_cli.proofs.execute.secret.gather.Given as goal
+use Rattle.luks_cli.proofs.execute.secret.read_secret.Given as goal
 
 -- the bytes so far are the first ones of the key file
 abbrev pub invariant-pieces : goal.invariant-pieces

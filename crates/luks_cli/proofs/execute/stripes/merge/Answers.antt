@@ -3,7 +3,7 @@ use Rattle.std.proofs.lemmas.Result.{err_from_is_err_and}
 use Rattle.std.proofs.Math.Nat.{mul-le-mul_right}
 use Rattle.luks_cli.proofs.MergeLemmas.{key_merged, runs_to_end, runs_without_key, runs_without_stripes, stops_before, stops_reading, stops_short, stripe_more}
 use Rattle.luks_report.specs.declared.message.Message.TheVariants.{FewStripes, ReadFailed}
-use Rattle.luks_cli.proofs.execute.stripes.write_merged.Goals as goal
+use Rattle.luks_cli.proofs.execute.stripes.merge.Goals as goal
 
 pub returns-in_err-splitter-clause-run : goal.returns-in_err-splitter-clause-run
 returns-in_err-splitter-clause-run g c =
@@ -11,7 +11,7 @@ returns-in_err-splitter-clause-run g c =
     let size = c.args.merging.now.key_bytes.in_range in
     let len = c.get-len.ensures in
     let stripe : length c.take_stripes.new.stripe ≡ c.args.merging.now.key_bytes.bytes =
-    c.take_stripes.auto.stripe ∙ length-take-le c.get-len.result c.args.stripe_buf.now (omega arith) ∙ len in
+    c.take_stripes.auto.stripe ∙ length-take-le c.get-len.result _ (omega arith) ∙ len in
     rw (p.1, p.2) (λ bytes is.
     runs_without_stripes _ _ _ bytes _ _ _
     (stops_before _ _ _ _ _ (rw (stripe, c.get.ensures) at (c.in_err-splitter.ensures.err bytes is))))
@@ -24,7 +24,7 @@ returns-in_err-fill-clause-run g c =
     let count = m.stripes.in_range in
     let len = c.get-len.ensures in
     let stripe : length c.take_stripes.new.stripe ≡ m.key_bytes.bytes =
-    c.take_stripes.auto.stripe ∙ length-take-le c.get-len.result c.args.stripe_buf.now (omega arith) ∙ len in
+    c.take_stripes.auto.stripe ∙ length-take-le c.get-len.result _ (omega arith) ∙ len in
     let few : c.in_err-fill.field-0.0.got
     < m.key_bytes.bytes = omega (arith, c.in_err-fill.ensures.bound, c.fill.auto.buf) in
     let below : m.stripes.count - 1 + 1 ≤ m.stripes.count = omega arith in
@@ -40,7 +40,7 @@ returns-then-branch-len-clause-run g c bytes is =
     let count = m.stripes.in_range in
     let len = c.get-len.ensures in
     let stripe : length c.take_stripes.new.stripe ≡ m.key_bytes.bytes =
-    c.take_stripes.auto.stripe ∙ length-take-le c.get-len.result c.args.stripe_buf.now (omega arith) ∙ len in
+    c.take_stripes.auto.stripe ∙ length-take-le c.get-len.result _ (omega arith) ∙ len in
     let few : c.in_ok-fill.field-0 < m.key_bytes.bytes = omega arith in
     let below : m.stripes.count - 1 + 1 ≤ m.stripes.count = omega arith in
     let taken = rw (stripe, c.get.ensures) at (c.in_ok-splitter.ensures.ok bytes is) in
@@ -56,7 +56,7 @@ returns-in_err-put_all-clause-run g c =
     let count = m.stripes.in_range in
     let len = c.get-len.ensures in
     let stripe : length c.take_stripes.new.stripe ≡ m.key_bytes.bytes =
-    c.take_stripes.auto.stripe ∙ length-take-le c.get-len.result c.args.stripe_buf.now (omega arith) ∙ len in
+    c.take_stripes.auto.stripe ∙ length-take-le c.get-len.result _ (omega arith) ∙ len in
     let full : c.in_ok-fill.field-0 ≡ m.key_bytes.bytes = omega (arith, c.in_ok-fill.ensures.bound, c.fill.auto.buf) in
     rw (p.1, p.2) (λ bytes is.
     let taken = rw (stripe, c.get.ensures) at (c.in_ok-splitter.ensures.ok bytes is) in
@@ -76,7 +76,7 @@ returns-clause-run g c bytes is =
     let count = m.stripes.in_range in
     let len = c.get-len.ensures in
     let stripe : length c.take_stripes.new.stripe ≡ m.key_bytes.bytes =
-    c.take_stripes.auto.stripe ∙ length-take-le c.get-len.result c.args.stripe_buf.now (omega arith) ∙ len in
+    c.take_stripes.auto.stripe ∙ length-take-le c.get-len.result _ (omega arith) ∙ len in
     let full : c.in_ok-fill.field-0 ≡ m.key_bytes.bytes = omega (arith, c.in_ok-fill.ensures.bound, c.fill.auto.buf) in
     let taken = rw (stripe, c.get.ensures) at (c.in_ok-splitter.ensures.ok bytes is) in
     let more = stripe_more bytes _ _ _ taken.1 _ c.fill.new.buf (c.fill.auto.buf ∙ stripe)

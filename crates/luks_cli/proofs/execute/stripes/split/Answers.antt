@@ -1,7 +1,7 @@
 use Rattle.std.proofs.Common.{◌≡◌, ◌∙◌, sym, ap, length, length-take-le, arith}
 use Rattle.std.proofs.lemmas.Result.{err_from_is_err_and}
 use Rattle.luks_cli.proofs.SplitLemmas.{last_stripe, runs_to_end, runs_without_key, runs_without_last, runs_without_stripes}
-use Rattle.luks_cli.proofs.execute.stripes.write_split.Goals as goal
+use Rattle.luks_cli.proofs.execute.stripes.split.Goals as goal
 
 pub returns-in_err-len-clause-run : goal.returns-in_err-len-clause-run
 returns-in_err-len-clause-run g c =
@@ -18,7 +18,7 @@ returns-in_err-splitter-clause-run g c =
     let sized : c.in_ok-len.len
     ≡ length key_bytes = sym (length-take-le c.in_ok-len.len c.read_key.new.buf (omega arith)) ∙ ap length key.0 in
     let stripe : length c.pass_stripes.new.stripe ≡ length key_bytes =
-    c.pass_stripes.auto.stripe ∙ length-take-le c.in_ok-len.len c.args.stripe_buf.now (omega arith) ∙ sized in
+    c.pass_stripes.auto.stripe ∙ length-take-le c.in_ok-len.len _ (omega arith) ∙ sized in
     runs_without_stripes _ _ key_bytes random _ _ _ _ (omega arith) (omega arith) key.1 _
     (rw (stripe, c.get.ensures) at (c.in_err-splitter.ensures.err random known)))
 
@@ -31,7 +31,7 @@ returns-in_err-put_all-clause-run g c =
     let sized : c.in_ok-len.len
     ≡ length key_bytes = sym (length-take-le c.in_ok-len.len c.read_key.new.buf (omega arith)) ∙ ap length key.0 in
     let stripe : length c.pass_stripes.new.stripe ≡ length key_bytes =
-    c.pass_stripes.auto.stripe ∙ length-take-le c.in_ok-len.len c.args.stripe_buf.now (omega arith) ∙ sized in
+    c.pass_stripes.auto.stripe ∙ length-take-le c.in_ok-len.len _ (omega arith) ∙ sized in
     let passed = rw (stripe, c.get.ensures) at (c.in_ok-splitter.ensures.ok random known) in
     let last = last_stripe _ _ _ _ _ passed.0 passed.1.took.within c.last.new.out (rw key.0 at c.last.ensures) in
     runs_without_last _ _ key_bytes random _ _ _ _ (omega arith) (omega arith) key.1 c.last.new.out passed.1 last _
@@ -45,7 +45,7 @@ returns-clause-run g c key_bytes is random known =
     let sized : c.in_ok-len.len
     ≡ length key_bytes = sym (length-take-le c.in_ok-len.len c.read_key.new.buf (omega arith)) ∙ ap length key.0 in
     let stripe : length c.pass_stripes.new.stripe ≡ length key_bytes =
-    c.pass_stripes.auto.stripe ∙ length-take-le c.in_ok-len.len c.args.stripe_buf.now (omega arith) ∙ sized in
+    c.pass_stripes.auto.stripe ∙ length-take-le c.in_ok-len.len _ (omega arith) ∙ sized in
     let passed = rw (stripe, c.get.ensures) at (c.in_ok-splitter.ensures.ok random known) in
     let last = last_stripe _ _ _ _ _ passed.0 passed.1.took.within c.last.new.out (rw key.0 at c.last.ensures) in
     runs_to_end _ _ key_bytes random _ _ _ _ (omega arith) (omega arith) key.1 c.last.new.out passed.1 last _
