@@ -1,5 +1,5 @@
 -- How long the texts of reasons and faults are.
-use Rattle.std.proofs.Common.{ℕ, ◌≤◌, length, arith}
+use Rattle.std.proofs.Common.{◌≤◌, length, arith}
 use Rattle.luks_header.specs.SegmentFault.{fault_text}
 use Rattle.luks_header.specs.SkipReason.{reason_text}
 use Rattle.luks_verdict.specs.declared.refusal.SkipReason.{SkipReason}
