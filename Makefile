@@ -30,7 +30,9 @@ check: all
 	tests/packages
 	tests/stripes.sh $(PROGRAM)
 	tests/volumes.sh $(PROGRAM)
+	tests/hostile.sh $(PROGRAM)
 	interop/headers.sh $(PROGRAM)
+	interop/headers2.sh $(PROGRAM)
 	interop/volumes.sh $(PROGRAM)
 
 test: check

@@ -1,12 +1,11 @@
 -- What is known of a header whose segment is not refused.
-use Rattle.std.proofs.Common.{◌≡◌, ℕ, ◌*◌, ◌≤◌, ap, refl, Bool, true, false, List, [], ◌∷◌, Option, Some, None, Ok, ◌⊎◌}
-use Rattle.std.specs.Prelude.{◌==◌, ◌||◌, not, nat_lt, is_none}
+use Rattle.std.proofs.Common.{◌≡◌, ◌*◌, ◌≤◌, ap, refl, Bool, true, false, List, [], ◌∷◌, Option, Some, None, Ok}
+use Rattle.std.specs.Prelude.{not, nat_lt, is_none}
 use Rattle.std.proofs.lemmas.Bool.{ltb-false}
-use Rattle.std.proofs.lemmas.Bool.Decides.{nat_tests}
-use Rattle.std.proofs.Common.{arith}
+use Rattle.luks_cipher.specs.declared.mode.Mode.{Mode}
 use Rattle.luks_kdf.specs.declared.hash.Hash.{Hash}
 use Rattle.luks_verdict.specs.Digest.{digest_of}
-use Rattle.luks_verdict.specs.Segment.{refused_or, segment_from, segment_of_all, segment_with}
+use Rattle.luks_verdict.specs.Segment.{refused_or, segment_by, segment_from}
 use Rattle.luks_verdict.specs.declared.digest.KeyDigest.{KeyDigest}
 use Rattle.luks_verdict.specs.declared.refusal.SegmentFault.{SegmentFault}
 use Rattle.luks_verdict.specs.declared.refusal.SegmentFault.TheVariants.{Encryption, KeyBytes, Offset}
@@ -14,57 +13,72 @@ use Rattle.luks_verdict.specs.declared.refusal.SegmentFault.TheVariants.{Hash as
 use Rattle.luks_verdict.specs.declared.segment.Segment.{Segment}
 use Rattle.luks_verdict.proofs.MadeLemmas.{digest_from-some}
 use Rattle.luks_verdict.proofs.TableLemmas.{first_not}
-use Rattle.luks1_header.specs.Segment1.{fault1_of, is_aes_xts1, segment1_of, segment_parts1_of}
-use Rattle.luks1_header.specs.Slot1.{digest1_of, digest_parts1_of, hash1_of}
+use Rattle.luks1_header.specs.Segment1.{fault1_of, is_key_length1, segment1_of, segment_parts1_of}
+use Rattle.luks1_header.specs.Slot1.{digest1_of, digest_parts1_of, hash1_of, mode1_of}
 use Rattle.luks1_header.specs.declared.header.Header1.{Header1}
 
--- a volume that can be read: its cipher and hash are known ones, and its key has one of two lengths
+-- a volume that can be read: its mode and hash function are known ones, and its key has a length of the mode
 pub record IsReadable (header : Header1) : Type 0 where
-  pub cipher : is_aes_xts1 header ≡ true
+  pub mode : (mode : Mode) × (mode1_of header ≡ Some mode)
   pub hash : (hash : Hash) × (hash1_of header ≡ Some hash)
-  pub key : (header.key_bytes ≡ 32) ⊎ (header.key_bytes ≡ 64)
+  pub key : is_key_length1 (mode1_of header) header.key_bytes ≡ true
   pub behind_header : 592 ≤ 512 * header.payload_offset
 
 not_false : (b : Bool) → not b ≡ false → b ≡ true
 not_false true h = refl
 not_false false h = cc
 
-some_from_not_none : (o : Option Hash) → is_none o ≡ false → (hash : Hash) × (o ≡ Some hash)
+some_from_not_none : {T : Type 0} (o : Option T) → is_none o ≡ false → (t : T) × (o ≡ Some t)
 some_from_not_none None h = cc
-some_from_not_none (Some hash) h = (hash, refl)
-
-one_of_two : (n : ℕ) → (n == 32 || n == 64) ≡ true → (n ≡ 32) ⊎ (n ≡ 64)
-one_of_two n h = grind (arith, nat_tests)
+some_from_not_none (Some t) h = (t, refl)
 
 IsReadable-none : (header : Header1) → fault1_of header ≡ None → IsReadable header
 unfolding fault1_of
 IsReadable-none header none =
     let last : List (Bool × SegmentFault) = (nat_lt (512 * header.payload_offset) 592, Offset) ∷ [] in
-    let third : List (Bool × SegmentFault) = (not (header.key_bytes == 32 || header.key_bytes == 64), KeyBytes)
+    let third : List (Bool × SegmentFault) = (not (is_key_length1 (mode1_of header) header.key_bytes), KeyBytes)
     ∷ last in
-    let cipher = first_not (not (is_aes_xts1 header)) Encryption ((is_none (hash1_of header), UnknownHash) ∷ third)
+    let mode = first_not (is_none (mode1_of header)) Encryption ((is_none (hash1_of header), UnknownHash) ∷ third)
     none in
-    let hash = first_not (is_none (hash1_of header)) UnknownHash third cipher.1 in
-    let key = first_not (not (header.key_bytes == 32 || header.key_bytes == 64)) KeyBytes last hash.1 in
+    let hash = first_not (is_none (hash1_of header)) UnknownHash third mode.1 in
+    let key = first_not (not (is_key_length1 (mode1_of header) header.key_bytes)) KeyBytes last hash.1 in
     let offset = first_not (nat_lt (512 * header.payload_offset) 592) Offset [] key.1 in
     record {
-      cipher = not_false (is_aes_xts1 header) cipher.0;
+      mode = some_from_not_none (mode1_of header) mode.0;
       hash = some_from_not_none (hash1_of header) hash.0;
-      key = one_of_two header.key_bytes (not_false (header.key_bytes == 32 || header.key_bytes == 64) key.0);
+      key = not_false (is_key_length1 (mode1_of header) header.key_bytes) key.0;
       behind_header = ltb-false (512 * header.payload_offset) 592 offset.0;
     }
 
+-- its segment
+pub record IsSegment1 (header : Header1) (segment : Segment) : Type 0 where
+  pub offset : segment.offset ≡ 512 * header.payload_offset
+  pub mode : mode1_of header ≡ Some segment.mode
+
+segment_made : (header : Header1) (segment : Segment) (mode : Mode) → mode1_of header ≡ Some mode
+    → segment_from (segment_parts1_of header) ≡ Some segment → IsSegment1 header segment
+unfolding segment_from segment_by
+segment_made header segment mode known made = of_mode (mode1_of header) refl
+  where
+    of_mode : (read : Option Mode) → mode1_of header ≡ read → IsSegment1 header segment
+    of_mode None none = absurd cc
+    of_mode (Some read) some = record { offset = cc; mode = cc }
+
 -- of a segment that is not refused
 pub IsReadable-ok : (header : Header1) (segment : Segment) → segment1_of header ≡ Ok segment
-    → (segment.offset ≡ 512 * header.payload_offset) × IsReadable header
-unfolding segment1_of segment_parts1_of segment_from segment_of_all segment_with
-IsReadable-ok header segment is = of_fault (fault1_of header) refl is
+    → IsSegment1 header segment × IsReadable header
+unfolding segment1_of
+IsReadable-ok header segment is = of_fault (fault1_of header) refl (segment_from (segment_parts1_of header)) refl is
   where
     of_fault : (fault : Option SegmentFault) → fault1_of header ≡ fault
-        → refused_or fault (segment_from (segment_parts1_of header)) ≡ Ok segment
-        → (segment.offset ≡ 512 * header.payload_offset) × IsReadable header
-    of_fault None none h = (cc, IsReadable-none header none)
-    of_fault (Some fault) some h = absurd cc
+        → (made : Option Segment) → segment_from (segment_parts1_of header) ≡ made
+        → refused_or fault made ≡ Ok segment
+        → IsSegment1 header segment × IsReadable header
+    of_fault None none (Some made) m h =
+        let readable = IsReadable-none header none in
+        (segment_made header segment readable.mode.0 readable.mode.1 cc, readable)
+    of_fault None none None m h = absurd cc
+    of_fault (Some fault) some made m h = absurd cc
 
 -- the digest has the header's hash
 pub digest_hash : (header : Header1) (digest : KeyDigest) → digest1_of header ≡ Some digest

@@ -16,7 +16,7 @@ use Rattle.luks_verdict.specs.declared.slot.Slot.{Slot}
 use Rattle.luks_verdict.specs.declared.slot.Verdict.TheVariants.{Usable}
 use Rattle.luks_verdict.specs.declared.slot.Verdict.TheVariants.{Disabled as Unused}
 use Rattle.luks_verdict.specs.declared.slot.Judgement.TheVariants.{Usable as Open}
-use Rattle.luks1_header.specs.Slot1.{digest1_of, hash1_of, is_damaged, is_disabled, is_misplaced1, reason1_of, slot1_at, slot1_of, slot_parts1_of, verdict1_at, verdict1_of}
+use Rattle.luks1_header.specs.Slot1.{digest1_of, hash1_of, is_damaged, is_disabled, is_misplaced1, mode1_of, reason1_of, slot1_at, slot1_of, slot_parts1_of, verdict1_at, verdict1_of}
 use Rattle.luks1_header.specs.declared.header.Header1.{Header1}
 use Rattle.luks1_header.specs.declared.header.KeySlot.{KeySlot}
 
@@ -80,10 +80,11 @@ judged_usable header limit slot enabled none =
 
 -- what it takes to open it is of this header, its key material ends before the payload, and there is a digest
 pub record IsOf (header : Header1) (usable : Slot) : Type 0 where
-  pub kdf : usable.kdf_hash ≡ hash1_of header
-  pub af : usable.af_hash ≡ hash1_of header
-  pub volume_key : usable.key_bytes ≡ header.key_bytes
-  pub area_key : usable.area_key_bytes ≡ header.key_bytes
+  pub kdf : usable.parts.kdf_hash ≡ hash1_of header
+  pub af : usable.parts.af_hash ≡ hash1_of header
+  pub volume_key : usable.parts.key_bytes ≡ header.key_bytes
+  pub area_key : usable.parts.area_key_bytes ≡ header.key_bytes
+  pub area_mode : usable.parts.area_mode ≡ mode1_of header
   pub before_payload : end_of usable ≤ 512 * header.payload_offset
   pub digest : (digest : KeyDigest) × (digest1_of header ≡ Some digest)
 
@@ -123,6 +124,7 @@ usable_is header limit slot usable is =
       af = refl;
       volume_key = refl;
       area_key = refl;
+      area_mode = refl;
       before_payload = (placed header slot none.area).0;
       digest = digest_there limit (digest1_of header) none.digest;
     })

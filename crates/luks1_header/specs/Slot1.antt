@@ -1,5 +1,7 @@
 -- What becomes of the key slots of LUKS1.
-use Rattle.std.specs.Prelude.{ℕ, ◌*◌, if◌then◌else◌, Bool, true, false, [], ◌∷◌, Option, Some, option_and_then, option_map, slice_get}
+use Rattle.std.specs.Prelude.{ℕ, ◌*◌, if◌then◌else◌, Bool, true, false, [], ◌∷◌, Option, Some, None, bytes_eq, codes, option_and_then, option_map, slice_get}
+use Rattle.luks_cipher.specs.Sector.{mode_named}
+use Rattle.luks_cipher.specs.declared.mode.Mode.{Mode}
 use Rattle.luks_kdf.specs.Hash.{hash_named}
 use Rattle.luks_kdf.specs.declared.hash.Hash.{Hash}
 use Rattle.luks_verdict.specs.Digest.{digest_from, is_undigested}
@@ -35,6 +37,11 @@ is_damaged (Damaged _) = true
 -- the hash function of the slots, the stripes and the digest, where its name is known
 unfoldable pub hash1_of : Header1 → Option Hash
 hash1_of header = hash_named header.hash_spec
+
+-- the mode of AES in which sectors are encrypted, those of the payload and of key material alike, where cipher and mode
+-- are known
+unfoldable pub mode1_of : Header1 → Option Mode
+mode1_of header = if bytes_eq header.cipher_name (codes "aes") then mode_named header.cipher_mode else None
 
 -- what the header says of its digest, which is that of all slots
 unfoldable pub digest_parts1_of : Header1 → DigestParts
@@ -78,6 +85,7 @@ slot_parts1_of header slot = record {
   area_key_bytes = header.key_bytes;
   area_offset = 512 * slot.offset;
   area_size = need_of header.key_bytes slot.stripes;
+  area_mode = mode1_of header;
 }
 
 -- what it takes to open a slot, where its numbers are in range

@@ -1,13 +1,14 @@
 //! What becomes of the key slots, the digest and the segment of a header.
 
 ghost use Rattle.std.specs.Prelude.{◌≡◌, ◌*◌, option_map, IfOk};
-ghost use Rattle.luks_kdf.specs.Hash.{hash_named};
+ghost use Rattle.luks_cipher.specs.Sector.{mode_named};
 ghost use Rattle.luks_verdict.specs.Digest.{is_undigested};
 ghost use Rattle.luks_verdict.specs.Slot.{judgement_of};
-ghost use Rattle.luks1_header.specs.Segment1.{fault1_of, is_aes_xts1, segment1_of};
-ghost use Rattle.luks1_header.specs.Slot1.{digest1_of, hash1_of, is_disabled, is_misplaced1, reason1_of, slot1_at, slot1_of, verdict1_at, verdict1_of};
+ghost use Rattle.luks1_header.specs.Segment1.{fault1_of, segment1_of};
+ghost use Rattle.luks1_header.specs.Slot1.{digest1_of, hash1_of, is_disabled, is_misplaced1, mode1_of, reason1_of, slot1_at, slot1_of, verdict1_at, verdict1_of};
 
 use crate::header::{HEADER1_LEN, Header1, KeySlot, SlotState};
+use luks_cipher::Mode;
 use luks_kdf::Hash;
 use luks_verdict::bytes::HeaderBytes;
 use luks_verdict::digest::{DigestParts, KeyDigest};
@@ -22,12 +23,12 @@ use std::str;
 /// The first byte behind the header.
 const HEADER_END: u64 = HEADER1_LEN as u64;
 
-// The hash function that a text names.
-fn hash_of(name: &[u8]) -> Option<Hash>
-    ensures { result ≡ hash_named name.now }
+// The mode that a text names.
+fn mode_of(name: &[u8]) -> Option<Mode>
+    ensures { result ≡ mode_named name.now }
 {
     match str::from_utf8(name) {
-        Ok(name) => Hash::from_name(name),
+        Ok(name) => Mode::from_name(name),
         Err(_) => None,
     }
 }
@@ -38,7 +39,20 @@ impl Header1 {
     pub fn hash(&self) -> Option<Hash>
         ensures { result ≡ hash1_of self.now }
     {
-        hash_of(self.hash_spec.as_bytes())
+        Hash::from_bytes(self.hash_spec.as_bytes())
+    }
+
+    /// The mode of AES in which sectors are encrypted, those of the payload and of key material
+    /// alike, where cipher and mode are known.
+    #[tactic(auto, unfolding(crate::specs::Slot1::mode1_of))]
+    pub fn mode(&self) -> Option<Mode>
+        ensures { result ≡ mode1_of self.now }
+    {
+        if self.cipher_name.as_bytes() == b"aes".as_slice() {
+            mode_of(self.cipher_mode.as_bytes())
+        } else {
+            None
+        }
     }
 }
 
@@ -136,6 +150,7 @@ fn usable(alloc: Global, header: &Header1, slot: &KeySlot) -> Result<Option<Slot
         area_key_bytes: header.key_bytes,
         area_offset: place(slot.offset),
         area_size: need(header.key_bytes, slot.stripes),
+        area_mode: header.mode(),
     };
     Ok(Slot::from_parts(parts))
 }
@@ -165,25 +180,17 @@ pub fn digest(alloc: Global, header: &Header1) -> Result<Option<KeyDigest>, Allo
     Ok(KeyDigest::from_parts(parts))
 }
 
-// Sectors are encrypted by AES in the mode xts-plain64.
-#[tactic(auto, unfolding(crate::specs::Segment1::is_aes_xts1))]
-fn aes_xts(header: &Header1) -> bool
-    ensures { result ≡ is_aes_xts1 header.now }
-{
-    header.cipher_name.as_bytes() == b"aes".as_slice()
-        && header.cipher_mode.as_bytes() == b"xts-plain64".as_slice()
-}
-
 // The first fault of the segment.
 #[tactic(auto, unfolding(crate::specs::Segment1::fault1_of))]
 fn fault(header: &Header1) -> Option<SegmentFault>
     ensures { result ≡ fault1_of header.now }
 {
-    if !aes_xts(header) {
-        Some(SegmentFault::Encryption)
-    } else if header.hash().is_none() {
+    let Some(mode) = header.mode() else {
+        return Some(SegmentFault::Encryption);
+    };
+    if header.hash().is_none() {
         Some(SegmentFault::Hash)
-    } else if header.key_bytes != 32 && header.key_bytes != 64 {
+    } else if !mode.has_key_length(header.key_bytes as usize) {
         Some(SegmentFault::KeyBytes)
     } else if place(header.payload_offset) < HEADER_END {
         Some(SegmentFault::Offset)
@@ -193,7 +200,7 @@ fn fault(header: &Header1) -> Option<SegmentFault>
 }
 
 /// The segment of a header, or its first fault. This takes no memory.
-#[tactic(auto, unfolding(crate::specs::Segment1::segment1_of, crate::specs::Segment1::segment_parts1_of))]
+#[tactic(auto, unfolding(crate::specs::Segment1::segment1_of))]
 pub fn segment(header: &Header1) -> Result<Segment, SegmentFault>
     ensures { result ≡ segment1_of header.now }
 {
@@ -205,6 +212,7 @@ pub fn segment(header: &Header1) -> Result<Segment, SegmentFault>
         size: Some(None),
         iv_tweak: Some(0),
         sector_size: Some(SectorSize::B512),
+        mode: header.mode(),
     };
     match Segment::from_parts(parts) {
         Some(segment) => Ok(segment),

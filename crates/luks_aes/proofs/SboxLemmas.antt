@@ -33,5 +33,9 @@ inv_sbox_entry b low =
     let e : slice_index SBOX k ≡ b = sbox_entry k fits ∙ eqb-true (sbox k) b same in
     sym (back_and_there k fits) ∙ ap (slice_index INV_SBOX) e))
 
+-- the inverse S-box by its table
+abbrev pub inv_sbox_in_table : ℕ → ℕ
+inv_sbox_in_table b = slice_index INV_SBOX b
+
 pub inv_sbox_byte : (b : ℕ) → b < 256 → inv_sbox b < 256
 inv_sbox_byte b low = rw (← inv_sbox_entry b low) (inv_entry_below b)

@@ -1,8 +1,9 @@
 -- The key schedule as the code keeps it.
-use Rattle.std.proofs.Common.{◌≡◌, ℕ, zero, suc, ◌+◌, ◌-◌, ◌*◌, ◌/◌, ◌≤◌, ◌⊎◌, List, [], ◌∷◌, length, take, inl, inr, ◌||◌, arith, refl, sym, ap, ◌∙◌}
+use Rattle.std.proofs.Common.{◌≡◌, ℕ, zero, suc, ◌+◌, ◌-◌, ◌*◌, ◌/◌, ◌≤◌, ◌<◌, ◌⊎◌, List, [], ◌∷◌, length, take, inl, inr, ◌||◌, arith, refl, sym, ap, ◌∙◌}
 use Rattle.std.specs.Prelude.{IsTrue, ◌==◌}
 use Rattle.std.proofs.lemmas.Bool.{or_cases, eqb-true}
-use Rattle.std.proofs.lemmas.List.{length-take-le, length-append, take_all, take-take, take-append-le}
+use Rattle.std.specs.Prelude.{slice_index}
+use Rattle.std.proofs.lemmas.List.{get_or-take, length-take-le, length-append, take_all, take-take, take-append-le}
 use Rattle.luks_aes.specs.Aes.{is_aes_key_length, next_word, words_after, with_next_word, rounds_of, words_of, key_expansion, cipher, inv_cipher, encrypted, decrypted}
 use Rattle.luks_aes.specs.Bytes.{IsBytes}
 use Rattle.luks_aes.specs.Schedule.{IsSchedule}
@@ -99,6 +100,20 @@ words_of_schedule words schedule unmixed len is =
     let least = lengths.least in
     let most = lengths.most in
     rw (length-take-le (4 * words) schedule (omega arith)) (omega arith)
+
+pub rounds_are : (words : ℕ) (schedule unmixed key : List ℕ) → length schedule ≡ 240 → IsSchedule words schedule unmixed
+    → take (4 * words) schedule ≡ key → words + 6 ≡ rounds_of key
+rounds_are words schedule unmixed key len is view =
+    let nk = words_of_schedule words schedule unmixed len is in
+    rw (← view, nk) refl
+
+-- the bytes of the schedule up to the last round are those of the key's
+pub schedule_at : (words : ℕ) (schedule unmixed key : List ℕ) (i : ℕ) → IsSchedule words schedule unmixed
+    → take (4 * words) schedule ≡ key → i < 16 * (words + 7) → slice_index schedule i
+    ≡ slice_index (key_expansion key) i
+schedule_at words schedule unmixed key i is view low =
+    sym (get_or-take (16 * (words + 7)) schedule i 0 low) ∙ ap (λ l. slice_index l i)
+    (is.expanded ∙ ap key_expansion view)
 
 -- the cipher over the schedule is that of the key
 pub encrypted_is : (words : ℕ) (schedule unmixed key block : List ℕ) → length schedule ≡ 240

@@ -1,5 +1,5 @@
 -- The round keys of the equivalent inverse cipher.
-use Rattle.std.proofs.Common.{◌≡◌, ℕ, zero, suc, ◌+◌, ◌-◌, ◌*◌, ◌%◌, ◌<◌, ◌≤◌, List, [], ◌∷◌, length, take, inl, inr, arith, sym, ap, ◌∙◌}
+use Rattle.std.proofs.Common.{◌≡◌, ℕ, zero, suc, ◌+◌, ◌-◌, ◌*◌, ◌%◌, ◌<◌, ◌≤◌, List, [], ◌∷◌, length, take, inl, inr, arith, refl, sym, ap, ◌∙◌}
 use Rattle.std.specs.Prelude.{slice_index}
 use Rattle.std.specs.Int.Bits.{bit_xor}
 use Rattle.std.proofs.lemmas.Bool.{cases_lt}
@@ -61,14 +61,14 @@ products_more a words old word i k before room is = record {
 sums_apart : (p q r s k l m n : ℕ) → (p ⊕ k) ⊕ (q ⊕ l) ⊕ (r ⊕ m) ⊕ (s ⊕ n) ≡ (p ⊕ q ⊕ r ⊕ s) ⊕ (k ⊕ l ⊕ m ⊕ n)
 sums_apart p q r s k l m n = same_from_bits _ _ (λ i. simp bit_at_xor (omega arith))
 
-row_sum : (a b c d k l m n : ℕ) → a < 256 → b < 256 → c < 256 → d < 256 → k < 256 → l < 256 → m < 256 → n < 256
+pub row_sum : (a b c d k l m n : ℕ) → a < 256 → b < 256 → c < 256 → d < 256 → k < 256 → l < 256 → m < 256 → n < 256
     → unmixed (a ⊕ k) (b ⊕ l) (c ⊕ m) (d ⊕ n) ≡ unmixed a b c d ⊕ unmixed k l m n
 row_sum a b c d k l m n p q r s t u v w =
     rw (product_sum 14 a k p t, product_sum 11 b l q u, product_sum 13 c m r v, product_sum 9 d n s w)
     (sums_apart (14 • a) (11 • b) (13 • c) (9 • d) (14 • k) (11 • l) (13 • m) (9 • n))
 
 -- row r of word i
-product_at : (w u : List ℕ) (n i r : ℕ) → IsMultiplied (14 ∷ 11 ∷ 13 ∷ 9 ∷ []) w u n → i < n → r < 4
+pub product_at : (w u : List ℕ) (n i r : ℕ) → IsMultiplied (14 ∷ 11 ∷ 13 ∷ 9 ∷ []) w u n → i < n → r < 4
     → slice_index u (r + 4 * i)
     ≡ unmixed (slice_index w (r + 4 * i)) (slice_index w ((r + 1) % 4 + 4 * i)) (slice_index w ((r + 2) % 4 + 4 * i))
     (slice_index w ((r + 3) % 4 + 4 * i))
@@ -91,7 +91,7 @@ product_at w u n i (suc (suc (suc zero))) is low row =
 product_at w u n i (suc (suc (suc (suc r)))) is low row = absurd (omega arith)
 
 -- states that agree in their 16 cells
-same_cells : (f g : ℕ → ℕ → ℕ) → ((r c : ℕ) → r < 4 → c < 4 → f r c ≡ g r c) → state_of f ≡ state_of g
+pub same_cells : (f g : ℕ → ℕ → ℕ) → ((r c : ℕ) → r < 4 → c < 4 → f r c ≡ g r c) → state_of f ≡ state_of g
 same_cells f g same =
     let a : 0 < 4 = omega arith in
     let b : 1 < 4 = omega arith in
@@ -122,3 +122,27 @@ round_key_unmixed s w u n round is bytes products inside =
     (key_byte ((r + 2) % 4)) (key_byte ((r + 3) % 4))
     ∙ ap (bit_xor (unmixed (cell s r c) (cell s ((r + 1) % 4) c) (cell s ((r + 2) % 4) c) (cell s ((r + 3) % 4) c)))
     (sym (product_at w u n (4 * round + c) r products (omega arith) row)))
+
+-- the cells of a state that was made of them
+pub cell_of : (f : ℕ → ℕ → ℕ) (r c : ℕ) → r < 4 → c < 4 → cell (state_of f) r c ≡ f r c
+cell_of f zero zero low small = refl
+cell_of f zero (suc zero) low small = refl
+cell_of f zero (suc (suc zero)) low small = refl
+cell_of f zero (suc (suc (suc zero))) low small = refl
+cell_of f zero (suc (suc (suc (suc c)))) low small = absurd (omega arith)
+cell_of f (suc zero) zero low small = refl
+cell_of f (suc zero) (suc zero) low small = refl
+cell_of f (suc zero) (suc (suc zero)) low small = refl
+cell_of f (suc zero) (suc (suc (suc zero))) low small = refl
+cell_of f (suc zero) (suc (suc (suc (suc c)))) low small = absurd (omega arith)
+cell_of f (suc (suc zero)) zero low small = refl
+cell_of f (suc (suc zero)) (suc zero) low small = refl
+cell_of f (suc (suc zero)) (suc (suc zero)) low small = refl
+cell_of f (suc (suc zero)) (suc (suc (suc zero))) low small = refl
+cell_of f (suc (suc zero)) (suc (suc (suc (suc c)))) low small = absurd (omega arith)
+cell_of f (suc (suc (suc zero))) zero low small = refl
+cell_of f (suc (suc (suc zero))) (suc zero) low small = refl
+cell_of f (suc (suc (suc zero))) (suc (suc zero)) low small = refl
+cell_of f (suc (suc (suc zero))) (suc (suc (suc zero))) low small = refl
+cell_of f (suc (suc (suc zero))) (suc (suc (suc (suc c)))) low small = absurd (omega arith)
+cell_of f (suc (suc (suc (suc r)))) c low small = absurd (omega arith)

@@ -1,8 +1,8 @@
 -- Columns of a state as words of 32 bits, and what a table of such words holds. The lowest byte of a word stands in row
 -- 0.
-use Rattle.std.specs.Prelude.{◌≡◌, ℕ, ◌+◌, ◌-◌, ◌%◌, ◌<◌, List, ◌++◌, slice_index}
+use Rattle.std.specs.Prelude.{◌≡◌, ℕ, ◌+◌, ◌-◌, ◌*◌, ◌%◌, ◌<◌, List, ◌++◌, slice_index}
 use Rattle.std.specs.Int.{w32, to_le_bytes}
-use Rattle.luks_aes.specs.Field.{◌•◌}
+use Rattle.luks_aes.specs.Field.{◌⊕◌, ◌•◌}
 use Rattle.luks_aes.specs.Aes.{word_of, word_at, matrix_cell}
 
 -- the state whose columns the four words spell
@@ -26,3 +26,13 @@ pub record IsColumnTable (a : List ℕ) (f : ℕ → ℕ) (entries : List ℕ) :
 -- each of the first n words of a list is the product of the matrix and the word of another in its place
 pub record IsMultiplied (a words products : List ℕ) (n : ℕ) : Type 0 where
   pub at : (i : ℕ) → i < n → word_at products i ≡ column_product a (word_at words i)
+
+-- the byte in row r and column c of round key n of a schedule (5.1.4)
+abbrev pub key_byte : List ℕ → ℕ → ℕ → ℕ → ℕ
+key_byte w n r c = slice_index w (r + 4 * (4 * n + c))
+
+-- and of that round key after InvMixColumns
+abbrev pub unmixed_key_byte : List ℕ → ℕ → ℕ → ℕ → ℕ
+unmixed_key_byte w n r c =
+    14 • key_byte w n r c ⊕ 11 • key_byte w n ((r + 1) % 4) c ⊕ 13 • key_byte w n ((r + 2) % 4) c ⊕ 9 • key_byte w n
+    ((r + 3) % 4) c

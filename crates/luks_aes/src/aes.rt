@@ -1,8 +1,9 @@
 //! A key of AES and its schedule.
 
-ghost use Rattle.std.specs.Prelude.{◌≡◌, ◌+◌, ◌*◌, List, ℕ, take, length, Some, None, if◌then◌else◌};
-ghost use Rattle.luks_aes.specs.Aes.{encrypted, decrypted, is_aes_key_length};
+ghost use Rattle.std.specs.Prelude.{◌≡◌, ◌+◌, ◌*◌, ◌<◌, ◌≤◌, List, ℕ, take, length, Some, None, if◌then◌else◌};
+ghost use Rattle.luks_aes.specs.Aes.{encrypted, decrypted, is_aes_key_length, rounds_of, key_expansion, cell};
 ghost use Rattle.luks_aes.specs.Bytes.{IsBytes};
+ghost use Rattle.luks_aes.specs.Columns.{key_byte, unmixed_key_byte};
 ghost use Rattle.luks_aes.specs.Schedule.{IsSchedule};
 
 use crate::cipher::{cipher, inv_cipher};
@@ -67,4 +68,42 @@ impl AesKey {
         let end = 16 * (rounds + 1);
         *block = inv_cipher(*block, rounds, &self.schedule[..end], &self.unmixed[..end]);
     }
+
+    /// The number of rounds (5).
+    pub fn rounds(&self) -> usize
+        ensures value { result ≡ rounds_of self.now }
+        ensures least { 10 ≤ result }
+        ensures most { result ≤ 14 }
+        ensures key_bytes { IsBytes self.now }
+    {
+        6 + self.words
+    }
+
+    /// Round key `n` of the schedule (5.2).
+    pub fn round_key(&self, n: usize) -> [u8; 16]
+        requires { n ≤ rounds_of self.now }
+        ensures { (r c : ℕ) → r < 4 → c < 4
+            → cell result r c ≡ key_byte (key_expansion self.now) n r c }
+    {
+        round_key(&self.schedule, n)
+    }
+
+    /// Round key `n` after InvMixColumns (5.3.5).
+    pub fn unmixed_round_key(&self, n: usize) -> [u8; 16]
+        requires { n ≤ rounds_of self.now }
+        ensures { (r c : ℕ) → r < 4 → c < 4
+            → cell result r c ≡ unmixed_key_byte (key_expansion self.now) n r c }
+    {
+        round_key(&self.unmixed, n)
+    }
+}
+
+// The 16 bytes of round key `n` of a schedule.
+fn round_key(schedule: &[u8; LONGEST], n: usize) -> [u8; 16]
+    requires { n < 15 }
+    ensures { (r c : ℕ) → r < 4 → c < 4 → cell result r c ≡ key_byte schedule.now n r c }
+{
+    let mut key = [0; 16];
+    key.copy_from_slice(&schedule[16 * n..16 * n + 16]);
+    key
 }

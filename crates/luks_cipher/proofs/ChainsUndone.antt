@@ -1,5 +1,5 @@
 -- Decryption and encryption of a chain undo each other.
-use Rattle.std.proofs.Common.{◌≡◌, ℕ, zero, suc, ◌*◌, ◌%◌, ◌/◌, ◌<◌, ◌≤◌, List, length, arith, refl, sym, ap, ◌∙◌}
+use Rattle.std.proofs.Common.{◌≡◌, ℕ, zero, suc, ◌*◌, ◌%◌, ◌/◌, ◌<◌, ◌≤◌, List, length, arith, refl, sym, ap, subst, ◌∙◌}
 use Rattle.std.proofs.lemmas.List.{take_all}
 use Rattle.luks_aes.specs.Aes.{encrypted, decrypted}
 use Rattle.luks_aes.specs.Bytes.{IsBytes}
@@ -125,3 +125,13 @@ to_vector f key v w unit new same is = is ∙ ap (λ x. f key x unit) same
 pub from_vector : (f : List ℕ → List ℕ → List ℕ → List ℕ) (key v w unit old : List ℕ) → v ≡ w → f key v unit ≡ old
     → f key w unit ≡ old
 from_vector f key v w unit old same is = sym (ap (λ x. f key x unit) same) ∙ is
+
+-- the same chain under an equal key
+pub to_key : (f : List ℕ → List ℕ → List ℕ → List ℕ) (key other v unit new : List ℕ) → key ≡ other
+    → new ≡ f key v unit → new ≡ f other v unit
+to_key f key other v unit new same is = is ∙ ap (λ x. f x v unit) same
+
+pub from_key : (f : List ℕ → List ℕ → List ℕ → List ℕ) (key other v unit old : List ℕ) → key ≡ other
+    → (IsBytes key → f key v unit ≡ old) → IsBytes other → f other v unit ≡ old
+from_key f key other v unit old same is bytes =
+    sym (ap (λ x. f x v unit) same) ∙ is (subst (λ (x : List ℕ). IsBytes x) (sym same) bytes)

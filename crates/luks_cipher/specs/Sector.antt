@@ -32,6 +32,10 @@ is_mode_key_length XtsPlain n = is_xts_key_length n
 is_mode_key_length CbcEssivSha256 n = (n == 16) || (n == 32)
 is_mode_key_length CbcPlain64 n = (n == 16) || (n == 32)
 
+-- the lengths that a key of some mode may have
+abbrev pub is_key_length : ℕ → Bool
+is_key_length n = n == 16 || n == 32 || n == 64
+
 -- plain64: the sector's number, its low byte first, and zeros
 abbrev pub plain64_vector : ℕ → List ℕ
 plain64_vector number = to_le_bytes w128 number
@@ -39,6 +43,10 @@ plain64_vector number = to_le_bytes w128 number
 -- essiv:sha256: that block encrypted under the SHA-256 digest of the key
 abbrev pub essiv_vector : List ℕ → ℕ → List ℕ
 essiv_vector key number = encrypted (sha256 key) (to_le_bytes w128 number)
+
+-- a mode, and a key of it
+abbrev pub Cipher : Type 0
+Cipher = Mode × List ℕ
 
 -- the sector of this number encrypted. plain: the number is cut to its 32 low bits
 abbrev pub sector_encrypted : Mode → List ℕ → ℕ → List ℕ → List ℕ

@@ -1,7 +1,7 @@
 //! The modes in which sectors are encrypted.
 
 ghost use Rattle.std.specs.Prelude.{◌≡◌};
-ghost use Rattle.luks_cipher.specs.Sector.{name_of, mode_named};
+ghost use Rattle.luks_cipher.specs.Sector.{is_mode_key_length, name_of, mode_named};
 
 /// A mode of AES over sectors, and how a sector's number enters it (the kernel's documentation of
 /// dm-crypt).
@@ -32,6 +32,16 @@ impl Mode {
             Some(Mode::CbcPlain64)
         } else {
             None
+        }
+    }
+
+    /// Whether a key of the mode has so many bytes: 32 or 64 for XTS, 16 or 32 for CBC.
+    pub fn has_key_length(self, len: usize) -> bool
+        ensures { result ≡ is_mode_key_length self len }
+    {
+        match self {
+            Mode::XtsPlain64 | Mode::XtsPlain => len == 32 || len == 64,
+            Mode::CbcEssivSha256 | Mode::CbcPlain64 => len == 16 || len == 32,
         }
     }
 

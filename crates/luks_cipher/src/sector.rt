@@ -12,6 +12,7 @@ use crate::cbc::{decrypt_chain, encrypt_chain};
 use crate::mode::Mode;
 use crate::xts::XtsKey;
 use luks_aes::AesKey;
+use luks_blocks::SliceKey;
 use sha2::{Digest, Sha256};
 use std::marker::Model;
 
@@ -20,8 +21,8 @@ use std::marker::Model;
 enum Keys {
     XtsPlain64(XtsKey),
     XtsPlain(XtsKey),
-    CbcEssivSha256(AesKey, AesKey),
-    CbcPlain64(AesKey),
+    CbcEssivSha256(SliceKey, AesKey),
+    CbcPlain64(SliceKey),
 }
 
 /// A key of AES for sectors in one of the modes. Contracts see it as the mode and the key's bytes.
@@ -53,12 +54,12 @@ fn number_block(number: u64) -> [u8; 16]
 }
 
 // A key of AES for CBC. There are 16 or 32 bytes of it; at any other number it is `None`.
-fn cbc_key(key: &[u8]) -> Option<AesKey>
+fn cbc_key(key: &[u8]) -> Option<SliceKey>
     ensures { result
         ≡ (if (length key.now == 16) || (length key.now == 32) then Some key.now else None) }
 {
     match key.len() {
-        16 | 32 => AesKey::new(key),
+        16 | 32 => SliceKey::new(key),
         _ => None,
     }
 }
@@ -128,9 +129,9 @@ impl SectorCipher {
             Keys::CbcEssivSha256(key, vector_key) => {
                 let mut vector = number_block(number);
                 vector_key.encrypt_block(&mut vector);
-                encrypt_chain(key, vector, unit);
+                encrypt_chain(key.key(), vector, unit);
             }
-            Keys::CbcPlain64(key) => encrypt_chain(key, number_block(number), unit),
+            Keys::CbcPlain64(key) => encrypt_chain(key.key(), number_block(number), unit),
         }
     }
 

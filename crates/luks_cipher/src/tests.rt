@@ -4,6 +4,7 @@ mod bytewise;
 mod comparison;
 mod mode_vectors;
 mod modes;
+mod slices;
 mod xts;
 mod xts_vectors;
 

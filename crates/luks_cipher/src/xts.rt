@@ -1,28 +1,53 @@
 //! XTS-AES (IEEE 1619) over data units of whole blocks.
 
 ghost use Rattle.std.specs.Prelude.{◌≡◌, ◌+◌, ◌*◌, ◌%◌, ◌≤◌, List, ℕ, ◌++◌, length, Some, None, if◌then◌else◌};
-ghost use Rattle.luks_cipher.specs.Xts.{doubled, tweak_of, block_encrypted, block_decrypted, xts_encrypted, xts_decrypted, is_xts_key_length};
+ghost use Rattle.luks_cipher.specs.Xts.{doubled_number, doubled, tweak_of, block_at, joined, block_encrypted, block_decrypted, xts_encrypted, xts_decrypted, is_xts_key_length};
 ghost use Rattle.luks_aes.specs.Bytes.{IsBytes};
+ghost use Rattle.luks_cipher.specs.Slices.{tweak_after, with_tweaks};
 ghost use Rattle.luks_cipher.specs.KeyPair.{IsKeyPair};
 
-use crate::block::block_sum;
+use crate::block::{add_vector, block_sum, vector_of};
 use luks_aes::AesKey;
+use luks_blocks::SliceKey;
 use std::marker::Model;
 
+// A tweak's number times the primitive element (5.2).
+#[inline(always)]
+fn doubled_number(number: u128) -> u128
+    ensures { result ≡ doubled_number number }
+{
+    let reduction = if number >> 127 == 0 { 0 } else { 0x87 };
+    (number << 1) ^ reduction
+}
+
 // The tweak times the primitive element (5.2).
+#[tactic(auto, unfolding(crate::specs::Xts::doubled))]
 fn doubled(tweak: [u8; 16]) -> [u8; 16]
     ensures { result ≡ doubled tweak }
 {
-    let number = u128::from_le_bytes(tweak);
-    let reduction = if number >> 127 == 0 { 0 } else { 0x87 };
-    ((number << 1) ^ reduction).to_le_bytes()
+    doubled_number(u128::from_le_bytes(tweak)).to_le_bytes()
+}
+
+// Adds the tweaks from this one on to the 32 blocks of the slice, and gives the one after them.
+fn add_tweaks(tweak: [u8; 16], slice: &mut [u8]) -> [u8; 16]
+    requires { length slice.old ≡ 512 }
+    ensures value { slice.new ≡ with_tweaks tweak slice.old }
+    ensures next { result ≡ tweak_after tweak 32 }
+{
+    let mut number = u128::from_le_bytes(tweak);
+    for n in 0..32 {
+        add_vector(vector_of(number), &mut slice[16 * n..16 * n + 16]);
+        let next = doubled_number(number);
+        number = next;
+    }
+    number.to_le_bytes()
 }
 
 /// A key of XTS-AES-128 or XTS-AES-256 (IEEE 1619). Contracts see it as its bytes, of which the
 /// first half is the key for the data and the second the key for the tweaks.
 #[derive(Drop)]
 pub struct XtsKey {
-    data_key: AesKey,
+    data_key: SliceKey,
     tweak_key: AesKey,
 }
 
@@ -43,7 +68,7 @@ impl XtsKey {
             32 | 64 => {
                 let (data_key, tweak_key) = key.split_at(key.len() / 2);
                 Some(XtsKey {
-                    data_key: AesKey::new(data_key)?,
+                    data_key: SliceKey::new(data_key)?,
                     tweak_key: AesKey::new(tweak_key)?,
                 })
             }
@@ -69,7 +94,7 @@ impl XtsKey {
         let mut block = [0; 16];
         block.copy_from_slice(piece);
         let mut masked = block_sum(block, tweak);
-        self.data_key.encrypt_block(&mut masked);
+        self.data_key.key().encrypt_block(&mut masked);
         piece.copy_from_slice(&block_sum(masked, tweak));
     }
 
@@ -81,8 +106,21 @@ impl XtsKey {
         let mut block = [0; 16];
         block.copy_from_slice(piece);
         let mut masked = block_sum(block, tweak);
-        self.data_key.decrypt_block(&mut masked);
+        self.data_key.key().decrypt_block(&mut masked);
         piece.copy_from_slice(&block_sum(masked, tweak));
+    }
+
+    // Decrypts 32 blocks, of which this is the first one's tweak, and gives the next one's.
+    fn decrypt_slice(&self, tweak: [u8; 16], slice: &mut [u8]) -> [u8; 16]
+        requires { length slice.old ≡ 512 }
+        ensures value { slice.new
+            ≡ joined
+            (λ n. block_decrypted self.now (tweak_after tweak n) (block_at slice.old n)) 32 }
+        ensures next { result ≡ tweak_after tweak 32 }
+    {
+        add_tweaks(tweak, slice);
+        self.data_key.decrypt_slice(slice);
+        add_tweaks(tweak, slice)
     }
 
     /// Encrypts the data unit of this number (IEEE 1619, 5.3.2). Its length is a multiple of 16
@@ -116,7 +154,12 @@ impl XtsKey {
         ensures undone { xts_encrypted self.now number unit.new ≡ unit.old }
     {
         let mut tweak = self.first_tweak(number);
-        for j in 0..unit.len() / 16 {
+        let slices = unit.len() / 512;
+        for i in 0..slices {
+            let next = self.decrypt_slice(tweak, &mut unit[512 * i..512 * i + 512]);
+            tweak = next;
+        }
+        for j in 32 * slices..unit.len() / 16 {
             self.decrypt_piece(tweak, &mut unit[16 * j..16 * j + 16]);
             let next = doubled(tweak);
             tweak = next;

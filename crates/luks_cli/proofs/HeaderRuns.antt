@@ -1,8 +1,8 @@
 -- How the commands on headers end.
-use Rattle.std.proofs.Common.{◌≡◌, ℕ, ◌<◌, ◌≤◌, List, [], Option, Result, Ok, Err, refl, take, length, arith}
+use Rattle.std.specs.Prelude.{◌==◌}
+use Rattle.std.proofs.Common.{◌≡◌, ℕ, ◌<◌, ◌≤◌, Bool, true, false, List, [], Option, Result, Ok, Err, ap, refl, take, length, arith}
 use Rattle.luks_io.specs.Bytes.{Adds, Took}
 use Rattle.luks_io.proofs.Taking.{adds-none}
-use Rattle.luks_cli.proofs.HeaderTaking.{took_nothing}
 use Rattle.luks_header.specs.Header.{BreaksReading, cost_of, header_of}
 use Rattle.luks_header.specs.declared.header.Header.{Header}
 use Rattle.luks_area.specs.declared.fault.HeaderFault.{HeaderFault}
@@ -12,8 +12,12 @@ use Rattle.luks_report.specs.declared.message.Message.TheVariants.{Done, OutOfMe
 use Rattle.luks_cli.specs.Header.{answer_to_is_luks}
 use Rattle.luks_report.specs.Faults.{message_for_header}
 use Rattle.luks_cli.specs.Ending.{Outcome}
-use Rattle.luks_cli.specs.Header.{is_luks_outcome, print_outcome}
-use Rattle.luks_cli.specs.Run.{IsBeginning, IsSilent, Runs, BreaksOff, TookNone, at_any_pace}
+use Rattle.luks_cli.specs.MayEnd.{CheckMessage, PageMessage}
+use Rattle.luks_cli.specs.Header.{is_luks_outcome, print_outcome, told_of}
+use Rattle.luks_cli.specs.declared.execute.headers.Page.{Page}
+use Rattle.luks_cli.specs.declared.execute.headers.Page.TheVariants.{Uuid, Dump, Check}
+use Rattle.luks_report.specs.Check.{findings_of, message_for_check}
+use Rattle.luks_cli.specs.Run.{Counts, Failures, IsBeginning, IsSilent, Runs, BreaksOff, TookNone, at_any_pace, breaks_off}
 
 -- a run that ended before any output
 early : (o : Outcome) (image : List ℕ) (message : Message) (i w : Option (List ℕ)) (count : ℕ) → IsSilent message 0
@@ -33,25 +37,66 @@ early o image message i w count silent begins few took = record {
   output = adds-none w;
 }
 
-module _ (text : Header → List ℕ) (image : List ℕ) (i w : Option (List ℕ)) where
+-- what is told once a page is printed is no want of memory and no failure
+pub told_well : (page : Page) (header : Header) → breaks_off (told_of page header) ≡ false
+unfolding message_for_check
+told_well Uuid header = refl
+told_well Dump header = refl
+told_well Check header = by (length (findings_of header) == 0) refl where
+  by : (b : Bool) → (length (findings_of header) == 0) ≡ b → breaks_off (message_for_check header) ≡ false
+  by true is = rw is refl
+  by false is = rw is refl
+
+-- it is one of the messages of the page
+pub told_may_end : (page : Page) (header : Header) → PageMessage page (told_of page header)
+unfolding message_for_check
+told_may_end Uuid header = tt
+told_may_end Dump header = tt
+told_may_end Check header = by (length (findings_of header) == 0) refl where
+  by : (b : Bool) → (length (findings_of header) == 0) ≡ b → CheckMessage (message_for_check header)
+  by true is = rw is tt
+  by false is = rw is tt
+
+-- no read failed
+pub told_no_read : (page : Page) (header : Header) → told_of page header ≡ ReadFailed → ⊥
+unfolding message_for_check
+told_no_read page header wrong =
+    let fine : breaks_off (told_of page header) ≡ false = told_well page header in
+    let lost : breaks_off (told_of page header) ≡ true = ap breaks_off wrong in
+    cc
+
+-- and nothing is counted
+pub told_counts : (page : Page) (header : Header) (before after : Failures) → after ≡ before
+    → Counts (told_of page header) before after
+unfolding message_for_check
+told_counts Uuid header before after same = same
+told_counts Dump header before after same = same
+told_counts Check header before after same = by (length (findings_of header) == 0) refl where
+  by : (b : Bool) → (length (findings_of header) == 0) ≡ b → Counts (message_for_check header) before after
+  by true is = rw is same
+  by false is = rw is same
+
+module _ (text : Header → List ℕ) (told : Header → Message) (image : List ℕ) (i w : Option (List ℕ)) where
   -- the header was read
   module _ (header : Header) (found : header_of image ≡ Ok header) (left : Took image i (cost_of image)) where
-    print_found : print_outcome text image
-        ≡ record { output = text header; message = Done; image_taken = cost_of image; secret_taken = 0 }
+    print_found : print_outcome text told image
+        ≡ record { output = text header; message = told header; image_taken = cost_of image; secret_taken = 0 }
     unfolding print_outcome
     print_found = rw found refl
 
     -- memory was refused for its text
-    pub runs_without_text : Runs at_any_pace (print_outcome text image) OutOfMemory (Took image i) TookNone (Adds w w)
+    pub runs_without_text : Runs at_any_pace (print_outcome text told image) OutOfMemory (Took image i) TookNone (Adds w w)
     runs_without_text =
         rw print_found (early _ image OutOfMemory i w (cost_of image) refl (omega arith) (omega arith)
         (left))
 
     -- the text was written
     pub runs_to_end : (page : List ℕ) (w' : Option (List ℕ)) → page ≡ text header → Adds w w' page
-        → Runs at_any_pace (print_outcome text image) Done (Took image i) TookNone (Adds w w')
-    runs_to_end page w' is_text a =
+        → breaks_off (told header) ≡ false
+        → Runs at_any_pace (print_outcome text told image) (told header) (Took image i) TookNone (Adds w w')
+    runs_to_end page w' is_text a fine =
         rw (
+          fine,
           print_found,
           ← is_text,
         ) (record { as_stated = refl; image = left; secret = refl; output = a })
@@ -59,7 +104,7 @@ module _ (text : Header → List ℕ) (image : List ℕ) (i w : Option (List ℕ
     -- a write failed within it
     pub runs_without_rest : (page : List ℕ) (w' : Option (List ℕ)) (n : ℕ) → page ≡ text header → n < length page
         → Adds w w' (take n page)
-        → Runs at_any_pace (print_outcome text image) WriteFailed (Took image i) TookNone (Adds w w')
+        → Runs at_any_pace (print_outcome text told image) WriteFailed (Took image i) TookNone (Adds w w')
     runs_without_rest page w' n is_text within a = rw (print_found, ← is_text) (record {
       image_taken = cost_of image;
       secret_taken = 0;
@@ -74,19 +119,19 @@ module _ (text : Header → List ℕ) (image : List ℕ) (i w : Option (List ℕ
       output = a;
     })
 
-  print_cost : (print_outcome text image).image_taken ≡ cost_of image
+  print_cost : (print_outcome text told image).image_taken ≡ cost_of image
   unfolding print_outcome
   print_cost = refl
 
   print_none : (fault : HeaderFault) → header_of image ≡ Err fault
-      → print_outcome text image
+      → print_outcome text told image
       ≡ record { output = []; message = message_for_header fault; image_taken = cost_of image; secret_taken = 0 }
   unfolding print_outcome
   print_none fault found = rw found refl
 
   -- there was no header, or reading it failed
   pub runs_without_header : (fault : HeaderFault) → BreaksReading image i fault
-      → Runs at_any_pace (print_outcome text image) (message_for_header fault) (Took image i) TookNone (Adds w w)
+      → Runs at_any_pace (print_outcome text told image) (message_for_header fault) (Took image i) TookNone (Adds w w)
   runs_without_header NoLuks stop =
       rw (print_none NoLuks stop.0) (record
       { as_stated = refl; image = stop.1; secret = refl; output = adds-none w })
@@ -100,7 +145,7 @@ module _ (text : Header → List ℕ) (image : List ℕ) (i w : Option (List ℕ
       let some = stop in
       early _ image ReadFailed i w some.0 tt (omega arith) (omega (arith, some.1, print_cost)) some.2
   runs_without_header Memory stop =
-      let some = took_nothing image i stop in
+      let some = stop.0 in
       early _ image OutOfMemory i w some.0 refl (omega arith) (omega (arith, some.1, print_cost)) some.2
 
 module _ (image : List ℕ) (i w : Option (List ℕ)) where
@@ -137,5 +182,5 @@ module _ (image : List ℕ) (i w : Option (List ℕ)) where
       let some = stop in
       early _ image ReadFailed i w some.0 tt (omega arith) (omega (arith, some.1, asked_cost)) some.2
   is_luks_refused Memory stop =
-      let some = took_nothing image i stop in
+      let some = stop.0 in
       early _ image OutOfMemory i w some.0 refl (omega arith) (omega (arith, some.1, asked_cost)) some.2

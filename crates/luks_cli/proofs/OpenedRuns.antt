@@ -2,7 +2,8 @@
 use Rattle.std.proofs.Common.{◌≡◌, ◌≢◌, inl, ℕ, ◌+◌, ◌*◌, ◌/◌, ◌<◌, ◌≤◌, List, Option, None, Some, Result, Ok, Err, IfErr, Bool, true, false, ◌∙◌, ap, refl, take, length, max, arith}
 use Rattle.std.proofs.Math.Nat.{div-eq_of_lt-le, mul-le-mul_right}
 use Rattle.std.specs.Prelude.{MatchBool, if◌then◌else◌}
-use Rattle.luks_cipher.specs.Xts.{is_xts_key_length}
+use Rattle.luks_cipher.specs.Sector.{Cipher, is_mode_key_length}
+use Rattle.luks_cipher.specs.declared.mode.Mode.{Mode}
 use Rattle.luks_verdict.specs.declared.segment.Segment.{Segment}
 use Rattle.luks_io.proofs.Taking.{adds-none}
 use Rattle.luks_io.specs.Bytes.{Adds, Took, counted, raised}
@@ -116,7 +117,7 @@ module _ (o : OpeningRequest) (image pass : List ℕ) (segment : Segment) (opene
 
     -- the payload was passed on, to its end or not
     pub runs_passed : (message : Message) → message ≢ OutOfMemory
-        → PassesPayload segment opened.key image i' w w' message
+        → PassesPayload segment (segment.mode, opened.key) image i' w w' message
         → Runs (cat_promptly image) (volume_outcome (payload_outcome image pass) o image pass) message (Took image i')
         (Took pass s) (Adds w w')
     runs_passed OutOfMemory never passed = absurd (never refl)
@@ -132,7 +133,7 @@ module _ (o : OpeningRequest) (image pass : List ℕ) (segment : Segment) (opene
           output_len = count * sector_len segment;
           image_within = omega (arith, passed.4);
           secret_within = omega arith;
-          output_within = omega (arith, plain_len segment image opened.key);
+          output_within = omega (arith, plain_len segment image (segment.mode, opened.key));
           is_silent = tt;
           is_prompt = λ other is past.
               rw (same_segment image segment other u.has is) (ap (λ n. n * sector_len segment) passed.2);
@@ -155,7 +156,7 @@ module _ (o : OpeningRequest) (image pass : List ℕ) (segment : Segment) (opene
           output_len = count * sector_len segment + written;
           image_within = omega (arith, passed.4);
           secret_within = omega arith;
-          output_within = omega (arith, plain_len segment image opened.key, passed.3);
+          output_within = omega (arith, plain_len segment image (segment.mode, opened.key), passed.3);
           is_silent = tt;
           is_prompt = λ other is. rw (same_segment image segment other u.has is, row) (omega arith);
           image = passed.5;
@@ -167,10 +168,10 @@ module _ (o : OpeningRequest) (image pass : List ℕ) (segment : Segment) (opene
         rw (u.outcome (payload_outcome image pass)) (record
         { as_stated = passed.0; image = rw end passed.1; secret = u.secret_taken; output = passed.2 })
 
--- the key of the volume is a key of the cipher
-pub key_is : (key bytes : List ℕ) → is_xts_key_length (length bytes) ≡ true
-    → Some key ≡ (if is_xts_key_length (length bytes) then Some bytes else None) → key ≡ bytes
-key_is key bytes long is = let made : Some key ≡ Some bytes = is ∙ (rw long refl) in cc
+-- the cipher of the volume has the key that was found
+pub cipher_is : (cipher : Cipher) (mode : Mode) (key : List ℕ) → is_mode_key_length mode (length key) ≡ true
+    → Some cipher ≡ (if is_mode_key_length mode (length key) then Some (mode, key) else None) → cipher ≡ (mode, key)
+cipher_is cipher mode key long is = let made : Some cipher ≡ Some (mode, key) = is ∙ (rw long refl) in cc
 
 -- ---- counts of failures
 

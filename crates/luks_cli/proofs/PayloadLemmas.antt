@@ -4,7 +4,9 @@ use Rattle.std.proofs.lemmas.Bool.{cases_lt}
 use Rattle.std.proofs.lemmas.List.{take-append-le}
 use Rattle.std.proofs.Math.Nat.{div-eq_of_lt-le, div-mul-le_self, mul-le-mul_left, mul-le-mul_right}
 use Rattle.std.proofs.Math.Seq.{take-append-add}
-use Rattle.luks_cipher.specs.Xts.{block_at, block_decrypted, block_sum, joined, tweak_of, xts_decrypted}
+use Rattle.luks_cipher.proofs.ModeLemmas.{length-sector_decrypted}
+use Rattle.luks_cipher.specs.Sector.{Cipher}
+use Rattle.luks_cipher.specs.Xts.{joined}
 use Rattle.luks_header.specs.SectorSize.{bytes_of}
 use Rattle.luks_verdict.specs.declared.sector_size.SectorSize.{SectorSize}
 use Rattle.luks_verdict.specs.declared.sector_size.SectorSize.TheVariants.{B512, B1024, B2048, B4096}
@@ -72,16 +74,10 @@ take_whole f z n k sizes below = elim (cases_lt k n) [
       rw e (take_all (n * z) (joined f n) (omega (arith, joined_length f z n sizes)))
 ]
 
-block_len : (key tweak block : List ℕ) → length (block_decrypted key tweak block) ≡ 16
-unfolding block_decrypted block_sum
-block_len key tweak block = refl
-
-unit_len : (key : List ℕ) (number : ℕ) (unit : List ℕ) → length unit % 16 ≡ 0
-    → length (unit_plain key number unit) ≡ length unit
-unfolding unit_plain xts_decrypted
-unit_len key number unit whole =
-    joined_length _ 16 (length unit / 16) (λ j low. block_len key (tweak_of key number j) (block_at unit j))
-    ∙ omega arith
+unit_len : (cipher : Cipher) (number : ℕ) (unit : List ℕ) → length unit % 16 ≡ 0
+    → length (unit_plain cipher number unit) ≡ length unit
+unfolding unit_plain
+unit_len cipher number unit whole = length-sector_decrypted cipher number unit whole
 
 within_len : (size : Option ℕ) (len : ℕ) → within_size size len ≤ len
 within_len None len = omega arith
@@ -122,17 +118,17 @@ module _ (s : Segment) (image : List ℕ) where
       ≤ sectors_of s image * sector_len s = mul-le-mul_left (sectors_of s image) z.long in
       omega arith
 
-  sector_size : (key : List ℕ) (i : ℕ) → i < sectors_of s image → length (sector_of s key image i) ≡ sector_len s
-  sector_size key i below =
+  sector_size : (cipher : Cipher) (i : ℕ) → i < sectors_of s image → length (sector_of s cipher image i) ≡ sector_len s
+  sector_size cipher i below =
       let z = sector_blocks s.sector_size in
       let there = sector_there i below in
       let more : (i + 1) * sector_len s ≡ i * sector_len s + sector_len s = omega arith in
       let unit = length-take-le (sector_len s) (drop (sector_start s i) image)
       (omega (arith, length-drop (sector_start s i) image)) in
-      unit_len key _ _ (ap (λ n. n % 16) unit ∙ z.blocks) ∙ unit
+      unit_len cipher _ _ (ap (λ n. n % 16) unit ∙ z.blocks) ∙ unit
 
-  pub plain_len : (key : List ℕ) → length (plain_of s key image) ≡ sectors_of s image * sector_len s
-  plain_len key = joined_length (sector_of s key image) (sector_len s) (sectors_of s image) (sector_size key)
+  pub plain_len : (cipher : Cipher) → length (plain_of s cipher image) ≡ sectors_of s image * sector_len s
+  plain_len cipher = joined_length (sector_of s cipher image) (sector_len s) (sectors_of s image) (sector_size cipher)
 
 -- ---- a pump on its way
 
@@ -141,7 +137,7 @@ pub record Passing (p : Pumped) (image : List ℕ) (left before after : Option (
   pub stands : StandsIn image p left
   pub at_sector : (p.count ≡ 0) ⊎ (p.state ≡ InPayload)
   pub few : p.count ≤ sectors_of p.segment image
-  pub wrote : Adds before after (joined (sector_of p.segment p.key image) p.count)
+  pub wrote : Adds before after (joined (sector_of p.segment p.cipher image) p.count)
 
 pub passing_start : (p : Pumped) (image : List ℕ) (left w : Option (List ℕ)) → p.count ≡ 0 → p.state ≡ BeforePayload
     → Took image left p.consumed
@@ -155,7 +151,7 @@ passing_start p image left w none is took = record {
 }
 
 module _ (p : Pumped) (image : List ℕ) (l b w l' w' : Option (List ℕ)) (so_far : Passing p image l b w) where
-  pub passing_more : Steps p.segment p.key p.count (position p) image (Ok Sector) l' w w'
+  pub passing_more : Steps p.segment p.cipher p.count (position p) image (Ok Sector) l' w w'
       → Passing (after_step p (Ok Sector)) image l' b w'
   unfolding joined
   passing_more step =
@@ -165,24 +161,24 @@ module _ (p : Pumped) (image : List ℕ) (l b w l' w' : Option (List ℕ)) (so_f
         at_sector = inr refl;
         few = omega (arith, taken.is_one);
         wrote = rw add-one
-            (adds-more b w w' (joined (sector_of p.segment p.key image) p.count)
-            (sector_of p.segment p.key image p.count) so_far.wrote step.1);
+            (adds-more b w w' (joined (sector_of p.segment p.cipher image) p.count)
+            (sector_of p.segment p.cipher image p.count) so_far.wrote step.1);
       }
 
   -- the payload came to its stated end
   ended : (answer : Result Step VolumeFault) → Ends image p.segment p.count answer l' → w' ≡ w
       → (message_at_end answer ≡ message_at_end (ending_of p.segment image))
-      × Took image l' (payload_end_of p.segment image) × Adds b w' (plain_of p.segment p.key image)
+      × Took image l' (payload_end_of p.segment image) × Adds b w' (plain_of p.segment p.cipher image)
   ended answer end same =
       (ap message_at_end end.as_stated, end.took, rw (same, ← end.all) so_far.wrote)
 
-  pub passing_ends : Steps p.segment p.key p.count (position p) image (Ok End) l' w w' → w' ≡ w
-      → PassesPayload p.segment p.key image l' b w' Done
+  pub passing_ends : Steps p.segment p.cipher p.count (position p) image (Ok End) l' w w' → w' ≡ w
+      → PassesPayload p.segment p.cipher image l' b w' Done
   passing_ends step same = ended (Ok End) step same
 
   -- a read failed within the next sector
-  lost : Steps p.segment p.key p.count (position p) image (Err Read) l' w w' → w' ≡ w
-      → PassesPayload p.segment p.key image l' b w' (message_for_payload Read)
+  lost : Steps p.segment p.cipher p.count (position p) image (Err Read) l' w w' → w' ≡ w
+      → PassesPayload p.segment p.cipher image l' b w' (message_for_payload Read)
   lost step same =
       let z = sector_blocks p.segment.sector_size in
       let place = step.0 in
@@ -194,8 +190,8 @@ module _ (p : Pumped) (image : List ℕ) (l b w l' w' : Option (List ℕ)) (so_f
       ] in
       let row : (place - p.segment.offset) / sector_len p.segment
       ≡ p.count = div-eq_of_lt-le (sector_len p.segment) (omega arith) (omega (arith, step.2, z.long)) in
-      let whole = take_whole (sector_of p.segment p.key image) (sector_len p.segment) (sectors_of p.segment image)
-      p.count (sector_size p.segment image p.key) so_far.few in (
+      let whole = take_whole (sector_of p.segment p.cipher image) (sector_len p.segment) (sectors_of p.segment image)
+      p.count (sector_size p.segment image p.cipher) so_far.few in (
         place,
         p.count,
         sym row,
@@ -206,28 +202,28 @@ module _ (p : Pumped) (image : List ℕ) (l b w l' w' : Option (List ℕ)) (so_f
       )
 
   -- a write failed within it
-  unwritten : Steps p.segment p.key p.count (position p) image (Err Write) l' w w'
-      → PassesPayload p.segment p.key image l' b w' (message_for_payload Write)
+  unwritten : Steps p.segment p.cipher p.count (position p) image (Err Write) l' w w'
+      → PassesPayload p.segment p.cipher image l' b w' (message_for_payload Write)
   unwritten step =
       let taken = step.0 in
       let written = step.1 in
       let few = written.1 in
-      let part = take_joined (sector_of p.segment p.key image) (sector_len p.segment) (sectors_of p.segment image)
-      p.count written.0 (sector_size p.segment image p.key) taken.is_one (omega arith) in (
+      let part = take_joined (sector_of p.segment p.cipher image) (sector_len p.segment) (sectors_of p.segment image)
+      p.count written.0 (sector_size p.segment image p.cipher) taken.is_one (omega arith) in (
         p.count,
         written.0,
         taken.is_one,
         few,
         sector_before_end p.segment image p.count taken.is_one,
         taken.took,
-        rw part (adds-more b w w' (joined (sector_of p.segment p.key image) p.count)
-            (take written.0 (sector_of p.segment p.key image p.count)) so_far.wrote written.2),
+        rw part (adds-more b w w' (joined (sector_of p.segment p.cipher image) p.count)
+            (take written.0 (sector_of p.segment p.cipher image p.count)) so_far.wrote written.2),
       )
 
   -- a step was not made
   pub passing_breaks : (fault : VolumeFault) (Same : Type 0) → (Same → w' ≡ w) → WritesSectors (Err fault) Same
-      → Steps p.segment p.key p.count (position p) image (Err fault) l' w w'
-      → PassesPayload p.segment p.key image l' b w' (message_for_payload fault)
+      → Steps p.segment p.cipher p.count (position p) image (Err fault) l' w w'
+      → PassesPayload p.segment p.cipher image l' b w' (message_for_payload fault)
   passing_breaks IsCutBefore Same same is step = ended (Err IsCutBefore) step (same is)
   passing_breaks (HasTail bytes) Same same is step = ended (Err (HasTail bytes)) step (same is)
   passing_breaks (IsShort bytes) Same same is step = ended (Err (IsShort bytes)) step (same is)

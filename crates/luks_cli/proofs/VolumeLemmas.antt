@@ -1,5 +1,5 @@
 -- Finding the volume of an image.
-use Rattle.std.proofs.Common.{◌≡◌, ℕ, ◌⊎◌, inl, inr, List, Option, Ok, Err, false, refl, arith}
+use Rattle.std.proofs.Common.{◌≡◌, ℕ, ◌⊎◌, inl, inr, List, [], Option, Ok, Err, true, false, refl, arith}
 use Rattle.std.specs.Prelude.{is_err}
 use Rattle.luks_io.specs.Bytes.{Took}
 use Rattle.luks_header.specs.Header.{BreaksReading, cost_of, header_of}
@@ -14,11 +14,10 @@ use Rattle.luks_open.specs.declared.fault.OpenFault.{OpenFault}
 use Rattle.luks_open.specs.declared.fault.OpenFault.TheVariants.{NoSuchSlot as NotThere, Disabled, NamedSkipped, NothingTried as NoneTried, NoKey as NoneOpens, Memory}
 use Rattle.luks_report.specs.Faults.{message_for_header}
 use Rattle.luks_command.specs.Request.{OpeningRequest}
-use Rattle.luks_cli.proofs.HeaderTaking.{took_nothing}
 use Rattle.luks_cli.specs.VolumeParts.{StopsFinding}
-use Rattle.luks_cli.specs.Volume.{volume_of}
+use Rattle.luks_cli.specs.Volume.{is_opened, volume_of}
 use Rattle.luks_report.specs.Faults.{message_for_opening}
-use Rattle.luks_report.specs.declared.message.Message.TheVariants.{SegmentRefused}
+use Rattle.luks_report.specs.declared.message.Message.TheVariants.{NothingTried, SegmentRefused}
 
 module _ (o : OpeningRequest) (image : List ℕ) (left : Option (List ℕ)) where
   no_header : (fault : HeaderFault) → header_of image ≡ Err fault → volume_of o image ≡ Err (message_for_header fault)
@@ -31,24 +30,30 @@ module _ (o : OpeningRequest) (image : List ℕ) (left : Option (List ℕ)) wher
   stops_without_header IsCut stop = (no_header IsCut stop.0, stop.1)
   stops_without_header NoJson stop = (no_header NoJson stop.0, stop.1)
   stops_without_header LostRead stop = stop
-  stops_without_header NoMemory stop = took_nothing image left stop
+  stops_without_header NoMemory stop = stop.0
 
-  module _ (header : Header) (found : header_of image ≡ Ok header) where
+  -- volumes of its format are not opened
+  pub stops_unopened : (header : Header) → header_of image ≡ Ok header → is_opened header ≡ false
+      → Took image left (cost_of image) → StopsFinding o image left (NothingTried [])
+  unfolding volume_of
+  stops_unopened header found unopened rest = (rw (found, unopened) refl, rest)
+
+  module _ (header : Header) (found : header_of image ≡ Ok header) (opened : is_opened header ≡ true) where
     no_segment : (fault : SegmentFault) → segment_of header ≡ Err fault → volume_of o image ≡ Err (SegmentRefused fault)
     unfolding volume_of
-    no_segment fault none = rw (found, none) refl
+    no_segment fault none = rw (found, opened, none) refl
 
     no_order : (segment : Segment) (fault : OpenFault) → segment_of header ≡ Ok segment
         → order_of header o.key_slot o.max_iterations ≡ Err fault
         → volume_of o image ≡ Err (message_for_opening o.key_slot fault)
     unfolding volume_of
-    no_order segment fault is none = rw (found, is, none) refl
+    no_order segment fault is none = rw (found, opened, is, none) refl
 
     pub volume_is : (segment : Segment) (tries : Tries) → segment_of header ≡ Ok segment
         → order_of header o.key_slot o.max_iterations ≡ Ok tries
         → volume_of o image ≡ Ok (record { header = header; segment = segment; tries = tries })
     unfolding volume_of
-    volume_is segment tries is ordered = rw (found, is, ordered) refl
+    volume_is segment tries is ordered = rw (found, opened, is, ordered) refl
 
     pub volume_found : (segment : Segment) (tries : Tries) → segment_of header ≡ Ok segment
         → order_of header o.key_slot o.max_iterations ≡ Ok tries

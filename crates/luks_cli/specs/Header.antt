@@ -4,10 +4,14 @@ use Rattle.luks_header.specs.Header.{cost_of, header_of}
 use Rattle.luks_header.specs.declared.header.Header.{Header}
 use Rattle.luks_area.specs.declared.fault.HeaderFault.{HeaderFault}
 use Rattle.luks_area.specs.declared.fault.HeaderFault.TheVariants.{NotLuks}
+use Rattle.luks_report.specs.Check.{check_of, message_for_check}
+use Rattle.luks_report.specs.Dump.{dump_of, uuid_of}
 use Rattle.luks_report.specs.Faults.{message_for_header}
 use Rattle.luks_report.specs.declared.message.Message.{Message}
 use Rattle.luks_report.specs.declared.message.Message.TheVariants.{Done, No}
 use Rattle.luks_cli.specs.Ending.{Outcome, unwritten}
+use Rattle.luks_cli.specs.declared.execute.headers.Page.{Page}
+use Rattle.luks_cli.specs.declared.execute.headers.Page.TheVariants.{Uuid, Dump, Check}
 
 -- what `isLuks` tells
 abbrev pub answer_to_is_luks : Result Header HeaderFault → Message
@@ -15,25 +19,41 @@ answer_to_is_luks (Ok _) = Done
 answer_to_is_luks (Err NotLuks) = No
 answer_to_is_luks (Err fault) = message_for_header fault
 
+-- the text of a page
+abbrev pub text_of : Page → Header → List ℕ
+text_of Uuid = uuid_of
+text_of Dump = dump_of
+text_of Check = check_of
+
+-- that it was printed is all that is told
+abbrev pub well : Header → Message
+well header = Done
+
+-- what is told once a page is printed
+abbrev pub told_of : Page → Header → Message
+told_of Uuid = well
+told_of Dump = well
+told_of Check = message_for_check
+
 -- what is printed of the header, if there is one
 abbrev pub printed : (Header → List ℕ) → Result Header HeaderFault → List ℕ
 printed text (Ok header) = text header
 printed text (Err _) = []
 
--- the message of a command that prints a text of the header
-abbrev pub message_printing : Result Header HeaderFault → Message
-message_printing (Ok _) = Done
-message_printing (Err fault) = message_for_header fault
+-- the message of a command that prints a text of the header, which tells this of it
+abbrev pub message_printing : (Header → Message) → Result Header HeaderFault → Message
+message_printing told (Ok header) = told header
+message_printing told (Err fault) = message_for_header fault
 
 -- `isLuks`: nothing is written
 unfoldable pub is_luks_outcome : List ℕ → Outcome
 is_luks_outcome image = unwritten (answer_to_is_luks (header_of image)) (cost_of image) 0
 
 -- a command that prints a text of the header
-unfoldable pub print_outcome : (Header → List ℕ) → List ℕ → Outcome
-print_outcome text image = record {
+unfoldable pub print_outcome : (Header → List ℕ) → (Header → Message) → List ℕ → Outcome
+print_outcome text told image = record {
   output = printed text (header_of image);
-  message = message_printing (header_of image);
+  message = message_printing told (header_of image);
   image_taken = cost_of image;
   secret_taken = 0;
 }

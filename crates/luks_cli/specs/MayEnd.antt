@@ -1,8 +1,10 @@
 -- With which messages each command may end, whatever its devices do.
 use Rattle.std.specs.Prelude.{◌≡◌, ◌⊎◌}
-use Rattle.luks_command.specs.Request.{Request, is_luks, luks_uuid, luks_dump, test_passphrase, luks_cat, af_split, af_merge}
+use Rattle.luks_command.specs.Request.{Request, is_luks, luks_uuid, luks_dump, luks_check, test_passphrase, luks_cat, af_split, af_merge}
+use Rattle.luks_cli.specs.declared.execute.headers.Page.{Page}
+use Rattle.luks_cli.specs.declared.execute.headers.Page.TheVariants.{Uuid, Dump, Check}
 use Rattle.luks_report.specs.declared.message.Message.{Message}
-use Rattle.luks_report.specs.declared.message.Message.TheVariants.{Done, No, NotLuks, Cut, Json, OutOfMemory, ReadFailed, WriteFailed}
+use Rattle.luks_report.specs.declared.message.Message.TheVariants.{Done, No, Findings, NotLuks, Cut, Json, OutOfMemory, ReadFailed, WriteFailed}
 use Rattle.luks_report.specs.declared.message.Message.TheVariants.{SegmentRefused, NoSuchSlot, SlotDisabled, SlotSkipped, NothingTried}
 use Rattle.luks_report.specs.declared.message.Message.TheVariants.{KeyFileLength, NoKey, CutBeforePayload, Tail, Short}
 use Rattle.luks_report.specs.declared.message.Message.TheVariants.{KeyLength, FewRandomBytes, FewStripes}
@@ -27,6 +29,17 @@ PrintMessage OutOfMemory = Unit {0}
 PrintMessage ReadFailed = Unit {0}
 PrintMessage WriteFailed = Unit {0}
 PrintMessage _ = ⊥
+
+-- a check, which may have findings
+abbrev pub CheckMessage : Message → Type 0
+CheckMessage Findings = Unit {0}
+CheckMessage message = PrintMessage message
+
+-- printing a page
+abbrev pub PageMessage : Page → Message → Type 0
+PageMessage Uuid = PrintMessage
+PageMessage Dump = PrintMessage
+PageMessage Check = CheckMessage
 
 -- opening a volume
 abbrev pub OpeningMessage : Message → Type 0
@@ -76,6 +89,7 @@ abbrev pub MayTell : Request → Message → Type 0
 MayTell (is_luks _) message = IsLuksMessage message
 MayTell (luks_uuid _) message = PrintMessage message
 MayTell (luks_dump _) message = PrintMessage message
+MayTell (luks_check _) message = CheckMessage message
 MayTell (test_passphrase o) message = OpeningMessage message ⊎ (message ≡ Done ⊎ message ≡ WriteFailed)
 MayTell (luks_cat o) message = OpeningMessage message ⊎ PayloadMessage message
 MayTell (af_split s) message = SplitMessage message

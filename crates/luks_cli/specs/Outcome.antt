@@ -1,17 +1,19 @@
 -- What a run of luksrd comes to: a function of the command and the bytes of both inputs.
 use Rattle.std.specs.Prelude.{ℕ, List}
-use Rattle.luks_command.specs.Request.{Request, is_luks, luks_uuid, luks_dump, test_passphrase, luks_cat, af_split, af_merge}
+use Rattle.luks_command.specs.Request.{Request, is_luks, luks_uuid, luks_dump, luks_check, test_passphrase, luks_cat, af_split, af_merge}
+use Rattle.luks_report.specs.Check.{check_of, message_for_check}
 use Rattle.luks_report.specs.Dump.{dump_of, uuid_of}
 use Rattle.luks_cli.specs.Ending.{Outcome}
-use Rattle.luks_cli.specs.Header.{is_luks_outcome, print_outcome}
+use Rattle.luks_cli.specs.Header.{is_luks_outcome, print_outcome, well}
 use Rattle.luks_cli.specs.Stripe.{merge_outcome, split_outcome}
 use Rattle.luks_cli.specs.Volume.{payload_outcome, slot_outcome, volume_outcome}
 
 -- what a command does with the bytes that its inputs give
 abbrev pub outcome_of : Request → List ℕ → List ℕ → Outcome
 outcome_of (is_luks _) image secret = is_luks_outcome image
-outcome_of (luks_uuid _) image secret = print_outcome uuid_of image
-outcome_of (luks_dump _) image secret = print_outcome dump_of image
+outcome_of (luks_uuid _) image secret = print_outcome uuid_of well image
+outcome_of (luks_dump _) image secret = print_outcome dump_of well image
+outcome_of (luks_check _) image secret = print_outcome check_of message_for_check image
 outcome_of (test_passphrase o) image secret = volume_outcome (slot_outcome secret) o image secret
 outcome_of (luks_cat o) image secret = volume_outcome (payload_outcome image secret) o image secret
 outcome_of (af_split s) image secret = split_outcome s.hash s.stripes image secret

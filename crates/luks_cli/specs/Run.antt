@@ -4,7 +4,7 @@
 use Rattle.std.specs.Prelude.{◌≡◌, ℕ, ◌<◌, ◌≤◌, ◌^◌, List, length, take, Option, Some, Bool, true, false, MatchBool, ◌⊎◌, is_err, Result, Ok, Err}
 use Rattle.luks_io.specs.Bytes.{Adds, Took, WhereKnown, raised}
 use Rattle.luks_cli.specs.VolumeParts.{cat_promptly}
-use Rattle.luks_command.specs.Request.{Request, is_luks, luks_uuid, luks_dump, test_passphrase, luks_cat, af_split, af_merge}
+use Rattle.luks_command.specs.Request.{Request, is_luks, luks_uuid, luks_dump, luks_check, test_passphrase, luks_cat, af_split, af_merge}
 use Rattle.luks_cli.specs.Ending.{Outcome}
 use Rattle.luks_cli.specs.Outcome.{outcome_of}
 use Rattle.luks_cli.specs.Stripe.{longest_key}
@@ -84,6 +84,7 @@ abbrev pub KnowsSecret : Request → Option (List ℕ) → List ℕ → Type 0
 KnowsSecret (is_luks _) device secret = Unit {0}
 KnowsSecret (luks_uuid _) device secret = Unit {0}
 KnowsSecret (luks_dump _) device secret = Unit {0}
+KnowsSecret (luks_check _) device secret = Unit {0}
 KnowsSecret (test_passphrase o) device secret = device ≡ Some secret
 KnowsSecret (luks_cat o) device secret = device ≡ Some secret
 KnowsSecret (af_split s) device secret = device ≡ Some secret
@@ -94,6 +95,7 @@ abbrev pub TookSecret : Request → List ℕ → Option (List ℕ) → ℕ → T
 TookSecret (is_luks _) secret left = TookNone
 TookSecret (luks_uuid _) secret left = TookNone
 TookSecret (luks_dump _) secret left = TookNone
+TookSecret (luks_check _) secret left = TookNone
 TookSecret (test_passphrase o) secret left = Took secret left
 TookSecret (luks_cat o) secret left = Took secret left
 TookSecret (af_split s) secret left = Took secret left

@@ -1,9 +1,10 @@
 -- What the commands on volumes come to.
 -- First what an image's header says of its volume, before any key slot is tried; then what becomes of a run.
-use Rattle.std.specs.Prelude.{ℕ, ◌+◌, List, length, max, nat_lt, if◌then◌else◌, Option, Result, Ok, Err}
+use Rattle.std.specs.Prelude.{ℕ, ◌+◌, Bool, true, false, List, [], length, max, nat_lt, if◌then◌else◌, Option, Result, Ok, Err}
 use Rattle.luks_header.specs.Header.{cost_of, header_of}
 use Rattle.luks_header.specs.Segment.{segment_of}
 use Rattle.luks_header.specs.declared.header.Header.{Header}
+use Rattle.luks_header.specs.declared.header.Header.TheVariants.{V1, V2}
 use Rattle.luks_area.specs.declared.fault.HeaderFault.{HeaderFault}
 use Rattle.luks_verdict.specs.declared.refusal.SegmentFault.{SegmentFault}
 use Rattle.luks_verdict.specs.declared.segment.Segment.{Segment}
@@ -19,7 +20,7 @@ use Rattle.luks_report.specs.Texts.{opened_line}
 use Rattle.luks_report.specs.declared.message.Message.TheVariants.{Done, Cut, KeyFileLength}
 use Rattle.luks_cli.specs.Ending.{Outcome, unwritten}
 use Rattle.luks_report.specs.declared.message.Message.{Message}
-use Rattle.luks_report.specs.declared.message.Message.TheVariants.{SegmentRefused}
+use Rattle.luks_report.specs.declared.message.Message.TheVariants.{NothingTried, SegmentRefused}
 
 -- a volume: its header, where its payload lies, and which key slots are tried
 pub record Volume : Type 0 where
@@ -38,9 +39,15 @@ volume_in_segment o header (Ok segment) =
     volume_in_order o.key_slot header segment (order_of header o.key_slot o.max_iterations)
 volume_in_segment o header (Err fault) = Err (SegmentRefused fault)
 
--- the volume with this header
+-- volumes with a header of this format are opened
+abbrev pub is_opened : Header → Bool
+is_opened (V1 header) = true
+is_opened (V2 header tree) = false
+
+-- the volume with this header. Where volumes of its format are not opened, no key slot can be tried
 abbrev pub volume_in_header : OpeningRequest → Result Header HeaderFault → Result Volume Message
-volume_in_header o (Ok header) = volume_in_segment o header (segment_of header)
+volume_in_header o (Ok header) =
+    if is_opened header then volume_in_segment o header (segment_of header) else Err (NothingTried [])
 volume_in_header o (Err fault) = Err (message_for_header fault)
 
 -- the volume of an image, or what is told where there is none: of its header first, then of its segment, then of the
@@ -69,7 +76,7 @@ slot_outcome secret segment opened held =
 -- `luksCat`: the payload is written as plain text
 abbrev pub payload_outcome : List ℕ → List ℕ → OnOpened
 payload_outcome image secret segment opened held = record {
-  output = plain_of segment opened.key image;
+  output = plain_of segment (segment.mode, opened.key) image;
   message = message_at_end (ending_of segment image);
   image_taken = max held (payload_end_of segment image);
   secret_taken = length secret;

@@ -1,5 +1,6 @@
 -- What the parts of the commands on volumes leave in their devices.
 use Rattle.std.specs.Prelude.{◌≡◌, ℕ, ◌+◌, ◌-◌, ◌*◌, ◌/◌, ◌<◌, ◌≤◌, List, length, max, min, take, Option, Ok, Err}
+use Rattle.luks_cipher.specs.Sector.{Cipher}
 use Rattle.luks_io.specs.Bytes.{Adds, Took, TookUpTo}
 use Rattle.luks_header.specs.Header.{cost_of, header_of}
 use Rattle.luks_header.specs.Segment.{segment_of}
@@ -69,17 +70,17 @@ cat_promptly image message image_taken secret_taken output =
 
 -- passing on the payload of an image ended with this message: all of it was written and taken, or it was broken off
 -- within a sector
-abbrev pub PassesPayload : Segment → List ℕ → List ℕ → Option (List ℕ) → Option (List ℕ) → Option (List ℕ) → Message
+abbrev pub PassesPayload : Segment → Cipher → List ℕ → Option (List ℕ) → Option (List ℕ) → Option (List ℕ) → Message
     → Type 0
-PassesPayload s key image left before after ReadFailed =
+PassesPayload s cipher image left before after ReadFailed =
     (place : ℕ) × (count : ℕ) × (count ≡ (place - s.offset) / sector_len s) × (count ≤ sectors_of s image)
     × (place ≤ payload_end_of s image)
-    × Took image left place × Adds before after (take (count * sector_len s) (plain_of s key image))
-PassesPayload s key image left before after WriteFailed =
+    × Took image left place × Adds before after (take (count * sector_len s) (plain_of s cipher image))
+PassesPayload s cipher image left before after WriteFailed =
     (count : ℕ) × (written : ℕ) × (count < sectors_of s image) × (written < sector_len s)
     × (sector_start s (count + 1) ≤ payload_end_of s image)
     × Took image left (sector_start s (count + 1))
-    × Adds before after (take (count * sector_len s + written) (plain_of s key image))
-PassesPayload s key image left before after message =
+    × Adds before after (take (count * sector_len s + written) (plain_of s cipher image))
+PassesPayload s cipher image left before after message =
     (message ≡ message_at_end (ending_of s image)) × Took image left (payload_end_of s image)
-    × Adds before after (plain_of s key image)
+    × Adds before after (plain_of s cipher image)

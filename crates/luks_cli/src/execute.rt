@@ -7,6 +7,7 @@ ghost use Rattle.luks_command.specs.Request.{request_of, secret_of};
 ghost use Rattle.luks_cli.specs.Run.{Counts, failures_of, NeedsNoSecret, ReadsFirst, RunsAsStated, TakesNoMemory, message_of};
 ghost use Rattle.luks_cli.specs.MayEnd.{MayTell};
 
+use headers::Page;
 use luks_command::command::Command;
 use luks_io::sink::Sink;
 use luks_io::source::Source;
@@ -49,8 +50,8 @@ pub fn execute<I: Source, K: Source, O: Sink>(
     ensures status { result ≡ report_of result.message }
     ensures memory { TakesNoMemory (request_of command.now) → result.message ≢ Message.OutOfMemory }
     ensures unread { secret_of (request_of command.now) ≡ None → secret.new ≡ secret.old }
-    ensures unneeded { WhereKnown (I.to_come image.old) (λ known. NeedsNoSecret (request_of command.now) known
-        → secret.new ≡ secret.old) }
+    ensures unneeded { WhereKnown (I.to_come image.old) (λ known.
+        NeedsNoSecret (request_of command.now) known → secret.new ≡ secret.old) }
     ensures reads_first { ReadsFirst (request_of command.now) → result.message ≡ Message.ReadFailed
         → out.new ≡ out.old }
     ensures counts { Counts result.message
@@ -78,18 +79,19 @@ fn perform<I: Source, K: Source, O: Sink>(
     ensures memory { TakesNoMemory (request_of command.now)
         → IfErr result (λ message. message ≢ Message.OutOfMemory) }
     ensures unread { secret_of (request_of command.now) ≡ None → secret.new ≡ secret.old }
-    ensures unneeded { WhereKnown (I.to_come image.old) (λ known. NeedsNoSecret (request_of command.now) known
-        → secret.new ≡ secret.old) }
-    ensures reads_first { ReadsFirst (request_of command.now) → message_of result ≡ Message.ReadFailed
-        → out.new ≡ out.old }
+    ensures unneeded { WhereKnown (I.to_come image.old) (λ known.
+        NeedsNoSecret (request_of command.now) known → secret.new ≡ secret.old) }
+    ensures reads_first { ReadsFirst (request_of command.now)
+        → message_of result ≡ Message.ReadFailed → out.new ≡ out.old }
     ensures counts { Counts (message_of result)
         (failures_of (I.failures image.old) (K.failures secret.old) (O.failures out.old))
         (failures_of (I.failures image.new) (K.failures secret.new) (O.failures out.new)) }
 {
     match command {
         Command::IsLuks { .. } => headers::is_luks(alloc, image),
-        Command::LuksUuid { .. } => headers::print_uuid(alloc, image, out),
-        Command::LuksDump { .. } => headers::print_dump(alloc, image, out),
+        Command::LuksUuid { .. } => headers::print(alloc, Page::Uuid, image, out),
+        Command::LuksDump { .. } => headers::print(alloc, Page::Dump, image, out),
+        Command::LuksCheck { .. } => headers::print(alloc, Page::Check, image, out),
         Command::TestPassphrase(opening) => {
             volumes::test_passphrase(alloc, opening, image, secret, out)
         }

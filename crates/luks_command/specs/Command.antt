@@ -10,7 +10,7 @@ use Rattle.luks_kdf.specs.declared.Hash.{Hash}
 use Rattle.luks_command.specs.Grammar.{luksrd}
 use Rattle.luks_command.specs.Number.{number_within, optional_within}
 use Rattle.luks_command.specs.Request.{MergingRequest, OpeningRequest, Request, SplittingRequest}
-use Rattle.luks_command.specs.Request.{af_merge, af_split, image_of, is_luks, luks_cat, luks_dump}
+use Rattle.luks_command.specs.Request.{af_merge, af_split, image_of, is_luks, luks_cat, luks_check, luks_dump}
 use Rattle.luks_command.specs.Request.{luks_uuid, secret_of, test_passphrase}
 use Rattle.luks_command.specs.declared.planning.PlanFault.{PlanFault}
 use Rattle.luks_command.specs.declared.planning.PlanFault.TheVariants.{Memory, Usage}
@@ -87,11 +87,12 @@ request_in (name, rows) =
     if bytes_eq name (codes "isLuks") then option_map is_luks (input_in rows)
     else (if bytes_eq name (codes "luksUUID") then option_map luks_uuid (input_in rows)
     else (if bytes_eq name (codes "luksDump") then option_map luks_dump (input_in rows)
+    else (if bytes_eq name (codes "luksCheck") then option_map luks_check (input_in rows)
     else (if bytes_eq name (codes "testPassphrase") then option_map test_passphrase (opening_in rows)
     else (if bytes_eq name (codes "luksCat") then option_map luks_cat (opening_in rows)
     else (if bytes_eq name (codes "afSplit") then option_map af_split (splitting_in rows)
     else (if bytes_eq name (codes "afMerge") then option_map af_merge (merging_in rows)
-    else None))))))
+    else None)))))))
 
 -- the input is standard input
 abbrev pub is_standard : Text → Bool

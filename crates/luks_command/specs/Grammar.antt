@@ -38,6 +38,10 @@ luks_uuid = command (codes "luksUUID") []
 abbrev pub luks_dump : Shape
 luks_dump = command (codes "luksDump") []
 
+-- `luksCheck IMAGE`
+abbrev pub luks_check : Shape
+luks_check = command (codes "luksCheck") []
+
 -- `NAME --key-file FILE [--key-slot N] [--max-iterations N] IMAGE`
 unfoldable pub volume_command : Text → Shape
 volume_command name = command name (required (codes "key-file") ∷ optional (codes "key-slot")
@@ -72,7 +76,7 @@ program = record (new_shape (codes "luksrd")) {
 unfoldable pub luksrd : App
 luksrd = record {
   top = record program { is_leaf = false };
-  subs = is_luks ∷ luks_uuid ∷ luks_dump ∷ test_passphrase ∷ luks_cat ∷ af_split ∷ af_merge ∷ [];
+  subs = is_luks ∷ luks_uuid ∷ luks_dump ∷ luks_check ∷ test_passphrase ∷ luks_cat ∷ af_split ∷ af_merge ∷ [];
 }
 
 -- a command that stands by itself

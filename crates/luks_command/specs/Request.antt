@@ -4,7 +4,7 @@ use Rattle.clap.specs.Words.{Text}
 use Rattle.luks_kdf.specs.declared.Hash.{Hash}
 use Rattle.luks_command.specs.declared.command.Command.{Command}
 use Rattle.luks_command.specs.declared.command.Command.TheVariants.{AfMerge, AfSplit, IsLuks, LuksCat}
-use Rattle.luks_command.specs.declared.command.Command.TheVariants.{LuksDump, LuksUuid, TestPassphrase}
+use Rattle.luks_command.specs.declared.command.Command.TheVariants.{LuksCheck, LuksDump, LuksUuid, TestPassphrase}
 use Rattle.luks_command.specs.declared.command.Opening.{Opening}
 use Rattle.luks_command.specs.declared.command.Splitting.{Splitting}
 use Rattle.luks_command.specs.declared.command.Merging.{Merging}
@@ -31,6 +31,7 @@ pub data Request : Type 0 where
   is_luks : Text → Request
   luks_uuid : Text → Request
   luks_dump : Text → Request
+  luks_check : Text → Request
   test_passphrase : OpeningRequest → Request
   luks_cat : OpeningRequest → Request
   af_split : SplittingRequest → Request
@@ -41,6 +42,7 @@ abbrev pub image_of : Request → Text
 image_of (is_luks image) = image
 image_of (luks_uuid image) = image
 image_of (luks_dump image) = image
+image_of (luks_check image) = image
 image_of (test_passphrase o) = o.image
 image_of (luks_cat o) = o.image
 image_of (af_split s) = s.key
@@ -83,6 +85,7 @@ abbrev pub request_of : Command → Request
 request_of (IsLuks image) = is_luks image.now
 request_of (LuksUuid image) = luks_uuid image.now
 request_of (LuksDump image) = luks_dump image.now
+request_of (LuksCheck image) = luks_check image.now
 request_of (TestPassphrase o) = test_passphrase (opening_request o)
 request_of (LuksCat o) = luks_cat (opening_request o)
 request_of (AfSplit s) = af_split (splitting_request s)

@@ -17,6 +17,8 @@ pub enum Command<'a> {
     LuksUuid { image: &'a str },
     /// `luksDump`: prints the header.
     LuksDump { image: &'a str },
+    /// `luksCheck`: prints what is wrong with the header.
+    LuksCheck { image: &'a str },
     /// `testPassphrase`: prints the key slot that the passphrase opens.
     TestPassphrase(Opening<'a>),
     /// `luksCat`: writes the plain sectors.
@@ -75,6 +77,7 @@ impl<'a> Command<'a> {
             Command::IsLuks { image } => image,
             Command::LuksUuid { image } => image,
             Command::LuksDump { image } => image,
+            Command::LuksCheck { image } => image,
             Command::TestPassphrase(opening) => opening.image,
             Command::LuksCat(opening) => opening.image,
             Command::AfSplit(splitting) => splitting.key,

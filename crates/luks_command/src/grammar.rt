@@ -3,7 +3,8 @@
 ghost use Rattle.std.specs.Prelude.{◌≡◌, [], IfOk, false};
 ghost use Rattle.clap.specs.Words.{app_of, rule_of, with_subcommand};
 ghost use Rattle.luks_command.specs.Grammar.{Reads, af_merge, af_split, alone, command, input, is_luks};
-ghost use Rattle.luks_command.specs.Grammar.{luks_cat, luks_dump, luks_uuid, luksrd, option, program};
+ghost use Rattle.luks_command.specs.Grammar.{luks_cat, luks_check, luks_dump, luks_uuid, luksrd};
+ghost use Rattle.luks_command.specs.Grammar.{option, program};
 ghost use Rattle.luks_command.specs.Grammar.{test_passphrase, volume_command};
 
 use clap::{Arg, Command};
@@ -15,6 +16,7 @@ pub(super) fn grammar<'a>(alloc: Global) -> Result<Command<'a>, AllocError>
     ensures { IfOk result (λ command. app_of command ≡ luksrd) }
 {
     let program = with_header_commands(alloc, program(alloc))?;
+    let program = with_check(alloc, program)?;
     let program = with_volume_commands(alloc, program)?;
     with_stripe_commands(alloc, program)
 }
@@ -29,7 +31,7 @@ fn program<'a>(alloc: Global) -> Command<'a>
         .disable_help_subcommand(true)
 }
 
-// The program with the commands on headers as well.
+// The program with the commands on headers as well, but for the check.
 fn with_header_commands<'a>(alloc: Global, program: Command<'a>) -> Result<Command<'a>, AllocError>
     ensures { IfOk result (λ command. app_of command ≡ with_subcommand (with_subcommand
         (with_subcommand (app_of program.entry) is_luks) luks_uuid) luks_dump) }
@@ -38,6 +40,15 @@ fn with_header_commands<'a>(alloc: Global, program: Command<'a>) -> Result<Comma
         .subcommand(header_command(alloc, "isLuks")?)?
         .subcommand(header_command(alloc, "luksUUID")?)?
         .subcommand(header_command(alloc, "luksDump")?)
+}
+
+// The program with the check of a header as well. (A chain of four is more than the prover searches
+// through.)
+fn with_check<'a>(alloc: Global, program: Command<'a>) -> Result<Command<'a>, AllocError>
+    ensures { IfOk result (λ command.
+        app_of command ≡ with_subcommand (app_of program.entry) luks_check) }
+{
+    program.subcommand(header_command(alloc, "luksCheck")?)
 }
 
 // The program with the commands on volumes as well.

@@ -89,6 +89,9 @@ impl<'a> Command<'a> {
         } else if name == "luksDump" {
             let image = text(options, "input")?;
             Some(Command::LuksDump { image })
+        } else if name == "luksCheck" {
+            let image = text(options, "input")?;
+            Some(Command::LuksCheck { image })
         } else if name == "testPassphrase" {
             Some(Command::TestPassphrase(Opening::read(options)?))
         } else if name == "luksCat" {

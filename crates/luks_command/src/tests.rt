@@ -23,6 +23,7 @@ fn reads_headers(rt: HostRuntime) -> Result<(), Fail> {
         ("luksUUID -- -", Command::LuksUuid { image: "-" }),
         ("luksDump i", Command::LuksDump { image: "i" }),
         ("luksDump -- -h", Command::LuksDump { image: "-h" }),
+        ("luksCheck i", Command::LuksCheck { image: "i" }),
     ] {
         let words = words_of(rt.alloc(), line)?;
         assert_eq!(rt; plan(rt.alloc(), words.as_slice()), Ok(command), "{line}");

@@ -1,39 +1,49 @@
 -- Reading a header.
-use Rattle.std.proofs.Common.{◌≡◌, ℕ, ◌-◌, ◌<◌, ◌≤◌, List, [], Option, Ok, Err, Bool, true, false, ◌∙◌, ap, sym, subst, refl, inl, inr, lit≤, take, length, min, take_all, arith}
+use Rattle.std.proofs.Common.{◌≡◌, ℕ, ◌+◌, ◌-◌, ◌<◌, ◌≤◌, List, [], ◌++◌, Option, Some, None, Result, Ok, Err, Bool, true, false, ◌∙◌, ap, sym, subst, refl, inl, inr, lit≤, take, drop, length, min, take_all, arith}
 use Rattle.std.specs.Prelude.{nat_lt, IsTrue, ◌↔◌}
 use Rattle.std.proofs.lemmas.Bool.{cases_lt, le-ltb, lt-ltb}
-use Rattle.std.proofs.lemmas.List.{length-take, take-take, take_min}
-use Rattle.luks_io.specs.Bytes.{Took}
+use Rattle.std.proofs.lemmas.List.{length-take, take-append-drop, take-take, take_min}
+use Rattle.luks_io.specs.Bytes.{Took, TookUpTo}
+use Rattle.luks_io.proofs.Taking.{took_behind}
 use Rattle.luks_area.specs.Area.{BreaksTaking, TookBehind}
 use Rattle.luks_area.specs.declared.fault.HeaderFault.{HeaderFault}
 use Rattle.luks_area.specs.declared.fault.HeaderFault.TheVariants.{NotLuks, Cut, Json, Read, Memory}
 use Rattle.luks1_header.specs.Header1.{header1_of, is_luks1}
 use Rattle.luks1_header.specs.declared.header.Header1.{Header1}
-use Rattle.luks_header.specs.Header.{BreaksReading, cost_of, header_of}
+use Rattle.luks2_header.specs.Choice2.{header2_of}
+use Rattle.luks2_header.specs.Cost2.{cost2_of}
+use Rattle.luks2_header.specs.Front2.{TookBelow, TookCost}
+use Rattle.luks2_header.proofs.AbsentLemmas.{cost_least, cost_short, none_short}
+use Rattle.luks2_header.specs.Text2.{json_text_of}
+use Rattle.luks2_header.specs.declared.header.Header2.{Header2}
+use Rattle.luks2_members.specs.Tree.{tree_of}
+use Rattle.serde_json.specs.Data.{Data}
+use Rattle.luks_header.specs.Header.{BreaksHeld, BreaksReading, cost_of, header_of, with_metadata, with_text}
 use Rattle.luks_header.specs.declared.header.Header.{Header}
 use Rattle.luks_header.specs.declared.header.Header.TheVariants.{V1}
+use Rattle.luks_header.proofs.HeldLemmas.{cost_other, header_missing}
 
--- the first bytes of an image say which header it has
-pub header_of-take : (image : List ℕ) → header_of (take (cost_of image) image) ≡ header_of image
-unfolding header_of cost_of is_luks1
-header_of-take image =
-    let long = length-take 592 image in
-    let few : nat_lt (length (take 592 image)) 592 ≡ nat_lt (length image) 592 =
-    elim (cases_lt (length image) 592) [
-      | inl short ↦ lt-ltb (length (take 592 image)) 592 (omega arith) ∙ sym (lt-ltb (length image) 592 short)
-      | inr all ↦ le-ltb (length (take 592 image)) 592 (omega arith) ∙ sym (le-ltb (length image) 592 all)
-    ] in
-    rw (take_min 592 image, take-take 8 592 image (lit≤ tt), take-take 592 592 image (lit≤ tt), few) refl
+-- an image costs as many bytes as there are of 592, or more
+pub some_cost : (image : List ℕ) → min 592 (length image) ≤ cost_of image
+unfolding cost_of
+some_cost image = by (is_luks1 image) refl where
+  by : (b : Bool) → is_luks1 image ≡ b → min 592 (length image) ≤ cost_of image
+  by true is = rw is (omega arith)
+  by false is = rw is (omega (arith, cost_least image))
+
+-- the first 592 bytes tell whether an image begins as LUKS1
+pub begins_taken : (image : List ℕ) → is_luks1 (take 592 image) ≡ is_luks1 image
+unfolding is_luks1
+begins_taken image = rw (take-take 8 592 image (lit≤ tt)) refl
 
 -- the area that took what there was, up to 592 bytes, holds the first bytes of the image
 pub area_is : (area area' image : List ℕ) (left : Option (List ℕ)) → area ≡ []
     → TookBehind area area' image left (min (592 - length area) (length image))
-    → (area' ≡ take (cost_of image) image) × Took image left (cost_of image)
-unfolding cost_of
+    → (area' ≡ take 592 image) × Took image left (min 592 (length image))
 area_is area area' image left none took =
     let at_first : TookBehind [] area' image left (min 592 (length image)) =
     subst (λ l. TookBehind l area' image left (min (592 - length l) (length image))) none took in
-    (at_first.1, at_first.0)
+    (at_first.1 ∙ take_min 592 image, at_first.0)
 
 -- an area that begins as one of LUKS1 and is whole has this header
 pub header_of-whole : (area : List ℕ) (header : Header1) → is_luks1 area ≡ true → length area ≡ 592
@@ -43,11 +53,6 @@ header_of-whole area header is whole read =
     let no : nat_lt (length area) 592 ≡ false = le-ltb (length area) 592 (omega arith) in
     let all : length area ≤ 592 = omega arith in
     rw (is, no, take_all 592 area all, read) refl
-
--- one that does not has none
-pub header_of-other : (area : List ℕ) → is_luks1 area ≡ false → header_of area ≡ Err NotLuks
-unfolding header_of
-header_of-other area is = rw is refl
 
 -- one that does and is shorter is cut
 pub header_of-cut : (area : List ℕ) → is_luks1 area ≡ true → length area < 592 → header_of area ≡ Err Cut
@@ -59,31 +64,148 @@ header_of-cut area is short =
 -- what stops an empty area from taking bytes stops the reading of a header
 pub breaks_reading : (area area' image : List ℕ) (left : Option (List ℕ)) (fault : HeaderFault) → area ≡ []
     → BreaksTaking (592 - length area) area area' image left fault → BreaksReading image left fault
-unfolding cost_of
-breaks_reading area area' image left Read none (count, below, took) = (count, omega (arith, took.0.within), took.0)
-breaks_reading area area' image left Memory none took = took.0
+breaks_reading area area' image left Read none (count, below, took) =
+    (count, omega (arith, took.0.within, some_cost image), took.0)
+breaks_reading area area' image left Memory none took = ((0, omega arith, took.0), λ is. took.0)
 breaks_reading area area' image left NotLuks none h = absurd h
 breaks_reading area area' image left Cut none h = absurd h
 breaks_reading area area' image left Json none h = absurd h
-
--- an image whose first bytes have no header has none
-pub none_read : (area image : List ℕ) (left : Option (List ℕ)) (fault : HeaderFault)
-    → (area ≡ take (cost_of image) image) × Took image left (cost_of image) → header_of area ≡ Err fault
-    → (header_of image ≡ Err fault) × Took image left (cost_of image)
-none_read area image left fault is none = (sym (header_of-take image) ∙ ap header_of (sym is.0) ∙ none, is.1)
-
--- an image whose first bytes have a header has it
-pub one_read : (area image : List ℕ) (left : Option (List ℕ)) (header : Header)
-    → (area ≡ take (cost_of image) image) × Took image left (cost_of image) → header_of area ≡ Ok header
-    → (header_of image ≡ Ok header) × (area ≡ take (cost_of image) image) × Took image left (cost_of image)
-one_read area image left header is one = (sym (header_of-take image) ∙ ap header_of (sym is.0) ∙ one, is.0, is.1)
 
 -- an area that is not whole is short
 pub short_from_not_whole : (whole : Bool) (end len : ℕ) → (IsTrue whole ↔ (end ≤ len)) → whole ≡ false → len < end
 short_from_not_whole whole end len iff is =
     elim (cases_lt len end) [ inl short ↦ short | inr all ↦ (let yes : whole ≡ true = iff.1 all in cc) ]
 
--- of an area that is no longer than the header, nothing costs more
-pub all_cost : (area : List ℕ) → length area ≤ 592 → length area ≡ cost_of area
+-- ---- LUKS1
+
+-- of an area that begins so and is no longer than the header, nothing costs more
+pub all_cost : (area : List ℕ) → is_luks1 area ≡ true → length area ≤ 592 → length area ≡ cost_of area
 unfolding cost_of
-all_cost area few = omega arith
+all_cost area is few = rw is (omega arith)
+
+module _ (area image : List ℕ) (left : Option (List ℕ))
+    (taken : (area ≡ take 592 image) × Took image left (min 592 (length image))) (begins : is_luks1 area ≡ true) where
+  image_begins : is_luks1 image ≡ true
+  image_begins = sym (begins_taken image) ∙ (ap is_luks1 (sym taken.0) ∙ begins)
+
+  cost_is : cost_of image ≡ min 592 (length image)
+  unfolding cost_of
+  cost_is = rw image_begins refl
+
+  header_is : header_of area ≡ header_of image
+  unfolding header_of
+  header_is =
+      let long = length-take 592 image in
+      let few : nat_lt (length (take 592 image)) 592 ≡ nat_lt (length image) 592 =
+      elim (cases_lt (length image) 592) [
+        | inl short ↦ lt-ltb (length (take 592 image)) 592 (omega arith) ∙ sym (lt-ltb (length image) 592 short)
+        | inr all ↦ le-ltb (length (take 592 image)) 592 (omega arith) ∙ sym (le-ltb (length image) 592 all)
+      ] in
+      rw (taken.0, begins_taken image, image_begins, few, take-take 592 592 image (lit≤ tt)) refl
+
+  -- an image whose first bytes have no header has none
+  pub none_read : (fault : HeaderFault) → header_of area ≡ Err fault
+      → (header_of image ≡ Err fault) × Took image left (cost_of image)
+  none_read fault none = (sym header_is ∙ none, subst (Took image left) (sym cost_is) taken.1)
+
+  -- an image whose first bytes have a header has it
+  pub one_read : (header : Header) → header_of area ≡ Ok header
+      → (header_of image ≡ Ok header) × (area ≡ take (cost_of image) image) × Took image left (cost_of image)
+  one_read header one = (
+    sym header_is ∙ one,
+    taken.0 ∙ (sym (take_min 592 image) ∙ ap (λ n. take n image) (sym cost_is)),
+    subst (Took image left) (sym cost_is) taken.1,
+  )
+
+-- ---- LUKS2
+
+module _ (area image : List ℕ) (left : Option (List ℕ))
+    (taken : (area ≡ take 592 image) × Took image left (min 592 (length image))) (other : is_luks1 area ≡ false) where
+  pub image_other : is_luks1 image ≡ false
+  image_other = sym (begins_taken image) ∙ (ap is_luks1 (sym taken.0) ∙ other)
+
+  -- an image that is too short has no header
+  pub short_read : length area < 592 → (header_of image ≡ Err NotLuks) × Took image left (cost_of image)
+  short_read few =
+      let short : length image < 4096 = omega (arith, ap length taken.0, length-take 592 image) in
+      let cost : cost_of image ≡ min 592 (length image) =
+      cost_other image image_other
+      ∙ (cost_short image short ∙ omega (arith, ap length taken.0, length-take 592 image)) in
+      (header_missing image image_other (none_short image short), subst (Took image left) (sym cost) taken.1)
+
+  -- what is left of it behind its first bytes
+  pub left_is : length area ≡ 592 → left ≡ Some (drop 592 image)
+  left_is long =
+      let count : min 592 (length image) ≡ 592 = omega (arith, ap length taken.0, length-take 592 image, long) in
+      taken.1.left ∙ ap (λ n. Some (drop n image)) count
+
+  module _ (long : length area ≡ 592) (left' : Option (List ℕ)) (area' : List ℕ) where
+    whole : area ++ drop 592 image ≡ image
+    whole = ap (λ l. l ++ drop 592 image) taken.0 ∙ take-append-drop 592 image
+
+    took_first : Took image left 592
+    took_first =
+        let count : min 592 (length image) ≡ 592 = omega (arith, ap length taken.0, length-take 592 image, long) in
+        subst (Took image left) count taken.1
+
+    took_cost : Took (drop 592 image) left' (cost2_of image - length area) → Took image left' (cost_of image)
+    took_cost took =
+        let first = took_first in
+        let sum : 592 + (cost2_of image - length area) ≡ cost_of image =
+        omega (arith, cost_other image image_other, cost_least image, first.within, long) in
+        subst (Took image left') sum (took_behind image left left' 592 (cost2_of image - length area) first took)
+
+    took_below : TookBelow image area area' (drop 592 image) left' → TookUpTo image left' (cost_of image)
+    took_below (count, few, took) =
+        let first = took_first in (
+          592 + count,
+          omega (arith, cost_other image image_other, cost_least image, first.within, long),
+          took_behind image left left' 592 count first took.0,
+        )
+
+    -- what was read of it behind its first bytes
+    pub rest_read : (header : Header) → (header_of (area ++ drop 592 image) ≡ Ok header)
+        × TookCost (area ++ drop 592 image) area area' (drop 592 image) left'
+        → (header_of image ≡ Ok header) × (area' ≡ take (cost_of image) image) × Took image left' (cost_of image)
+    rest_read header read =
+        let all : (header_of image ≡ Ok header) × TookCost image area area' (drop 592 image) left' =
+        subst (λ l. (header_of l ≡ Ok header) × TookCost l area area' (drop 592 image) left') whole read in (
+          all.0,
+          all.1.0 ∙ ap (λ n. take n image) (sym (cost_other image image_other)),
+          took_cost all.1.1.0,
+        )
+
+    -- that was broken off
+    pub rest_broken : (fault : HeaderFault)
+        → BreaksHeld (area ++ drop 592 image) area area' (drop 592 image) left' fault
+        → BreaksReading image left' fault
+    rest_broken fault breaks = by fault (subst (λ l. BreaksHeld l area area' (drop 592 image) left' fault) whole breaks)
+      where
+        by : (fault : HeaderFault) → BreaksHeld image area area' (drop 592 image) left' fault
+            → BreaksReading image left' fault
+        by Read took = took_below took
+        by Memory took = (took_below took, λ is. absurd (let no = image_other in cc))
+        by NotLuks (none, took) = (none, took_cost took.1.0)
+        by Cut (none, took) = (none, took_cost took.1.0)
+        by Json (none, took) = (none, took_cost took.1.0)
+
+-- ---- what a header costs
+
+-- a header of LUKS2 is none of LUKS1
+not_first : (image : List ℕ) (found : Result Header2 HeaderFault) (header : Header1)
+    → with_text image found ≡ Ok (V1 header) → ⊥
+not_first image (Err fault) header is = cc
+not_first image (Ok second) header is = by (tree_of (json_text_of image second)) is
+  where
+    by : (tree : Option Data) → with_metadata second tree ≡ Ok (V1 header) → ⊥
+    by None wrong = cc
+    by (Some tree) wrong = cc
+
+-- one of LUKS1 costs no more than its length
+pub cost_first : (image : List ℕ) (header : Header1) → header_of image ≡ Ok (V1 header) → cost_of image ≤ 592
+unfolding cost_of header_of
+cost_first image header found = by (is_luks1 image) refl
+  where
+    by : (b : Bool) → is_luks1 image ≡ b → cost_of image ≤ 592
+    by true is = rw is (omega arith)
+    by false is = absurd (not_first image (header2_of image) header (rw is at found))

@@ -1,5 +1,8 @@
 -- What is known of the key slots and digests of a header, whatever its format.
-use Rattle.std.proofs.Common.{◌≡◌, ◌∙◌, ℕ, ◌≤◌, ◌⊎◌, inl, inr, Option, Some, Ok, arith}
+use Rattle.std.proofs.lemmas.Bool.{ltb-false}
+use Rattle.std.proofs.Common.{◌≡◌, ◌∙◌, ℕ, ◌≤◌, sym, subst, true, false, Option, Some, Ok, arith}
+use Rattle.luks_cipher.specs.Sector.{is_mode_key_length}
+use Rattle.luks_cipher.specs.declared.mode.Mode.{Mode}
 use Rattle.luks_kdf.specs.declared.hash.Hash.{Hash}
 use Rattle.luks_verdict.specs.Slot.{end_of}
 use Rattle.luks_verdict.specs.declared.digest.KeyDigest.{KeyDigest}
@@ -8,22 +11,43 @@ use Rattle.luks_verdict.specs.declared.slot.Slot.{Slot}
 use Rattle.luks_verdict.specs.declared.slot.Verdict.TheVariants.{Usable}
 use Rattle.luks1_header.proofs.SegmentLemmas.{IsReadable-ok, digest_hash}
 use Rattle.luks1_header.proofs.SlotLemmas.{usable_at}
+use Rattle.luks1_header.specs.Segment1.{is_key_length1}
+use Rattle.luks2_header.specs.Header2.{end2_of}
+use Rattle.luks2_members.specs.Encryption.{is_length_for}
+use Rattle.luks2_metadata.specs.Segment2.{payload2_of, payload_mode2_of}
+use Rattle.luks2_metadata.proofs.DigestLemmas.{digest2_hash}
+use Rattle.luks2_metadata.proofs.SegmentLemmas.{segment2-ok}
+use Rattle.luks2_metadata.proofs.SlotLemmas.{usable2_at}
+use Rattle.luks_verdict.specs.Rule.{exceeds}
 use Rattle.luks_header.specs.Digest.{digest_for}
 use Rattle.luks_header.specs.Segment.{segment_of}
 use Rattle.luks_header.specs.Slot.{slot_at, verdict_at}
 use Rattle.luks_header.specs.declared.header.Header.{Header}
-use Rattle.luks_header.specs.declared.header.Header.TheVariants.{V1}
+use Rattle.luks_header.specs.declared.header.Header.TheVariants.{V1, V2}
 
--- the hash functions of a key slot are known ones, and its keys have lengths that there are
-pub record IsKnown (slot : Slot) : Type 0 where
-  pub kdf : (hash : Hash) × (slot.kdf_hash ≡ Some hash)
-  pub af : (hash : Hash) × (slot.af_hash ≡ Some hash)
-  pub volume_key : (slot.key_bytes ≡ 32) ⊎ (slot.key_bytes ≡ 64)
-  pub area_key : (slot.area_key_bytes ≡ 32) ⊎ (slot.area_key_bytes ≡ 64)
+-- the hash functions and the mode of a key slot are known ones, its key material's key has a length of its mode, and
+-- the
+-- volume key one of the payload's
+pub record IsKnown (segment : Segment) (slot : Slot) : Type 0 where
+  pub kdf : (hash : Hash) × (slot.parts.kdf_hash ≡ Some hash)
+  pub af : (hash : Hash) × (slot.parts.af_hash ≡ Some hash)
+  pub volume_key : is_mode_key_length segment.mode slot.parts.key_bytes ≡ true
+  pub area : (mode : Mode) × (slot.parts.area_mode ≡ Some mode)
+      × (is_mode_key_length mode slot.parts.area_key_bytes ≡ true)
 
-same_length : (m n : ℕ) → m ≡ n → (n ≡ 32) ⊎ (n ≡ 64) → (m ≡ 32) ⊎ (m ≡ 64)
-same_length m n is (inl h) = inl (is ∙ h)
-same_length m n is (inr h) = inr (is ∙ h)
+key_length : (read : Option Mode) (mode : Mode) (n m : ℕ) → read ≡ Some mode → is_key_length1 read n ≡ true → m ≡ n
+    → is_mode_key_length mode m ≡ true
+key_length read mode n m is known same =
+    subst (λ k. is_mode_key_length mode k ≡ true) (sym same) (subst (λ r. is_key_length1 r n ≡ true) is known)
+
+length_for : (read : Option Mode) (mode : Mode) (n : ℕ) → read ≡ Some mode → is_length_for read n ≡ true
+    → is_mode_key_length mode n ≡ true
+unfolding is_length_for
+length_for read mode n is known = subst (λ r. is_length_for r n ≡ true) is known
+
+ends_before : (start : Option ℕ) (offset end : ℕ) → start ≡ Some offset → exceeds start end ≡ false → end ≤ offset
+ends_before start offset end is within =
+    ltb-false offset end (subst (λ s. exceeds s end ≡ false) is within)
 
 -- of a key slot that can be tried there is what it takes to open it
 pub slot_of_usable : (header : Header) (limit : Option ℕ) (number : ℕ) (slot : Slot)
@@ -31,6 +55,7 @@ pub slot_of_usable : (header : Header) (limit : Option ℕ) (number : ℕ) (slot
     → slot_at header number ≡ Some slot
 unfolding verdict_at slot_at
 slot_of_usable (V1 header) limit number slot is = (usable_at header limit number slot is).1
+slot_of_usable (V2 header tree) limit number slot is = (usable2_at tree (end2_of header) limit number slot is).1
 
 -- and a digest
 pub digest_of_usable : (header : Header) (limit : Option ℕ) (number : ℕ) (slot : Slot)
@@ -38,20 +63,38 @@ pub digest_of_usable : (header : Header) (limit : Option ℕ) (number : ℕ) (sl
     → (digest : KeyDigest) × (digest_for header number ≡ Some digest)
 unfolding verdict_at digest_for
 digest_of_usable (V1 header) limit number slot is = (usable_at header limit number slot is).0.digest
+digest_of_usable (V2 header tree) limit number slot is =
+    (usable2_at tree (end2_of header) limit number slot is).0.digest
 
 -- where the segment is not refused, its hash functions and key lengths are known ones
 pub known_usable : (header : Header) (segment : Segment) (limit : Option ℕ) (number : ℕ) (slot : Slot)
     → segment_of header ≡ Ok segment
-    → verdict_at header limit number ≡ Some (Usable slot) → IsKnown slot
+    → verdict_at header limit number ≡ Some (Usable slot) → IsKnown segment slot
 unfolding verdict_at segment_of
 known_usable (V1 header) segment limit number slot is_segment is =
-    let readable = (IsReadable-ok header segment is_segment).1 in
+    let read = IsReadable-ok header segment is_segment in
+    let readable = read.1 in
+    let mode = read.0.mode in
     let of_header = (usable_at header limit number slot is).0 in
     record {
       kdf = (readable.hash.0, of_header.kdf ∙ readable.hash.1);
       af = (readable.hash.0, of_header.af ∙ readable.hash.1);
-      volume_key = same_length slot.key_bytes header.key_bytes of_header.volume_key readable.key;
-      area_key = same_length slot.area_key_bytes header.key_bytes of_header.area_key readable.key;
+      volume_key = key_length _ segment.mode header.key_bytes _ mode readable.key of_header.volume_key;
+      area = (
+        segment.mode,
+        of_header.area_mode ∙ mode,
+        key_length _ segment.mode header.key_bytes _ mode readable.key of_header.area_key,
+      );
+    }
+known_usable (V2 header tree) segment limit number slot is_segment is =
+    let read = segment2-ok tree (end2_of header) segment is_segment in
+    let of_header = (usable2_at tree (end2_of header) limit number slot is).0 in
+    record {
+      kdf = of_header.kdf;
+      af = of_header.af;
+      volume_key = length_for (payload_mode2_of tree (end2_of header)) segment.mode slot.parts.key_bytes read.mode
+          of_header.volume_key;
+      area = of_header.area;
     }
 
 -- and so is the digest's
@@ -62,6 +105,7 @@ unfolding digest_for segment_of
 known_digest (V1 header) segment number digest is_segment is =
     let readable = (IsReadable-ok header segment is_segment).1 in
     (readable.hash.0, digest_hash header digest is ∙ readable.hash.1)
+known_digest (V2 header tree) segment number digest is_segment is = digest2_hash tree number digest is
 
 -- its key material ends at or before the payload's start
 pub before_payload : (header : Header) (segment : Segment) (limit : Option ℕ) (number : ℕ) (slot : Slot)
@@ -69,12 +113,23 @@ pub before_payload : (header : Header) (segment : Segment) (limit : Option ℕ) 
     → verdict_at header limit number ≡ Some (Usable slot) → end_of slot ≤ segment.offset
 unfolding verdict_at segment_of
 before_payload (V1 header) segment limit number slot is_segment is =
-    let start = (IsReadable-ok header segment is_segment).0 in
+    let start = (IsReadable-ok header segment is_segment).0.offset in
     omega (arith, start, (usable_at header limit number slot is).0.before_payload)
+before_payload (V2 header tree) segment limit number slot is_segment is =
+    let read = segment2-ok tree (end2_of header) segment is_segment in
+    ends_before (payload2_of tree (end2_of header)) segment.offset (end_of slot) read.start
+    (usable2_at tree (end2_of header) limit number slot is).0.before_payload
+
+-- the first byte behind a header
+abbrev pub header_end : Header → ℕ
+header_end (V1 header) = 592
+header_end (V2 header tree) = end2_of header
 
 -- the payload of a volume starts behind its header
-pub behind_header : (header : Header) (segment : Segment) → segment_of header ≡ Ok segment → 592 ≤ segment.offset
+pub behind_header : (header : Header) (segment : Segment) → segment_of header ≡ Ok segment
+    → header_end header ≤ segment.offset
 unfolding segment_of
 behind_header (V1 header) segment is =
     let readable = IsReadable-ok header segment is in
-    omega (arith, readable.0, readable.1.behind_header)
+    omega (arith, readable.0.offset, readable.1.behind_header)
+behind_header (V2 header tree) segment is = (segment2-ok tree (end2_of header) segment is).behind_header

@@ -19,5 +19,6 @@ pub fn digest_for(
 {
     match header {
         Header::V1(header) => luks1_header::judging::digest(alloc, header),
+        Header::V2(_, metadata) => luks2_metadata::digest::digest_for(alloc, metadata, number),
     }
 }

@@ -1,29 +1,38 @@
 //! Which header an image has.
 
-ghost use Rattle.std.specs.Prelude.{◌≡◌, ◌≢◌, Bool, List, ℕ, Some, Ok, Err, IfOk, IfErr, drop, length, take};
+ghost use Rattle.std.specs.Prelude.{◌≡◌, ◌++◌, Bool, List, ℕ, Some, Ok, Err, IfOk, IfErr, drop, length, take, true, false};
 ghost use Rattle.luks_io.specs.Bytes.{Took, WhereKnown, counted};
 ghost use Rattle.luks_area.specs.Area.{is_read};
-ghost use Rattle.luks_header.specs.Header.{BreaksReading, cost_of, header_of};
+ghost use Rattle.luks1_header.specs.Header1.{is_luks1};
+ghost use Rattle.luks2_header.specs.Front2.{TookCost};
+ghost use Rattle.luks_header.specs.Header.{BreaksHeld, BreaksReading, cost_of, header_of};
 
 use luks_area::area::HeaderArea;
 use luks_area::fault::HeaderFault;
 use luks_io::source::Source;
 use luks1_header::header::{HEADER1_LEN, is_header1};
 pub use luks1_header::header::{Header1, KeySlot, SlotState};
+pub use luks2_header::header::{Finding, Header2, Place};
+use luks2_header::reading::read_header2;
+pub use luks2_members::tree::Metadata;
 use std::alloc::Global;
 
 /// A header, by the version of its format.
-#[derive(Drop, Debug)]
+#[derive(Drop)]
 pub enum Header {
     /// LUKS1.
     V1(Header1),
+    /// LUKS2: the binary header, and what its JSON area says.
+    V2(Header2, Metadata),
 }
 
 /// Reads the header at the front of an image, and answers it with the bytes that were read. It
-/// reads no more than it has to: 592 bytes, or all of a shorter image.
+/// reads no more than it has to: of LUKS1 592 bytes, or all of a shorter image; of LUKS2 both
+/// headers, or where the first is not valid, as much as it takes to find the second.
 ///
-/// [`HeaderFault::NotLuks`] is for an image that does not begin with the magic bytes and version of
-/// LUKS1, [`HeaderFault::Cut`] for one that does and is shorter than the header.
+/// [`HeaderFault::NotLuks`] is for an image that has neither a header of LUKS1 nor a valid one of
+/// LUKS2, [`HeaderFault::Cut`] for one that begins as LUKS1 and is shorter than the header, and
+/// [`HeaderFault::Json`] for a header of LUKS2 whose JSON area cannot be read.
 pub fn read_header<S: Source>(
     alloc: Global,
     source: &mut S,
@@ -33,25 +42,53 @@ pub fn read_header<S: Source>(
         × Took image (S.to_come source.new) (cost_of image))) }
     ensures broken { IfErr result (λ fault. WhereKnown (S.to_come source.old) (λ image.
         BreaksReading image (S.to_come source.new) fault)) }
+    ensures memory { WhereKnown (S.to_come source.old) (λ image. is_luks1 image ≡ true
+        → result ≡ Err HeaderFault.Memory → source.new ≡ source.old) }
 
     // Whether or not the source knows its bytes:
     ensures held { IfOk result (λ read. header_of read.1 ≡ Ok read.0) }
     ensures only { IfOk result (λ read. length read.1 ≡ cost_of read.1) }
-    ensures memory { result ≡ Err HeaderFault.Memory → source.new ≡ source.old }
-    ensures refusals { IfErr result (λ fault. fault ≢ HeaderFault.Json) }
     ensures reads { S.failures source.new ≡ counted (is_read result) (S.failures source.old) }
-    ensures ends { IfOk result (λ read. S.ends source.new ≡ S.ends source.old) }
+    ensures ends { IfOk result (λ read. is_luks1 read.1 ≡ true
+        → S.ends source.new ≡ S.ends source.old) }
     ensures once { (short : Bool) × (S.ends source.new ≡ counted short (S.ends source.old)) }
 {
     let mut area = HeaderArea::new(alloc);
     let whole = area.extend_to(source, HEADER1_LEN)?;
-    let bytes = area.as_slice();
-    if !is_header1(bytes) {
-        return Err(HeaderFault::NotLuks);
+    if is_header1(area.as_slice()) {
+        if !whole {
+            return Err(HeaderFault::Cut);
+        }
+        let header = Header1::from_bytes(area.as_slice());
+        return Ok((Header::V1(header), area));
     }
     if !whole {
-        return Err(HeaderFault::Cut);
+        return Err(HeaderFault::NotLuks);
     }
-    let header = Header1::from_bytes(bytes);
-    Ok((Header::V1(header), area))
+    let header = read2(alloc, &mut area, source)?;
+    Ok((header, area))
+}
+
+// Reads the header of LUKS2 of an image whose first bytes are held, and do not begin as LUKS1 does.
+fn read2<S: Source>(
+    alloc: Global,
+    area: &mut HeaderArea,
+    source: &mut S,
+) -> Result<Header, HeaderFault>
+    requires held { length area.old ≡ 592 }
+    requires other { is_luks1 area.old ≡ false }
+    ensures taken { IfOk result (λ header. WhereKnown (S.to_come source.old) (λ rest.
+        (header_of (area.old ++ rest) ≡ Ok header)
+        × TookCost (area.old ++ rest) area.old area.new rest (S.to_come source.new))) }
+    ensures broken { IfErr result (λ fault. WhereKnown (S.to_come source.old) (λ rest.
+        BreaksHeld (area.old ++ rest) area.old area.new rest (S.to_come source.new) fault)) }
+    ensures held { IfOk result (λ header. header_of area.new ≡ Ok header) }
+    ensures only { IfOk result (λ header. length area.new ≡ cost_of area.new) }
+    ensures kept { take (length area.old) area.new ≡ area.old }
+    ensures reads { S.failures source.new ≡ counted (is_read result) (S.failures source.old) }
+    ensures once { (short : Bool) × (S.ends source.new ≡ counted short (S.ends source.old)) }
+{
+    let header = read_header2(area, source)?;
+    let metadata = Metadata::read(alloc, header.json_text(area.as_slice()))?;
+    Ok(Header::V2(header, metadata))
 }

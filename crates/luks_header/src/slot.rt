@@ -19,6 +19,9 @@ pub fn judge(header: &Header, limit: Option<u32>, number: u8) -> Option<Judgemen
 {
     match header {
         Header::V1(header) => luks1_header::judging::judge(header, limit, number),
+        Header::V2(header, metadata) => {
+            luks2_metadata::slot::judge(metadata, header.end(), limit, number)
+        }
     }
 }
 
@@ -30,6 +33,9 @@ pub fn slot(alloc: Global, header: &Header, number: u8) -> Result<Option<Slot>, 
 {
     match header {
         Header::V1(header) => luks1_header::judging::slot(alloc, header, number),
+        Header::V2(header, metadata) => {
+            luks2_metadata::slot::slot(alloc, metadata, header.end(), number)
+        }
     }
 }
 

@@ -4,3 +4,4 @@
 mod fixture;
 mod header;
 mod judging;
+mod second;

@@ -2,7 +2,9 @@
 use Rattle.std.proofs.Common.{◌≡◌, ◌∙◌, ℕ, zero, suc, ◌+◌, ◌-◌, ◌*◌, ◌/◌, ◌<◌, ◌≤◌, List, [], ◌∷◌, ◌++◌, take, drop, Option, Some, None, Ok, refl, ap, arith}
 use Rattle.std.specs.List.{AllByRecursion}
 use Rattle.std.proofs.lemmas.List.{drop-take, take-take}
-use Rattle.luks_cipher.specs.Xts.{joined, xts_decrypted}
+use Rattle.luks_cipher.specs.Sector.{Cipher, sector_decrypted}
+use Rattle.luks_cipher.specs.Xts.{joined}
+use Rattle.luks_cipher.specs.declared.mode.Mode.{Mode}
 use Rattle.luks_kdf.specs.Pbkdf2.{derived_key}
 use Rattle.luks_kdf.specs.Stripes.{merged}
 use Rattle.luks_kdf.specs.declared.hash.Hash.{Hash}
@@ -49,14 +51,15 @@ joined_same f g (suc i) same =
     ∙ ap (λ l. joined g i ++ l) (same i (omega arith))
 
 -- key material that stands before place n stands in the first n bytes
-unlocked_beginning : (af : Hash) (key image : List ℕ) (offset key_bytes stripes n : ℕ)
+unlocked_beginning : (af : Hash) (cipher : Cipher) (image : List ℕ) (offset key_bytes stripes n : ℕ)
     → offset + need_of key_bytes stripes ≤ n
-    → unlocked af key (take n image) offset key_bytes stripes ≡ unlocked af key image offset key_bytes stripes
+    → unlocked af cipher (take n image) offset key_bytes stripes
+    ≡ unlocked af cipher image offset key_bytes stripes
 unfolding unlocked material_of
-unlocked_beginning af key image offset key_bytes stripes n before =
+unlocked_beginning af cipher image offset key_bytes stripes n before =
     let sectors : (i : ℕ) → i < need_of key_bytes stripes / 512
-    → material_sector key (take n image) offset i ≡ material_sector key image offset i =
-    λ i below. ap (xts_decrypted key i) (at_beginning (offset + 512 * i) 512 n image (omega arith)) in
+    → material_sector cipher (take n image) offset i ≡ material_sector cipher image offset i =
+    λ i below. ap (sector_decrypted cipher.0 cipher.1 i) (at_beginning (offset + 512 * i) 512 n image (omega arith)) in
     ap (λ material. merged af key_bytes (take (key_bytes * stripes) material))
     (joined_same _ _ (need_of key_bytes stripes / 512) sectors)
 
@@ -64,16 +67,21 @@ unlocked_beginning af key image offset key_bytes stripes n before =
 key_beginning : (entry : Entry) (n : ℕ) (image pass : List ℕ) → end_of entry.slot ≤ n
     → key_of entry (take n image) pass ≡ key_of entry image pass
 unfolding key_of candidate_of
-key_beginning entry n image pass before = ap (if_meets entry.digest) (of_hashes entry.slot.kdf_hash entry.slot.af_hash)
+key_beginning entry n image pass before =
+    let parts = entry.slot.parts in
+    ap (if_meets entry.digest) (of_read parts.kdf_hash parts.af_hash parts.area_mode)
   where
-    of_hashes : (kdf af : Option Hash)
-        → candidate_by kdf af entry.slot (take n image) pass ≡ candidate_by kdf af entry.slot image pass
-    of_hashes (Some kdf) (Some af) =
-        let slot = entry.slot in
-        ap Some (unlocked_beginning af (derived_key kdf pass slot.salt slot.iterations slot.area_key_bytes) image
-        slot.area_offset slot.key_bytes slot.stripes n before)
-    of_hashes (Some kdf) None = refl
-    of_hashes None af = refl
+    of_read : (kdf af : Option Hash) (mode : Option Mode)
+        → candidate_by kdf af mode entry.slot.parts (take n image) pass
+        ≡ candidate_by kdf af mode entry.slot.parts image pass
+    of_read (Some kdf) (Some af) (Some mode) =
+        let parts = entry.slot.parts in
+        ap Some (unlocked_beginning af
+        (mode, derived_key kdf pass parts.salt parts.iterations parts.area_key_bytes) image
+        parts.area_offset parts.key_bytes parts.stripes n before)
+    of_read (Some kdf) (Some af) None = refl
+    of_read (Some kdf) None mode = refl
+    of_read None af mode = refl
 
 -- what a passphrase opens depends on no byte of the image behind the key material
 pub opening_beginning : (tries : Tries) (n : ℕ) (image pass : List ℕ) → held_of tries.slots ≤ n

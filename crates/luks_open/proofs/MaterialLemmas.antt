@@ -3,7 +3,8 @@ use Rattle.std.proofs.Common.{◌≡◌, ◌∙◌, ℕ, zero, suc, ◌+◌, ◌
 use Rattle.std.proofs.Math.Seq.{take-add, take-append-add}
 use Rattle.std.proofs.lemmas.Bool.Decides.{nat_tests}
 use Rattle.std.proofs.lemmas.List.{append-nil, length-take-le, take-append-le, take_all}
-use Rattle.luks_cipher.specs.Xts.{is_xts_key_length, joined}
+use Rattle.luks_cipher.specs.Sector.{Cipher, is_key_length}
+use Rattle.luks_cipher.specs.Xts.{joined}
 use Rattle.luks_kdf.specs.declared.hash.Hash.{Hash}
 use Rattle.luks_kdf.specs.Bytes.{xor}
 use Rattle.luks_kdf.specs.Stripes.{Chain, chain_after, extended, merged}
@@ -11,9 +12,9 @@ use Rattle.luks_kdf.proofs.StripesLemmas.{chain_push, chain_start, merged_push}
 use Rattle.luks_verdict.specs.Rule.{need_of}
 use Rattle.luks_open.specs.Candidate.{material_of, material_sector, unlocked}
 
--- a length of keys is one of two
-pub one_of_two : (len : ℕ) → is_xts_key_length len ≡ true → (len ≡ 32) ⊎ (len ≡ 64)
-one_of_two len is = grind (arith, nat_tests)
+-- a length of keys is one of three
+one_of_three : (len : ℕ) → is_key_length len ≡ true → (len ≡ 16) ⊎ (len ≡ 32) ⊎ (len ≡ 64)
+one_of_three len is = grind (arith, nat_tests)
 
 -- how stripes stand in sectors: those before the last fill so many whole sectors, and the rest stand in the next one
 pub record AreInSectors (len stripes whole rest : ℕ) : Type 0 where
@@ -26,12 +27,23 @@ pub record AreInSectors (len stripes whole rest : ℕ) : Type 0 where
   pub before : (whole * (512 / len) + rest) * len ≡ whole * 512 + rest * len
   pub all : len * stripes ≡ whole * 512 + (rest * len + len)
 
-pub in_sectors : (len stripes whole rest : ℕ) → is_xts_key_length len ≡ true → 1 ≤ stripes
+pub in_sectors : (len stripes whole rest : ℕ) → is_key_length len ≡ true → 1 ≤ stripes
     → whole ≡ (stripes - 1) / (512 / len)
     → rest ≡ (stripes - 1) % (512 / len) → AreInSectors len stripes whole rest
 unfolding need_of
-in_sectors len stripes whole rest is some is_whole is_rest = of_len (one_of_two len is)
+in_sectors len stripes whole rest is some is_whole is_rest = of_len (one_of_three len is)
   where
+    of_16 : whole ≡ (stripes - 1) / 32 → rest ≡ (stripes - 1) % 32 → AreInSectors 16 stripes whole rest
+    of_16 w r = record {
+      fits = refl;
+      some = omega arith;
+      there = omega arith;
+      within = omega arith;
+      before = omega arith;
+      all =
+          omega arith;
+    }
+
     of_32 : whole ≡ (stripes - 1) / 16 → rest ≡ (stripes - 1) % 16 → AreInSectors 32 stripes whole rest
     of_32 w r = record {
       fits = refl;
@@ -54,9 +66,13 @@ in_sectors len stripes whole rest is some is_whole is_rest = of_len (one_of_two 
           omega arith;
     }
 
-    of_len : (len ≡ 32) ⊎ (len ≡ 64) → AreInSectors len stripes whole rest
-    of_len (inl h) = subst (λ n. AreInSectors n stripes whole rest) (sym h) (of_32 (rw h at is_whole) (rw h at is_rest))
-    of_len (inr h) = subst (λ n. AreInSectors n stripes whole rest) (sym h) (of_64 (rw h at is_whole) (rw h at is_rest))
+    same : (n : ℕ) → len ≡ n → AreInSectors n stripes whole rest → AreInSectors len stripes whole rest
+    same n h = subst (λ n. AreInSectors n stripes whole rest) (sym h)
+
+    of_len : (len ≡ 16) ⊎ (len ≡ 32) ⊎ (len ≡ 64) → AreInSectors len stripes whole rest
+    of_len (inl h) = same 16 h (of_16 (rw h at is_whole) (rw h at is_rest))
+    of_len (inr (inl h)) = same 32 h (of_32 (rw h at is_whole) (rw h at is_rest))
+    of_len (inr (inr h)) = same 64 h (of_64 (rw h at is_whole) (rw h at is_rest))
 
 -- the chain one stripe further
 pub taken_more : (h : Hash) (len : ℕ) (before stripes stripe : List ℕ) (number i : ℕ) (chain : Chain)
@@ -148,7 +164,8 @@ sector_more h len in_sector f i sector chain fits is whole h_is =
     ∙ ap (λ n. chain_after h len (joined f i ++ f i) n) count))
 
 -- the key that key material holds, by the chain before the last stripe
-pub unlocked_by_last : (h : Hash) (key image : List ℕ) (offset len stripes whole rest : ℕ) (sector last : List ℕ)
+pub unlocked_by_last : (h : Hash) (key : Cipher) (image : List ℕ) (offset len stripes whole rest : ℕ) (sector last :
+    List ℕ)
     (chain : Chain)
     → AreInSectors len stripes whole rest
     → length (joined (material_sector key image offset) whole) ≡ whole * 512

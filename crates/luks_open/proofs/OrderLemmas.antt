@@ -81,7 +81,7 @@ usable_at-some header limit priority number entry is = of_verdict (verdict_at he
     of_verdict None v h = absurd cc
     of_verdict (Some Disabled) v h = absurd cc
     of_verdict (Some (Skipped reason)) v h = absurd cc
-    of_verdict (Some (Usable slot)) v h = of_test slot v (slot.priority == priority) h
+    of_verdict (Some (Usable slot)) v h = of_test slot v (slot.parts.priority == priority) h
 
 -- what is tried where no key slot is named
 tries-unless_none : (entries : List Entry) (skipped : List (ℕ × SkipReason)) (tries : Tries)
@@ -134,7 +134,7 @@ pub usable_there : (header : Header) (limit : Option ℕ) (priority number : ℕ
 usable_there header limit priority number is =
     let usable = usable_from_open (verdict_at header limit number) priority is in
     let there = entry_there header limit number usable.0 usable.1 in
-    rw (usable.1, eq-eqb usable.0.priority priority usable.2, there.1) refl
+    rw (usable.1, eq-eqb usable.0.parts.priority priority usable.2, there.1) refl
 
 -- where the one that is named can be tried, it is
 pub named_tried : (header : Header) (limit : Option ℕ) (number : ℕ) (slot : Slot)

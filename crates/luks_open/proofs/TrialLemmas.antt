@@ -1,8 +1,9 @@
 -- The key slots that are tried of a header whose segment is not refused.
-use Rattle.std.proofs.Common.{◌≡◌, ℕ, ◌≤◌, ◌⊎◌, inl, inr, true, List, [], ◌∷◌, Option, Ok, refl, sym, subst}
+use Rattle.std.proofs.Common.{◌≡◌, ℕ, ◌≤◌, true, List, [], ◌∷◌, Option, Ok}
 use Rattle.std.specs.List.{All, AllByRecursion}
 use Rattle.std.proofs.lemmas.List.Elements.{All-from_recursion}
-use Rattle.luks_cipher.specs.Xts.{is_xts_key_length}
+use Rattle.luks_cipher.proofs.ModeLemmas.{key_length_of_mode}
+use Rattle.luks_cipher.specs.Sector.{is_mode_key_length}
 use Rattle.luks_verdict.specs.Slot.{end_of}
 use Rattle.luks_verdict.specs.declared.segment.Segment.{Segment}
 use Rattle.luks_header.specs.Segment.{segment_of}
@@ -12,11 +13,6 @@ use Rattle.luks_open.specs.Order.{Tries, held_of, order_of}
 use Rattle.luks_open.specs.Trial.{IsTriable}
 use Rattle.luks_open.specs.declared.entry.Entry.{Entry}
 use Rattle.luks_open.proofs.OrderLemmas.{All-held_of, All-tries, IsOf}
-
--- a length of keys, by the two that there are
-is_one_of_two : (n : ℕ) → (n ≡ 32) ⊎ (n ≡ 64) → is_xts_key_length n ≡ true
-is_one_of_two n (inl h) = subst (λ n. is_xts_key_length n ≡ true) (sym h) refl
-is_one_of_two n (inr h) = subst (λ n. is_xts_key_length n ≡ true) (sym h) refl
 
 -- the key slots that are tried can be, where their key material is held
 pub All-IsTriable : (header : Header) (segment : Segment) (named limit : Option ℕ) (tries : Tries) (held : ℕ)
@@ -33,8 +29,8 @@ All-IsTriable header segment named limit tries held is_segment is_order there =
         record {
           kdf = known.kdf;
           af = known.af;
-          volume_key = is_one_of_two entry.slot.key_bytes known.volume_key;
-          area_key = is_one_of_two entry.slot.area_key_bytes known.area_key;
+          volume_key = key_length_of_mode segment.mode entry.slot.parts.key_bytes known.volume_key;
+          area = known.area;
           there = ends;
         }
 
@@ -43,3 +39,19 @@ All-IsTriable header segment named limit tries held is_segment is_order there =
         → AllByRecursion (λ (entry : Entry). IsTriable held entry.slot) entries
     of_entries [] all ends = tt
     of_entries (entry ∷ entries) all ends = (of_entry entry all.0 ends.0, of_entries entries all.1 ends.1)
+
+-- and their volume keys have lengths of the segment's mode
+pub All-volume_key : (header : Header) (segment : Segment) (named limit : Option ℕ) (tries : Tries)
+    → segment_of header ≡ Ok segment → order_of header named limit ≡ Ok tries
+    → All (λ (entry : Entry). is_mode_key_length segment.mode entry.slot.parts.key_bytes ≡ true) tries.slots
+All-volume_key header segment named limit tries is_segment is_order =
+    All-from_recursion (λ (entry : Entry). is_mode_key_length segment.mode entry.slot.parts.key_bytes ≡ true)
+    tries.slots (of_entries tries.slots (All-tries header named limit tries is_order))
+  where
+    of_entries : (entries : List Entry) → AllByRecursion (IsOf header limit) entries
+        → AllByRecursion (λ (entry : Entry). is_mode_key_length segment.mode entry.slot.parts.key_bytes ≡ true) entries
+    of_entries [] all = tt
+    of_entries (entry ∷ entries) all = (
+      (known_usable header segment limit entry.number entry.slot is_segment all.0.usable).volume_key,
+      of_entries entries all.1,
+    )

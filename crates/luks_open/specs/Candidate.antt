@@ -1,7 +1,9 @@
 -- What key a passphrase gives by a key slot, and whether it is the volume's (LUKS1 On-Disk Format Specification 1.2.3,
--- "Master key recovery"). Stripes are those of the same standard, PBKDF2 is that of RFC 8018 and XTS that of IEEE 1619.
+-- "Master key recovery"). Stripes are those of the same standard and PBKDF2 is that of RFC 8018.
 use Rattle.std.specs.Prelude.{ℕ, ◌+◌, ◌*◌, ◌/◌, Bool, false, bytes_eq, List, Option, Some, None, length, take}
-use Rattle.luks_cipher.specs.Xts.{joined, xts_decrypted}
+use Rattle.luks_cipher.specs.Sector.{Cipher, sector_decrypted}
+use Rattle.luks_cipher.specs.Xts.{joined}
+use Rattle.luks_cipher.specs.declared.mode.Mode.{Mode}
 use Rattle.luks_kdf.specs.Pbkdf2.{derived_key}
 use Rattle.luks_kdf.specs.Stripes.{merged}
 use Rattle.luks_kdf.specs.declared.hash.Hash.{Hash}
@@ -9,32 +11,35 @@ use Rattle.luks_area.specs.Field.{at}
 use Rattle.luks_verdict.specs.Rule.{need_of}
 use Rattle.luks_verdict.specs.declared.digest.KeyDigest.{KeyDigest}
 use Rattle.luks_verdict.specs.declared.slot.Slot.{Slot}
+use Rattle.luks_verdict.specs.declared.slot.SlotParts.{SlotParts}
 
 -- sector i of key material from `offset` on, decrypted: the sectors have 512 bytes and are numbered from the material's
 -- start
-abbrev pub material_sector : List ℕ → List ℕ → ℕ → ℕ → List ℕ
-material_sector key image offset i = xts_decrypted key i (at (offset + 512 * i) 512 image)
+abbrev pub material_sector : Cipher → List ℕ → ℕ → ℕ → List ℕ
+material_sector cipher image offset i = sector_decrypted cipher.0 cipher.1 i (at (offset + 512 * i) 512 image)
 
 -- the first `need` bytes of key material from `offset` on, decrypted. They are whole sectors
-unfoldable pub material_of : List ℕ → List ℕ → ℕ → ℕ → List ℕ
-material_of key image offset need = joined (material_sector key image offset) (need / 512)
+unfoldable pub material_of : Cipher → List ℕ → ℕ → ℕ → List ℕ
+material_of cipher image offset need = joined (material_sector cipher image offset) (need / 512)
 
 -- the key that key material holds: its first stripes, of `key_bytes` bytes each, merged
-unfoldable pub unlocked : Hash → List ℕ → List ℕ → ℕ → ℕ → ℕ → List ℕ
-unlocked af key image offset key_bytes stripes =
-    merged af key_bytes (take (key_bytes * stripes) (material_of key image offset (need_of key_bytes stripes)))
+unfoldable pub unlocked : Hash → Cipher → List ℕ → ℕ → ℕ → ℕ → List ℕ
+unlocked af cipher image offset key_bytes stripes =
+    merged af key_bytes (take (key_bytes * stripes) (material_of cipher image offset (need_of key_bytes stripes)))
 
--- the key that a key slot's material holds under a passphrase, by these hash functions
-abbrev pub candidate_by : Option Hash → Option Hash → Slot → List ℕ → List ℕ → Option (List ℕ)
-candidate_by (Some kdf) (Some af) slot image pass =
-    Some (unlocked af (derived_key kdf pass slot.salt slot.iterations slot.area_key_bytes) image slot.area_offset
-    slot.key_bytes slot.stripes)
-candidate_by (Some kdf) None slot image pass = None
-candidate_by None af slot image pass = None
+-- the key that a key slot's material holds under a passphrase, by these hash functions and in this mode
+abbrev pub candidate_by : Option Hash → Option Hash → Option Mode → SlotParts → List ℕ → List ℕ → Option (List ℕ)
+candidate_by (Some kdf) (Some af) (Some mode) parts image pass =
+    Some (unlocked af (mode, derived_key kdf pass parts.salt parts.iterations parts.area_key_bytes) image
+    parts.area_offset parts.key_bytes parts.stripes)
+candidate_by _ _ _ parts image pass = None
 
--- the key that a key slot's material holds under a passphrase. There is none where a hash function's name is not known
+-- the key that a key slot's material holds under a passphrase. There is none where the name of a hash function or of
+-- the
+-- mode is not known
 unfoldable pub candidate_of : Slot → List ℕ → List ℕ → Option (List ℕ)
-candidate_of slot image pass = candidate_by slot.kdf_hash slot.af_hash slot image pass
+candidate_of slot image pass =
+    candidate_by slot.parts.kdf_hash slot.parts.af_hash slot.parts.area_mode slot.parts image pass
 
 -- by this hash function PBKDF2 of the key gives the whole value
 abbrev pub meets_by : Option Hash → KeyDigest → List ℕ → Bool

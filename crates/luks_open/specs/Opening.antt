@@ -49,7 +49,7 @@ evaluations None iterations bytes = 0
 -- those that a trial of a key slot takes: for the key of its key material, and for the digest of the candidate
 unfoldable pub evaluations_of : Entry → ℕ
 evaluations_of entry =
-    evaluations entry.slot.kdf_hash entry.slot.iterations entry.slot.area_key_bytes
+    evaluations entry.slot.parts.kdf_hash entry.slot.parts.iterations entry.slot.parts.area_key_bytes
     + evaluations entry.digest.hash entry.digest.iterations (length entry.digest.value)
 
 -- the key slots that are tried: up to the first that opens, or all

@@ -36,7 +36,7 @@ entry_at header number = entry_of number (slot_at header number) (digest_for hea
 
 -- where that is a key slot which can be tried and has this priority
 abbrev pub where_usable : ℕ → Option Entry → Option Verdict → Option Entry
-where_usable priority entry (Some (Usable slot)) = if slot.priority == priority then entry else None
+where_usable priority entry (Some (Usable slot)) = if slot.parts.priority == priority then entry else None
 where_usable priority entry (Some Unused) = None
 where_usable priority entry (Some (Skipped reason)) = None
 where_usable priority entry None = None

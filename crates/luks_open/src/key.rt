@@ -2,14 +2,14 @@
 
 ghost use Rattle.std.specs.Prelude.{◌≡◌, ◌+◌, ◌*◌, ◌≤◌, List, ℕ, true, length, take};
 ghost use Rattle.std.specs.Int.{div_ceil};
-ghost use Rattle.luks_cipher.specs.Xts.{is_xts_key_length};
+ghost use Rattle.luks_cipher.specs.Sector.{is_key_length};
 ghost use Rattle.luks_kdf.specs.Hash.{size_of};
 ghost use Rattle.luks_kdf.specs.Pbkdf2.{capped, derived_key};
 ghost use Rattle.luks_verdict.specs.Rule.{most_stripes, need_of};
 ghost use Rattle.luks_open.specs.Candidate.{unlocked};
 
 use crate::material;
-use luks_cipher::XtsKey;
+use luks_cipher::SectorCipher;
 use luks_kdf::{Hash, Work, pbkdf2};
 use std::marker::Model;
 
@@ -57,8 +57,8 @@ impl Key {
     }
 
     // Writes the volume key that the key material from `offset` on holds.
-    fn unlock(&mut self, af: Hash, key: &XtsKey, image: &[u8], offset: usize, stripes: usize)
-        requires key_bytes { is_xts_key_length (length self.old) ≡ true }
+    fn unlock(&mut self, af: Hash, key: &SectorCipher, image: &[u8], offset: usize, stripes: usize)
+        requires key_bytes { is_key_length (length self.old) ≡ true }
         requires some { 1 ≤ stripes }
         requires few { stripes ≤ most_stripes }
         requires there { offset + need_of (length self.old) stripes ≤ length image.now }
@@ -93,13 +93,13 @@ impl Key {
     /// The volume key of `len` bytes that the key material from `offset` on holds.
     pub(crate) fn unlocked(
         af: Hash,
-        key: &XtsKey,
+        key: &SectorCipher,
         image: &[u8],
         offset: usize,
         len: usize,
         stripes: usize,
     ) -> Key
-        requires key_bytes { is_xts_key_length len ≡ true }
+        requires key_bytes { is_key_length len ≡ true }
         requires some { 1 ≤ stripes }
         requires few { stripes ≤ most_stripes }
         requires there { offset + need_of len stripes ≤ length image.now }

@@ -2,20 +2,20 @@
 //! from the material's start.
 
 ghost use Rattle.std.specs.Prelude.{◌≡◌, ◌+◌, ◌*◌, ◌≤◌, ◌++◌, List, ℕ, true, length, take};
-ghost use Rattle.luks_cipher.specs.Xts.{is_xts_key_length};
+ghost use Rattle.luks_cipher.specs.Sector.{is_key_length};
 ghost use Rattle.luks_kdf.specs.declared.hash.Hash.{Hash as AnyHash};
 ghost use Rattle.luks_kdf.specs.Stripes.{chain_after};
 ghost use Rattle.luks_verdict.specs.Rule.{most_stripes, need_of};
 ghost use Rattle.luks_open.specs.Candidate.{material_sector, unlocked};
 
-use luks_cipher::XtsKey;
+use luks_cipher::SectorCipher;
 use luks_kdf::{AfSplitter, Hash};
 
 /// The length of a sector of key material.
 const SECTOR: usize = 512;
 
 // Decrypts the sector of this number of the key material from `offset` on.
-fn decrypt_sector(key: &XtsKey, image: &[u8], offset: usize, number: usize, sector: &mut [u8])
+fn decrypt_sector(key: &SectorCipher, image: &[u8], offset: usize, number: usize, sector: &mut [u8])
     requires room { length sector.old ≡ 512 }
     requires there { offset + 512 * number + 512 ≤ length image.now }
     ensures { sector.new ≡ material_sector key.now image.now offset number }
@@ -43,7 +43,7 @@ fn take_in(splitter: &mut AfSplitter, stripes: &[u8], len: usize, count: usize)
 // The same, with a sector to work in.
 fn unlock_by(
     af: Hash,
-    key: &XtsKey,
+    key: &SectorCipher,
     image: &[u8],
     offset: usize,
     stripes: usize,
@@ -51,7 +51,7 @@ fn unlock_by(
     out: &mut [u8],
 )
     requires room { length sector.old ≡ 512 }
-    requires key_bytes { is_xts_key_length (length out.old) ≡ true }
+    requires key_bytes { is_key_length (length out.old) ≡ true }
     requires some { 1 ≤ stripes }
     requires few { stripes ≤ most_stripes }
     requires there { offset + need_of (length out.old) stripes ≤ length image.now }
@@ -76,13 +76,13 @@ fn unlock_by(
 /// as long as `out`.
 pub(crate) fn unlock(
     af: Hash,
-    key: &XtsKey,
+    key: &SectorCipher,
     image: &[u8],
     offset: usize,
     stripes: usize,
     out: &mut [u8],
 )
-    requires key_bytes { is_xts_key_length (length out.old) ≡ true }
+    requires key_bytes { is_key_length (length out.old) ≡ true }
     requires some { 1 ≤ stripes }
     requires few { stripes ≤ most_stripes }
     requires there { offset + need_of (length out.old) stripes ≤ length image.now }

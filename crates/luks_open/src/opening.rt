@@ -1,7 +1,8 @@
 //! Opening a volume by a passphrase.
 
 ghost use Rattle.std.specs.Prelude.{◌≡◌, ◌+◌, ◌≤◌, ℕ, Option, Ok, All, IfOk, IfSome, IsSome, true, length, sum_by};
-ghost use Rattle.luks_cipher.specs.Xts.{is_xts_key_length};
+ghost use Rattle.luks_cipher.specs.Sector.{is_mode_key_length};
+ghost use Rattle.luks_cipher.specs.declared.mode.Mode.{Mode};
 ghost use Rattle.luks_kdf.specs.Pbkdf2.{capped};
 ghost use Rattle.luks_header.specs.Segment.{segment_of};
 ghost use Rattle.luks_verdict.specs.declared.segment.Segment.{Segment};
@@ -15,7 +16,7 @@ use crate::entry::Entry;
 use crate::fault::OpenFault;
 use crate::key::Key;
 use crate::tries::Order;
-use luks_cipher::XtsKey;
+use luks_cipher::SectorCipher;
 use luks_header::area::HeaderArea;
 use luks_header::header::Header;
 use luks_header::slot::Slot;
@@ -36,28 +37,29 @@ fn candidate(slot: &Slot, image: &[u8], pass: &[u8], work: &mut Work) -> Option<
     requires { IsTriable (length image.now) slot.now }
     ensures value { result ≡ candidate_of slot.now image.now pass.now }
     ensures some { IsSome result }
-    ensures work { work.new ≡ capped (work.old
-        + evaluations slot.now.kdf_hash slot.now.iterations slot.now.area_key_bytes) }
-    ensures len { IfSome result (λ key. is_xts_key_length (length key) ≡ true) }
+    ensures work { let parts = slot.now.parts in work.new ≡ capped (work.old
+        + evaluations parts.kdf_hash parts.iterations parts.area_key_bytes) }
+    ensures len { IfSome result (λ key. length key ≡ slot.now.parts.key_bytes) }
 {
-    let kdf = slot.kdf_hash?;
-    let af = slot.af_hash?;
+    let kdf = slot.parts.kdf_hash?;
+    let af = slot.parts.af_hash?;
+    let mode = slot.parts.area_mode?;
     let area_key = Key::derived(
         kdf,
         pass,
-        slot.salt.as_slice(),
-        slot.iterations,
-        slot.area_key_bytes as usize,
+        slot.parts.salt.as_slice(),
+        slot.parts.iterations,
+        slot.parts.area_key_bytes as usize,
         work,
     );
-    let area_key = XtsKey::new(area_key.as_slice())?;
+    let cipher = SectorCipher::new(mode, area_key.as_slice())?;
     Some(Key::unlocked(
         af,
-        &area_key,
+        &cipher,
         image,
-        slot.area_offset as usize,
-        slot.key_bytes as usize,
-        slot.stripes as usize,
+        slot.parts.area_offset as usize,
+        slot.parts.key_bytes as usize,
+        slot.parts.stripes as usize,
     ))
 }
 
@@ -67,7 +69,7 @@ fn key(entry: &Entry, image: &[u8], pass: &[u8], work: &mut Work) -> Option<Key>
     requires { IsTriable (length image.now) entry.now.slot }
     ensures value { result ≡ key_of entry.now image.now pass.now }
     ensures work { work.new ≡ capped (work.old + evaluations_of entry.now) }
-    ensures len { IfSome result (λ key. is_xts_key_length (length key) ≡ true) }
+    ensures len { IfSome result (λ key. length key ≡ entry.now.slot.parts.key_bytes) }
 {
     let key = candidate(&entry.slot, image, pass, work)?;
     if is_met(&entry.digest, key.as_slice(), work) {
@@ -83,7 +85,9 @@ fn first_opening(entries: &[Entry], image: &[u8], pass: &[u8], work: &mut Work) 
     ensures value { result ≡ first_opening entries.now image.now pass.now }
     ensures work { work.new ≡ capped (work.old
         + sum_by evaluations_of (tried_of entries.now image.now pass.now)) }
-    ensures len { IfSome result (λ opened. is_xts_key_length (length opened.key) ≡ true) }
+    ensures len { (mode : Mode)
+        → All (λ entry. is_mode_key_length mode entry.slot.parts.key_bytes ≡ true) entries.now
+        → IfSome result (λ opened. is_mode_key_length mode (length opened.key) ≡ true) }
 {
     // Where there are no key slots, the count stays as it is: within its range.
     let _before = work.count();
@@ -120,7 +124,8 @@ pub fn open(
     requires held { held_of order.now.slots ≤ length area.now }
     ensures value { result ≡ opening_of order.now area.now pass.now }
     ensures work { work.new ≡ capped (work.old + work_of order.now area.now pass.now) }
-    ensures key_length { IfOk result (λ opened. is_xts_key_length (length opened.key) ≡ true) }
+    ensures key_length { (segment : Segment) → segment_of header.now ≡ Ok segment
+        → IfOk result (λ opened. is_mode_key_length segment.mode (length opened.key) ≡ true) }
 {
     match first_opening(order.entries(), area.as_slice(), pass, work) {
         Some(opened) => Ok(opened),

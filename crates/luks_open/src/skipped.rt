@@ -39,7 +39,7 @@ impl Model for SkippedSlots {
 
 impl SkippedSlots {
     /// No key slots.
-    pub(crate) fn new() -> SkippedSlots
+    pub fn new() -> SkippedSlots
         ensures { result ≡ [] }
     {
         SkippedSlots {

@@ -57,7 +57,7 @@ pub fn held_end(order: &Order) -> usize
     let mut end = 0;
     for entry in order.entries() {
         let slot = &entry.slot;
-        end = (slot.area_offset + slot.need()).max(end);
+        end = (slot.parts.area_offset + slot.need()).max(end);
     }
     end as usize
 }

@@ -1,5 +1,8 @@
+pub mod Check
+pub mod Check2
 pub mod Dump
 pub mod Dump1
+pub mod Dump2
 pub mod Escaping
 pub mod Faults
 pub mod Field

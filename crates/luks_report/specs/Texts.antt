@@ -7,7 +7,7 @@ use Rattle.luks_verdict.specs.declared.refusal.SkipReason.{SkipReason}
 use Rattle.luks_report.specs.declared.message.Message.{Message}
 use Rattle.luks_report.specs.declared.message.Message.TheVariants.{Done, No, Usage, NotLuks, Cut, Json, KeyLength, FewRandomBytes, FewStripes, OutOfMemory, ReadFailed, WriteFailed}
 use Rattle.luks_report.specs.declared.message.Message.TheVariants.{SegmentRefused, NoSuchSlot, SlotDisabled, SlotSkipped, NothingTried, KeyFileLength, NoKey}
-use Rattle.luks_report.specs.declared.message.Message.TheVariants.{CutBeforePayload, Tail, Short}
+use Rattle.luks_report.specs.declared.message.Message.TheVariants.{CutBeforePayload, Tail, Short, Findings}
 use Rattle.luks_command.specs.Usage.{usage_text}
 
 -- a message on a line of its own
@@ -48,6 +48,7 @@ line_of (SlotSkipped slot reason) =
 line_of (NothingTried skips) = line (codes "no key slot can be tried" ++ skips_text skips)
 line_of KeyFileLength = line (codes "key file is longer than 8388608 bytes")
 line_of (NoKey skips) = line (codes "no key opens the volume" ++ skips_text skips)
+line_of Findings = line (codes "the header has findings")
 line_of NotLuks = line (codes "not a LUKS image")
 line_of Cut = line (codes "image ends inside the header or a key area")
 line_of Json = line (codes "LUKS2 JSON area is not readable")
@@ -72,6 +73,7 @@ status_of (SlotDisabled _) = 1
 status_of (SlotSkipped _ _) = 1
 status_of (NothingTried _) = 1
 status_of KeyFileLength = 1
+status_of Findings = 1
 status_of (NoKey _) = 2
 status_of OutOfMemory = 3
 status_of NotLuks = 4

@@ -1,13 +1,13 @@
 //! What is printed of a header.
 
-ghost use Rattle.std.specs.Prelude.{◌≡◌, ◌++◌, IfOk, OnOk, string_bytes};
+ghost use Rattle.std.specs.Prelude.{◌≡◌, IfOk, string_bytes};
 ghost use Rattle.luks_report.specs.Dump.{dump_of, uuid_of};
-ghost use Rattle.luks_report.specs.Field.{field};
 
 use luks_header::header::Header;
 use std::alloc::{AllocError, Global};
 
 mod luks1;
+pub(crate) mod luks2;
 
 /// What `luksUUID` prints.
 pub fn uuid_page(alloc: Global, header: &Header) -> Result<String, AllocError>
@@ -15,6 +15,7 @@ pub fn uuid_page(alloc: Global, header: &Header) -> Result<String, AllocError>
 {
     match header {
         Header::V1(header) => luks1::uuid_page(alloc, header),
+        Header::V2(header, _) => luks2::uuid_page(alloc, header),
     }
 }
 
@@ -24,14 +25,6 @@ pub fn dump_page(alloc: Global, header: &Header) -> Result<String, AllocError>
 {
     match header {
         Header::V1(header) => luks1::dump_page(alloc, header),
+        Header::V2(header, metadata) => luks2::dump_page(alloc, header, metadata),
     }
-}
-
-/// Adds one line.
-#[tactic(auto, unfolding(crate::specs::Field::field))]
-fn push_field(page: &mut String, name: &str, value: &str) -> Result<(), AllocError>
-    ensures { OnOk result
-        (string_bytes page.new ≡ string_bytes page.old ++ field name.now value.now) }
-{
-    writeln!(page, "{name}: {value}")
 }

@@ -2,12 +2,16 @@
 //! printed of a header.
 #![tactic(auto)]
 
+pub mod check;
 pub mod dump;
 mod escaping;
 mod faults;
+mod field;
 pub mod input;
 mod line;
 pub mod message;
 pub mod opened;
 pub mod report;
+#[cfg(test)]
+mod tests;
 mod wording;

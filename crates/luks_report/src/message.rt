@@ -41,6 +41,8 @@ pub enum Message {
     Tail(u64),
     /// The image ends so many bytes before the end of a payload of fixed size.
     Short(u64),
+    /// A check of a header found something amiss.
+    Findings,
     /// A key to be split is empty or longer than 512 bytes.
     KeyLength,
     /// The random bytes ended before there was one stripe of them for each stripe but the last.
@@ -65,6 +67,7 @@ impl Message {
             Message::No | Message::Usage => 1,
             Message::SegmentRefused(_) | Message::NothingTried(_) | Message::KeyFileLength => 1,
             Message::NoSuchSlot(_) | Message::SlotDisabled(_) | Message::SlotSkipped(..) => 1,
+            Message::Findings => 1,
             Message::NoKey(_) => 2,
             Message::OutOfMemory => 3,
             Message::NotLuks | Message::Cut | Message::Json => 4,

@@ -26,7 +26,7 @@ impl Message {
     }
 
     // The line, or nothing.
-    #[tactic(auto, using(crate::proofs::TextLemmas::reason_short, crate::proofs::TextLemmas::fault_short))]
+    #[tactic(auto, using(crate::proofs::Lengths::reason_len, crate::proofs::Lengths::fault_len))]
     fn line(&self) -> Line
         ensures { result ≡ line_of self.now }
     {
@@ -40,6 +40,7 @@ impl Message {
             Message::NothingTried(skipped) => with_skipped("no key slot can be tried", skipped),
             Message::KeyFileLength => sentence("key file is longer than 8388608 bytes", ""),
             Message::NoKey(skipped) => with_skipped("no key opens the volume", skipped),
+            Message::Findings => sentence("the header has findings", ""),
             Message::NotLuks => sentence("not a LUKS image", ""),
             Message::Cut => sentence("image ends inside the header or a key area", ""),
             Message::Json => sentence("LUKS2 JSON area is not readable", ""),
@@ -152,7 +153,7 @@ fn push_more(whole: &mut Line, skipped: &[(u8, SkipReason)])
 }
 
 // Puts one key slot and its reason behind a line.
-#[tactic(auto, using(crate::proofs::TextLemmas::reason_short))]
+#[tactic(auto, using(crate::proofs::Lengths::reason_len))]
 fn push_skip(whole: &mut Line, skip: (u8, SkipReason))
     requires { length whole.old ≤ 1900 }
     ensures value { whole.new ≡ whole.old ++ skip_text skip }

@@ -6,3 +6,5 @@
 
 pub mod devices;
 pub mod scarce;
+#[cfg(test)]
+mod tests;

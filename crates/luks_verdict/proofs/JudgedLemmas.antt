@@ -11,7 +11,7 @@ use Rattle.luks_verdict.specs.declared.refusal.SkipReason.{SkipReason}
 -- of a slot that is judged one that can be tried, there is what it takes to open it
 pub usable_from_open : (verdict : Option Verdict) (priority : ℕ)
     → option_map judgement_of verdict ≡ Some (Open priority)
-    → (slot : Slot) × (verdict ≡ Some (Usable slot)) × (slot.priority ≡ priority)
+    → (slot : Slot) × (verdict ≡ Some (Usable slot)) × (slot.parts.priority ≡ priority)
 usable_from_open (Some (Usable slot)) priority is = (slot, refl, cc)
 usable_from_open (Some Disabled) priority is = absurd cc
 usable_from_open (Some (Skipped reason)) priority is = absurd cc

@@ -1,21 +1,20 @@
 -- What is made of what was read, where it is in range.
-use Rattle.std.proofs.Common.{◌≡◌, ◌∙◌, ◌%◌, ℕ, Bool, true, false, Option, Some, None, ap, sym, refl, length}
+use Rattle.std.proofs.Common.{◌≡◌, ◌∙◌, ℕ, Bool, true, false, Option, Some, None, ap, sym, refl, length}
 use Rattle.std.specs.Prelude.{option_map}
 use Rattle.std.specs.Coded.{le_prop}
 use Rattle.std.proofs.Math.Bool.{Bool-set}
 use Rattle.std.proofs.Math.Nat.{ℕ_set}
 use Rattle.std.proofs.lemmas.Option.{none-some, same_Some}
-use Rattle.std.specs.Option.{ForSome}
+use Rattle.luks_cipher.specs.declared.mode.Mode.{Mode}
 use Rattle.luks_verdict.specs.Digest.{digest_from, digest_of, is_undigested, is_usable}
 use Rattle.luks_verdict.specs.Evidence.{where_true}
 use Rattle.luks_verdict.specs.Rule.{InRange, IsDigest, in_range, is_beyond, usable_digest}
-use Rattle.luks_verdict.specs.SectorSize.{are_sectors, bytes_of, whole_sectors}
-use Rattle.luks_verdict.specs.Segment.{segment_of_all, segment_with}
+use Rattle.luks_verdict.specs.SectorSize.{AreWhole, are_sectors, whole_sectors}
+use Rattle.luks_verdict.specs.Segment.{segment_by, segment_of_all, segment_with}
 use Rattle.luks_verdict.specs.Slot.{are_in_range, parts_end, slot_from, slot_of, slot_with}
 use Rattle.luks_verdict.specs.declared.digest.DigestParts.{DigestParts}
 use Rattle.luks_verdict.specs.declared.digest.KeyDigest.{KeyDigest}
 use Rattle.luks_verdict.specs.declared.sector_size.SectorSize.{SectorSize}
-use Rattle.luks_verdict.specs.declared.segment.Segment.{Segment}
 use Rattle.luks_verdict.specs.declared.slot.SlotParts.{SlotParts}
 
 -- where a test holds there is evidence, and there is but one
@@ -74,44 +73,32 @@ digest_made parts usable is =
     (all usable (usable_digest parts.iterations (length parts.value) is))
     ∙ sym (digest_from-yes parts is)
 
-pub segment_of_all-yes : (offset : ℕ) (size : Option ℕ) (iv_tweak : ℕ) (sector_size : SectorSize)
+pub segment_of_all-yes : (offset : ℕ) (size : Option ℕ) (iv_tweak : ℕ) (sector_size : SectorSize) (mode : Mode)
     (is : are_sectors size sector_size ≡ true)
-    → segment_of_all (Some offset) (Some size) (Some iv_tweak) (Some sector_size)
-    ≡ Some (segment_with offset size iv_tweak sector_size is)
-unfolding segment_of_all
-segment_of_all-yes offset size iv_tweak sector_size is =
-    ap (option_map (segment_with offset size iv_tweak sector_size)) (where_true-yes (are_sectors size sector_size) is)
+    → segment_of_all (Some offset) (Some size) (Some iv_tweak) (Some sector_size) (Some mode)
+    ≡ Some (segment_by offset size iv_tweak sector_size mode is)
+segment_of_all-yes offset size iv_tweak sector_size mode is =
+    ap (option_map (segment_by offset size iv_tweak sector_size mode))
+    (where_true-yes (are_sectors size sector_size) is)
 
-pub segment_of_all-no : (offset : ℕ) (size : Option ℕ) (iv_tweak : ℕ) (sector_size : SectorSize)
+pub segment_of_all-no : (offset : ℕ) (size : Option ℕ) (iv_tweak : ℕ) (sector_size : SectorSize) (mode : Mode)
     → are_sectors size sector_size ≡ false
-    → segment_of_all (Some offset) (Some size) (Some iv_tweak) (Some sector_size) ≡ None
-unfolding segment_of_all
-segment_of_all-no offset size iv_tweak sector_size is =
-    ap (option_map (segment_with offset size iv_tweak sector_size)) (where_true-no (are_sectors size sector_size) is)
+    → segment_of_all (Some offset) (Some size) (Some iv_tweak) (Some sector_size) (Some mode) ≡ None
+segment_of_all-no offset size iv_tweak sector_size mode is =
+    ap (option_map (segment_by offset size iv_tweak sector_size mode))
+    (where_true-no (are_sectors size sector_size) is)
 
-made_segment : (offset : ℕ) (size : Option ℕ) (iv_tweak : ℕ) (sector_size : SectorSize)
-    → ForSome size (λ bytes. bytes % bytes_of sector_size ≡ 0) → Segment
-made_segment offset size iv_tweak sector_size whole =
-    record { offset = offset; size = size; iv_tweak = iv_tweak; sector_size = sector_size; whole_sectors = whole }
-
-pub segment_made : (offset : ℕ) (size : Option ℕ) (iv_tweak : ℕ) (sector_size : SectorSize)
-    (whole : ForSome size (λ bytes. bytes % bytes_of sector_size ≡ 0))
+pub segment_made : (offset : ℕ) (size : Option ℕ) (iv_tweak : ℕ) (sector_size : SectorSize) (mode : Mode)
+    (whole : AreWhole size sector_size)
     → are_sectors size sector_size ≡ true
-    → Some record {
-      offset = offset;
-      size = size;
-      iv_tweak = iv_tweak;
-      sector_size = sector_size;
-      whole_sectors =
-          whole;
-    }
-    ≡ segment_of_all (Some offset) (Some size) (Some iv_tweak) (Some sector_size)
-unfolding made_segment segment_with
-segment_made offset size iv_tweak sector_size whole is =
-    let all : IsProp (ForSome size (λ bytes. bytes % bytes_of sector_size ≡ 0)) = hlevel (ℕ_set) in
-    ap (λ (w : ForSome size (λ bytes. bytes % bytes_of sector_size ≡ 0)). Some
-    (made_segment offset size iv_tweak sector_size w)) (all whole (whole_sectors size sector_size is))
-    ∙ sym (segment_of_all-yes offset size iv_tweak sector_size is)
+    → Some (segment_with offset size iv_tweak sector_size mode whole)
+    ≡ segment_of_all (Some offset) (Some size) (Some iv_tweak) (Some sector_size) (Some mode)
+unfolding segment_by
+segment_made offset size iv_tweak sector_size mode whole is =
+    let all : IsProp (AreWhole size sector_size) = hlevel (ℕ_set) in
+    ap (λ (w : AreWhole size sector_size). Some (segment_with offset size iv_tweak sector_size mode w))
+    (all whole (whole_sectors size sector_size is))
+    ∙ sym (segment_of_all-yes offset size iv_tweak sector_size mode is)
 
 -- whether a slot is tried against the digest of which this was read
 pub undigested-yes : (limit : Option ℕ) (parts : DigestParts) → is_usable parts ≡ true

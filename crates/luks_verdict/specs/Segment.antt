@@ -1,7 +1,8 @@
 -- Segments, made of what was read of them.
 use Rattle.std.specs.Prelude.{◌≡◌, ℕ, true, Option, Some, None, Result, Ok, Err, option_map}
+use Rattle.luks_cipher.specs.declared.mode.Mode.{Mode}
 use Rattle.luks_verdict.specs.Evidence.{where_true}
-use Rattle.luks_verdict.specs.SectorSize.{are_sectors, whole_sectors}
+use Rattle.luks_verdict.specs.SectorSize.{AreWhole, are_sectors, whole_sectors}
 use Rattle.luks_verdict.specs.declared.refusal.SegmentFault.{SegmentFault}
 use Rattle.luks_verdict.specs.declared.refusal.SegmentFault.TheVariants.{Member}
 use Rattle.luks_verdict.specs.declared.sector_size.SectorSize.{SectorSize}
@@ -9,25 +10,32 @@ use Rattle.luks_verdict.specs.declared.segment.Segment.{Segment}
 use Rattle.luks_verdict.specs.declared.segment.SegmentParts.{SegmentParts}
 
 -- the segment of these numbers, whose length is one of whole sectors
-unfoldable pub segment_with : (offset : ℕ) (size : Option ℕ) (iv_tweak : ℕ) (sector_size : SectorSize)
-    → are_sectors size sector_size ≡ true → Segment
-segment_with offset size iv_tweak sector_size is = record {
+abbrev pub segment_with : (offset : ℕ) (size : Option ℕ) (iv_tweak : ℕ) (sector_size : SectorSize) (mode : Mode)
+    → AreWhole size sector_size → Segment
+segment_with offset size iv_tweak sector_size mode whole = record {
   offset = offset;
   size = size;
   iv_tweak = iv_tweak;
   sector_size = sector_size;
-  whole_sectors = whole_sectors size sector_size is;
+  mode = mode;
+  whole_sectors = whole;
 }
 
+-- the same, where a test found that the length is one of whole sectors
+unfoldable pub segment_by : (offset : ℕ) (size : Option ℕ) (iv_tweak : ℕ) (sector_size : SectorSize) (mode : Mode)
+    → are_sectors size sector_size ≡ true → Segment
+segment_by offset size iv_tweak sector_size mode is =
+    segment_with offset size iv_tweak sector_size mode (whole_sectors size sector_size is)
+
 -- the segment of these parts, where each is there and in range
-unfoldable pub segment_of_all : Option ℕ → Option (Option ℕ) → Option ℕ → Option SectorSize → Option Segment
-segment_of_all (Some offset) (Some size) (Some iv_tweak) (Some sector_size) =
-    option_map (segment_with offset size iv_tweak sector_size) (where_true (are_sectors size sector_size))
-segment_of_all _ _ _ _ = None
+abbrev pub segment_of_all : Option ℕ → Option (Option ℕ) → Option ℕ → Option SectorSize → Option Mode → Option Segment
+segment_of_all (Some offset) (Some size) (Some iv_tweak) (Some sector_size) (Some mode) =
+    option_map (segment_by offset size iv_tweak sector_size mode) (where_true (are_sectors size sector_size))
+segment_of_all _ _ _ _ _ = None
 
 -- the segment of which this was read, where each part is there and in range
 unfoldable pub segment_from : SegmentParts → Option Segment
-segment_from parts = segment_of_all parts.offset parts.size parts.iv_tweak parts.sector_size
+segment_from parts = segment_of_all parts.offset parts.size parts.iv_tweak parts.sector_size parts.mode
 
 -- a segment without a fault is the payload's. (Where there is none, the parts are there and in range.)
 abbrev pub refused_or : Option SegmentFault → Option Segment → Result Segment SegmentFault

@@ -17,7 +17,7 @@ parts_end parts = parts.area_offset + need_of parts.key_bytes parts.stripes
 
 -- where the key material of a key slot ends in the image
 abbrev pub end_of : Slot → ℕ
-end_of slot = slot.area_offset + need_of slot.key_bytes slot.stripes
+end_of slot = parts_end slot.parts
 
 -- what was read of a key slot is in range
 abbrev pub are_in_range : SlotParts → Bool
@@ -25,19 +25,7 @@ are_in_range parts = is_in_range parts.iterations parts.stripes (parts_end parts
 
 -- the key slot with these numbers, which are in range
 abbrev pub slot_with : (parts : SlotParts) → InRange parts.iterations parts.stripes (parts_end parts) → Slot
-slot_with parts range = record {
-  priority = parts.priority;
-  kdf_hash = parts.kdf_hash;
-  iterations = parts.iterations;
-  salt = parts.salt;
-  af_hash = parts.af_hash;
-  stripes = parts.stripes;
-  key_bytes = parts.key_bytes;
-  area_key_bytes = parts.area_key_bytes;
-  area_offset = parts.area_offset;
-  area_size = parts.area_size;
-  in_range = range;
-}
+slot_with parts range = record { parts = parts; in_range = range }
 
 -- the key slot of which this was read, where a test found its numbers in range
 unfoldable pub slot_of : (parts : SlotParts) → are_in_range parts ≡ true → Slot
@@ -55,6 +43,6 @@ judged None None = Skipped Member
 
 -- what becomes of a key slot, without what it takes to open it
 abbrev pub judgement_of : Verdict → Judgement
-judgement_of (Usable slot) = Open slot.priority
+judgement_of (Usable slot) = Open slot.parts.priority
 judgement_of Disabled = Unused
 judgement_of (Skipped reason) = Shut reason

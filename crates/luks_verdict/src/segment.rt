@@ -5,6 +5,7 @@ ghost use Rattle.std.specs.Option.{ForSome};
 ghost use Rattle.luks_verdict.specs.SectorSize.{are_sectors, bytes_of};
 
 use crate::sector_size::SectorSize;
+use luks_cipher::Mode;
 
 /// Where the payload lies in the image, and how its sectors are numbered.
 #[derive(Clone, Copy, Debug)]
@@ -17,6 +18,8 @@ pub struct Segment {
     pub iv_tweak: u64,
     /// The length of a sector.
     pub sector_size: SectorSize,
+    /// The mode in which sectors are encrypted.
+    pub mode: Mode,
     ghost whole_sectors: { ForSome size (λ bytes. bytes % bytes_of sector_size ≡ 0) },
 }
 
@@ -31,6 +34,8 @@ pub struct SegmentParts {
     pub iv_tweak: Option<u64>,
     /// The length of a sector.
     pub sector_size: Option<SectorSize>,
+    /// The mode in which sectors are encrypted.
+    pub mode: Option<Mode>,
 }
 
 // The length is a multiple of the sectors' length, where it is fixed.
@@ -48,22 +53,15 @@ impl Segment {
     ghost use Rattle.luks_verdict.specs.Segment.{segment_from};
 
     /// The segment of which this was read, where each part is there and in range.
-    #[tactic(auto, unfolding(crate::specs::Segment::segment_from, crate::specs::Segment::segment_of_all))]
+    #[tactic(auto, unfolding(crate::specs::Segment::segment_from))]
     pub fn from_parts(parts: SegmentParts) -> Option<Segment>
         ensures { result ≡ segment_from parts }
     {
-        let Some(offset) = parts.offset else {
-            return None;
-        };
-        let Some(size) = parts.size else {
-            return None;
-        };
-        let Some(iv_tweak) = parts.iv_tweak else {
-            return None;
-        };
-        let Some(sector_size) = parts.sector_size else {
-            return None;
-        };
+        let offset = parts.offset?;
+        let size = parts.size?;
+        let iv_tweak = parts.iv_tweak?;
+        let sector_size = parts.sector_size?;
+        let mode = parts.mode?;
         if !in_sectors(size, sector_size) {
             return None;
         }
@@ -72,6 +70,7 @@ impl Segment {
             size,
             iv_tweak,
             sector_size,
+            mode,
         })
     }
 }

@@ -6,6 +6,7 @@ ghost use Rattle.luks_verdict.specs.Rule.{InRange, need_of};
 use crate::bytes::HeaderBytes;
 use crate::refusal::SkipReason;
 use crate::rule::{in_range, need};
+use luks_cipher::Mode;
 use luks_kdf::Hash;
 
 /// What is read of a key slot, before it is judged.
@@ -33,35 +34,19 @@ pub struct SlotParts {
     pub area_offset: u64,
     /// How many bytes are set aside for the key material.
     pub area_size: u64,
+    /// The mode in which the key material is encrypted. `None` is for LUKS1 alone, where its name
+    /// is not known.
+    pub area_mode: Option<Mode>,
 }
 
 /// What it takes to open a key slot. Its numbers are in range: 1 to 4000 stripes, at least one
 /// iteration, and key material that ends within what an area of an image can hold.
 #[derive(Drop, Debug)]
 pub struct Slot {
-    /// How soon it is tried: 2 before 1, and 0 only where it is named.
-    pub priority: u8,
-    /// The hash function by which the key material's key comes of a passphrase. `None` is for LUKS1
-    /// alone, where the hash function's name is not known.
-    pub kdf_hash: Option<Hash>,
-    /// The iterations by which it does.
-    pub iterations: u32,
-    /// The salt by which it does.
-    pub salt: HeaderBytes,
-    /// The hash function of the stripes. `None` is for LUKS1 alone, where the hash function's name
-    /// is not known.
-    pub af_hash: Option<Hash>,
-    /// How many stripes the key material has.
-    pub stripes: u32,
-    /// The length of the volume key in bytes.
-    pub key_bytes: u32,
-    /// The length in bytes of the key by which the key material is encrypted.
-    pub area_key_bytes: u32,
-    /// The first byte of the key material.
-    pub area_offset: u64,
-    /// How many bytes are set aside for the key material.
-    pub area_size: u64,
-    ghost in_range: { InRange iterations stripes (area_offset + need_of key_bytes stripes) },
+    /// What was read of it.
+    pub parts: SlotParts,
+    ghost in_range: { InRange parts.iterations parts.stripes
+        (parts.area_offset + need_of parts.key_bytes parts.stripes) },
 }
 
 impl Slot {
@@ -83,26 +68,15 @@ impl Slot {
         ) {
             return None;
         }
-        Some(Slot {
-            priority: parts.priority,
-            kdf_hash: parts.kdf_hash,
-            iterations: parts.iterations,
-            salt: parts.salt,
-            af_hash: parts.af_hash,
-            stripes: parts.stripes,
-            key_bytes: parts.key_bytes,
-            area_key_bytes: parts.area_key_bytes,
-            area_offset: parts.area_offset,
-            area_size: parts.area_size,
-        })
+        Some(Slot { parts })
     }
 
     /// How many bytes of key material there are: one key for each stripe, in whole sectors of 512
     /// bytes.
     pub fn need(&self) -> u64
-        ensures { result ≡ need_of self.now.key_bytes self.now.stripes }
+        ensures { result ≡ need_of self.now.parts.key_bytes self.now.parts.stripes }
     {
-        need(self.key_bytes, self.stripes)
+        need(self.parts.key_bytes, self.parts.stripes)
     }
 }
 

@@ -4,6 +4,7 @@ use Rattle.std.specs.Prelude.{nat_lt, OnOk, IfErr}
 use Rattle.std.proofs.lemmas.Bool.{le-ltb, lt-ltb}
 use Rattle.std.proofs.lemmas.List.{drop-drop}
 use Rattle.luks_verdict.specs.declared.segment.Segment.{Segment}
+use Rattle.luks_cipher.specs.Sector.{Cipher}
 use Rattle.luks_io.specs.Bytes.{Took, WhereKnown, counted, raised}
 use Rattle.luks_io.proofs.Taking.{took_all, took_sum}
 use Rattle.luks_volume.specs.Passing.{StopsDiscarding, StopsInSector, is_failed_write, limit_of}
@@ -19,16 +20,16 @@ use Rattle.luks_volume.proofs.SectorLemmas.{all_whole, at_least_512, at_limit, a
 
 module _ (s : Segment) (image : List ℕ) (count : ℕ) where
   -- a stated end is what a step did
-  pub steps_from_end : (key : List ℕ) (place : ℕ) (left' before after : Option (List ℕ))
+  pub steps_from_end : (cipher : Cipher) (place : ℕ) (left' before after : Option (List ℕ))
       (answer : Result Step VolumeFault) → is_ending answer ≡ true
-      → Ends image s count answer left' → Steps s key count place image answer left' before after
-  steps_from_end key place l b a (Ok Sector) not e = cc
-  steps_from_end key place l b a (Ok End) is e = e
-  steps_from_end key place l b a (Err CutBeforePayload) not e = cc
-  steps_from_end key place l b a (Err (Tail _)) is e = e
-  steps_from_end key place l b a (Err (Short _)) is e = e
-  steps_from_end key place l b a (Err Read) not e = cc
-  steps_from_end key place l b a (Err Write) not e = cc
+      → Ends image s count answer left' → Steps s cipher count place image answer left' before after
+  steps_from_end cipher place l b a (Ok Sector) not e = cc
+  steps_from_end cipher place l b a (Ok End) is e = e
+  steps_from_end cipher place l b a (Err CutBeforePayload) not e = cc
+  steps_from_end cipher place l b a (Err (Tail _)) is e = e
+  steps_from_end cipher place l b a (Err (Short _)) is e = e
+  steps_from_end cipher place l b a (Err Read) not e = cc
+  steps_from_end cipher place l b a (Err Write) not e = cc
 
   module _ (left : Option (List ℕ)) (took : Took image left (sector_start s count)) where
     there : sector_start s count ≤ length image
@@ -55,10 +56,12 @@ module _ (s : Segment) (image : List ℕ) (count : ℕ) where
         }
 
     -- a read or a write failed
-    pub steps_broken : (key : List ℕ) (left' before after : Option (List ℕ)) (fault : VolumeFault) → count < limit_of s
-        → WhereKnown left (λ rest. StopsInSector key (unit_number s count) (sector_len s) rest left' before after fault)
-        → Steps s key count (sector_start s count) image (Err fault) left' before after
-    steps_broken key left' b a Read below stops =
+    pub steps_broken : (cipher : Cipher) (left' before after : Option (List ℕ)) (fault : VolumeFault)
+        → count < limit_of s
+        → WhereKnown left (λ rest. StopsInSector cipher (unit_number s count) (sector_len s) rest left' before after
+            fault)
+        → Steps s cipher count (sector_start s count) image (Err fault) left' before after
+    steps_broken cipher left' b a Read below stops =
         let least = at_least_512 s.sector_size in
         let (count', few, next) = stops (drop (sector_start s count) image) took.left in
         let long = length-drop (sector_start s count) image in
@@ -74,21 +77,22 @@ module _ (s : Segment) (image : List ℕ) (count : ℕ) where
                 ∙ ap Some (drop-drop count' (sector_start s count) image);
           },
         )
-    steps_broken key left' b a Write below stops =
+    steps_broken cipher left' b a Write below stops =
         let (next, more) = stops (drop (sector_start s count) image) took.left in
         (takes_sector left' below next, more)
-    steps_broken key left' b a CutBeforePayload below stops =
+    steps_broken cipher left' b a CutBeforePayload below stops =
         absurd (stops (drop (sector_start s count) image) took.left)
-    steps_broken key left' b a (Tail _) below stops = absurd (stops (drop (sector_start s count) image) took.left)
-    steps_broken key left' b a (Short _) below stops = absurd (stops (drop (sector_start s count) image) took.left)
+    steps_broken cipher left' b a (Tail _) below stops = absurd (stops (drop (sector_start s count) image) took.left)
+    steps_broken cipher left' b a (Short _) below stops = absurd (stops (drop (sector_start s count) image) took.left)
 
     -- the image ended before the sector did
-    pub steps_torn : (key : List ℕ) (left' before after : Option (List ℕ)) (answer : Result Step VolumeFault) (got : ℕ)
+    pub steps_torn : (cipher : Cipher) (left' before after : Option (List ℕ)) (answer : Result Step VolumeFault)
+        (got : ℕ)
         → count < limit_of s
         → WhereKnown left (λ rest. (got ≡ min (sector_len s) (length rest)) × Took rest left' got) → got < sector_len s
         → answer ≡ ending_within s.size (sector_len s) (count * sector_len s + got)
-        → Steps s key count (sector_start s count) image answer left' before after
-    steps_torn key left' b a answer got below next torn is =
+        → Steps s cipher count (sector_start s count) image answer left' before after
+    steps_torn cipher left' b a answer got below next torn is =
         let least = at_least_512 s.sector_size in
         let some : 0 < sector_len s = omega arith in
         let all = took_all image left left' (sector_start s count) (sector_len s) got took
@@ -99,7 +103,7 @@ module _ (s : Segment) (image : List ℕ) (count : ℕ) where
         let end : payload_end_of s image ≡ length image =
         ap (λ n. end_within s.size s.offset n) whole
         ∙ ends_at_end (sector_len s) some s.size count got s.offset below torn ∙ sym whole in
-        steps_from_end key (sector_start s count) left' b a answer
+        steps_from_end cipher (sector_start s count) left' b a answer
         (rw is (ending_is_ending s.size (sector_len s) (count * sector_len s + got))) (record {
           all = rw len (all_whole (sector_len s) some s.size count got below torn);
           as_stated = rw (behind, len) is;
@@ -107,9 +111,9 @@ module _ (s : Segment) (image : List ℕ) (count : ℕ) where
         })
 
     -- the limit is reached
-    pub steps_at_limit : (key : List ℕ) (before after : Option (List ℕ)) → count ≡ limit_of s → length image < 2 ^ 64
-        → Steps s key count (sector_start s count) image (Ok End) left before after
-    steps_at_limit key b a is few =
+    pub steps_at_limit : (cipher : Cipher) (before after : Option (List ℕ)) → count ≡ limit_of s → length image < 2 ^ 64
+        → Steps s cipher count (sector_start s count) image (Ok End) left before after
+    steps_at_limit cipher b a is few =
         let least = at_least_512 s.sector_size in
         let some : 0 < sector_len s = omega arith in
         let behind : nat_lt (length image) s.offset ≡ false = le-ltb (length image) s.offset (omega (arith, there)) in
@@ -189,14 +193,16 @@ module _ (p : Pumped) (image : List ℕ) (r r' : Option (List ℕ)) (early : p.c
   skips (Err Write) ok err = absurd (err (drop p.consumed image) took.left)
 
 -- a pump of these parts
-abbrev pub pumped : Segment → List ℕ → ℕ → ℕ → State → Pumped
-pumped s key consumed count state = record { segment = s; key = key; consumed = consumed; count = count; state = state }
+abbrev pub pumped : Segment → Cipher → ℕ → ℕ → State → Pumped
+pumped s cipher consumed count state =
+    record { segment = s; cipher = cipher; consumed = consumed; count = count; state = state }
 
 -- a step whose skip failed
-module _ (s : Segment) (key : List ℕ) (consumed count : ℕ) (image : List ℕ) (r r' before after : Option (List ℕ)) where
+module _ (s : Segment) (cipher : Cipher) (consumed count : ℕ) (image : List ℕ) (r r' before after : Option (List ℕ))
+    where
   skip_broken : (fault : VolumeFault) → count ≡ 0
-      → Skips (pumped s key consumed count BeforePayload) image (Err fault) r'
-      → Steps s key count consumed image (Err fault) r' before after
+      → Skips (pumped s cipher consumed count BeforePayload) image (Err fault) r'
+      → Steps s cipher count consumed image (Err fault) r' before after
   skip_broken CutBeforePayload none (cut, took) =
       let len : payload_len s image ≡ 0 = omega arith in
       let yes : nat_lt (length image) s.offset ≡ true = lt-ltb (length image) s.offset cut in
@@ -213,10 +219,10 @@ module _ (s : Segment) (key : List ℕ) (consumed count : ℕ) (image : List ℕ
   skip_broken Write none stops = absurd stops
 
   pub steps_unskipped : (state : State) (fault : VolumeFault) (T : Type 0)
-      → StandsIn image (pumped s key consumed count state) r → SkipsAgain state (Err fault) T
+      → StandsIn image (pumped s cipher consumed count state) r → SkipsAgain state (Err fault) T
       → (state ≡ BeforePayload → count ≡ 0)
-      → (state ≡ BeforePayload → Skips (pumped s key consumed count state) image (Err fault) r')
-      → Steps s key count (position (pumped s key consumed count state)) image (Err fault) r' before after
+      → (state ≡ BeforePayload → Skips (pumped s cipher consumed count state) image (Err fault) r')
+      → Steps s cipher count (position (pumped s cipher consumed count state)) image (Err fault) r' before after
   steps_unskipped BeforePayload fault T stands again none stops = skip_broken fault (none refl) (stops refl)
   steps_unskipped InPayload fault T stands again none stops =
       let same = again.0 in
@@ -241,29 +247,31 @@ unwritten Ended fault T n again only running = cc
 unwritten (Faulted _) fault T n again only running = cc
 
 -- a step's place may be named earlier
-steps_earlier : (s : Segment) (key : List ℕ) (count place place' : ℕ) (image : List ℕ)
+steps_earlier : (s : Segment) (cipher : Cipher) (count place place' : ℕ) (image : List ℕ)
     (answer : Result Step VolumeFault) (l b a : Option (List ℕ)) → place' ≤ place
-    → Steps s key count place image answer l b a → Steps s key count place' image answer l b a
-steps_earlier s key count place place' image (Ok Sector) l b a le steps = steps
-steps_earlier s key count place place' image (Ok End) l b a le steps = steps
-steps_earlier s key count place place' image (Err CutBeforePayload) l b a le steps = steps
-steps_earlier s key count place place' image (Err (Tail _)) l b a le steps = steps
-steps_earlier s key count place place' image (Err (Short _)) l b a le steps = steps
-steps_earlier s key count place place' image (Err Read) l b a le (n, first, last, took) = (n, omega arith, last, took)
-steps_earlier s key count place place' image (Err Write) l b a le steps = steps
+    → Steps s cipher count place image answer l b a → Steps s cipher count place' image answer l b a
+steps_earlier s cipher count place place' image (Ok Sector) l b a le steps = steps
+steps_earlier s cipher count place place' image (Ok End) l b a le steps = steps
+steps_earlier s cipher count place place' image (Err CutBeforePayload) l b a le steps = steps
+steps_earlier s cipher count place place' image (Err (Tail _)) l b a le steps = steps
+steps_earlier s cipher count place place' image (Err (Short _)) l b a le steps = steps
+steps_earlier s cipher count place place' image (Err Read) l b a le (n, first, last, took) = (n, omega arith, last,
+    took)
+steps_earlier s cipher count place place' image (Err Write) l b a le steps = steps
 
 -- a step goes on from where its skip left the source
-module _ (s : Segment) (key : List ℕ) (consumed count : ℕ) (image : List ℕ) (r r' r'' before after : Option (List ℕ))
+module _ (s : Segment) (cipher : Cipher) (consumed count : ℕ) (image : List ℕ) (r r' r'' before after : Option (List ℕ))
     (answer : Result Step VolumeFault) where
   pub steps_skipped : (state : State) (T : Type 0)
-      → StandsIn image (pumped s key consumed count state) r → consumed ≤ s.offset → SkipsAgain state (Ok tt) T
+      → StandsIn image (pumped s cipher consumed count state) r → consumed ≤ s.offset → SkipsAgain state (Ok tt) T
       → (T → r' ≡ r) → (state ≡ BeforePayload → count ≡ 0)
-      → (state ≡ BeforePayload → Skips (pumped s key consumed count state) image (Ok tt) r')
-      → (Took image r' (sector_start s count) → Steps s key count (sector_start s count) image answer r'' before after)
-      → Steps s key count (position (pumped s key consumed count state)) image answer r'' before after
+      → (state ≡ BeforePayload → Skips (pumped s cipher consumed count state) image (Ok tt) r')
+      → (Took image r' (sector_start s count) → Steps s cipher count (sector_start s count) image answer r'' before
+          after)
+      → Steps s cipher count (position (pumped s cipher consumed count state)) image answer r'' before after
   steps_skipped BeforePayload T stands early again same none skipped steps =
       let first : s.offset ≡ sector_start s count = rw (none refl) (omega arith) in
-      steps_earlier s key count (sector_start s count) consumed image answer r'' before after (omega arith)
+      steps_earlier s cipher count (sector_start s count) consumed image answer r'' before after (omega arith)
       (steps (subst (Took image r') first (skipped refl)))
   steps_skipped InPayload T stands early again same none skipped steps = steps (rw (same again.1) stands.took)
   steps_skipped Ended T stands early again same none skipped steps =
@@ -275,17 +283,17 @@ module _ (s : Segment) (key : List ℕ) (consumed count : ℕ) (image : List ℕ
 
   -- the same, where the pump that it goes on with is told by its parts
   pub steps_resumed : (now skipped : Pumped) (state state' : State) (T : Type 0) → now ≡ skipped
-      → skipped ≡ pumped s key consumed count state'
-      → StandsIn image (pumped s key consumed count state) r → now.consumed ≤ now.segment.offset
+      → skipped ≡ pumped s cipher consumed count state'
+      → StandsIn image (pumped s cipher consumed count state) r → now.consumed ≤ now.segment.offset
       → SkipsAgain state (Ok tt) T → (T → r' ≡ r)
       → (state ≡ BeforePayload → count ≡ 0)
-      → (state ≡ BeforePayload → Skips (pumped s key consumed count state) image (Ok tt) r')
+      → (state ≡ BeforePayload → Skips (pumped s cipher consumed count state) image (Ok tt) r')
       → (Took image r' (sector_start now.segment now.count)
-      → Steps now.segment now.key now.count (sector_start now.segment now.count) image answer r'' before after)
-      → Steps s key count (position (pumped s key consumed count state)) image answer r'' before after
+      → Steps now.segment now.cipher now.count (sector_start now.segment now.count) image answer r'' before after)
+      → Steps s cipher count (position (pumped s cipher consumed count state)) image answer r'' before after
   steps_resumed now skipped state state' T closed moved stands early again same none skips steps =
-      let is : now ≡ pumped s key consumed count state' = closed ∙ moved in
+      let is : now ≡ pumped s cipher consumed count state' = closed ∙ moved in
       steps_skipped state T stands (subst (λ (p : Pumped). p.consumed ≤ p.segment.offset) is early) again same none
       skips
       (subst (λ (p : Pumped). Took image r' (sector_start p.segment p.count)
-      → Steps p.segment p.key p.count (sector_start p.segment p.count) image answer r'' before after) is steps)
+      → Steps p.segment p.cipher p.count (sector_start p.segment p.count) image answer r'' before after) is steps)

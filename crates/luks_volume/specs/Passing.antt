@@ -1,5 +1,6 @@
 -- What the parts of a pump leave in its source and its sink.
 use Rattle.std.specs.Prelude.{◌≡◌, ℕ, ◌-◌, ◌/◌, ◌^◌, ◌<◌, Bool, true, false, List, length, take, Option, None, Some, Result, Err}
+use Rattle.luks_cipher.specs.Sector.{Cipher}
 use Rattle.luks_io.specs.Bytes.{Adds, Took, TookFewer}
 use Rattle.luks_verdict.specs.declared.segment.Segment.{Segment}
 use Rattle.luks_volume.specs.Plain.{unit_plain, sector_len}
@@ -30,20 +31,20 @@ StopsDiscarding count known left (Short _) = ⊥
 StopsDiscarding count known left Write = ⊥
 
 -- the plain bytes of some unit of `len` bytes were written
-abbrev pub AddsUnit : List ℕ → ℕ → ℕ → Option (List ℕ) → Option (List ℕ) → Type 0
-AddsUnit key number len before after = (unit : List ℕ) × (length unit ≡ len)
-    × Adds before after (unit_plain key number unit)
+abbrev pub AddsUnit : Cipher → ℕ → ℕ → Option (List ℕ) → Option (List ℕ) → Type 0
+AddsUnit cipher number len before after = (unit : List ℕ) × (length unit ≡ len)
+    × Adds before after (unit_plain cipher number unit)
 
 -- passing on a sector of `len` bytes was broken off
-abbrev pub StopsInSector : List ℕ → ℕ → ℕ → List ℕ → Option (List ℕ) → Option (List ℕ) → Option (List ℕ) → VolumeFault
+abbrev pub StopsInSector : Cipher → ℕ → ℕ → List ℕ → Option (List ℕ) → Option (List ℕ) → Option (List ℕ) → VolumeFault
     → Type 0
-StopsInSector key number len known left before after Read = TookFewer known left len
-StopsInSector key number len known left before after Write =
+StopsInSector cipher number len known left before after Read = TookFewer known left len
+StopsInSector cipher number len known left before after Write =
     Took known left len
-    × ((count : ℕ) × (count < len) × Adds before after (take count (unit_plain key number (take len known))))
-StopsInSector key number len known left before after CutBeforePayload = ⊥
-StopsInSector key number len known left before after (Tail _) = ⊥
-StopsInSector key number len known left before after (Short _) = ⊥
+    × ((count : ℕ) × (count < len) × Adds before after (take count (unit_plain cipher number (take len known))))
+StopsInSector cipher number len known left before after CutBeforePayload = ⊥
+StopsInSector cipher number len known left before after (Tail _) = ⊥
+StopsInSector cipher number len known left before after (Short _) = ⊥
 
 -- the most sectors that are passed on: those of a fixed size, and else as many as a count of them can say
 abbrev pub limit_within : Option ℕ → ℕ → ℕ

@@ -1,6 +1,7 @@
 -- The plain text of a payload, over the whole image as one list of bytes.
 use Rattle.std.specs.Prelude.{ℕ, ◌+◌, ◌-◌, ◌*◌, ◌/◌, ◌%◌, ◌^◌, ◌==◌, min, nat_lt, if◌then◌else◌, List, length, take, drop, Option, None, Some, Result, Ok, Err}
-use Rattle.luks_cipher.specs.Xts.{joined, xts_decrypted}
+use Rattle.luks_cipher.specs.Sector.{Cipher, sector_decrypted}
+use Rattle.luks_cipher.specs.Xts.{joined}
 use Rattle.luks_header.specs.SectorSize.{bytes_of}
 use Rattle.luks_verdict.specs.declared.segment.Segment.{Segment}
 use Rattle.luks_volume.specs.declared.fault.VolumeFault.{VolumeFault}
@@ -20,13 +21,13 @@ sector_start s i = s.offset + i * sector_len s
 abbrev pub unit_number : Segment → ℕ → ℕ
 unit_number s i = (s.iv_tweak + i * (sector_len s / 512)) % 2 ^ 64
 
--- the plain bytes of a unit that is stored under a key: the one place where the cipher enters
-unfoldable pub unit_plain : List ℕ → ℕ → List ℕ → List ℕ
-unit_plain key number unit = xts_decrypted key number unit
+-- the plain bytes of a unit that is stored: the one place where the cipher enters
+unfoldable pub unit_plain : Cipher → ℕ → List ℕ → List ℕ
+unit_plain cipher number unit = sector_decrypted cipher.0 cipher.1 number unit
 
 -- the plain bytes of sector i
-abbrev pub sector_of : Segment → List ℕ → List ℕ → ℕ → List ℕ
-sector_of s key image i = unit_plain key (unit_number s i) (take (sector_len s) (drop (sector_start s i) image))
+abbrev pub sector_of : Segment → Cipher → List ℕ → ℕ → List ℕ
+sector_of s cipher image i = unit_plain cipher (unit_number s i) (take (sector_len s) (drop (sector_start s i) image))
 
 -- how many bytes of the image stand behind the payload's start
 abbrev pub payload_len : Segment → List ℕ → ℕ
@@ -42,8 +43,8 @@ abbrev pub sectors_of : Segment → List ℕ → ℕ
 sectors_of s image = within_size s.size (payload_len s image) / sector_len s
 
 -- the plain text: all whole sectors, joined
-abbrev pub plain_of : Segment → List ℕ → List ℕ → List ℕ
-plain_of s key image = joined (sector_of s key image) (sectors_of s image)
+abbrev pub plain_of : Segment → Cipher → List ℕ → List ℕ
+plain_of s cipher image = joined (sector_of s cipher image) (sectors_of s image)
 
 -- how a payload ends whose image has so many bytes behind its start
 abbrev pub ending_within : Option ℕ → ℕ → ℕ → Result Step VolumeFault

@@ -1,5 +1,6 @@
 -- What a pump is to its caller, and what its calls do.
 use Rattle.std.specs.Prelude.{◌≡◌, ℕ, ◌+◌, ◌*◌, ◌<◌, ◌⊎◌, min, nat_lt, List, length, take, Option, Result, Ok, Err, Bool, true, false, IsTrue}
+use Rattle.luks_cipher.specs.Sector.{Cipher}
 use Rattle.luks_io.specs.Bytes.{Adds, Took, TookBetween}
 use Rattle.luks_verdict.specs.declared.segment.Segment.{Segment}
 use Rattle.luks_volume.specs.Passing.{limit_of}
@@ -11,11 +12,12 @@ use Rattle.luks_volume.specs.declared.state.State.TheVariants.{BeforePayload, In
 use Rattle.luks_volume.specs.declared.state.Step.{Step}
 use Rattle.luks_volume.specs.declared.state.Step.TheVariants.{Sector, End}
 
--- a pump: the payload and its key, how many bytes of the image were taken before it was made, how many sectors it has
+-- a pump: the payload and its cipher, how many bytes of the image were taken before it was made, how many sectors it
+-- has
 -- passed on, and where it stands
 pub record Pumped : Type 0 where
   pub segment : Segment
-  pub key : List ℕ
+  pub cipher : Cipher
   pub consumed : ℕ
   pub count : ℕ
   pub state : State
@@ -130,16 +132,17 @@ pub record Ends (image : List ℕ) (segment : Segment) (count : ℕ) (answer : R
   pub took : Took image left (payload_end_of segment image)
 
 -- what a step did from this place of the image on, with so many sectors passed on before
-abbrev pub Steps : Segment → List ℕ → ℕ → ℕ → List ℕ → Result Step VolumeFault → Option (List ℕ) → Option (List ℕ)
+abbrev pub Steps : Segment → Cipher → ℕ → ℕ → List ℕ → Result Step VolumeFault → Option (List ℕ) → Option (List ℕ)
     → Option (List ℕ) → Type 0
-Steps s key count place image (Ok Sector) left before after =
-    TakesSector image s count left × Adds before after (sector_of s key image count)
-Steps s key count place image (Ok End) left before after = Ends image s count (Ok End) left
-Steps s key count place image (Err CutBeforePayload) left before after = Ends image s count (Err CutBeforePayload) left
-Steps s key count place image (Err (Tail bytes)) left before after = Ends image s count (Err (Tail bytes)) left
-Steps s key count place image (Err (Short bytes)) left before after = Ends image s count (Err (Short bytes)) left
-Steps s key count place image (Err Read) left before after =
+Steps s cipher count place image (Ok Sector) left before after =
+    TakesSector image s count left × Adds before after (sector_of s cipher image count)
+Steps s cipher count place image (Ok End) left before after = Ends image s count (Ok End) left
+Steps s cipher count place image (Err CutBeforePayload) left before after = Ends image s count (Err CutBeforePayload)
+    left
+Steps s cipher count place image (Err (Tail bytes)) left before after = Ends image s count (Err (Tail bytes)) left
+Steps s cipher count place image (Err (Short bytes)) left before after = Ends image s count (Err (Short bytes)) left
+Steps s cipher count place image (Err Read) left before after =
     TookBetween image left place (min (sector_start s (count + 1)) (payload_end_of s image + 1))
-Steps s key count place image (Err Write) left before after =
+Steps s cipher count place image (Err Write) left before after =
     TakesSector image s count left
-    × ((written : ℕ) × (written < sector_len s) × Adds before after (take written (sector_of s key image count)))
+    × ((written : ℕ) × (written < sector_len s) × Adds before after (take written (sector_of s cipher image count)))

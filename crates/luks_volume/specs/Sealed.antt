@@ -1,5 +1,7 @@
 -- What a volume of LUKS1 may be made from.
-use Rattle.std.specs.Prelude.{◌≡◌, ◌≢◌, ℕ, ◌+◌, ◌-◌, ◌*◌, ◌/◌, ◌%◌, ◌<◌, ◌≤◌, ◌⊎◌, List, [], ◌∷◌, All, length, slice_index, Result, Ok, Err}
+use Rattle.std.specs.Prelude.{◌≡◌, ◌≢◌, ℕ, ◌+◌, ◌-◌, ◌*◌, ◌/◌, ◌%◌, ◌<◌, ◌≤◌, true, List, [], ◌∷◌, All, length, slice_index, Result, Ok, Err}
+use Rattle.luks_cipher.specs.Sector.{is_mode_key_length}
+use Rattle.luks_cipher.specs.declared.mode.Mode.{Mode}
 use Rattle.luks_volume.specs.declared.seal.parameters.SealFault.{SealFault}
 use Rattle.luks_volume.specs.declared.seal.parameters.SealFault.TheVariants.{Parameters, Memory}
 use Rattle.luks_volume.specs.declared.seal.parameters.Seal1.{Seal1}
@@ -9,9 +11,9 @@ use Rattle.luks_volume.specs.declared.seal.parameters.Slot1.{Slot1}
 abbrev pub area_sectors : ℕ → ℕ → ℕ
 area_sectors key stripes = (key * stripes + 4095) / 4096 * 8
 
--- the key is one of XTS-AES
-abbrev pub FitsKey : ℕ → Type 0
-FitsKey len = (len ≡ 32) ⊎ (len ≡ 64)
+-- the key has a length of the mode
+abbrev pub FitsKey : Mode → ℕ → Type 0
+FitsKey mode len = is_mode_key_length mode len ≡ true
 
 -- the counts are in their ranges, and the payload begins behind the areas of eight slots
 abbrev pub FitsCounts : Seal1 → Type 0
@@ -41,7 +43,7 @@ AreDistinct (slot ∷ slots) = All (λ other. other.number ≢ slot.number) slot
 
 -- the parameters are all in their ranges
 pub record AreParameters (p : Seal1) : Type 0 where
-  pub key : FitsKey (length p.key.now)
+  pub key : FitsKey p.mode (length p.key.now)
   pub counts : FitsCounts p
   pub uuid : FitsText 40 p.uuid.now
   pub plain : FitsPlain (length p.plain.now)

@@ -7,7 +7,7 @@ ghost use Rattle.luks_volume.specs.Passing.{is_cut, is_failed_read, is_failed_wr
 ghost use Rattle.luks_volume.specs.Plain.{unit_plain};
 
 use crate::fault::VolumeFault;
-use luks_cipher::XtsKey;
+use luks_cipher::SectorCipher;
 use luks_io::sink::{Sink, put_all};
 use luks_io::source::{Source, fill};
 
@@ -42,7 +42,7 @@ pub(crate) fn discard<S: Source>(
 /// Takes the sector of this unit number, and writes its plain bytes where it is whole. Answers how
 /// many bytes there were.
 pub(crate) fn pass_sector<S: Source, O: Sink>(
-    key: &XtsKey,
+    cipher: &SectorCipher,
     number: u64,
     sector: &mut [u8],
     source: &mut S,
@@ -57,13 +57,14 @@ pub(crate) fn pass_sector<S: Source, O: Sink>(
         × Took known (S.to_come source.new) got)) }
     ensures written { IfOk result (λ got. got ≡ length sector.old
         → WhereKnown (S.to_come source.old)
-        (λ known. Adds (O.written sink.old) (O.written sink.new) (unit_plain key.now number
+        (λ known. Adds (O.written sink.old) (O.written sink.new) (unit_plain cipher.now number
         (take got known)))) }
     ensures whole { IfOk result (λ got. got ≡ length sector.old
-        → AddsUnit key.now number (length sector.old) (O.written sink.old) (O.written sink.new)) }
+        → AddsUnit cipher.now number (length sector.old)
+        (O.written sink.old) (O.written sink.new)) }
     ensures torn { IfOk result (λ got. got < length sector.old → sink.new ≡ sink.old) }
     ensures err { IfErr result (λ fault. WhereKnown (S.to_come source.old)
-        (λ known. StopsInSector key.now number (length sector.old) known
+        (λ known. StopsInSector cipher.now number (length sector.old) known
         (S.to_come source.new) (O.written sink.old) (O.written sink.new) fault)) }
     ensures unread { IfErr result (λ fault. fault ≡ VolumeFault.Read → sink.new ≡ sink.old) }
     ensures only { IfErr result
@@ -78,7 +79,7 @@ pub(crate) fn pass_sector<S: Source, O: Sink>(
     if got < sector.len() {
         return Ok(got);
     }
-    key.decrypt_unit(number, sector);
+    cipher.decrypt_unit(number, sector);
     put_all(sink, sector)?;
     Ok(got)
 }

@@ -11,7 +11,7 @@ use crate::fault::VolumeFault;
 use crate::passing::{discard, pass_sector};
 use crate::sector::{ending, limit, number};
 use crate::state::{State, Step};
-use luks_cipher::XtsKey;
+use luks_cipher::SectorCipher;
 use luks_header::segment::Segment;
 use luks_io::sink::Sink;
 use luks_io::source::Source;
@@ -22,12 +22,12 @@ const ROOM: usize = 4096;
 
 /// Passes a payload on, sector by sector. It holds one sector and takes no memory.
 ///
-/// A clause sees its segment, its key, how many bytes of the image were consumed before it was
+/// A clause sees its segment, its cipher, how many bytes of the image were consumed before it was
 /// made, how many sectors it has passed on, and where it stands.
 #[derive(Drop)]
 pub struct Pump {
     segment: Segment,
-    key: XtsKey,
+    cipher: SectorCipher,
     consumed: u64,
     count: u64,
     state: State,
@@ -45,7 +45,7 @@ impl Model for Pump {
     ghost view = { λ p.
         record {
           segment = p.segment;
-          key = p.key;
+          cipher = p.cipher;
           consumed = p.consumed;
           count = p.count;
           state =
@@ -60,7 +60,7 @@ impl Model for Pump {
 /// for it.
 fn next_sector<S: Source, O: Sink>(
     segment: &Segment,
-    key: &XtsKey,
+    cipher: &SectorCipher,
     count: u64,
     buffer: &mut [u8],
     source: &mut S,
@@ -71,12 +71,12 @@ fn next_sector<S: Source, O: Sink>(
     ensures limit { count ≡ limit_of segment.now
         → (result ≡ Ok Step.End) × (source.new ≡ source.old) × (sink.new ≡ sink.old) }
     ensures below { result ≡ Ok Step.Sector → count < limit_of segment.now }
-    ensures passed { result ≡ Ok Step.Sector → AddsUnit key.now (unit_number segment.now count)
+    ensures passed { result ≡ Ok Step.Sector → AddsUnit cipher.now (unit_number segment.now count)
         (sector_len segment.now) (O.written sink.old) (O.written sink.new) }
     ensures only { MayAnswer State.InPayload segment.now count result }
     ensures run { (image : List ℕ) → length image < 2 ^ 64
         → Took image (S.to_come source.old) (sector_start segment.now count)
-        → Steps segment.now key.now count (sector_start segment.now count) image result
+        → Steps segment.now cipher.now count (sector_start segment.now count) image result
         (S.to_come source.new) (O.written sink.old) (O.written sink.new) }
     ensures writes_sectors { WritesSectors result (sink.new ≡ sink.old) }
     ensures reads { S.failures source.new ≡ counted (is_failed_read result)
@@ -90,7 +90,7 @@ fn next_sector<S: Source, O: Sink>(
     }
     let size = segment.sector_size.bytes();
     let got = pass_sector(
-        key,
+        cipher,
         number(segment, count),
         &mut buffer[..size],
         source,
@@ -103,13 +103,13 @@ fn next_sector<S: Source, O: Sink>(
 }
 
 impl Pump {
-    /// A pump of this payload under this key, for an image of which so many bytes are consumed
+    /// A pump of this payload under this cipher, for an image of which so many bytes are consumed
     /// already, none of them the payload's.
-    pub fn new(segment: Segment, key: XtsKey, consumed: u64) -> Pump
+    pub fn new(segment: Segment, cipher: SectorCipher, consumed: u64) -> Pump
         requires { consumed ≤ segment.offset }
         ensures { result ≡ record {
           segment = segment;
-          key = key;
+          cipher = cipher;
           consumed = consumed;
           count = 0;
           state = State.BeforePayload;
@@ -117,7 +117,7 @@ impl Pump {
     {
         Pump {
             segment,
-            key,
+            cipher,
             consumed,
             count: 0,
             state: State::BeforePayload,
@@ -191,10 +191,10 @@ impl Pump {
             → (result ≡ Ok Step.End) × (source.new ≡ source.old) × (sink.new ≡ sink.old) }
         ensures run { (image : List ℕ) → length image < 2 ^ 64
             → StandsIn image self.old (S.to_come source.old)
-            → Steps self.old.segment self.old.key self.old.count (position self.old) image result
+            → Steps self.old.segment self.old.cipher self.old.count (position self.old) image result
             (S.to_come source.new) (O.written sink.old) (O.written sink.new) }
         ensures passed { result ≡ Ok Step.Sector
-            → AddsUnit self.old.key (unit_number self.old.segment self.old.count)
+            → AddsUnit self.old.cipher (unit_number self.old.segment self.old.count)
             (sector_len self.old.segment)
             (O.written sink.old) (O.written sink.new) }
         ensures only { is_running self.old.state ≡ true
@@ -213,7 +213,7 @@ impl Pump {
         }
         let answer = next_sector(
             &self.segment,
-            &self.key,
+            &self.cipher,
             self.count,
             &mut self.buffer,
             source,

@@ -1,7 +1,8 @@
 use super::bytes;
 use super::mode_vectors::{CHAINS, SECTORS};
 use crate::cbc::{decrypt_chain, encrypt_chain};
-use crate::{AesKey, Mode, SectorCipher};
+use crate::{Mode, SectorCipher};
+use luks_blocks::SliceKey;
 use std::alloc::Global;
 use std::test::Fail;
 
@@ -69,7 +70,7 @@ fn chain_holds(alloc: Global, line: &str) -> Result<bool, Fail> {
     let vector = bytes(alloc, words.next().ok_or("no vector")?)?;
     let plain = bytes(alloc, words.next().ok_or("no unit")?)?;
     let encrypted = bytes(alloc, words.next().ok_or("no answer")?)?;
-    let key = AesKey::new(&key).ok_or("no length of a key")?;
+    let key = SliceKey::new(&key).ok_or("no length of a key")?;
     if vector.len() != 16 || plain.len() % 16 != 0 || encrypted.len() % 16 != 0 {
         return Err("no unit".into());
     }
@@ -79,7 +80,7 @@ fn chain_holds(alloc: Global, line: &str) -> Result<bool, Fail> {
     if there.len() % 16 != 0 {
         return Err("no unit".into());
     }
-    encrypt_chain(&key, first, &mut there);
+    encrypt_chain(key.key(), first, &mut there);
     let mut back = encrypted.clone()?;
     if back.len() % 16 != 0 {
         return Err("no unit".into());

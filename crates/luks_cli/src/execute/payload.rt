@@ -6,7 +6,7 @@ ghost use Rattle.luks_cli.specs.MayEnd.{PayloadMessage};
 ghost use Rattle.luks_cli.specs.Run.{is_failed_read, is_failed_write, message_of};
 ghost use Rattle.luks_io.specs.Bytes.{Took, counted};
 
-use luks_cipher::XtsKey;
+use luks_cipher::SectorCipher;
 use luks_header::segment::Segment;
 use luks_io::sink::Sink;
 use luks_io::source::Source;
@@ -18,7 +18,7 @@ use luks_volume::state::Step;
 /// it comes.
 pub(super) fn write_payload<I: Source, O: Sink>(
     segment: Segment,
-    key: XtsKey,
+    cipher: SectorCipher,
     consumed: u64,
     image: &mut I,
     out: &mut O,
@@ -26,7 +26,7 @@ pub(super) fn write_payload<I: Source, O: Sink>(
     requires { consumed ≤ segment.offset }
     ensures run { (whole : List ℕ) → length whole < 2 ^ 64
         → Took whole (I.to_come image.old) consumed
-        → PassesPayload segment key whole
+        → PassesPayload segment cipher whole
         (I.to_come image.new) (O.written out.old) (O.written out.new) (message_of result) }
     ensures only { PayloadMessage (message_of result) }
     ensures memory { IfErr result (λ message. message ≢ Message.OutOfMemory) }
@@ -35,7 +35,7 @@ pub(super) fn write_payload<I: Source, O: Sink>(
     ensures writes { O.failures out.new
         ≡ counted (is_failed_write (message_of result)) (O.failures out.old) }
 {
-    let mut pump = Pump::new(segment, key, consumed);
+    let mut pump = Pump::new(segment, cipher, consumed);
     'sectors: for _ in 0..u64::MAX {
         match pump.step(image, out)? {
             Step::Sector => {}

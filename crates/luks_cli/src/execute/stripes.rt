@@ -94,8 +94,8 @@ pub(super) fn split<K: Source, R: Source, O: Sink>(
         (Took known (K.to_come key.new)) (Took bytes (R.to_come random.new))
         (Adds (O.written out.old) (O.written out.new)))) }
     ensures only { SplitMessage (message_of result) }
-    ensures unneeded { WhereKnown (K.to_come key.old) (λ known. (length known ≡ 0) ⊎ (longest_key < length known)
-        → random.new ≡ random.old) }
+    ensures unneeded { WhereKnown (K.to_come key.old) (λ known.
+        (length known ≡ 0) ⊎ (longest_key < length known) → random.new ≡ random.old) }
     ensures memory { IfErr result (λ message. message ≢ Message.OutOfMemory) }
     ensures counts { Counts (message_of result)
         (failures_of (K.failures key.old) (R.failures random.old) (O.failures out.old))
@@ -154,8 +154,8 @@ pub(super) fn merge<S: Source, O: Sink>(
     out: &mut O,
 ) -> Result<(), Message>
     ensures run { WhereKnown (S.to_come stripes.old) (λ known. let m = merging.now in
-        Runs at_any_pace (merge_outcome m.hash m.stripes.count m.key_bytes.bytes known) (message_of result)
-        (Took known (S.to_come stripes.new)) TookNone
+        Runs at_any_pace (merge_outcome m.hash m.stripes.count m.key_bytes.bytes known)
+        (message_of result) (Took known (S.to_come stripes.new)) TookNone
         (Adds (O.written out.old) (O.written out.new))) }
     ensures memory { IfErr result (λ message. message ≢ Message.OutOfMemory) }
     ensures only { MergeMessage (message_of result) }

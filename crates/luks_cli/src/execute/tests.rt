@@ -2,6 +2,7 @@
 
 mod headers;
 mod hostile;
+mod modes;
 mod volume_devices;
 mod volumes;
 

@@ -1,7 +1,7 @@
 //! `testPassphrase` and `luksCat`: volumes that a passphrase opens.
 
 ghost use Rattle.std.specs.Prelude.{◌≡◌, ◌≢◌, ◌<◌, ◌≤◌, ◌⊎◌, ◌^◌, List, ℕ, Option, Ok, IfOk, IfErr, false, is_err, length, take, true};
-ghost use Rattle.luks_cipher.specs.Xts.{is_xts_key_length};
+ghost use Rattle.luks_cipher.specs.Sector.{is_mode_key_length};
 ghost use Rattle.luks_io.specs.Bytes.{Adds, Took, WhereKnown, counted};
 ghost use Rattle.luks_header.specs.Header.{cost_of, header_of};
 ghost use Rattle.luks_header.specs.Segment.{segment_of};
@@ -13,11 +13,11 @@ ghost use Rattle.luks_cli.specs.Run.{Counts, failures_of, Runs, at_any_pace, is_
 ghost use Rattle.luks_cli.specs.MayEnd.{OpeningMessage, PayloadMessage};
 ghost use Rattle.luks_cli.specs.VolumeParts.{TakesHeld, Unlocks};
 ghost use Rattle.luks_cli.specs.VolumeParts.{StopsFinding};
-ghost use Rattle.luks_cli.specs.Volume.{volume_of};
+ghost use Rattle.luks_cli.specs.Volume.{is_opened, volume_of};
 
 use super::payload::write_payload;
 use super::secret::read_secret;
-use luks_cipher::XtsKey;
+use luks_cipher::SectorCipher;
 use luks_command::command::Opening;
 use luks_header::area::HeaderArea;
 use luks_header::header::{Header, read_header};
@@ -28,6 +28,7 @@ use luks_io::source::Source;
 use luks_kdf::Work;
 use luks_open::opening::{Opened, open};
 use luks_open::order::order;
+use luks_open::skipped::SkippedSlots;
 use luks_open::tries::{Order, held_end};
 use luks_report::message::Message;
 use luks_report::opened::opened_page;
@@ -71,6 +72,16 @@ fn limit(opening: &Opening<'_>) -> Option<u32>
     }
 }
 
+/// Whether volumes with a header of this format are opened.
+fn is_opened(header: &Header) -> bool
+    ensures { result ≡ is_opened header.now }
+{
+    match header {
+        Header::V1(_) => true,
+        Header::V2(..) => false,
+    }
+}
+
 /// Reads the header of an image, and finds its segment and the key slots that are tried.
 fn find_volume<I: Source>(
     alloc: Global,
@@ -89,11 +100,16 @@ fn find_volume<I: Source>(
     ensures volume { IfOk result (λ _. WhereKnown (I.to_come image.old)
         (λ known. is_err (volume_of (opening_request opening.now) known) ≡ false)) }
     ensures area { IfOk result (λ volume. length volume.area ≡ cost_of volume.area) }
+    ensures front { IfOk result (λ volume. header_of volume.area ≡ Ok volume.header) }
+    ensures opened { IfOk result (λ volume. is_opened volume.header ≡ true) }
     ensures writes { IfErr result (λ message. message ≢ Message.WriteFailed) }
     ensures reads { I.failures image.new
         ≡ counted (is_failed_read (message_of result)) (I.failures image.old) }
 {
     let (header, area) = read_header(alloc, image)?;
+    if !is_opened(&header) {
+        return Err(Message::NothingTried(SkippedSlots::new()));
+    }
     let segment = segment(&header)?;
     let named = named_slot(opening);
     match order(alloc, &header, named, limit(opening)) {
@@ -116,8 +132,8 @@ fn unlock<I: Source, K: Source>(
 ) -> Result<Unlocked, Message>
     ensures ok { IfOk result (λ unlocked. WhereKnown (I.to_come image.old) (λ known.
         WhereKnown (K.to_come secret.old) (λ pass.
-        Unlocks (opening_request opening.now) known pass unlocked.segment unlocked.opened unlocked.held
-        (I.to_come image.new) (K.to_come secret.new)))) }
+        Unlocks (opening_request opening.now) known pass unlocked.segment unlocked.opened
+        unlocked.held (I.to_come image.new) (K.to_come secret.new)))) }
     ensures err { IfErr result
         (λ message. (written : Option (List ℕ)) → WhereKnown (I.to_come image.old) (λ known.
         WhereKnown (K.to_come secret.old) (λ pass. (on_opened : OnOpened) → TakesHeld pass on_opened
@@ -129,7 +145,8 @@ fn unlock<I: Source, K: Source>(
         is_err (volume_of (opening_request opening.now) known) ≡ true → secret.new ≡ secret.old) }
     ensures only { IfErr result OpeningMessage }
     ensures held { IfOk result (λ unlocked. unlocked.held ≤ unlocked.segment.offset) }
-    ensures key { IfOk result (λ unlocked. is_xts_key_length (length unlocked.opened.key) ≡ true) }
+    ensures key { IfOk result (λ unlocked.
+        is_mode_key_length unlocked.segment.mode (length unlocked.opened.key) ≡ true) }
     ensures counts { (written : ℕ) → Counts (message_of result)
         (failures_of (I.failures image.old) (K.failures secret.old) written)
         (failures_of (I.failures image.new) (K.failures secret.new) written) }
@@ -165,7 +182,8 @@ pub(super) fn test_passphrase<I: Source, K: Source, O: Sink>(
 ) -> Result<(), Message>
     ensures run { WhereKnown (I.to_come image.old)
         (λ known. WhereKnown (K.to_come secret.old) (λ pass.
-        Runs at_any_pace (volume_outcome (slot_outcome pass) (opening_request opening.now) known pass)
+        Runs at_any_pace
+        (volume_outcome (slot_outcome pass) (opening_request opening.now) known pass)
         (message_of result) (Took known (I.to_come image.new)) (Took pass (K.to_come secret.new))
         (Adds (O.written out.old) (O.written out.new)))) }
     ensures unneeded { WhereKnown (I.to_come image.old) (λ known.
@@ -191,6 +209,7 @@ pub(super) fn cat<I: Source, K: Source, O: Sink>(
     secret: &mut K,
     out: &mut O,
 ) -> Result<(), Message>
+    ensures only { OpeningMessage (message_of result) ⊎ PayloadMessage (message_of result) }
     ensures run { WhereKnown (I.to_come image.old)
         (λ known. WhereKnown (K.to_come secret.old) (λ pass.
         length known < 2 ^ 64 → Runs (cat_promptly known)
@@ -199,14 +218,15 @@ pub(super) fn cat<I: Source, K: Source, O: Sink>(
         (Adds (O.written out.old) (O.written out.new)))) }
     ensures unneeded { WhereKnown (I.to_come image.old) (λ known.
         is_err (volume_of (opening_request opening.now) known) ≡ true → secret.new ≡ secret.old) }
-    ensures only { OpeningMessage (message_of result) ⊎ PayloadMessage (message_of result) }
     ensures counts { Counts (message_of result)
         (failures_of (I.failures image.old) (K.failures secret.old) (O.failures out.old))
         (failures_of (I.failures image.new) (K.failures secret.new) (O.failures out.new)) }
 {
     let unlocked = unlock(alloc, opening, image, secret)?;
-    let Some(key) = XtsKey::new(unlocked.opened.key.as_slice()) else {
+    let segment = unlocked.segment;
+    let key = unlocked.opened.key.as_slice();
+    let Some(cipher) = SectorCipher::new(segment.mode, key) else {
         unreachable!()
     };
-    write_payload(unlocked.segment, key, unlocked.held, image, out)
+    write_payload(segment, cipher, unlocked.held, image, out)
 }

@@ -1,5 +1,6 @@
 //! Volumes for tests, and changes of their headers.
 
+use luks_cipher::Mode;
 use luks_kdf::Hash;
 use luks_volume::seal::luks1::seal1;
 use luks_volume::seal::parameters::{Seal1, Slot1};
@@ -7,7 +8,7 @@ use std::alloc::{AllocError, Global};
 use std::test::Fail;
 
 /// The volume key.
-const KEY: &[u8] = b"a volume key of AES-256 has two halves, thirty-two bytes in each";
+pub(crate) const KEY: &[u8] = b"a volume key of AES-256 has two halves, thirty-two bytes in each";
 
 /// The passphrase of the key slot.
 pub(crate) const PASSPHRASE: &[u8] = b"correct horse";
@@ -52,11 +53,22 @@ pub(crate) fn plain_bytes(alloc: Global) -> Result<Vec<u8>, AllocError> {
     Ok(plain)
 }
 
-/// A volume whose key slot 0 alone is in use.
+/// A volume in the newest mode whose key slot 0 alone is in use.
 pub(crate) fn sealed(alloc: Global, size: Size, passphrase: &[u8]) -> Result<Vec<u8>, Fail> {
+    sealed_in(alloc, Mode::XtsPlain64, KEY, size, passphrase)
+}
+
+/// A volume in this mode under this key.
+pub(crate) fn sealed_in(
+    alloc: Global,
+    mode: Mode,
+    key: &[u8],
+    size: Size,
+    passphrase: &[u8],
+) -> Result<Vec<u8>, Fail> {
     let plain = plain_bytes(alloc)?;
     let mut random = Vec::new(alloc);
-    for i in 0..64 * size.stripes.saturating_sub(1).min(4000) {
+    for i in 0..key.len().min(64) * size.stripes.saturating_sub(1).min(4000) as usize {
         random.push((i % 239) as u8)?;
     }
     let slots = [Slot1 {
@@ -68,7 +80,8 @@ pub(crate) fn sealed(alloc: Global, size: Size, passphrase: &[u8]) -> Result<Vec
     }];
     let volume = Seal1 {
         hash: Hash::Sha256,
-        key: KEY,
+        mode,
+        key,
         stripes: size.stripes,
         payload_sectors: size.payload_sectors,
         uuid: b"a-uuid",

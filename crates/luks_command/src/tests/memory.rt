@@ -58,6 +58,7 @@ fn answers_memory_where_it_is_refused(rt: HostRuntime) -> Result<(), Fail> {
         "isLuks i",
         "luksUUID i",
         "luksDump i",
+        "luksCheck i",
         "testPassphrase --key-file f i",
         "luksCat --key-file f --key-slot 1 --max-iterations 1000 i",
         "afSplit --hash sha256 --stripes 2 --random r k",

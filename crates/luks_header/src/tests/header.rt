@@ -68,7 +68,9 @@ fn check_reading<S: Source>(
     source: &mut S,
 ) -> Result<(), HeaderFault> {
     let (header, area) = read_header(alloc, source)?;
-    let Header::V1(header) = header;
+    let Header::V1(header) = header else {
+        return Err(HeaderFault::Json);
+    };
     check_fields(rt, &header);
     check_slots(rt, &header.slots);
     assert_eq!(rt; area.as_slice(), header_bytes().as_slice());
@@ -143,13 +145,14 @@ fn other_images_are_no_luks(rt: HostRuntime) {
         );
         assert_eq!(rt; source.left().len(), 0);
     }
+    // All of a short image is read to learn that it has no header.
     let zeros = [0; 600];
     let mut source = MemSource::new(&zeros);
     assert_eq!(rt;
         fault_of(rt.alloc(), &mut source),
         Some(HeaderFault::NotLuks)
     );
-    assert_eq!(rt; source.left().len(), 8);
+    assert_eq!(rt; source.left().len(), 0);
 }
 
 #[test]

@@ -7,6 +7,7 @@ use crate::payload::segment;
 use crate::refusal::{SegmentFault, SkipReason};
 use crate::sector_size::SectorSize;
 use crate::slot::{Judgement, Verdict, judge, slot, slots};
+use luks_cipher::Mode;
 use luks_io::memory::MemSource;
 use luks_kdf::Hash;
 use std::alloc::Global;
@@ -149,17 +150,18 @@ fn a_usable_slot_has_its_numbers(rt: HostRuntime) -> Result<(), Fail> {
         assert_eq!(rt; word(verdict), if i == 0 { "usable" } else { "disabled" });
     }
     if let Some((_, Verdict::Usable(slot))) = verdicts.first() {
-        assert_eq!(rt; slot.priority, 1);
-        assert_eq!(rt; slot.kdf_hash, Some(Hash::Sha256));
-        assert_eq!(rt; slot.af_hash, Some(Hash::Sha256));
-        assert_eq!(rt; slot.iterations, 1000);
-        assert_eq!(rt; slot.salt.as_slice().len(), 32);
-        assert_eq!(rt; slot.salt.as_slice().first(), Some(&0x40));
-        assert_eq!(rt; slot.stripes, 4000);
-        assert_eq!(rt; slot.key_bytes, 64);
-        assert_eq!(rt; slot.area_key_bytes, 64);
-        assert_eq!(rt; slot.area_offset, 4096);
-        assert_eq!(rt; slot.area_size, 256_000);
+        assert_eq!(rt; slot.parts.priority, 1);
+        assert_eq!(rt; slot.parts.kdf_hash, Some(Hash::Sha256));
+        assert_eq!(rt; slot.parts.af_hash, Some(Hash::Sha256));
+        assert_eq!(rt; slot.parts.iterations, 1000);
+        assert_eq!(rt; slot.parts.salt.as_slice().len(), 32);
+        assert_eq!(rt; slot.parts.salt.as_slice().first(), Some(&0x40));
+        assert_eq!(rt; slot.parts.stripes, 4000);
+        assert_eq!(rt; slot.parts.key_bytes, 64);
+        assert_eq!(rt; slot.parts.area_key_bytes, 64);
+        assert_eq!(rt; slot.parts.area_offset, 4096);
+        assert_eq!(rt; slot.parts.area_size, 256_000);
+        assert_eq!(rt; slot.parts.area_mode, Some(Mode::XtsPlain64));
         assert_eq!(rt; slot.need(), 256_000);
     }
     // 3999 stripes of 64 bytes are 499 sectors and seven eighths of one.
@@ -171,7 +173,7 @@ fn a_usable_slot_has_its_numbers(rt: HostRuntime) -> Result<(), Fail> {
     );
     if let Some((_, Verdict::Usable(slot))) = verdicts.first() {
         assert_eq!(rt; slot.need(), 256_000);
-        assert_eq!(rt; slot.area_size, 256_000);
+        assert_eq!(rt; slot.parts.area_size, 256_000);
     }
     Ok(())
 }
@@ -206,7 +208,10 @@ fn check_text(
 fn each_text_of_a_segment(rt: HostRuntime) -> Result<(), Fail> {
     check_text(&rt, HASH, b"SHA512\0", "none")?;
     check_text(&rt, NAME, b"AES\0", "encryption")?;
-    check_text(&rt, MODE, b"xts-plain\0", "encryption")?;
+    check_text(&rt, MODE, b"xts-plain\0", "none")?;
+    check_text(&rt, MODE, b"cbc-plain64\0", "key bytes")?;
+    check_text(&rt, MODE, b"cbc-plain\0", "encryption")?;
+    check_text(&rt, MODE, b"xts-plain64\xff\0", "encryption")?;
     check_text(&rt, MODE, b"xts-plain64x\0", "encryption")?;
     check_text(&rt, HASH, b"ripemd160\0", "hash")?;
     check_text(&rt, HASH, b"sha256\xff\0", "hash")?;
@@ -250,6 +255,7 @@ fn a_segment_goes_to_the_images_end(rt: HostRuntime) -> Result<(), Fail> {
             assert_eq!(rt; segment.size, None);
             assert_eq!(rt; segment.iv_tweak, 0);
             assert_eq!(rt; segment.sector_size, SectorSize::B512);
+            assert_eq!(rt; segment.mode, Mode::XtsPlain64);
         }
     }
     Ok(())
@@ -261,8 +267,8 @@ fn a_slot_without_a_known_hash_is_judged_all_the_same(rt: HostRuntime) -> Result
     patch(&mut bytes, 72, b"whirlpool\0");
     let verdicts = slots(rt.alloc(), &parse(rt.alloc(), &bytes)?, None)?;
     if let Some((_, Verdict::Usable(slot))) = verdicts.first() {
-        assert_eq!(rt; slot.kdf_hash, None);
-        assert_eq!(rt; slot.af_hash, None);
+        assert_eq!(rt; slot.parts.kdf_hash, None);
+        assert_eq!(rt; slot.parts.af_hash, None);
     }
     assert_eq!(rt;
         verdicts.first().map(|first| word(&first.1)),

@@ -4,8 +4,8 @@ ghost use Rattle.std.specs.Prelude.{◌≡◌, ◌++◌, IfOk, OnOk, length, str
 ghost use Rattle.luks_report.specs.Dump1.{dump1_of, enabled_text, number_lines, slot_line, slot_lines};
 ghost use Rattle.luks_report.specs.Dump1.{slot_text, text_lines, uuid_line};
 
-use super::push_field;
 use crate::escaping::escape;
+use crate::field::push_field;
 use luks_header::header::{Header1, KeySlot, SlotState};
 use std::alloc::{AllocError, Global};
 

@@ -5,7 +5,7 @@ ghost use Rattle.luks_volume.specs.Sealed.{AreParameters, FitsKey, FitsSlot, Sea
 
 use super::parameters::{Seal1, SealFault, Slot1};
 use super::ranges::{are_parameters, area_of};
-use luks_cipher::XtsKey;
+use luks_cipher::{Mode, SectorCipher};
 use luks_kdf::{Work, af_split, pbkdf2};
 use std::alloc::{AllocError, Global};
 
@@ -15,7 +15,7 @@ const ENABLED: u32 = 0x00ac_71f3;
 /// A key slot that is not.
 const DISABLED: u32 = 0x0000_dead;
 
-/// Makes the image of a volume with the cipher `aes` in the mode `xts-plain64`.
+/// Makes the image of a volume with the cipher `aes`.
 ///
 /// The area of slot i begins at sector `8 + i * a`, where `a` is the length of an area in sectors
 /// of 512 bytes, rounded up to a multiple of 8. The payload ends the image, and bytes that nothing
@@ -45,7 +45,7 @@ fn image_of(alloc: Global, seal: &Seal1<'_>) -> Result<Vec<u8>, AllocError>
         push_area(alloc, &mut image, seal, number)?;
     }
     fill_to(&mut image, seal.payload_sectors as usize * 512)?;
-    push_encrypted(alloc, &mut image, seal.key, seal.plain)?;
+    push_encrypted(alloc, &mut image, seal.mode, seal.key, seal.plain)?;
     Ok(image)
 }
 
@@ -74,7 +74,7 @@ fn push_header(image: &mut Vec<u8>, seal: &Seal1<'_>) -> Result<(), AllocError>
 {
     image.extend_from_slice(b"LUKS\xba\xbe\x00\x01")?;
     push_text(image, b"aes", 32)?;
-    push_text(image, b"xts-plain64", 32)?;
+    push_text(image, seal.mode.name().as_bytes(), 32)?;
     push_text(image, seal.hash.name().as_bytes(), 32)?;
     push_number(image, seal.payload_sectors)?;
     push_number(image, seal.key.len() as u32)?;
@@ -101,6 +101,7 @@ fn push_digest(image: &mut Vec<u8>, seal: &Seal1<'_>) -> Result<(), AllocError>
 }
 
 /// Adds the key slot of this number.
+#[tactic(auto, using(luks_cipher::proofs::ModeLemmas::longest_key))]
 fn push_key_slot(image: &mut Vec<u8>, seal: &Seal1<'_>, number: u32) -> Result<(), AllocError>
     requires fits { AreParameters seal.now }
     requires number { number ≤ 7 }
@@ -121,6 +122,7 @@ fn push_key_slot(image: &mut Vec<u8>, seal: &Seal1<'_>, number: u32) -> Result<(
 }
 
 /// Adds the area of the key slot of this number at its place, if the slot is in use.
+#[tactic(auto, using(luks_cipher::proofs::ModeLemmas::longest_key))]
 fn push_area(
     alloc: Global,
     image: &mut Vec<u8>,
@@ -141,6 +143,7 @@ fn push_area(
 }
 
 /// Adds the stripes of the key, encrypted for this slot.
+#[tactic(auto, using(luks_cipher::proofs::ModeLemmas::longest_key))]
 fn push_stripes(
     alloc: Global,
     image: &mut Vec<u8>,
@@ -161,7 +164,7 @@ fn push_stripes(
         &mut area_key,
         &mut Work::new(0),
     );
-    push_encrypted(alloc, image, &area_key, &stripes)
+    push_encrypted(alloc, image, seal.mode, &area_key, &stripes)
 }
 
 /// Adds these bytes, padded with zeros to whole sectors of 512 bytes and encrypted, the sectors
@@ -169,13 +172,14 @@ fn push_stripes(
 fn push_encrypted(
     alloc: Global,
     image: &mut Vec<u8>,
+    mode: Mode,
     key: &[u8],
     plain: &[u8],
 ) -> Result<(), AllocError>
-    requires key { FitsKey (length key.now) }
+    requires key { FitsKey mode (length key.now) }
     requires plain { length plain.now ≤ longest_plain }
 {
-    let Some(key) = XtsKey::new(key) else {
+    let Some(cipher) = SectorCipher::new(mode, key) else {
         unreachable!()
     };
     for number in 0..plain.len().div_ceil(512) {
@@ -183,7 +187,7 @@ fn push_encrypted(
         let mut sector = vec![in alloc; 0; 512]?;
         let size = rest.len().min(512);
         sector[..size].copy_from_slice(&rest[..size]);
-        key.encrypt_unit(number as u64, &mut sector);
+        cipher.encrypt_unit(number as u64, &mut sector);
         image.extend_from_slice(&sector)?;
     }
     Ok(())

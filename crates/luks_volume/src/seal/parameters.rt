@@ -1,5 +1,6 @@
 //! What a volume is made from.
 
+use luks_cipher::Mode;
 use luks_kdf::Hash;
 use std::alloc::AllocError;
 
@@ -8,7 +9,9 @@ use std::alloc::AllocError;
 pub struct Seal1<'a> {
     /// The hash of the key slots, the stripes and the digest.
     pub hash: Hash,
-    /// The volume key, of 32 or 64 bytes.
+    /// The mode in which the payload and the key material are encrypted.
+    pub mode: Mode,
+    /// The volume key, of a length of the mode.
     pub key: &'a [u8],
     /// How many stripes hold the key, from 1 to 4000.
     pub stripes: u32,

@@ -5,16 +5,9 @@ ghost use Rattle.luks_volume.specs.Sealed.{AreDistinct, AreParameters, FitsCount
 
 use super::parameters::{Seal1, Slot1};
 
-/// The key is one of XTS-AES.
-pub(super) fn fits_key(len: usize) -> bool
-    ensures { IsTrue result ↔ FitsKey len }
-{
-    len == 32 || len == 64
-}
-
 /// The sectors of 512 bytes that a slot's stripes take, rounded up to a multiple of 8.
 pub(super) fn area_of(key: usize, stripes: u32) -> u32
-    requires key { FitsKey key }
+    requires key { key ≤ 64 }
     requires stripes { stripes ≤ 4000 }
     ensures value { result ≡ area_sectors key stripes }
     ensures most { result ≤ 504 }
@@ -24,7 +17,7 @@ pub(super) fn area_of(key: usize, stripes: u32) -> u32
 
 /// The counts are in their ranges, and the payload begins behind the areas of eight slots.
 pub(super) fn fits_counts(seal: &Seal1<'_>) -> bool
-    requires { FitsKey (length seal.now.key.now) }
+    requires { length seal.now.key.now ≤ 64 }
     ensures { IsTrue result ↔ FitsCounts seal.now }
 {
     if seal.stripes < 1 || seal.stripes > 4000 {
@@ -88,10 +81,11 @@ fn are_distinct(slots: &[Slot1<'_>]) -> bool
 }
 
 /// All parameters are in their ranges.
+#[tactic(auto, using(luks_cipher::proofs::ModeLemmas::longest_key))]
 pub(super) fn are_parameters(seal: &Seal1<'_>) -> bool
     ensures { IsTrue result ↔ AreParameters seal.now }
 {
-    if !fits_key(seal.key.len()) || !fits_counts(seal) {
+    if !seal.mode.has_key_length(seal.key.len()) || !fits_counts(seal) {
         return false;
     }
     let random = (seal.stripes - 1) as usize * seal.key.len();

@@ -4,6 +4,7 @@
 use super::sealed::slot;
 use crate::seal::luks1::seal1;
 use crate::seal::parameters::{Seal1, Slot1};
+use luks_cipher::Mode;
 use luks_kdf::Hash;
 use std::test::Fail;
 
@@ -18,6 +19,13 @@ const HASHES: [Hash; 5] = [
     Hash::Sha512,
 ];
 
+const MODES: [Mode; 4] = [
+    Mode::XtsPlain64,
+    Mode::XtsPlain,
+    Mode::CbcEssivSha256,
+    Mode::CbcPlain64,
+];
+
 /// Bytes that lengths are cut from.
 const BYTES: &[u8] = &[0x6b; 1024];
 
@@ -30,13 +38,13 @@ fn next(state: &mut u64) -> u32 {
     (*state >> 32) as u32
 }
 
-// A key slot with the random stripes that 64 bytes of key and two stripes need.
+// A key slot with the random stripe that 32 bytes of key and two stripes need.
 fn drawn_slot(state: &mut u64, number: u32) -> Slot1<'static> {
     let [byte, _, _, _] = next(state).to_be_bytes();
     Slot1 {
         number,
         iterations: 1 + next(state) % 3,
-        random: &BYTES[..64],
+        random: &BYTES[..32],
         ..slot(number, [byte; 32], b"a passphrase")
     }
 }
@@ -63,7 +71,8 @@ fn seals_whatever_is_in_range(rt: HostRuntime) -> Result<(), Fail> {
         let uuid = next(&mut state) as usize % 41;
         let seal = Seal1 {
             hash: HASHES[run as usize % 5],
-            key: &BYTES[..64],
+            mode: MODES[run as usize % 4],
+            key: &BYTES[..32],
             stripes: 2,
             payload_sectors: 72 + next(&mut state) % 100,
             uuid: &BYTES[..uuid],

@@ -7,7 +7,7 @@ ghost use Rattle.luks_header.specs.SectorSize.{bytes_of};
 use crate::fault::VolumeFault;
 use crate::pump::Pump;
 use crate::state::Step;
-use luks_cipher::XtsKey;
+use luks_cipher::{Mode, SectorCipher};
 use luks_header::sector_size::SectorSize;
 use luks_header::segment::Segment;
 use luks_io::sink::Sink;
@@ -24,8 +24,8 @@ pub struct Volume {
 }
 
 /// The key of all payloads here.
-pub fn key() -> Result<XtsKey, Fail> {
-    match XtsKey::new(b"a key of XTS-AES-128 has 32 byte") {
+pub fn key() -> Result<SectorCipher, Fail> {
+    match SectorCipher::new(Mode::XtsPlain64, b"a key of XTS-AES-128 has 32 byte") {
         Some(key) => Ok(key),
         None => Err("no key".into()),
     }
@@ -81,6 +81,7 @@ pub fn dynamic(offset: u64, sector_size: SectorSize, iv_tweak: u64) -> Segment
         size: None,
         iv_tweak,
         sector_size,
+        mode: Mode::XtsPlain64,
     }
 }
 
@@ -94,6 +95,7 @@ pub fn fixed(offset: u64, sector_size: SectorSize, iv_tweak: u64, size: u64) -> 
         size: Some(size),
         iv_tweak,
         sector_size,
+        mode: Mode::XtsPlain64,
     }
 }
 

@@ -7,6 +7,7 @@ use super::fixture::counted;
 use super::sealed::{at, parameters, slot};
 use crate::seal::luks1::seal1;
 use crate::seal::parameters::{Seal1, Slot1};
+use luks_cipher::Mode;
 use luks_kdf::{Hash, digest};
 use std::process::Abort;
 use std::test::Fail;
@@ -73,6 +74,7 @@ fn check_large(rt: &(impl Abort + AllocGlobal)) -> Result<(), Fail> {
     let slots = [fourth, eighth, first];
     let seal = Seal1 {
         hash: Hash::Sha1,
+        mode: Mode::XtsPlain64,
         key: at(&bytes, 0, 64),
         stripes: 100,
         payload_sectors: 136,

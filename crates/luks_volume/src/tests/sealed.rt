@@ -7,7 +7,7 @@ use crate::pump::Pump;
 use crate::seal::luks1::seal1;
 use crate::seal::parameters::{Seal1, SealFault, Slot1};
 use crate::state::Step;
-use luks_cipher::XtsKey;
+use luks_cipher::{Mode, SectorCipher};
 use luks_header::sector_size::SectorSize;
 use luks_kdf::{Hash, Work, af_merge, pbkdf2};
 use luks_testing::devices::Flaky;
@@ -47,6 +47,7 @@ pub fn slot(number: u32, salt: [u8; 32], passphrase: &'static [u8]) -> Slot1<'st
 pub fn parameters<'a>(slots: &'a [Slot1<'a>], plain: &'a [u8]) -> Seal1<'a> {
     Seal1 {
         hash: Hash::Sha256,
+        mode: Mode::XtsPlain64,
         key: KEY,
         stripes: 4,
         payload_sectors: 72,
@@ -77,7 +78,7 @@ fn merge(stripes: &[u8], key: &mut [u8])
 fn decrypt(area_key: &[u8], area: &mut [u8])
     requires { length area.old ≡ 512 }
 {
-    if let Some(cipher) = XtsKey::new(area_key) {
+    if let Some(cipher) = SectorCipher::new(Mode::XtsPlain64, area_key) {
         cipher.decrypt_unit(0, area);
     }
 }
@@ -177,7 +178,7 @@ fn check_sealed(rt: &(impl Abort + AllocGlobal)) -> Result<(), Fail> {
     assert_eq!(rt; sixth.as_slice(), KEY);
     let wrong = opened(alloc, &image, 4096, &FIRST_SALT, b"sixth")?;
     assert!(rt; wrong.as_slice() != KEY);
-    let Some(key) = XtsKey::new(KEY) else {
+    let Some(key) = SectorCipher::new(Mode::XtsPlain64, KEY) else {
         return Err("no key".into());
     };
     let mut pump = Pump::new(dynamic(36_864, SectorSize::B512, 0), key, 0);
@@ -262,6 +263,18 @@ fn check_lengths(rt: &(impl Abort + AllocGlobal)) -> Result<(), Fail> {
     for (place, len, fits) in [(1, 0, true), (1, 40, true), (1, 41, false), (0, 1, false)] {
         let uuid = at(&bytes, place, len);
         check(rt, Seal1 { uuid, ..base }, fits);
+    }
+    for (mode, len, fits) in [
+        (Mode::XtsPlain, 64, true),
+        (Mode::XtsPlain, 16, false),
+        (Mode::CbcEssivSha256, 15, false),
+        (Mode::CbcEssivSha256, 16, true),
+        (Mode::CbcEssivSha256, 24, false),
+        (Mode::CbcPlain64, 32, true),
+        (Mode::CbcPlain64, 64, false),
+    ] {
+        let key = at(&bytes, 0, len);
+        check(rt, Seal1 { mode, key, ..base }, fits);
     }
     for (uuid, fits) in [
         (b"\x00a-uuid", false),

@@ -1,4 +1,4 @@
-use Rattle.std.proofs.Common.{◌≡◌}
+use Rattle.std.proofs.Common.{◌≡◌, ◌*◌}
 use Rattle.luks_aes.specs.Aes.{decrypted}
 use Rattle.luks_cipher.specs.Xts.{block_at, block_sum}
 use Rattle.luks_aes.specs.Bytes.{IsBytes}
@@ -8,6 +8,15 @@ use Rattle.luks_cipher.proofs.TweakLemmas.{IsDoneBefore}
 use Rattle.luks_cipher.proofs.cbc.decrypt_chain.Given as goal
 
 -- the unit and the vector were of bytes, the blocks so far are done, and what the last of them was is kept
+abbrev pub invariant-loop-i : goal.invariant-loop-i
+invariant-loop-i l = record {
+  bytes : IsBytes l.fn.unit;
+  vector : IsState l.fn.vector;
+  last : l.before ≡ block_before l.fn.vector l.fn.unit (32 * l.i);
+  done : IsDoneBefore (λ j. block_sum (decrypted l.key (block_at l.fn.unit j)) (block_before l.fn.vector l.fn.unit j))
+      l.fn.unit l.unit (32 * l.i);
+}
+
 abbrev pub invariant-loop-j : goal.invariant-loop-j
 invariant-loop-j l = record {
   bytes : IsBytes l.fn.unit;

@@ -9,6 +9,7 @@ use luks_io::memory::{MemSink, MemSource};
 use luks_report::message::Message;
 use luks_report::report::Report;
 use luks_testing::scarce::Scarcity;
+use std::alloc::{AllocError, Global};
 use std::test::Fail;
 
 // Puts bytes at a place of a header.
@@ -175,9 +176,40 @@ fn tells_what_is_no_header(rt: HostRuntime) -> Result<(), Fail> {
         check(&rt, &run(alloc, "isLuks i", &other, &[])?, &[], 1, "");
         check(&rt, &run(alloc, "luksDump i", &other, &[])?, &[], 4, none);
     }
-    let zeros = run(alloc, "isLuks i", &[0; 1000], &[])?;
-    check(&rt, &zeros, &[], 1, "");
-    assert_eq!(rt; zeros.image_left, 408);
+    Ok(())
+}
+
+// So many zeros.
+fn zeros(alloc: Global, len: usize) -> Result<Vec<u8>, AllocError> {
+    vec![in alloc; 0; len]
+}
+
+// A header of LUKS2 is sought at nine places, and 4,096 bytes are read at the last of them.
+#[test]
+fn seeks_a_header_so_far(rt: HostRuntime) -> Result<(), Fail> {
+    let alloc = rt.alloc();
+    for (len, left) in [(1000, 0), (4_198_400, 0), (4_200_000, 1600)] {
+        let ended = run(alloc, "isLuks i", &zeros(alloc, len)?, &[])?;
+        check(&rt, &ended, &[], 1, "");
+        assert_eq!(rt; ended.image_left, left);
+    }
+    Ok(())
+}
+
+// What is amiss with the header above: one of its slots is damaged.
+const FINDINGS: &str = "slot 2: state\n";
+
+#[test]
+fn tells_what_is_amiss(rt: HostRuntime) -> Result<(), Fail> {
+    let alloc = rt.alloc();
+    let mut header = make_header();
+    let told = "luksrd: the header has findings\n";
+    let ended = run(alloc, "luksCheck i", &header, &[])?;
+    check(&rt, &ended, FINDINGS.as_bytes(), 1, told);
+    assert_eq!(rt; ended.image_left, 0);
+    put(&mut header, 304, &[0, 0, 0xde, 0xad]);
+    let ended = run(alloc, "luksCheck i", &header, &[])?;
+    check(&rt, &ended, b"clean\n", 0, "");
     Ok(())
 }
 
@@ -210,7 +242,12 @@ fn tells_failed_devices(rt: HostRuntime) -> Result<(), Fail> {
 fn answers_memory_where_it_is_refused(rt: HostRuntime) -> Result<(), Fail> {
     let alloc = rt.alloc();
     let header = make_header();
-    for (line, whole) in [("isLuks i", ""), ("luksUUID i", UUID), ("luksDump i", DUMP)] {
+    for (line, whole, message) in [
+        ("isLuks i", "", Message::Done),
+        ("luksUUID i", UUID, Message::Done),
+        ("luksDump i", DUMP, Message::Done),
+        ("luksCheck i", FINDINGS, Message::Findings),
+    ] {
         let words: Vec<&str> = line.split(' ').collect(alloc)?;
         let command = plan(alloc, words.as_slice()).ok().ok_or("a command")?;
         let mut out = MemSink::new(alloc, 4096)?;
@@ -225,7 +262,7 @@ fn answers_memory_where_it_is_refused(rt: HostRuntime) -> Result<(), Fail> {
                 &mut MemSource::new(&[]),
                 &mut out,
             );
-            let done = report.status == 0;
+            let done = report.message != Message::OutOfMemory;
             let _ = reports.push((report, out.as_slice().len()));
             if done {
                 break;
@@ -234,7 +271,7 @@ fn answers_memory_where_it_is_refused(rt: HostRuntime) -> Result<(), Fail> {
         }
         drop(scarcity);
         let last = reports.pop().ok_or("a run")?;
-        assert_eq!(rt; last.0, Report::of(Message::Done), "{line}");
+        assert_eq!(rt; last.0, Report::of(message), "{line}");
         assert_eq!(rt; out.as_slice(), whole.as_bytes(), "{line}");
         assert!(rt; !reports.is_empty(), "{line}: no refusal");
         for (report, written) in reports.iter() {

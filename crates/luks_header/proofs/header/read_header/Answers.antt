@@ -1,11 +1,12 @@
-use Rattle.std.proofs.Common.{◌≡◌, ◌≤◌, ◌∙◌, Err, ap, sym, length, true, arith}
+use Rattle.std.proofs.Common.{◌≡◌, ◌≤◌, ◌∙◌, Err, ap, sym, length, true, false, not, arith}
 use Rattle.std.proofs.lemmas.Result.{err_from_is_err_and}
 use Rattle.luks_area.specs.Area.{is_short}
 use Rattle.luks_header.specs.Header.{header_of}
 use Rattle.luks1_header.specs.Header1.{header1_of, is_luks1}
 use Rattle.luks_header.specs.declared.header.Header.TheVariants.{V1}
 use Rattle.luks_area.specs.declared.fault.HeaderFault.TheVariants.{NotLuks, Cut}
-use Rattle.luks_header.proofs.HeaderLemmas.{all_cost, area_is, header_of-cut, header_of-other, header_of-whole, none_read, one_read, breaks_reading, short_from_not_whole}
+use Rattle.luks_header.proofs.HeaderLemmas.{all_cost, area_is, breaks_reading, header_of-cut, header_of-whole, image_other, left_is, none_read, one_read, rest_broken, rest_read, short_from_not_whole, short_read}
+use Rattle.luks_header.proofs.HeldLemmas.{begins_longer}
 use Rattle.luks_header.proofs.header.read_header.Goals as goal
 
 pub returns-in_err-whole-clause-broken : goal.returns-in_err-whole-clause-broken
@@ -14,58 +15,92 @@ returns-in_err-whole-clause-broken g c =
     rw (p.1, p.2) (λ image knows.
     breaks_reading _ _ image _ _ c.new-area.ensures (let h = c.in_err-whole.ensures.broken in h image knows))
 
-pub returns-then-not-is_header1-clause-broken : goal.returns-then-not-is_header1-clause-broken
-returns-then-not-is_header1-clause-broken g c =
-    λ image knows.
-    let none : header_of c.extend_to.new.self ≡ Err NotLuks =
-    header_of-other c.extend_to.new.self
-    (ap is_luks1 (sym c.as_slice-bytes.ensures.value) ∙ sym c.is_header1.ensures ∙ c.if-not-is_header1.true) in
-    none_read c.extend_to.new.self image _ NotLuks
-    (area_is c.new-area.result c.extend_to.new.self image _ c.new-area.ensures
-    (c.in_ok-whole.ensures.taken image knows)) none
-
 pub returns-then-not-whole-clause-broken : goal.returns-then-not-whole-clause-broken
-returns-then-not-whole-clause-broken g c =
-    λ image knows.
-    let is : is_luks1 c.extend_to.new.self ≡ true = ap is_luks1 (sym c.as_slice-bytes.ensures.value)
-    ∙ sym c.is_header1.ensures ∙ c.if-not-is_header1.false in
+returns-then-not-whole-clause-broken g c image knows =
+    let is : is_luks1 c.extend_to.new.self ≡ true = ap is_luks1 (sym c.as_slice.ensures.value)
+    ∙ sym c.is_header1.ensures ∙ c.if-is_header1.true in
     let short = short_from_not_whole c.in_ok-whole.whole 592 (length c.extend_to.new.self) c.in_ok-whole.ensures.whole
     c.if-not-whole.true in
-    none_read c.extend_to.new.self image _ Cut
+    none_read c.extend_to.new.self image _
     (area_is c.new-area.result c.extend_to.new.self image _ c.new-area.ensures
-    (c.in_ok-whole.ensures.taken image knows))
-    (header_of-cut c.extend_to.new.self is short)
+    (c.in_ok-whole.ensures.taken image knows)) is Cut (header_of-cut c.extend_to.new.self is short)
 
-pub returns-clause-held : goal.returns-clause-held
-returns-clause-held g c =
-    let is : is_luks1 c.extend_to.new.self ≡ true = ap is_luks1 (sym c.as_slice-bytes.ensures.value)
-    ∙ sym c.is_header1.ensures ∙ c.if-not-is_header1.false in
+pub returns-then-is_header1-clause-held : goal.returns-then-is_header1-clause-held
+returns-then-is_header1-clause-held g c =
+    let is : is_luks1 c.extend_to.new.self ≡ true = ap is_luks1 (sym c.as_slice.ensures.value)
+    ∙ sym c.is_header1.ensures ∙ c.if-is_header1.true in
     let none : length c.new-area.result ≡ 0 = ap length c.new-area.ensures in
     let long : 592 ≤ length c.extend_to.new.self = c.in_ok-whole.ensures.whole.0 c.if-not-whole.false in
     header_of-whole c.extend_to.new.self c.from_bytes-header.result is (omega (arith, c.in_ok-whole.ensures.within))
-    (c.from_bytes-header.ensures ∙ ap header1_of c.as_slice-bytes.ensures.value)
+    (c.from_bytes-header.ensures ∙ ap header1_of c.as_slice-then-is_header1.ensures.value)
+
+pub returns-then-is_header1-clause-taken : goal.returns-then-is_header1-clause-taken
+returns-then-is_header1-clause-taken g c image knows =
+    let is : is_luks1 c.extend_to.new.self ≡ true = ap is_luks1 (sym c.as_slice.ensures.value)
+    ∙ sym c.is_header1.ensures ∙ c.if-is_header1.true in
+    one_read c.extend_to.new.self image _
+    (area_is c.new-area.result c.extend_to.new.self image _ c.new-area.ensures
+    (c.in_ok-whole.ensures.taken image knows)) is (V1 c.from_bytes-header.result)
+    (returns-then-is_header1-clause-held g c)
+
+pub returns-then-is_header1-clause-only : goal.returns-then-is_header1-clause-only
+returns-then-is_header1-clause-only g c =
+    let is : is_luks1 c.extend_to.new.self ≡ true = ap is_luks1 (sym c.as_slice.ensures.value)
+    ∙ sym c.is_header1.ensures ∙ c.if-is_header1.true in
+    let none : length c.new-area.result ≡ 0 = ap length c.new-area.ensures in
+    all_cost c.extend_to.new.self is (omega (arith, c.in_ok-whole.ensures.within))
+
+-- ---- the image does not begin as LUKS1
+
+pub returns-then-not-whole-2-clause-broken : goal.returns-then-not-whole-2-clause-broken
+returns-then-not-whole-2-clause-broken g c image knows =
+    let other : is_luks1 c.extend_to.new.self ≡ false = ap is_luks1 (sym c.as_slice.ensures.value)
+    ∙ sym c.is_header1.ensures ∙ c.if-is_header1.false in
+    let short = short_from_not_whole c.in_ok-whole.whole 592 (length c.extend_to.new.self) c.in_ok-whole.ensures.whole
+    c.if-not-whole-2.true in
+    short_read c.extend_to.new.self image _
+    (area_is c.new-area.result c.extend_to.new.self image _ c.new-area.ensures
+    (c.in_ok-whole.ensures.taken image knows)) other short
+
+pub returns-in_err-header-clause-broken : goal.returns-in_err-header-clause-broken
+returns-in_err-header-clause-broken g c =
+    let p = err_from_is_err_and c.from_residual-in_err-header.result c.from_residual-in_err-header.ensures.1 in
+    rw (p.1, p.2) (λ image knows.
+    let other : is_luks1 c.extend_to.new.self ≡ false = ap is_luks1 (sym c.as_slice.ensures.value)
+    ∙ sym c.is_header1.ensures ∙ c.if-is_header1.false in
+    let none : length c.new-area.result ≡ 0 = ap length c.new-area.ensures in
+    let long : 592 ≤ length c.extend_to.new.self = c.in_ok-whole.ensures.whole.0 c.if-not-whole-2.false in
+    let all : length c.extend_to.new.self ≡ 592 = omega (arith, c.in_ok-whole.ensures.within) in
+    let taken = area_is c.new-area.result c.extend_to.new.self image _ c.new-area.ensures
+    (c.in_ok-whole.ensures.taken image knows) in
+    rest_broken c.extend_to.new.self image _ taken other all _ c.read2.new.area c.in_err-header.field-0.0
+    (c.in_err-header.ensures.broken _ (left_is c.extend_to.new.self image _ taken other all)))
+
+pub returns-in_err-header-clause-memory : goal.returns-in_err-header-clause-memory
+returns-in_err-header-clause-memory g c image knows begins =
+    let other : is_luks1 c.extend_to.new.self ≡ false = ap is_luks1 (sym c.as_slice.ensures.value)
+    ∙ sym c.is_header1.ensures ∙ c.if-is_header1.false in
+    let taken = area_is c.new-area.result c.extend_to.new.self image _ c.new-area.ensures
+    (c.in_ok-whole.ensures.taken image knows) in
+    absurd (let no = image_other c.extend_to.new.self image _ taken other in cc)
 
 pub returns-clause-taken : goal.returns-clause-taken
-returns-clause-taken g c =
-    λ image knows.
-    one_read c.extend_to.new.self image _ (V1 c.from_bytes-header.result)
-    (area_is c.new-area.result c.extend_to.new.self image _ c.new-area.ensures
-    (c.in_ok-whole.ensures.taken image knows)) (returns-clause-held g c)
-
-pub returns-clause-only : goal.returns-clause-only
-returns-clause-only g c =
+returns-clause-taken g c image knows =
+    let other : is_luks1 c.extend_to.new.self ≡ false = ap is_luks1 (sym c.as_slice.ensures.value)
+    ∙ sym c.is_header1.ensures ∙ c.if-is_header1.false in
     let none : length c.new-area.result ≡ 0 = ap length c.new-area.ensures in
-    all_cost c.extend_to.new.self (omega (arith, c.in_ok-whole.ensures.within))
+    let long : 592 ≤ length c.extend_to.new.self = c.in_ok-whole.ensures.whole.0 c.if-not-whole-2.false in
+    let all : length c.extend_to.new.self ≡ 592 = omega (arith, c.in_ok-whole.ensures.within) in
+    let taken = area_is c.new-area.result c.extend_to.new.self image _ c.new-area.ensures
+    (c.in_ok-whole.ensures.taken image knows) in
+    rest_read c.extend_to.new.self image _ taken other all _ c.read2.new.area c.in_ok-header.header
+    (c.in_ok-header.ensures.taken _ (left_is c.extend_to.new.self image _ taken other all))
 
--- the end is found once at most
-pub returns-in_err-whole-clause-once : goal.returns-in_err-whole-clause-once
-returns-in_err-whole-clause-once g c = (is_short c.extend_to.result, c.extend_to.ensures.ends)
-
-pub returns-then-not-is_header1-clause-once : goal.returns-then-not-is_header1-clause-once
-returns-then-not-is_header1-clause-once g c = (is_short c.extend_to.result, c.extend_to.ensures.ends)
-
-pub returns-then-not-whole-clause-once : goal.returns-then-not-whole-clause-once
-returns-then-not-whole-clause-once g c = (is_short c.extend_to.result, c.extend_to.ensures.ends)
-
-pub returns-clause-once : goal.returns-clause-once
-returns-clause-once g c = (is_short c.extend_to.result, c.extend_to.ensures.ends)
+pub returns-clause-ends : goal.returns-clause-ends
+returns-clause-ends g c begins =
+    let other : is_luks1 c.extend_to.new.self ≡ false = ap is_luks1 (sym c.as_slice.ensures.value)
+    ∙ sym c.is_header1.ensures ∙ c.if-is_header1.false in
+    let none : length c.new-area.result ≡ 0 = ap length c.new-area.ensures in
+    let long : 592 ≤ length c.extend_to.new.self = c.in_ok-whole.ensures.whole.0 c.if-not-whole-2.false in
+    let some : 8 ≤ length c.extend_to.new.self = omega (arith, long) in
+    absurd (let same = begins_longer c.extend_to.new.self c.read2.new.area some c.in_ok-header.ensures.kept in cc)

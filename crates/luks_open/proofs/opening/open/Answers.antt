@@ -1,5 +1,5 @@
 use Rattle.std.proofs.Common.{length}
-use Rattle.luks_open.proofs.TrialLemmas.{All-IsTriable}
+use Rattle.luks_open.proofs.TrialLemmas.{All-IsTriable, All-volume_key}
 use Rattle.luks_open.proofs.opening.open.Goals as goal
 
 pub first_opening-requires : goal.first_opening-requires
@@ -9,3 +9,10 @@ first_opening-requires c =
     rw (c.entries.ensures, c.as_slice.ensures.value)
     (All-IsTriable c.args.header.now segment.0 order.0 order.1 c.args.order.now (length c.args.area.now) segment.1
     order.2 c.requires.held)
+
+pub returns-in-Some-clause-key_length : goal.returns-in-Some-clause-key_length
+returns-in-Some-clause-key_length c segment is_segment =
+    let order = c.requires.order in
+    rw c.in-Some.is at (c.first_opening.ensures.len segment.mode
+    (rw c.entries.ensures
+    (All-volume_key c.args.header.now segment order.0 order.1 c.args.order.now is_segment order.2)))

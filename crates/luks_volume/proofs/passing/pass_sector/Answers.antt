@@ -18,7 +18,8 @@ returns-in_err-put_all-clause-err g c =
     omega (arith, c.in_err-put_all.ensures.err.0, c.decrypt_unit.auto.unit, c.fill.auto.buf) in
     rw (p.1, p.2) (λ known is.
     let next = c.in_ok-got.ensures.bytes known is in
-    let unit = unit_filled c.args.key.now c.args.number (length c.args.sector.now) c.in_ok-got.got known c.fill.new.buf
+    let unit = unit_filled c.args.cipher.now c.args.number (length c.args.sector.now) c.in_ok-got.got known
+        c.fill.new.buf
     c.decrypt_unit.new.unit c.fill.auto.buf full next.1
     c.decrypt_unit.ensures.value in
     (rw full at next.0, (c.in_err-put_all.field-0.0.written, few, rw (← unit) c.in_err-put_all.ensures.err.1)))
@@ -26,13 +27,14 @@ returns-in_err-put_all-clause-err g c =
 pub returns-clause-written : goal.returns-clause-written
 returns-clause-written g c whole known is =
     let next = c.in_ok-got.ensures.bytes known is in
-    let unit = unit_filled c.args.key.now c.args.number (length c.args.sector.now) c.in_ok-got.got known c.fill.new.buf
+    let unit = unit_filled c.args.cipher.now c.args.number (length c.args.sector.now) c.in_ok-got.got known
+        c.fill.new.buf
     c.decrypt_unit.new.unit c.fill.auto.buf whole next.1
     c.decrypt_unit.ensures.value in
     rw (whole, ← unit) c.in_ok-put_all.ensures.ok
 
 pub returns-clause-whole : goal.returns-clause-whole
 returns-clause-whole g c whole =
-    let unit = unit_is c.args.key.now c.args.number c.fill.new.buf c.decrypt_unit.new.unit
+    let unit = unit_is c.args.cipher.now c.args.number c.fill.new.buf c.decrypt_unit.new.unit
     c.decrypt_unit.ensures.value in
     (c.fill.new.buf, c.fill.auto.buf, rw (← unit) c.in_ok-put_all.ensures.ok)

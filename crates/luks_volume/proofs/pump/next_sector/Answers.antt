@@ -11,7 +11,7 @@ use Rattle.luks_volume.proofs.pump.next_sector.Goals as goal
 pub returns-then-count-limit-clause-run : goal.returns-then-count-limit-clause-run
 returns-then-count-limit-clause-run g c image few took =
     let full : c.args.count ≡ limit_of c.args.segment.now = omega arith in
-    steps_at_limit c.args.segment.now image c.args.count _ took c.args.key.now (g.O.Sink.written c.args.sink.now)
+    steps_at_limit c.args.segment.now image c.args.count _ took c.args.cipher.now (g.O.Sink.written c.args.sink.now)
     (g.O.Sink.written c.args.sink.now) full few
 
 pub returns-in_err-got-clause-run : goal.returns-in_err-got-clause-run
@@ -22,7 +22,7 @@ returns-in_err-got-clause-run g c =
     let sized : length (take c.bytes-size.result c.args.buffer.now) ≡ sector_len c.args.segment.now =
     length-take-le c.bytes-size.result c.args.buffer.now (omega arith) ∙ c.bytes-size.ensures in
     rw (p.1, p.2) (λ image few took.
-    steps_broken c.args.segment.now image c.args.count _ took c.args.key.now _ _ _ _ below
+    steps_broken c.args.segment.now image c.args.count _ took c.args.cipher.now _ _ _ _ below
     (rw (sized, c.number.ensures) at c.in_err-got.ensures.err))
 
 pub returns-then-got-size-clause-run : goal.returns-then-got-size-clause-run
@@ -31,7 +31,7 @@ returns-then-got-size-clause-run g c image few took =
     let most = at_most_4096 c.args.segment.now.sector_size in
     let sized : length (take c.bytes-size.result c.args.buffer.now) ≡ sector_len c.args.segment.now =
     length-take-le c.bytes-size.result c.args.buffer.now (omega arith) ∙ c.bytes-size.ensures in
-    steps_torn c.args.segment.now image c.args.count _ took c.args.key.now _ _ _ _ c.in_ok-got.got below
+    steps_torn c.args.segment.now image c.args.count _ took c.args.cipher.now _ _ _ _ c.in_ok-got.got below
     (rw sized at c.in_ok-got.ensures.taken) (omega arith) c.ending.ensures
 
 pub returns-clause-run : goal.returns-clause-run

@@ -1,8 +1,18 @@
 use Rattle.std.proofs.Common.{◌∙◌}
 use Rattle.luks_aes.specs.Aes.{encrypted}
 use Rattle.luks_cipher.specs.Cbc.{cbc_encrypted, cbc_decrypted}
-use Rattle.luks_cipher.proofs.ChainsUndone.{to_vector, from_vector}
+use Rattle.luks_cipher.proofs.ChainsUndone.{to_vector, from_vector, to_key, from_key}
 use Rattle.luks_cipher.proofs.sector.SectorCipher.encrypt_unit.Goals as goal
+
+pub returns-in-CbcEssivSha256-clause-value : goal.returns-in-CbcEssivSha256-clause-value
+returns-in-CbcEssivSha256-clause-value c =
+    let view = c.self.view_is in
+    let arm = c.in-CbcEssivSha256.is in
+    let digest = rw arm at c.self.invariant.digest in
+    let vector = c.encrypt_block.ensures.value ∙ (λ i. encrypted (digest i) (c.number_block-vector.ensures i)) in
+    rw (← view, arm)
+    (to_vector cbc_encrypted _ _ _ _ _ vector (to_key cbc_encrypted _ _ _ _ _ c.key.ensures
+    c.encrypt_chain.ensures.value))
 
 pub returns-in-CbcEssivSha256-clause-undone : goal.returns-in-CbcEssivSha256-clause-undone
 returns-in-CbcEssivSha256-clause-undone c =
@@ -11,14 +21,17 @@ returns-in-CbcEssivSha256-clause-undone c =
     let digest = rw arm at c.self.invariant.digest in
     let bytes = rw arm at c.self.invariant.bytes in
     let vector = c.encrypt_block.ensures.value ∙ (λ i. encrypted (digest i) (c.number_block-vector.ensures i)) in
-    rw (← view, arm) (from_vector cbc_decrypted _ _ _ _ _ vector (c.encrypt_chain.ensures.undone bytes))
+    rw (← view, arm)
+    (from_vector cbc_decrypted _ _ _ _ _ vector
+    (from_key cbc_decrypted _ _ _ _ _ c.key.ensures c.encrypt_chain.ensures.undone bytes))
 
 pub returns-in-CbcPlain64-clause-value : goal.returns-in-CbcPlain64-clause-value
 returns-in-CbcPlain64-clause-value c =
     let view = c.self.view_is in
     let arm = c.in-CbcPlain64.is in
     rw (← view, arm)
-    (to_vector cbc_encrypted _ _ _ _ _ c.number_block.ensures c.encrypt_chain-in-CbcPlain64.ensures.value)
+    (to_vector cbc_encrypted _ _ _ _ _ c.number_block.ensures
+    (to_key cbc_encrypted _ _ _ _ _ c.key-in-CbcPlain64.ensures c.encrypt_chain-in-CbcPlain64.ensures.value))
 
 pub returns-in-CbcPlain64-clause-undone : goal.returns-in-CbcPlain64-clause-undone
 returns-in-CbcPlain64-clause-undone c =
@@ -27,4 +40,4 @@ returns-in-CbcPlain64-clause-undone c =
     let bytes = rw arm at c.self.invariant.bytes in
     rw (← view, arm)
     (from_vector cbc_decrypted _ _ _ _ _ c.number_block.ensures
-    (c.encrypt_chain-in-CbcPlain64.ensures.undone bytes))
+    (from_key cbc_decrypted _ _ _ _ _ c.key-in-CbcPlain64.ensures c.encrypt_chain-in-CbcPlain64.ensures.undone bytes))

@@ -1,10 +1,18 @@
-use Rattle.std.proofs.Common.{◌≡◌}
+use Rattle.std.proofs.Common.{◌≡◌, ◌*◌}
 use Rattle.luks_aes.specs.Bytes.{IsBytes}
 use Rattle.luks_cipher.specs.Xts.{tweak_of, block_at, block_decrypted}
 use Rattle.luks_cipher.proofs.TweakLemmas.{IsDoneBefore}
 use Rattle.luks_cipher.proofs.xts.XtsKey.decrypt_unit.Given as goal
 
 -- the unit was of bytes, the tweak is the next block's, and the blocks before it are done
+abbrev pub invariant-loop-i : goal.invariant-loop-i
+invariant-loop-i l = record {
+  bytes : IsBytes l.fn.unit;
+  next_tweak : l.tweak ≡ tweak_of l.self l.number (32 * l.i);
+  done : IsDoneBefore (λ j. block_decrypted l.self (tweak_of l.self l.number j) (block_at l.fn.unit j)) l.fn.unit
+      l.unit (32 * l.i);
+}
+
 abbrev pub invariant-loop-j : goal.invariant-loop-j
 invariant-loop-j l = record {
   bytes : IsBytes l.fn.unit;

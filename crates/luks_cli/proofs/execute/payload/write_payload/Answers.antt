@@ -9,7 +9,7 @@ use Rattle.luks_cli.proofs.execute.payload.write_payload.Goals as goal
 pub sectors-init : goal.sectors-init
 sectors-init g c = rw c.new-pump.ensures (record {
   segment = refl;
-  key = refl;
+  cipher = refl;
   count = refl;
   running = refl;
   reads = refl;
@@ -23,7 +23,7 @@ sectors-preserved g c =
     let step = rw c.in-Sector.is at c.in_ok-step.ensures in
     rw step.pump (record {
       segment = so_far.segment;
-      key = so_far.key;
+      cipher = so_far.cipher;
       count = ap (λ n. n + 1) so_far.count;
       running = refl;
       reads = step.reads so_far.running ∙ so_far.reads;
@@ -38,7 +38,7 @@ returns-in_err-step-clause-run g c =
     let p = err_from_is_err_and c.from_residual.result c.from_residual.ensures.1 in
     let so_far = c.sectors.invariant in
     let step = c.in_err-step.ensures in
-    rw (p.1, p.2, ← so_far.segment, ← so_far.key) (λ whole few took.
+    rw (p.1, p.2, ← so_far.segment, ← so_far.cipher) (λ whole few took.
     let passing = so_far.passing whole few took in
     passing_breaks _ whole _ _ _ _ _ passing _ _ (λ same. ap g.O.Sink.written same) step.writes_sectors
     (step.run whole few passing.stands))
@@ -68,7 +68,7 @@ pub returns-in-End-clause-run : goal.returns-in-End-clause-run
 returns-in-End-clause-run g c =
     let so_far = c.sectors.invariant in
     let step = rw c.in-End.is at c.in_ok-step.ensures in
-    rw (← so_far.segment, ← so_far.key) (λ whole few took.
+    rw (← so_far.segment, ← so_far.cipher) (λ whole few took.
     let passing = so_far.passing whole few took in
     passing_ends _ whole _ _ _ _ _ passing (step.run whole few passing.stands)
     (ap g.O.Sink.written step.writes_sectors))

@@ -8,7 +8,7 @@ use Rattle.luks_cli.proofs.execute.payload.write_payload.Given as goal
 abbrev pub invariant-sectors : goal.invariant-sectors
 invariant-sectors g l = record {
   segment : l.pump.segment ≡ l.fn.segment;
-  key : l.pump.key ≡ l.fn.key;
+  cipher : l.pump.cipher ≡ l.fn.cipher;
   count : l.pump.count ≡ l.counter;
   running : is_running l.pump.state ≡ true;
   reads : g.I.Source.failures l.image ≡ g.I.Source.failures l.initial.image;

@@ -1,15 +1,17 @@
 use Rattle.std.proofs.Common.{ap, length, ◌∙◌}
-use Rattle.luks_cipher.specs.Xts.{is_xts_key_length}
+use Rattle.luks_cipher.specs.Sector.{is_mode_key_length}
 use Rattle.luks_cli.specs.Run.{message_of}
-use Rattle.luks_cli.proofs.OpenedRuns.{counts_passed, key_is, never_memory, runs_passed}
+use Rattle.luks_cli.proofs.OpenedRuns.{cipher_is, counts_passed, never_memory, runs_passed}
 use Rattle.luks_cli.proofs.execute.volumes.cat.Goals as goal
 
 pub returns-clause-run : goal.returns-clause-run
 returns-clause-run g c known is pass has counted =
     let u = c.in_ok-unlocked.ensures.ok known is pass has in
-    let key = key_is c.in-Some.key c.as_slice.result.now
-    (ap (λ l. is_xts_key_length (length l)) c.as_slice.ensures ∙ c.in_ok-unlocked.ensures.key) c.in-Some.ensures in
-    let passed = rw (key, c.as_slice.ensures) at (c.write_payload.ensures.run known counted u.image_taken) in
+    let mode = c.in_ok-unlocked.unlocked.segment.mode in
+    let cipher = cipher_is c.in-Some.cipher mode c.as_slice-key.result.now
+    (ap (λ l. is_mode_key_length mode (length l)) c.as_slice-key.ensures ∙ c.in_ok-unlocked.ensures.key)
+    c.in-Some.ensures in
+    let passed = rw (cipher, c.as_slice-key.ensures) at (c.write_payload.ensures.run known counted u.image_taken) in
     runs_passed _ known pass _ _ _ _ _ u c.in_ok-unlocked.ensures.held _ _ _ (message_of c.write_payload.result)
     (never_memory c.write_payload.result c.write_payload.ensures.memory) passed
 

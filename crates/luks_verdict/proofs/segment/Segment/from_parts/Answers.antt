@@ -6,6 +6,5 @@ use Rattle.luks_verdict.proofs.segment.Segment.from_parts.Goals as goal
 pub returns : goal.returns
 unfolding segment_from
 returns c =
-    rw (c.in-Some.is, c.in-Some-size.is, c.in-Some-iv_tweak.is, c.in-Some-sector_size.is)
-    (segment_made c.in-Some.offset c.in-Some-size.size c.in-Some-iv_tweak.iv_tweak c.in-Some-sector_size.sector_size _
-    (sym c.in_sectors.ensures ∙ c.if-not-in_sectors.false))
+    rw (c.in_ok-offset.was, c.in_ok-size.was, c.in_ok-iv_tweak.was, c.in_ok-sector_size.was, c.in_ok-mode.was)
+    (segment_made _ _ _ _ _ _ (sym c.in_sectors.ensures ∙ c.if-not-in_sectors.false))

@@ -1,0 +1,41 @@
+-- Images that are too short for a header, and what each image costs at least.
+use Rattle.std.proofs.Common.{◌≡◌, ◌∙◌, ℕ, ◌<◌, ◌≤◌, List, [], ◌∷◌, None, Err, Bool, false, true, ap, refl, length, min, arith}
+use Rattle.std.specs.List.{find}
+use Rattle.luks_area.specs.declared.fault.HeaderFault.TheVariants.{NotLuks}
+use Rattle.luks2_header.specs.Choice2.{chosen2_of, found_at, header2_of, is_tried, is_valid, least_valid}
+use Rattle.luks2_header.specs.Cost2.{cost2_of}
+use Rattle.luks2_header.specs.Header2.{sizes}
+use Rattle.luks2_header.proofs.ChoiceLemmas.{chosen_other, reach_some}
+use Rattle.luks2_header.proofs.SearchLemmas.{least_is}
+use Rattle.luks2_header.proofs.ValidLemmas.{short-fits, unfit-is_valid}
+use Rattle.luks2_header.proofs.WalkLemmas.{first_valid}
+
+-- at least 4,096 bytes are read, or all
+pub cost_least : (image : List ℕ) → min 4096 (length image) ≤ cost2_of image
+unfolding cost2_of
+cost_least image = omega (arith, reach_some image)
+
+-- and no byte that is not there
+pub cost2_there : (image : List ℕ) → cost2_of image ≤ length image
+unfolding cost2_of
+cost2_there image = omega arith
+
+-- of a shorter image all
+pub cost_short : (image : List ℕ) → length image < 4096 → cost2_of image ≡ length image
+unfolding cost2_of
+cost_short image short = omega (arith, reach_some image)
+
+-- where no place is valid, there is no first one
+none_first : (valid : ℕ → Bool) (places : List ℕ) → ((place : ℕ) → valid place ≡ false)
+    → first_valid valid places ≡ None
+unfolding first_valid
+none_first valid [] none = refl
+none_first valid (place ∷ places) none = rw (none place) (none_first valid places none)
+
+-- and it has no header
+pub none_short : (image : List ℕ) → length image < 4096 → header2_of image ≡ Err NotLuks
+unfolding header2_of
+none_short image short =
+    let none : (place : ℕ) → is_valid image place ≡ false =
+    λ place. unfit-is_valid image place (short-fits image place (omega arith)) in
+    rw (chosen_other image (none 0), least_is image, none_first (is_valid image) sizes none) refl

@@ -1,0 +1,175 @@
+-- The header that an image has stands, with its JSON area, within the bytes that were read to choose it.
+use Rattle.std.proofs.Common.{◌≡◌, ◌∙◌, ℕ, ◌+◌, ◌-◌, ◌≤◌, List, [], ◌∷◌, Option, Some, None, Bool, true, false, ap, sym, refl, take, drop, arith}
+use Rattle.std.specs.Prelude.{Ok, nat_lt, ok_or}
+use Rattle.std.proofs.lemmas.List.{drop-take, take-take}
+use Rattle.std.proofs.lemmas.Option.{option_and_then_some}
+use Rattle.luks_kdf.specs.declared.hash.Hash.{Hash}
+use Rattle.luks_area.specs.declared.fault.HeaderFault.TheVariants.{NotLuks}
+use Rattle.luks_area.specs.Field.{at, text_of}
+use Rattle.luks2_header.specs.Choice2.{beside_primary, binary_at, chosen2_of, found_at, header2_of, is_valid, least_valid, size_at}
+use Rattle.luks2_header.specs.Cost2.{cost2_of, reach2_of, reach_at}
+use Rattle.luks2_header.specs.Header2.{binary_len, hash_in, header_in, sequence_in, size_in, sizes}
+use Rattle.luks2_header.specs.Text2.{json_area_of, json_text_of, place_of}
+use Rattle.luks2_header.specs.declared.header.Finding.{Finding}
+use Rattle.luks2_header.specs.declared.header.Finding.TheVariants.{PrimaryNotValid, SecondaryNotValid, SequencesDiffer}
+use Rattle.luks2_header.specs.declared.header.Header2.{Header2}
+use Rattle.luks2_header.specs.declared.header.Place.{Place}
+use Rattle.luks2_header.specs.declared.header.Place.TheVariants.{Primary, Secondary}
+use Rattle.luks2_header.proofs.AgreeLemmas.{reach_fit}
+use Rattle.luks2_header.proofs.ChoiceLemmas.{chosen_other, chosen_primary, reach_other, reach_primary}
+use Rattle.luks2_header.proofs.SearchLemmas.{least_is, search_reach_is}
+use Rattle.luks2_header.proofs.ValidLemmas.{fits_parts, size_is_place, valid_parts, valid_range}
+use Rattle.luks2_header.proofs.WalkLemmas.{first_valid, furthest}
+
+-- the first valid place is valid, and the places are looked at as far as it is
+first_is : (valid : ℕ → Bool) (reach : ℕ → ℕ) (places : List ℕ) (place : ℕ) → first_valid valid places ≡ Some place
+    → (valid place ≡ true) × (reach place ≤ furthest valid reach places)
+unfolding first_valid furthest
+first_is valid reach [] place is = absurd (cc)
+first_is valid reach (here ∷ places) place is = by (valid here) refl (first_is valid reach places place) where
+  by : (b : Bool) → valid here ≡ b
+      → (first_valid valid places ≡ Some place → (valid place ≡ true) × (reach place ≤ furthest valid reach places))
+      → (valid place ≡ true) × (reach place ≤ furthest valid reach (here ∷ places))
+  by true e behind =
+      let same : here ≡ place = (let first : Some here ≡ Some place = rw e at is in cc) in
+      (ap valid (sym same) ∙ e, omega (arith, ap reach same))
+  by false e behind = (let rest = behind (rw e at is) in (rest.0, rw e (omega (arith, rest.1))))
+
+-- what the fields of a header say of its place and its length
+made_of : (place : Place) (finding : Option Finding) (binary : List ℕ) (header : Header2)
+    → header_in place finding binary ≡ Some header → (header.place ≡ place) × (header.size ≡ size_in binary)
+unfolding header_in
+made_of place finding binary header is = by (hash_in binary) refl where
+  by : (known : Option Hash) → hash_in binary ≡ known
+      → (header.place ≡ place) × (header.size ≡ size_in binary)
+  by (Some hash) e = (let made = rw e at is in (cc, cc))
+  by None e = absurd (let made = rw e at is in cc)
+
+-- the header stands at this place of the image, where it is valid, and that is looked at as far as it goes
+record Stands (image : List ℕ) (header : Header2) (place : ℕ) : Type 0 where
+  pub valid : is_valid image place ≡ true
+  pub here : place_of header.place header.size ≡ place
+  pub size : header.size ≡ size_at image place
+  pub reached : place + header.size ≤ reach2_of image
+
+-- the sequence number of the header at a place
+abbrev sequence_at : List ℕ → ℕ → ℕ
+sequence_at image place = sequence_in (binary_at image place)
+
+module _ (image : List ℕ) (header : Header2) where
+  -- a primary header
+  primary_stands : (finding : Option Finding) → is_valid image 0 ≡ true
+      → header_in Primary finding (binary_at image 0) ≡ Some header → Stands image header 0
+  primary_stands finding valid is =
+      let made = made_of Primary finding (binary_at image 0) header is in
+      record {
+        valid = valid;
+        here = ap (λ p. place_of p header.size) made.0;
+        size = made.1;
+        reached = omega (arith, made.1, reach_primary image valid);
+      }
+
+  -- a secondary header, which is as long as its place says
+  secondary_stands : (finding : Option Finding) (place : ℕ) → is_valid image place ≡ true → (place ≡ 0 → ⊥)
+      → place + place ≤ reach2_of image
+      → header_in Secondary finding (binary_at image place) ≡ Some header → Stands image header place
+  secondary_stands finding place valid some reach is =
+      let made = made_of Secondary finding (binary_at image place) header is in
+      let fit = fits_parts image place (valid_parts image place valid).0 in
+      let own = size_is_place place (binary_at image place) fit.1 some in
+      record {
+        valid = valid;
+        here = ap (λ p. place_of p header.size) made.0 ∙ made.1 ∙ own;
+        size = made.1;
+        reached = omega (arith, made.1, own, reach);
+      }
+
+  -- the header of an image with a valid primary one
+  beside_stands : is_valid image 0 ≡ true → beside_primary image ≡ Some header → (place : ℕ) × Stands image header place
+  unfolding beside_primary
+  beside_stands valid is = by (is_valid image (size_at image 0)) refl where
+    earlier : is_valid image (size_at image 0) ≡ true
+        → nat_lt (sequence_at image 0) (sequence_at image (size_at image 0)) ≡ false
+        → (b : Bool) → nat_lt (sequence_at image (size_at image 0)) (sequence_at image 0) ≡ b
+        → (place : ℕ) × Stands image header place
+    earlier both not_later true e = (0, primary_stands (Some SequencesDiffer) valid (rw (both, not_later, e) at is))
+    earlier both not_later false e = (0, primary_stands None valid (rw (both, not_later, e) at is))
+
+    later : is_valid image (size_at image 0) ≡ true → (b : Bool)
+        → nat_lt (sequence_at image 0) (sequence_at image (size_at image 0)) ≡ b
+        → (place : ℕ) × Stands image header place
+    later both true e =
+        let range = valid_range image 0 valid in (
+          size_at image 0,
+          secondary_stands (Some SequencesDiffer) (size_at image 0) both
+              (λ none. absurd (omega (arith, range.1, none))) (omega (arith, reach_primary image valid))
+              (rw (both, e) at is),
+        )
+    later both false e =
+        earlier both e (nat_lt (sequence_at image (size_at image 0)) (sequence_at image 0)) refl
+
+    by : (b : Bool) → is_valid image (size_at image 0) ≡ b → (place : ℕ) × Stands image header place
+    by false e = (0, primary_stands (Some SecondaryNotValid) valid (rw e at is))
+    by true e = later e (nat_lt (sequence_at image 0) (sequence_at image (size_at image 0))) refl
+
+  -- the header that the search finds
+  found_stands : is_valid image 0 ≡ false → (place : ℕ) → least_valid image ≡ Some place
+      → found_at image place ≡ Some header → Stands image header place
+  found_stands none place least is =
+      let one = first_is (is_valid image) (reach_at image) sizes place (sym (least_is image) ∙ least) in
+      let some : place ≡ 0 → ⊥ =
+      λ start. (let wrong : true ≡ false = sym one.0 ∙ ap (is_valid image) start ∙ none in cc) in
+      let fit = valid_parts image place one.0 in
+      let own = size_is_place place (binary_at image place) (fits_parts image place fit.0).1 some in
+      secondary_stands (Some PrimaryNotValid) place one.0 some
+      (omega (arith, one.1, reach_fit image place fit.0, own, search_reach_is image, reach_other image none)) is
+
+  -- the header that is chosen
+  chosen_stands : chosen2_of image ≡ Some header → (place : ℕ) × Stands image header place
+  chosen_stands is = by (is_valid image 0) refl where
+    by : (b : Bool) → is_valid image 0 ≡ b → (place : ℕ) × Stands image header place
+    by true e = beside_stands e (sym (chosen_primary image e) ∙ is)
+    by false e =
+        option_and_then_some (found_at image) (least_valid image) header (sym (chosen_other image e) ∙ is)
+        (λ place least made. (place, found_stands e place least made))
+
+  -- the header of an image
+  stands : header2_of image ≡ Ok header → (place : ℕ) × Stands image header place
+  unfolding header2_of
+  stands is = by (chosen2_of image) refl where
+    by : (chosen : Option Header2) → chosen2_of image ≡ chosen → (place : ℕ) × Stands image header place
+    by (Some found) e =
+        chosen_stands (e ∙ (let answer = sym (ap (λ o. ok_or o NotLuks) e) ∙ is in ap Some cc))
+    by None e = absurd (let answer = sym (ap (λ o. ok_or o NotLuks) e) ∙ is in cc)
+
+-- the length of a header is in range
+pub size_range : (image : List ℕ) (header : Header2) → header2_of image ≡ Ok header
+    → (16384 ≤ header.size) × (header.size ≤ 4194304)
+size_range image header is =
+    let it = stands image header is in
+    let range = valid_range image it.0 it.1.valid in
+    (omega (arith, range.1, it.1.size), omega (arith, range.2, it.1.size))
+
+-- and it ends with its JSON area within the bytes that were read to choose it
+pub json_within : (image : List ℕ) (header : Header2) → header2_of image ≡ Ok header
+    → place_of header.place header.size + binary_len + (header.size - binary_len) ≤ cost2_of image
+unfolding cost2_of
+json_within image header is =
+    let it = stands image header is in
+    let whole = valid_parts image it.0 it.1.valid in
+    omega (arith, (size_range image header is).0, it.1.here, it.1.size, it.1.reached, whole.1)
+
+-- bytes that stand before place n stand in the first n bytes
+at_beginning : (place len n : ℕ) (image : List ℕ) → place + len ≤ n → at place len (take n image) ≡ at place len image
+at_beginning place len n image before =
+    let count : n ≡ place + (n - place) = omega arith in
+    ap (take len) (ap (λ m. drop place (take m image)) count ∙ drop-take place (n - place) image)
+    ∙ take-take len (n - place) (drop place image) (omega arith)
+
+-- so those bytes say the header's JSON text
+pub json_beginning : (image : List ℕ) (header : Header2) → header2_of image ≡ Ok header
+    → json_text_of (take (cost2_of image) image) header ≡ json_text_of image header
+unfolding json_text_of json_area_of
+json_beginning image header is =
+    let place = place_of header.place header.size + binary_len in
+    ap text_of (at_beginning place (header.size - binary_len) (cost2_of image) image (json_within image header is))

@@ -1,0 +1,10 @@
+pub mod AbsentLemmas
+pub mod AgreeLemmas
+pub mod ChoiceLemmas
+pub mod FrontLemmas
+pub mod JsonLemmas
+pub mod SearchLemmas
+pub mod SeekingLemmas
+pub mod StableLemmas
+pub mod ValidLemmas
+pub mod WalkLemmas

@@ -1,0 +1,149 @@
+-- The search for a secondary header, place by place.
+use Rattle.std.proofs.Common.{◌≡◌, ◌∙◌, ℕ, suc, ◌+◌, ◌<◌, ◌≤◌, List, ◌∷◌, Option, Some, None, Bool, true, false, ap, sym, refl, drop, get_or, length, max, add-one, arith}
+use Rattle.std.proofs.Math.Seq.{drop-cons}
+use Rattle.std.specs.Prelude.{is_some, nat_le, option_and_then}
+use Rattle.std.proofs.lemmas.Bool.{leb-true}
+use Rattle.std.proofs.lemmas.List.{drop_all}
+use Rattle.std.proofs.lemmas.List.Sums.{AllPass-from_list_all}
+use Rattle.luks_area.specs.Field.{at}
+use Rattle.luks2_header.specs.Choice2.{binary_at, found_at, is_tried, is_valid, least_valid, size_at}
+use Rattle.luks2_header.specs.Cost2.{reach_at, search_reach}
+use Rattle.luks2_header.specs.Front2.{IsFront, valid_size}
+use Rattle.luks2_header.specs.Header2.{header_in, sizes}
+use Rattle.luks2_header.specs.declared.header.Finding.TheVariants.{PrimaryNotValid}
+use Rattle.luks2_header.specs.declared.header.Header2.{Header2}
+use Rattle.luks2_header.specs.declared.header.Place.TheVariants.{Secondary}
+use Rattle.luks2_header.proofs.AgreeLemmas.{at-front}
+use Rattle.luks2_header.proofs.ValidLemmas.{valid_range}
+use Rattle.luks2_header.proofs.WalkLemmas.{are_one, first_valid, furthest}
+
+-- how far the places from number k on are looked at
+abbrev pub ahead : List ℕ → ℕ → ℕ
+ahead image k = furthest (is_valid image) (reach_at image) (drop k sizes)
+
+-- none of the first k places has a valid header, and as much is held as they are looked at
+pub record Searched (image old held : List ℕ) (ended : Bool) (k : ℕ) : Type 0 where
+  pub place : first_valid (is_valid image) sizes ≡ first_valid (is_valid image) (drop k sizes)
+  pub within : length held ≤ max (length old) (ahead image 0)
+  pub settled : ended ≡ false → ahead image 0 ≤ max (length held) (ahead image k)
+  pub behind : ahead image k ≤ ahead image 0
+
+-- before the first place
+pub searched_none : (image held : List ℕ) (ended : Bool) → Searched image held held ended 0
+searched_none image held ended = record {
+  place = refl;
+  within = omega arith;
+  settled = λ goes. omega arith;
+  behind = omega arith;
+}
+
+module _ (image old held held' : List ℕ) (ended ended' : Bool) (k place : ℕ) (is : place ≡ get_or sizes k 0)
+    (inside : k < length sizes) (so_far : Searched image old held ended k)
+    (longer : length held ≤ length held') (stays : ended ≡ true → ended' ≡ true)
+    (within : length held' ≤ max (length held) (reach_at image place)) where
+  here : drop k sizes ≡ place ∷ drop (suc k) sizes
+  here = drop-cons sizes k 0 inside ∙ ap (λ p. p ∷ drop (suc k) sizes) (sym is)
+
+  goes_on : ended' ≡ false → ended ≡ false
+  goes_on goes = went ended refl where
+    went : (b : Bool) → ended ≡ b → ended ≡ false
+    went true e = absurd (let wrong = stays e in cc)
+    went false e = e
+
+  -- how far the places from this one on are looked at
+  reached : (is_valid image place ≡ false) → ahead image k ≡ max (reach_at image place) (ahead image (suc k))
+  unfolding furthest
+  reached fails = rw (here, fails) refl
+
+  reached_last : (is_valid image place ≡ true) → ahead image k ≡ reach_at image place
+  unfolding furthest
+  reached_last holds = rw (here, holds) (omega arith)
+
+  -- no valid header here: the search goes on
+  pub searched_on : is_valid image place ≡ false → (ended' ≡ false → reach_at image place ≤ length held')
+      → Searched image old held' ended' (k + 1)
+  unfolding first_valid
+  searched_on fails settled = rw add-one record {
+    place = so_far.place ∙ rw (here, fails) refl;
+    within = omega (arith, reached fails, so_far.within, so_far.behind, within);
+    settled = λ goes. omega (arith, reached fails, so_far.settled (goes_on goes), settled goes, longer);
+    behind = omega (arith, reached fails, so_far.behind);
+  }
+
+  -- what is held stays within what the search looks at
+  pub searched_within : length held' ≤ max (length old) (ahead image 0)
+  searched_within = by (is_valid image place) refl where
+    by : (b : Bool) → is_valid image place ≡ b → length held' ≤ max (length old) (ahead image 0)
+    by true e = omega (arith, reached_last e, so_far.within, so_far.behind, within)
+    by false e = omega (arith, reached e, so_far.within, so_far.behind, within)
+
+  -- this place is one of those that are looked at
+  pub reach_below : reach_at image place ≤ ahead image 0
+  reach_below = by (is_valid image place) refl where
+    by : (b : Bool) → is_valid image place ≡ b → reach_at image place ≤ ahead image 0
+    by true e = omega (arith, reached_last e, so_far.behind)
+    by false e = omega (arith, reached e, so_far.behind)
+
+  -- a valid header is here: the search ends
+  pub searched_place : is_valid image place ≡ true → first_valid (is_valid image) sizes ≡ Some place
+  unfolding first_valid
+  searched_place holds = so_far.place ∙ rw (here, holds) refl
+
+  pub searched_settled : is_valid image place ≡ true → (ended' ≡ false → reach_at image place ≤ length held')
+      → ended' ≡ false → ahead image 0 ≤ length held'
+  searched_settled holds settled goes =
+      omega (arith, reached_last holds, so_far.settled (goes_on goes), settled goes, longer)
+
+-- the definitions say what the walk says
+pub least_is : (image : List ℕ) → least_valid image ≡ first_valid (is_valid image) sizes
+unfolding least_valid is_tried
+least_is image = (let one = are_one (is_valid image) (reach_at image) in sym one.0)
+
+pub search_reach_is : (image : List ℕ) → search_reach image ≡ ahead image 0
+unfolding search_reach is_tried
+search_reach_is image = (let one = are_one (is_valid image) (reach_at image) in sym one.1)
+
+-- what says that a header has a length says that it is valid
+pub some_valid : (image : List ℕ) (place : ℕ) (found : Option ℕ) → found ≡ valid_size image place
+    → is_some found ≡ true → is_valid image place ≡ true
+some_valid image place found is some = by (is_valid image place) refl where
+  by : (b : Bool) → is_valid image place ≡ b → is_valid image place ≡ true
+  by true e = e
+  by false e =
+      absurd (let none : found ≡ None = is ∙ rw e refl in
+      let wrong : is_some found ≡ false = ap is_some none in cc)
+
+pub none_valid : (image : List ℕ) (place : ℕ) (found : Option ℕ) → found ≡ valid_size image place
+    → is_some found ≡ false → is_valid image place ≡ false
+none_valid image place found is none = by (is_valid image place) refl where
+  by : (b : Bool) → is_valid image place ≡ b → is_valid image place ≡ false
+  by false e = e
+  by true e =
+      absurd (let some : found ≡ Some (size_at image place) = is ∙ rw e refl in
+      let right : is_some found ≡ true = ap is_some some in cc)
+
+-- the places are in range
+pub place_range : (k : ℕ) → k < length sizes → get_or sizes k 0 ≤ 4194304
+unfolding sizes
+place_range k inside =
+    leb-true (get_or sizes k 0) 4194304 (AllPass-from_list_all (λ size. nat_le size 4194304) sizes refl k 0 inside)
+
+-- the header that was found is that of the least place
+pub found_least : (held : List ℕ) (ended : Bool) (image bytes : List ℕ) (place : ℕ) (header : Option Header2)
+    → IsFront held ended image → bytes ≡ held → is_valid held place ≡ true
+    → header ≡ header_in Secondary (Some PrimaryNotValid) (binary_at bytes place)
+    → first_valid (is_valid image) sizes ≡ Some place
+    → header ≡ option_and_then (found_at image) (least_valid image)
+found_least held ended image bytes place header front is valid made first =
+    let range = valid_range held place valid in
+    let same : binary_at bytes place ≡ binary_at image place = ap (λ l. at place 4096 l) is
+    ∙ at-front held ended image front place 4096 range.0 in
+    made ∙ ap (header_in Secondary (Some PrimaryNotValid)) same
+    ∙ sym (ap (option_and_then (found_at image)) (least_is image ∙ first))
+
+-- where no place is left none has a valid header
+pub searched_all : (image old held : List ℕ) (ended : Bool) (k : ℕ) → Searched image old held ended k → length sizes ≤ k
+    → (first_valid (is_valid image) sizes ≡ None) × (ahead image k ≡ 0)
+unfolding first_valid furthest
+searched_all image old held ended k so_far end =
+    let none = drop_all k sizes end in (so_far.place ∙ rw none refl, rw none refl)

@@ -1,0 +1,23 @@
+use Rattle.std.proofs.Common.{◌≡◌, ◌∙◌, refl, sym, Some, None}
+use Rattle.luks2_header.specs.Header2.{hash_in, header_in}
+use Rattle.luks2_header.proofs.header.Header2.from_bytes.Goals as goal
+
+pub returns-in_err-hash : goal.returns-in_err-hash
+unfolding header_in
+returns-in_err-hash c =
+    let none : hash_in c.args.binary.now ≡ None = sym c.hash_in.ensures ∙ c.in_err-hash.was in
+    rw none c.from_residual.ensures
+
+pub returns : goal.returns
+unfolding header_in
+returns c =
+    let some : hash_in c.args.binary.now ≡ Some c.in_ok-hash.hash = sym c.hash_in.ensures ∙ c.in_ok-hash.was in
+    rw (
+      some,
+      c.size_in.ensures,
+      c.sequence_in.ensures,
+      c.text_at.ensures,
+      c.bytes_at.ensures,
+      c.text_at-2.ensures,
+      c.text_at-3.ensures,
+    ) refl

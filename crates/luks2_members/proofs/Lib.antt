@@ -1,0 +1,5 @@
+pub mod EncodedLemmas
+pub mod ListLemmas
+pub mod MemberLemmas
+pub mod NumberedLemmas
+pub mod TreeLemmas

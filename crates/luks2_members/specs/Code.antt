@@ -1,0 +1,100 @@
+-- A code of JSON values, by which a proof tells them apart: it is asked of whatever a clause sees a type as.
+use Rattle.std.specs.Prelude.{◌≡◌, ◌⊎◌, ℕ, ℤ, Float, refl}
+use Rattle.std.specs.Coded.{Coded, code_by, coded_ℕ, coded_ℤ, coded_bool, coded_list, coded⊎}
+use Rattle.std.proofs.Common.{ap, arith, inl, inr}
+use Rattle.serde_json.specs.Data.{Num, unsigned, negative, float, Data, null, boolean, number, string, array, object, Items, no_items, item, Members, no_members, member}
+use base.Stored.{Gv, gnil, gnum, gcons, coded_float}
+
+-- ---- numbers
+
+abbrev of_num : Num → ℕ ⊎ (ℤ ⊎ Float)
+of_num (unsigned n) = inl n
+of_num (negative z) = inr (inl z)
+of_num (float x) = inr (inr x)
+
+abbrev to_num : ℕ ⊎ (ℤ ⊎ Float) → Num
+to_num (inl n) = unsigned n
+to_num (inr (inl z)) = negative z
+to_num (inr (inr x)) = float x
+
+pub to_num-of_num : (n : Num) → to_num (of_num n) ≡ n
+to_num-of_num (unsigned n) = refl
+to_num-of_num (negative z) = refl
+to_num-of_num (float x) = refl
+
+abbrev num_code : Coded Num
+num_code = code_by (ℕ ⊎ (ℤ ⊎ Float)) (coded⊎ coded_ℕ (coded⊎ coded_ℤ coded_float)) of_num to_num to_num-of_num
+
+-- ---- values: the constructor's number, and what it holds
+
+abbrev mutual
+  code_of : Data → Gv
+  code_of null = gcons (gnum 0) gnil
+  code_of (boolean b) = gcons (gnum 1) (coded_bool.code b)
+  code_of (number n) = gcons (gnum 2) (num_code.code n)
+  code_of (string s) = gcons (gnum 3) ((coded_list coded_ℕ).code s)
+  code_of (array values) = gcons (gnum 4) (items_code_of values)
+  code_of (object members) = gcons (gnum 5) (members_code_of members)
+
+  items_code_of : Items → Gv
+  items_code_of no_items = gnil
+  items_code_of (item value rest) = gcons (code_of value) (items_code_of rest)
+
+  members_code_of : Members → Gv
+  members_code_of no_members = gnil
+  members_code_of (member name value rest) =
+      gcons ((coded_list coded_ℕ).code name) (gcons (code_of value) (members_code_of rest))
+
+-- the parts of a code
+
+abbrev first : Gv → Gv
+first gnil = gnil
+first (gnum n) = gnil
+first (gcons a b) = a
+
+abbrev rest_of : Gv → Gv
+rest_of gnil = gnil
+rest_of (gnum n) = gnil
+rest_of (gcons a b) = b
+
+abbrev number_in : Gv → ℕ
+number_in gnil = 0
+number_in (gnum n) = n
+number_in (gcons a b) = 0
+
+abbrev is_pair : Gv → ℕ
+is_pair gnil = 0
+is_pair (gnum n) = 0
+is_pair (gcons a b) = 1
+
+-- values of one code are one value
+mutual
+  pub same_value : (x y : Data) → code_of x ≡ code_of y → x ≡ y
+  same_value null null p = refl
+  same_value (boolean a) (boolean b) p = ap boolean (coded_bool.inj a b (ap rest_of p))
+  same_value (number a) (number b) p = ap number (num_code.inj a b (ap rest_of p))
+  same_value (string a) (string b) p = ap string ((coded_list coded_ℕ).inj a b (ap rest_of p))
+  same_value (array a) (array b) p = ap array (same_items a b (ap rest_of p))
+  same_value (object a) (object b) p = ap object (same_members a b (ap rest_of p))
+  same_value x y p = absurd (let differ = ap (λ (g : Gv). number_in (first g)) p in omega arith)
+
+  same_items : (x y : Items) → items_code_of x ≡ items_code_of y → x ≡ y
+  same_items no_items no_items p = refl
+  same_items (item a more) (item b others) p =
+      let value : a ≡ b = same_value a b (ap first p) in
+      let rest : more ≡ others = same_items more others (ap rest_of p) in
+      cc
+  same_items x y p = absurd (let differ = ap is_pair p in omega arith)
+
+  same_members : (x y : Members) → members_code_of x ≡ members_code_of y → x ≡ y
+  same_members no_members no_members p = refl
+  same_members (member k a more) (member l b others) p =
+      let name : k ≡ l = (coded_list coded_ℕ).inj k l (ap first p) in
+      let value : a ≡ b = same_value a b (ap (λ (g : Gv). first (rest_of g)) p) in
+      let rest : more ≡ others = same_members more others (ap (λ (g : Gv). rest_of (rest_of g)) p) in
+      cc
+  same_members x y p = absurd (let differ = ap is_pair p in omega arith)
+
+-- the code
+abbrev pub value_code : Coded Data
+value_code = record { code = code_of; inj = same_value }

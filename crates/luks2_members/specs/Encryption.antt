@@ -1,0 +1,14 @@
+-- How sectors are encrypted, in the words of dm-crypt that the format uses for segments and key areas: the cipher,
+-- which is AES, and its mode.
+use Rattle.std.specs.Prelude.{ℕ, Bool, List, Option, Some, None, bytes_eq, codes, drop, take, if◌then◌else◌}
+use Rattle.luks_cipher.specs.Sector.{is_key_length, is_mode_key_length, mode_named}
+use Rattle.luks_cipher.specs.declared.mode.Mode.{Mode}
+
+-- the mode that a text names behind `aes-`, where it is a known one
+unfoldable pub mode_of : List ℕ → Option Mode
+mode_of encryption = if bytes_eq (take 4 encryption) (codes "aes-") then mode_named (drop 4 encryption) else None
+
+-- a key of the mode can have this many bytes; where the mode is not known, a key of some mode can
+unfoldable pub is_length_for : Option Mode → ℕ → Bool
+is_length_for None bytes = is_key_length bytes
+is_length_for (Some mode) bytes = is_mode_key_length mode bytes

@@ -1,0 +1,56 @@
+-- The kinds of members (LUKS2 On-Disk Format Specification 1.1, section 3): each word finds what an object has under a
+-- name, where it is there and of that kind. JSON's null is a value like others: a member that is null is there, and is
+-- neither a number nor a text nor an object.
+use Rattle.std.specs.Prelude.{ℕ, ◌&&◌, ◌^◌, Bool, false, List, Option, Some, None, bytes_eq, codes, is_some, length, nat_le, nat_lt, if◌then◌else◌, option_and_then, option_map, unwrap_or}
+use Rattle.std.specs.Char.{is_ascii_digit}
+use Rattle.std.specs.List.{list_all}
+use Rattle.std.specs.Str.Parse.{digits_value}
+use Rattle.base64.specs.Engines.{standard}
+use Rattle.base64.specs.GeneralPurpose.{decoded_of}
+use Rattle.serde_json.specs.Data.{Data}
+use Rattle.serde_json.specs.Find.{as_number, as_str, as_u64, get}
+
+-- a whole number: a JSON number without sign, fraction or exponent, below 2^64
+unfoldable pub whole_number : List ℕ → Data → Option ℕ
+whole_number name owner = option_and_then as_u64 (option_and_then as_number (get name owner))
+
+-- a text
+unfoldable pub text : List ℕ → Data → Option (List ℕ)
+text name owner = option_and_then as_str (get name owner)
+
+-- the text is a number below 2^64 in 1 to 20 decimal digits, of which the first may be zeros
+abbrev pub is_decimal : List ℕ → Bool
+is_decimal digits = nat_lt 0 (length digits) && nat_le (length digits) 20 && list_all is_ascii_digit digits
+    && nat_lt (digits_value 10 digits) (2 ^ 64)
+
+-- the number that such a text writes
+unfoldable pub decimal_of : List ℕ → Option ℕ
+decimal_of digits = if is_decimal digits then Some (digits_value 10 digits) else None
+
+-- a number in decimal digits: JSON has no numbers of 64 bits, so the format writes them as texts
+unfoldable pub decimal_text : List ℕ → Data → Option ℕ
+decimal_text name owner = option_and_then decimal_of (text name owner)
+
+-- bytes, in the standard alphabet of base64 and with its padding (RFC 4648, section 4)
+unfoldable pub base64_text : List ℕ → Data → Option (List ℕ)
+base64_text name owner = option_and_then (decoded_of standard) (text name owner)
+
+-- the text under this name is that one
+unfoldable pub is_named : List ℕ → List ℕ → Data → Bool
+is_named name expected owner = unwrap_or (option_map (bytes_eq expected) (text name owner)) false
+
+-- the member `type` is this text
+abbrev pub is_type : List ℕ → Data → Bool
+is_type expected owner = is_named (codes "type") expected owner
+
+-- the object has something under this name, whatever it is
+abbrev pub has : List ℕ → Data → Bool
+has name owner = is_some (get name owner)
+
+-- what is found in the member of this name
+abbrev pub within : {T : Type 0} → List ℕ → (Data → Option T) → Data → Option T
+within name find owner = option_and_then find (get name owner)
+
+-- the member of this name is there and passes the test
+abbrev pub passes : List ℕ → (Data → Bool) → Data → Bool
+passes name test owner = unwrap_or (option_map test (get name owner)) false

@@ -1,0 +1,139 @@
+-- The segment of a header.
+use Rattle.std.proofs.Common.{◌≡◌, ◌∙◌, ◌≢◌, ◌≤◌, ℕ, Bool, false, List, [], ◌∷◌, Option, Some, None, Ok, Ordering, Less, Equal, Greater, String, Global, nat_cmp, is_eq, ap, subst, sym, refl, arith, length}
+use Rattle.std.specs.Prelude.{◌==◌, codes, is_none, option_map, if◌then◌else◌, string_bytes}
+use Rattle.std.specs.Cmp.Lexicographic.{slice_cmp}
+use Rattle.std.specs.Ordering.{match_ordering}
+use Rattle.std.proofs.lemmas.Map.Text.{is_eq-slice_cmp}
+use Rattle.std.proofs.lemmas.Bool.{ne_eqb}
+use Rattle.luks2_metadata.specs.Segment2.{are_none, fault2_of, has_requirement, is_empty_list, offset_of, only_member, payload2_of, payload_mode2_of, segment2_of, segment_faults, segment_parts2_of, segment_said, starts_wrong, the_segment}
+use Rattle.luks_cipher.specs.declared.mode.Mode.{Mode}
+use Rattle.luks_verdict.proofs.TableLemmas.{first_not}
+use Rattle.luks_verdict.specs.Evidence.{where_true}
+use Rattle.luks_verdict.specs.SectorSize.{are_sectors}
+use Rattle.luks_verdict.specs.Segment.{refused_or, segment_by, segment_from, segment_of_all}
+use Rattle.luks_verdict.specs.Table.{first_holding}
+use Rattle.luks_verdict.specs.declared.refusal.SegmentFault.{SegmentFault}
+use Rattle.luks_verdict.specs.declared.refusal.SegmentFault.TheVariants.{Requirement, Segments}
+use Rattle.luks_verdict.specs.declared.sector_size.SectorSize.{SectorSize as Sector}
+use Rattle.luks_verdict.specs.declared.segment.Segment.{Segment}
+use Rattle.std.proofs.lemmas.Bool.Decides.{nat_tests}
+use Rattle.std.proofs.lemmas.Option.{same_Some}
+use Rattle.std.specs.List.{AllByRecursion}
+use Rattle.serde_json.specs.Data.{Data, object}
+use Rattle.serde_json.specs.Data as json
+use Rattle.serde_json.specs.Find.{as_array, as_object, get, get_member}
+use Rattle.serde_json.specs.View.{items_view, members_view, view}
+use Rattle.serde_json.specs.declared.value.Value.{Value}
+
+-- ---- lists without items
+
+none_viewed : (values : List Value) → (length values == 0) ≡ are_none (items_view values)
+none_viewed [] = refl
+none_viewed (value ∷ rest) = ne_eqb (length (value ∷ rest)) 0 (λ e. omega (arith, e))
+
+pub empty_viewed : (value : Data) (values : List Value) (len : ℕ) → Some (items_view values) ≡ as_array value
+    → len ≡ length values → (len == 0) ≡ is_empty_list value
+empty_viewed value values len is same = rw (← is, same) (none_viewed values)
+
+-- ---- the only member
+
+at_ordering : (order : Ordering) (value : Data)
+    → match_ordering order None (Some value) None ≡ (if is_eq order then Some value else None)
+at_ordering Less value = refl
+at_ordering Equal value = refl
+at_ordering Greater value = refl
+
+get_only : (name : List ℕ) (entries : List (String Global × Value)) → length entries ≡ 1
+    → get_member name (members_view entries) ≡ only_member name (members_view entries)
+get_only name [] one = absurd (omega arith)
+get_only name (entry ∷ []) one =
+    at_ordering (slice_cmp nat_cmp name (string_bytes entry.0)) (view entry.1)
+    ∙ ap (λ same. if same then Some (view entry.1) else None) (is_eq-slice_cmp name (string_bytes entry.0))
+get_only name (entry ∷ next ∷ rest) one = absurd (omega arith)
+
+none_only : (name : List ℕ) (entries : List (String Global × Value)) → length entries ≢ 1
+    → only_member name (members_view entries) ≡ None
+none_only name [] more = refl
+none_only name (entry ∷ []) more = absurd (more refl)
+none_only name (entry ∷ next ∷ rest) more = refl
+
+-- what an object has is what its members have
+get_object : (name : List ℕ) (value : Data) (all : json.Members) → as_object value ≡ Some all
+    → get name value ≡ get_member name all
+get_object name (object found) all is = let same : found ≡ all = cc in ap (get_member name) same
+get_object name json.null all is = absurd cc
+get_object name (json.boolean b) all is = absurd cc
+get_object name (json.number n) all is = absurd cc
+get_object name (json.string s) all is = absurd cc
+get_object name (json.array values) all is = absurd cc
+
+-- the segment, where the object of segments has one member, and where it has another number of them
+pub segment_only : (tree segments : Data) (entries : List (String Global × Value)) (found : Option Data)
+    → Some segments ≡ get (codes "segments") tree → Some (members_view entries) ≡ as_object segments
+    → length entries ≡ 1 → found ≡ get (codes "0") segments → found ≡ the_segment tree
+unfolding the_segment
+segment_only tree segments entries found there all one is =
+    let got = get_object (codes "0") segments (members_view entries) (sym all) in
+    rw (← there, ← all) (is ∙ (got ∙ get_only (codes "0") entries one))
+
+pub segment_none : (tree segments : Data) (entries : List (String Global × Value))
+    → Some segments ≡ get (codes "segments") tree → Some (members_view entries) ≡ as_object segments
+    → length entries ≢ 1 → None ≡ the_segment tree
+unfolding the_segment
+segment_none tree segments entries there all more = rw (← there, ← all) (sym (none_only (codes "0") entries more))
+
+-- ---- a segment that is not refused
+
+made_from : (fault : Option SegmentFault) (made : Option Segment) (segment : Segment)
+    → refused_or fault made ≡ Ok segment → (fault ≡ None) × (made ≡ Some segment)
+made_from (Some fault) made segment is = absurd cc
+made_from None (Some made) segment is = (refl, cc)
+made_from None None segment is = absurd cc
+
+mapped : {A B : Type 0} (f : A → B) (o : Option A) (y : B) → option_map f o ≡ Some y → (x : A) × (f x ≡ y)
+mapped f (Some x) y is = (x, same_Some _ _ is)
+mapped f None y is = absurd cc
+
+-- starts where the header says that it does
+offset_made : (offset : Option ℕ) (size : Option (Option ℕ)) (iv_tweak : Option ℕ) (sector_size : Option Sector)
+    (mode : Option Mode) (segment : Segment) → segment_of_all offset size iv_tweak sector_size mode ≡ Some segment
+    → offset ≡ Some segment.offset
+unfolding segment_by
+offset_made (Some offset) (Some size) (Some iv_tweak) (Some sector_size) (Some mode) segment is =
+    let made = mapped (segment_by offset size iv_tweak sector_size mode) (where_true (are_sectors size sector_size))
+    segment is in
+    ap (λ (s : Segment). Some s.offset) made.1
+offset_made _ _ _ _ _ segment is = absurd cc
+
+-- of a table of which no line holds, none does
+pub none_holds : {T : Type 0} (lines : List (Bool × T)) → first_holding lines ≡ None
+    → AllByRecursion (λ (line : Bool × T). line.0 ≡ false) lines
+none_holds [] none = tt
+none_holds ((holds, name) ∷ lines) none =
+    let first = first_not holds name lines none in
+    (first.0, none_holds lines first.1)
+
+starts_right : (end offset : ℕ) → starts_wrong end (Some offset) ≡ false → end ≤ offset
+unfolding starts_wrong
+starts_right end offset is = grind (arith, nat_tests)
+
+-- a segment that is not refused starts behind the header, and is what key slots are judged by
+pub record IsSegment2 (tree : Data) (end : ℕ) (segment : Segment) : Type 0 where
+  pub start : payload2_of tree end ≡ Some segment.offset
+  pub mode : payload_mode2_of tree end ≡ Some segment.mode
+  pub behind_header : end ≤ segment.offset
+
+pub segment2-ok : (tree : Data) (end : ℕ) (segment : Segment) → segment2_of tree end ≡ Ok segment
+    → IsSegment2 tree end segment
+unfolding segment2_of payload2_of payload_mode2_of fault2_of segment_from segment_parts2_of
+segment2-ok tree end segment is =
+    let made = made_from (fault2_of tree end) (segment_from (segment_parts2_of (segment_said tree))) segment is in
+    let all = none_holds ((has_requirement tree, Requirement) ∷ (is_none (the_segment tree), Segments)
+    ∷ segment_faults end (segment_said tree)) made.0 in
+    let offset : offset_of (segment_said tree) ≡ Some segment.offset = offset_made _ _ _ _ _ segment made.1 in
+    let wrong : starts_wrong end (offset_of (segment_said tree)) ≡ false = all.1.1.1.1.1.1.1.0 in
+    record {
+      start = rw is refl;
+      mode = rw is refl;
+      behind_header = starts_right end segment.offset (subst (λ o. starts_wrong end o ≡ false) offset wrong);
+    }

@@ -1,0 +1,269 @@
+-- What is known of a slot that there is no reason to skip.
+use Rattle.std.proofs.Common.{◌≡◌, ◌∙◌, ℕ, ◌+◌, ◌≤◌, sym, subst, refl, Bool, true, false, Option, Some, None, arith}
+use Rattle.std.specs.Prelude.{◌&&◌, ◌||◌, nat_lt, not, codes, is_none, option_map, option_and_then, unwrap_or}
+use Rattle.std.proofs.lemmas.Bool.Decides.{nat_tests}
+use Rattle.std.proofs.lemmas.Bool.{ltb-false}
+use Rattle.std.proofs.lemmas.Option.{same_Some}
+use Rattle.luks_area.specs.Area.{longest_area}
+use Rattle.luks_cipher.specs.declared.mode.Mode.{Mode}
+use Rattle.luks_cipher.proofs.ModeLemmas.{longest_key}
+use Rattle.luks_verdict.specs.Digest.{is_undigested}
+use Rattle.luks_verdict.specs.Rule.{exceeds, is_beyond, is_in_range, is_misplaced, is_unstriped, most_iterations, need_of}
+use Rattle.luks_verdict.specs.Slot.{are_in_range, end_of, judged, judgement_of, slot_of}
+use Rattle.luks_verdict.proofs.MadeLemmas.{slot_from-yes}
+use Rattle.luks_verdict.specs.declared.refusal.SkipReason.{SkipReason}
+use Rattle.luks_verdict.specs.declared.digest.KeyDigest.{KeyDigest}
+use Rattle.luks_verdict.specs.declared.slot.Slot.{Slot}
+use Rattle.luks_verdict.specs.declared.slot.Verdict.TheVariants.{Usable}
+use Rattle.luks_verdict.specs.declared.slot.Judgement.TheVariants.{Usable as Open}
+use Rattle.luks_kdf.specs.declared.hash.Hash.{Hash}
+use Rattle.luks_cipher.specs.Sector.{is_mode_key_length}
+use Rattle.luks2_members.specs.Numbered.{numbered}
+use Rattle.luks2_metadata.proofs.SegmentLemmas.{none_holds}
+use Rattle.luks2_members.specs.Encryption.{is_length_for}
+use Rattle.luks2_members.specs.Member.{is_type}
+use Rattle.luks2_metadata.specs.Digest2.{digest2_for}
+use Rattle.luks2_metadata.specs.Segment2.{payload2_of, payload_mode2_of}
+use Rattle.luks2_metadata.specs.Slot2.{slot_reasons, af_hash_of, are_key_sizes, area_key_size_of, area_mode_of, area_offset_of, area_size_of, has_members, has_unknown_hash, is_kdf_type, is_misplaced2, iterations_of, kdf_hash_of, key_size_of, priority_of, reason2_of, slot2_at, slot2_of, slot_parts2_of, stripes_of, verdict2_at, verdict2_of}
+use Rattle.serde_json.specs.Data.{Data}
+
+-- ---- key lengths
+
+key_length_few : (mode : Option Mode) (bytes : ℕ) → is_length_for mode bytes ≡ true → bytes ≤ 64
+unfolding is_length_for
+key_length_few None bytes is = grind (arith, nat_tests)
+key_length_few (Some mode) bytes is = longest_key mode bytes is
+
+both : (a b : Bool) → (a && b) ≡ true → (a ≡ true) × (b ≡ true)
+both true b is = (refl, is)
+both false b is = absurd cc
+
+pub key_sizes_few : (mode : Option Mode) (slot : Data) → are_key_sizes mode slot ≡ true
+    → (area_key_size_of slot ≤ 64) × (key_size_of slot ≤ 64)
+unfolding are_key_sizes
+key_sizes_few mode slot is =
+    let parts = both _ _ is in
+    (key_length_few (area_mode_of slot) (area_key_size_of slot) parts.0, key_length_few mode (key_size_of slot) parts.1)
+
+pub stripes_few : (stripes : ℕ) → is_unstriped stripes ≡ false → stripes ≤ 4000
+unfolding is_unstriped
+stripes_few stripes is = grind (arith, nat_tests)
+
+not_not : (b : Bool) → not b ≡ false → b ≡ true
+not_not true is = refl
+not_not false is = absurd cc
+
+-- ---- none of the lines of its table holds
+
+pub record NoReason (tree : Data) (end : ℕ) (limit : Option ℕ) (number : ℕ) (slot : Data) : Type 0 where
+  pub kind : not (is_type (codes "luks2") slot) ≡ false
+  pub members : not (has_members slot) ≡ false
+  pub argon2i : is_kdf_type (codes "argon2i") slot ≡ false
+  pub argon2id : is_kdf_type (codes "argon2id") slot ≡ false
+  pub kdf : not (is_kdf_type (codes "pbkdf2") slot) ≡ false
+  pub hash : has_unknown_hash slot ≡ false
+  pub encryption : is_none (area_mode_of slot) ≡ false
+  pub key_size : not (are_key_sizes (payload_mode2_of tree end) slot) ≡ false
+  pub stripes : is_unstriped (stripes_of slot) ≡ false
+  pub iterations : is_beyond limit (iterations_of slot) ≡ false
+  pub area : is_misplaced2 end (payload2_of tree end) slot ≡ false
+  pub digest : is_undigested limit (digest2_for tree number) ≡ false
+
+pub no_reason : (tree : Data) (end : ℕ) (limit : Option ℕ) (number : ℕ) (slot : Data)
+    → reason2_of tree end limit number slot ≡ None → NoReason tree end limit number slot
+unfolding reason2_of
+no_reason tree end limit number slot none =
+    let all = none_holds (slot_reasons tree end limit number slot) none in
+    record {
+      kind = all.0;
+      members = all.1.0;
+      argon2i = all.1.1.0;
+      argon2id = all.1.1.1.0;
+      kdf = all.1.1.1.1.0;
+      hash = all.1.1.1.1.1.0;
+      encryption = all.1.1.1.1.1.1.0;
+      key_size = all.1.1.1.1.1.1.1.0;
+      stripes = all.1.1.1.1.1.1.1.1.0;
+      iterations = all.1.1.1.1.1.1.1.1.1.0;
+      area = all.1.1.1.1.1.1.1.1.1.1.0;
+      digest = all.1.1.1.1.1.1.1.1.1.1.1.0;
+    }
+
+-- so its numbers are in range
+pub range_of : (tree : Data) (end : ℕ) (limit : Option ℕ) (number : ℕ) (slot : Data)
+    → NoReason tree end limit number slot → are_in_range (slot_parts2_of slot) ≡ true
+unfolding is_in_range is_beyond is_unstriped slot_parts2_of is_misplaced2 is_misplaced
+range_of tree end limit number slot none =
+    let area = none.area in
+    let stripes = none.stripes in
+    let iterations = none.iterations in
+    grind (arith, nat_tests)
+
+-- fewer reasons hold without a limit
+beyond_none : (limit : Option ℕ) (iterations : ℕ) → is_beyond limit iterations ≡ false
+    → is_beyond None iterations ≡ false
+unfolding is_beyond
+beyond_none limit iterations is = grind (arith, nat_tests)
+
+undigested_none : (limit : Option ℕ) (digest : Option KeyDigest) → is_undigested limit digest ≡ false
+    → is_undigested None digest ≡ false
+unfolding is_undigested
+undigested_none limit None is = is
+undigested_none limit (Some digest) is = beyond_none limit digest.iterations is
+
+pub no_reason_none : (tree : Data) (end : ℕ) (limit : Option ℕ) (number : ℕ) (slot : Data)
+    → NoReason tree end limit number slot → reason2_of tree end None number slot ≡ None
+unfolding reason2_of
+no_reason_none tree end limit number slot none =
+    rw (
+      none.kind,
+      none.members,
+      none.argon2i,
+      none.argon2id,
+      none.kdf,
+      none.hash,
+      none.encryption,
+      none.key_size,
+      none.stripes,
+      beyond_none limit (iterations_of slot) none.iterations,
+      none.area,
+      undigested_none limit (digest2_for tree number) none.digest,
+    ) refl
+
+-- and it can be opened
+pub slot_there : (tree : Data) (end : ℕ) (limit : Option ℕ) (number : ℕ) (slot : Data)
+    → reason2_of tree end limit number slot ≡ None
+    → (is : are_in_range (slot_parts2_of slot) ≡ true)
+    × (slot2_of tree end number slot ≡ Some (slot_of (slot_parts2_of slot) is))
+unfolding slot2_of
+slot_there tree end limit number slot none =
+    let no = no_reason tree end limit number slot none in
+    let is = range_of tree end limit number slot no in
+    (is, rw (no_reason_none tree end limit number slot no) (slot_from-yes (slot_parts2_of slot) is))
+
+-- what becomes of it, without what it takes to open it
+pub judged_usable : (tree : Data) (end : ℕ) (limit : Option ℕ) (number : ℕ) (slot : Data)
+    → reason2_of tree end limit number slot ≡ None
+    → judgement_of (verdict2_of tree end limit number slot) ≡ Open (unwrap_or (priority_of slot) 0)
+unfolding verdict2_of slot_of slot_parts2_of
+judged_usable tree end limit number slot none =
+    let there = slot_there tree end limit number slot none in
+    rw (none, there.1) refl
+
+-- the lengths of its keys, its stripes and its iterations fit into four bytes
+pub record IsSmall (slot : Data) : Type 0 where
+  pub iterations : iterations_of slot ≤ most_iterations
+  pub stripes : stripes_of slot ≤ 4000
+  pub key : key_size_of slot ≤ 64
+  pub area_key : area_key_size_of slot ≤ 64
+
+iterations_few : (limit : Option ℕ) (iterations : ℕ) → is_beyond limit iterations ≡ false → iterations ≤ most_iterations
+unfolding is_beyond
+iterations_few limit iterations is = grind (arith, nat_tests)
+
+pub small_of : (tree : Data) (end : ℕ) (number : ℕ) (slot : Data) → reason2_of tree end None number slot ≡ None
+    → IsSmall slot
+small_of tree end number slot none =
+    let no = no_reason tree end None number slot none in
+    let keys = key_sizes_few (payload_mode2_of tree end) slot (not_not (are_key_sizes (payload_mode2_of tree end) slot)
+    no.key_size) in
+    record {
+      iterations = iterations_few None (iterations_of slot) no.iterations;
+      stripes = stripes_few (stripes_of slot) no.stripes;
+      key = keys.1;
+      area_key = keys.0;
+    }
+
+-- ---- what is known of a slot that can be tried
+
+-- what it takes to open it is of the header: its hash functions and the area's mode are known ones, its keys have
+-- lengths of the modes, its key material lies behind the header and before the payload, and there is a digest
+pub record IsOf2 (tree : Data) (end number : ℕ) (usable : Slot) : Type 0 where
+  pub kdf : (hash : Hash) × (usable.parts.kdf_hash ≡ Some hash)
+  pub af : (hash : Hash) × (usable.parts.af_hash ≡ Some hash)
+  pub area : (mode : Mode) × (usable.parts.area_mode ≡ Some mode)
+      × (is_mode_key_length mode usable.parts.area_key_bytes ≡ true)
+  pub volume_key : is_length_for (payload_mode2_of tree end) usable.parts.key_bytes ≡ true
+  pub behind_header : end ≤ usable.parts.area_offset
+  pub before_payload : exceeds (payload2_of tree end) (end_of usable) ≡ false
+  pub digest : (digest : KeyDigest) × (digest2_for tree number ≡ Some digest)
+
+some_from_not_none : {T : Type 0} (o : Option T) → is_none o ≡ false → (x : T) × (o ≡ Some x)
+some_from_not_none None is = absurd cc
+some_from_not_none (Some x) is = (x, refl)
+
+neither : (a b : Bool) → (a || b) ≡ false → (a ≡ false) × (b ≡ false)
+neither true b is = absurd cc
+neither false b is = (refl, is)
+
+known_hashes : (slot : Data) → has_unknown_hash slot ≡ false
+    → ((hash : Hash) × (kdf_hash_of slot ≡ Some hash)) × ((hash : Hash) × (af_hash_of slot ≡ Some hash))
+unfolding has_unknown_hash
+known_hashes slot is =
+    let none = neither _ _ is in
+    (some_from_not_none (kdf_hash_of slot) none.0, some_from_not_none (af_hash_of slot) none.1)
+
+known_area : (mode : Option Mode) (bytes : ℕ) → is_none mode ≡ false → is_length_for mode bytes ≡ true
+    → (known : Mode) × (mode ≡ Some known) × (is_mode_key_length known bytes ≡ true)
+unfolding is_length_for
+known_area None bytes none is = absurd cc
+known_area (Some mode) bytes none is = (mode, refl, is)
+
+placed : (start : ℕ) (payload : Option ℕ) (offset size need : ℕ) → is_misplaced start payload offset size need ≡ false
+    → (start ≤ offset) × (exceeds payload (offset + need) ≡ false)
+unfolding is_misplaced
+placed start payload offset size need is =
+    let past = neither (nat_lt offset start || nat_lt size need || exceeds payload (offset + need))
+    (nat_lt longest_area (offset + need)) is in
+    let before = neither (nat_lt offset start || nat_lt size need) (exceeds payload (offset + need)) past.0 in
+    let room = neither (nat_lt offset start) (nat_lt size need) before.0 in
+    (ltb-false offset start room.0, before.1)
+
+digest_there : (limit : Option ℕ) (digest : Option KeyDigest) → is_undigested limit digest ≡ false
+    → (there : KeyDigest) × (digest ≡ Some there)
+unfolding is_undigested
+digest_there limit None is = absurd cc
+digest_there limit (Some digest) is = (digest, refl)
+
+-- a verdict that it can be tried says that there is no reason to skip it, and what it takes to open it
+of_verdict : (reason : Option SkipReason) (made : Option Slot) (usable : Slot) → judged reason made ≡ Usable usable
+    → (reason ≡ None) × (made ≡ Some usable)
+of_verdict (Some reason) made usable is = absurd cc
+of_verdict None (Some made) usable is = (refl, cc)
+of_verdict None None usable is = absurd cc
+
+usable_is : (tree : Data) (end : ℕ) (limit : Option ℕ) (number : ℕ) (slot : Data) (usable : Slot)
+    → verdict2_of tree end limit number slot ≡ Usable usable
+    → IsOf2 tree end number usable × (slot2_of tree end number slot ≡ Some usable)
+unfolding verdict2_of slot_of slot_parts2_of are_key_sizes is_misplaced2
+usable_is tree end limit number slot usable is =
+    let verdict = of_verdict (reason2_of tree end limit number slot) (slot2_of tree end number slot) usable is in
+    let no = no_reason tree end limit number slot verdict.0 in
+    let there = slot_there tree end limit number slot verdict.0 in
+    let same : usable ≡ slot_of (slot_parts2_of slot) there.0 = same_Some _ _ (sym verdict.1 ∙ there.1) in
+    let hashes = known_hashes slot no.hash in
+    let sizes = both _ _ (not_not _ no.key_size) in
+    let place = placed end (payload2_of tree end) (area_offset_of slot) (area_size_of slot)
+    (need_of (key_size_of slot) (stripes_of slot)) no.area in
+    let known : IsOf2 tree end number (slot_of (slot_parts2_of slot) there.0) = record {
+      kdf = hashes.0;
+      af = hashes.1;
+      area = known_area (area_mode_of slot) (area_key_size_of slot) no.encryption sizes.0;
+      volume_key = sizes.1;
+      behind_header = place.0;
+      before_payload = place.1;
+      digest = digest_there limit (digest2_for tree number) no.digest;
+    } in
+    (subst (IsOf2 tree end number) (sym same) known, verdict.1)
+
+-- of the slot of a number
+pub usable2_at : (tree : Data) (end : ℕ) (limit : Option ℕ) (number : ℕ) (usable : Slot)
+    → verdict2_at tree end limit number ≡ Some (Usable usable)
+    → IsOf2 tree end number usable × (slot2_at tree end number ≡ Some usable)
+unfolding verdict2_at slot2_at
+usable2_at tree end limit number usable is = of_slot (numbered (codes "keyslots") tree number) is
+  where
+    of_slot : (slot : Option Data) → option_map (verdict2_of tree end limit number) slot ≡ Some (Usable usable)
+        → IsOf2 tree end number usable × (option_and_then (slot2_of tree end number) slot ≡ Some usable)
+    of_slot None h = absurd cc
+    of_slot (Some slot) h = usable_is tree end limit number slot usable (same_Some _ _ h)

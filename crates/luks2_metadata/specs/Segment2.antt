@@ -1,0 +1,158 @@
+-- Where the payload of LUKS2 lies, or why it cannot be read (LUKS2 On-Disk Format Specification 1.1, section 3, the
+-- segments object and the config object).
+use Rattle.std.specs.Prelude.{ℕ, ◌%◌, ◌==◌, ◌&&◌, ◌||◌, not, nat_lt, Bool, true, false, List, [], ◌∷◌, Option, Some, None, Result, bytes_eq, codes, is_none, is_some, if◌then◌else◌, option_and_then, option_map, unwrap_or}
+use Rattle.std.specs.Result.{result_ok}
+use Rattle.luks_cipher.specs.declared.mode.Mode.{Mode}
+use Rattle.luks_verdict.specs.SectorSize.{are_sectors}
+use Rattle.luks_verdict.specs.Segment.{refused_or, segment_from}
+use Rattle.luks_verdict.specs.Table.{first_holding}
+use Rattle.luks_verdict.specs.declared.refusal.SegmentFault.{SegmentFault}
+use Rattle.luks_verdict.specs.declared.refusal.SegmentFault.TheVariants.{Requirement, Segments, Member, Kind, Integrity, Encryption, SectorSize, Offset, Size}
+use Rattle.luks_verdict.specs.declared.sector_size.SectorSize.{SectorSize as Sector}
+use Rattle.luks_verdict.specs.declared.sector_size.SectorSize.TheVariants.{B512, B1024, B2048, B4096}
+use Rattle.luks_verdict.specs.declared.segment.Segment.{Segment}
+use Rattle.luks_verdict.specs.declared.segment.SegmentParts.{SegmentParts}
+use Rattle.luks2_members.specs.Member.{decimal_text, has, is_named, is_type, text, whole_number, within}
+use Rattle.luks2_members.specs.Encryption.{mode_of}
+use Rattle.serde_json.specs.Data.{Data, null, Items, no_items, item, Members, no_members, member}
+use Rattle.serde_json.specs.Find.{as_array, as_object, get}
+
+-- ---- requirements
+
+-- the value is a list without items
+abbrev pub are_none : Items → Bool
+are_none no_items = true
+are_none (item value rest) = false
+
+abbrev pub is_empty_list : Data → Bool
+is_empty_list value = unwrap_or (option_map are_none (as_array value)) false
+
+-- there is nothing under this name, or an empty list
+unfoldable pub has_none_of : List ℕ → Data → Bool
+has_none_of name value = unwrap_or (option_map is_empty_list (get name value)) true
+
+-- what `requirements` may be without anything being required: an empty list, or an object without mandatory ones
+unfoldable pub requires_nothing : Data → Bool
+requires_nothing requirements =
+    is_empty_list requirements
+    || (is_some (as_object requirements) && has_none_of (codes "mandatory") requirements)
+
+-- the configuration requires something of whoever reads the volume
+unfoldable pub has_requirement : Data → Bool
+has_requirement tree =
+    unwrap_or (option_map (λ requirements. not (requires_nothing requirements))
+    (within (codes "config") (get (codes "requirements")) tree)) false
+
+-- ---- the segment and its members
+
+-- the only member, where it is named so
+abbrev pub only_member : List ℕ → Members → Option Data
+only_member name no_members = None
+only_member name (member found value no_members) = if bytes_eq name found then Some value else None
+only_member name (member _ _ (member _ _ _)) = None
+
+-- the segment, where there is exactly one and it is named 0
+unfoldable pub the_segment : Data → Option Data
+the_segment tree = option_and_then (only_member (codes "0")) (within (codes "segments") as_object tree)
+
+-- what is said of it (nothing where it is not there)
+abbrev pub segment_said : Data → Data
+segment_said tree = unwrap_or (the_segment tree) null
+
+-- its first byte
+abbrev pub offset_of : Data → Option ℕ
+offset_of segment = decimal_text (codes "offset") segment
+
+-- its length in bytes, or None inside where it goes to the image's end
+unfoldable pub size_of : Data → Option (Option ℕ)
+size_of segment = if is_named (codes "size") (codes "dynamic") segment then Some None
+    else option_map (λ bytes. Some bytes) (decimal_text (codes "size") segment)
+
+-- the unit number of its first sector
+abbrev pub iv_tweak_of : Data → Option ℕ
+iv_tweak_of segment = decimal_text (codes "iv_tweak") segment
+
+-- the length of a sector of so many bytes, where there is one
+abbrev pub sector_size_with : ℕ → Option Sector
+sector_size_with bytes =
+    if bytes == 512 then Some B512
+    else if bytes == 1024 then Some B1024
+    else if bytes == 2048 then Some B2048
+    else if bytes == 4096 then Some B4096
+    else None
+
+unfoldable pub sector_size_of : Data → Option Sector
+sector_size_of segment = option_and_then sector_size_with (whole_number (codes "sector_size") segment)
+
+-- the mode in which its sectors are encrypted by AES
+unfoldable pub mode2_of : Data → Option Mode
+mode2_of segment = option_and_then mode_of (text (codes "encryption") segment)
+
+-- each member of a segment of type crypt is there, in its kind
+unfoldable pub has_segment_members : Data → Bool
+has_segment_members segment =
+    is_some (offset_of segment)
+    && is_some (size_of segment)
+    && is_some (iv_tweak_of segment)
+    && is_some (text (codes "encryption") segment)
+    && is_some (whole_number (codes "sector_size") segment)
+
+-- its type is a text, and a segment of type crypt has its members
+unfoldable pub is_segment : Data → Bool
+is_segment segment =
+    is_some (text (codes "type") segment) && (not (is_type (codes "crypt") segment) || has_segment_members segment)
+
+-- ---- the table of faults
+
+-- it starts inside the header, or within a sector of 512 bytes
+unfoldable pub starts_wrong : ℕ → Option ℕ → Bool
+starts_wrong end None = true
+starts_wrong end (Some offset) = nat_lt offset end || not (offset % 512 == 0)
+
+-- its length is fixed and is no multiple of its sectors' length
+unfoldable pub is_torn : Option (Option ℕ) → Option Sector → Bool
+is_torn (Some size) (Some sector_size) = not (are_sectors size sector_size)
+is_torn _ _ = true
+
+-- the faults of a segment that is there, in a header that ends where `end` says
+abbrev pub segment_faults : ℕ → Data → List (Bool × SegmentFault)
+segment_faults end segment =
+    (not (is_segment segment), Member)
+    ∷ (not (is_type (codes "crypt") segment), Kind)
+    ∷ (has (codes "integrity") segment, Integrity)
+    ∷ (is_none (mode2_of segment), Encryption)
+    ∷ (is_none (sector_size_of segment), SectorSize)
+    ∷ (starts_wrong end (offset_of segment), Offset)
+    ∷ (is_torn (size_of segment) (sector_size_of segment), Size)
+    ∷ []
+
+-- the first fault of the header's segment
+unfoldable pub fault2_of : Data → ℕ → Option SegmentFault
+fault2_of tree end = first_holding (
+    (has_requirement tree, Requirement)
+    ∷ (is_none (the_segment tree), Segments)
+    ∷ segment_faults end (segment_said tree))
+
+-- what is said of a segment
+unfoldable pub segment_parts2_of : Data → SegmentParts
+segment_parts2_of segment = record {
+  offset = offset_of segment;
+  size = size_of segment;
+  iv_tweak = iv_tweak_of segment;
+  sector_size = sector_size_of segment;
+  mode = mode2_of segment;
+}
+
+-- the segment, or its first fault
+unfoldable pub segment2_of : Data → ℕ → Result Segment SegmentFault
+segment2_of tree end = refused_or (fault2_of tree end) (segment_from (segment_parts2_of (segment_said tree)))
+
+-- ---- what key slots are judged by
+
+-- where the payload starts, if the segment is not refused
+unfoldable pub payload2_of : Data → ℕ → Option ℕ
+payload2_of tree end = option_map (λ segment. segment.offset) (result_ok (segment2_of tree end))
+
+-- the mode of the payload, if the segment is not refused
+unfoldable pub payload_mode2_of : Data → ℕ → Option Mode
+payload_mode2_of tree end = option_map (λ segment. segment.mode) (result_ok (segment2_of tree end))

@@ -1,0 +1,181 @@
+-- What becomes of the key slots of LUKS2 (LUKS2 On-Disk Format Specification 1.1, section 3, the keyslots object).
+use Rattle.std.specs.Prelude.{ℕ, ◌&&◌, ◌||◌, not, nat_le, Bool, List, [], ◌∷◌, Option, Some, None, codes, is_none, is_some, if◌then◌else◌, option_and_then, option_map, unwrap_or}
+use Rattle.luks_cipher.specs.declared.mode.Mode.{Mode}
+use Rattle.luks_kdf.specs.declared.hash.Hash.{Hash}
+use Rattle.luks_verdict.specs.Digest.{is_undigested}
+use Rattle.luks_verdict.specs.Rule.{is_beyond, is_misplaced, is_unstriped, need_of}
+use Rattle.luks_verdict.specs.Slot.{judged, slot_from}
+use Rattle.luks_verdict.specs.Table.{first_holding}
+use Rattle.luks_verdict.specs.declared.refusal.SkipReason.{SkipReason}
+use Rattle.luks_verdict.specs.declared.refusal.SkipReason.TheVariants.{Kind, Member, Argon2i, Argon2id, Kdf, Hash as UnknownHash, Encryption, KeySize, Stripes, Iterations, Area, Digest}
+use Rattle.luks_verdict.specs.declared.slot.Slot.{Slot}
+use Rattle.luks_verdict.specs.declared.slot.SlotParts.{SlotParts}
+use Rattle.luks_verdict.specs.declared.slot.Verdict.{Verdict}
+use Rattle.luks2_members.specs.Member.{base64_text, decimal_text, is_type, passes, text, whole_number, within}
+use Rattle.luks2_members.specs.Derivation.{hash_in, iterations_in, salt_in}
+use Rattle.luks2_metadata.specs.Digest2.{digest2_for}
+use Rattle.luks2_members.specs.Encryption.{is_length_for, mode_of}
+use Rattle.luks2_members.specs.Numbered.{numbered}
+use Rattle.luks2_metadata.specs.Segment2.{payload2_of, payload_mode2_of}
+use Rattle.serde_json.specs.Data.{Data}
+use Rattle.serde_json.specs.Find.{get}
+
+-- ---- members and their kinds
+
+-- how soon a slot is tried: 0, 1 or 2, and 1 where nothing is said
+abbrev pub priority_said : Option Data → Data → Option ℕ
+priority_said None slot = Some 1
+priority_said (Some _) slot =
+    option_and_then (λ n. if nat_le n 2 then Some n else None) (whole_number (codes "priority") slot)
+
+unfoldable pub priority_of : Data → Option ℕ
+priority_of slot = priority_said (get (codes "priority") slot) slot
+
+-- how the key material is split into stripes
+unfoldable pub is_af : Data → Bool
+is_af af =
+    is_type (codes "luks1") af
+    && is_some (whole_number (codes "stripes") af)
+    && is_some (text (codes "hash") af)
+
+-- where the key material lies, and how it is encrypted
+unfoldable pub is_area : Data → Bool
+is_area area =
+    is_type (codes "raw") area
+    && is_some (decimal_text (codes "offset") area)
+    && is_some (decimal_text (codes "size") area)
+    && is_some (text (codes "encryption") area)
+    && is_some (whole_number (codes "key_size") area)
+
+-- how the key material's key comes of a passphrase. Members are known of PBKDF2 alone
+unfoldable pub is_pbkdf2 : Data → Bool
+is_pbkdf2 kdf =
+    is_some (text (codes "hash") kdf)
+    && is_some (whole_number (codes "iterations") kdf)
+    && is_some (base64_text (codes "salt") kdf)
+
+unfoldable pub is_kdf : Data → Bool
+is_kdf kdf = is_some (text (codes "type") kdf) && (not (is_type (codes "pbkdf2") kdf) || is_pbkdf2 kdf)
+
+-- each member of a key slot is there, in its kind
+unfoldable pub has_members : Data → Bool
+has_members slot =
+    is_some (whole_number (codes "key_size") slot)
+    && is_some (priority_of slot)
+    && passes (codes "af") is_af slot
+    && passes (codes "area") is_area slot
+    && passes (codes "kdf") is_kdf slot
+
+-- ---- what the members say (0 and no bytes where they are missing)
+
+-- the function by which the key comes of a passphrase is of this type
+abbrev pub is_kdf_type : List ℕ → Data → Bool
+is_kdf_type type slot = passes (codes "kdf") (is_type type) slot
+
+abbrev pub kdf_hash_of : Data → Option Hash
+kdf_hash_of slot = within (codes "kdf") hash_in slot
+
+abbrev pub iterations_of : Data → ℕ
+iterations_of slot = unwrap_or (option_map iterations_in (get (codes "kdf") slot)) 0
+
+abbrev pub salt_of : Data → List ℕ
+salt_of slot = unwrap_or (option_map salt_in (get (codes "kdf") slot)) []
+
+abbrev pub af_hash_of : Data → Option Hash
+af_hash_of slot = within (codes "af") hash_in slot
+
+abbrev pub stripes_of : Data → ℕ
+stripes_of slot = unwrap_or (within (codes "af") (whole_number (codes "stripes")) slot) 0
+
+-- the length in bytes of the volume key
+abbrev pub key_size_of : Data → ℕ
+key_size_of slot = unwrap_or (whole_number (codes "key_size") slot) 0
+
+-- the length in bytes of the key material's key
+abbrev pub area_key_size_of : Data → ℕ
+area_key_size_of slot = unwrap_or (within (codes "area") (whole_number (codes "key_size")) slot) 0
+
+-- the mode in which the key material is encrypted by AES
+abbrev pub area_mode_of : Data → Option Mode
+area_mode_of slot = option_and_then mode_of (within (codes "area") (text (codes "encryption")) slot)
+
+abbrev pub area_offset_of : Data → ℕ
+area_offset_of slot = unwrap_or (within (codes "area") (decimal_text (codes "offset")) slot) 0
+
+abbrev pub area_size_of : Data → ℕ
+area_size_of slot = unwrap_or (within (codes "area") (decimal_text (codes "size")) slot) 0
+
+-- ---- the table of reasons
+
+-- a hash function of the slot is not known
+unfoldable pub has_unknown_hash : Data → Bool
+has_unknown_hash slot = is_none (kdf_hash_of slot) || is_none (af_hash_of slot)
+
+-- its keys have lengths that the modes have: the key material's key one of its area's mode, the volume key one of the
+-- payload's
+unfoldable pub are_key_sizes : Option Mode → Data → Bool
+are_key_sizes payload_mode slot =
+    is_length_for (area_mode_of slot) (area_key_size_of slot) && is_length_for payload_mode (key_size_of slot)
+
+-- the key material does not fit
+unfoldable pub is_misplaced2 : ℕ → Option ℕ → Data → Bool
+is_misplaced2 end payload slot =
+    is_misplaced end payload (area_offset_of slot) (area_size_of slot) (need_of (key_size_of slot) (stripes_of slot))
+
+-- the reasons to skip the slot of this number, in a header that ends where `end` says
+abbrev pub slot_reasons : Data → ℕ → Option ℕ → ℕ → Data → List (Bool × SkipReason)
+slot_reasons tree end limit number slot =
+    (not (is_type (codes "luks2") slot), Kind)
+    ∷ (not (has_members slot), Member)
+    ∷ (is_kdf_type (codes "argon2i") slot, Argon2i)
+    ∷ (is_kdf_type (codes "argon2id") slot, Argon2id)
+    ∷ (not (is_kdf_type (codes "pbkdf2") slot), Kdf)
+    ∷ (has_unknown_hash slot, UnknownHash)
+    ∷ (is_none (area_mode_of slot), Encryption)
+    ∷ (not (are_key_sizes (payload_mode2_of tree end) slot), KeySize)
+    ∷ (is_unstriped (stripes_of slot), Stripes)
+    ∷ (is_beyond limit (iterations_of slot), Iterations)
+    ∷ (is_misplaced2 end (payload2_of tree end) slot, Area)
+    ∷ (is_undigested limit (digest2_for tree number), Digest)
+    ∷ []
+
+-- the first of them that holds
+unfoldable pub reason2_of : Data → ℕ → Option ℕ → ℕ → Data → Option SkipReason
+reason2_of tree end limit number slot = first_holding (slot_reasons tree end limit number slot)
+
+-- ---- verdicts
+
+-- what is said of a slot
+unfoldable pub slot_parts2_of : Data → SlotParts
+slot_parts2_of slot = record {
+  priority = unwrap_or (priority_of slot) 0;
+  kdf_hash = kdf_hash_of slot;
+  iterations = iterations_of slot;
+  salt = salt_of slot;
+  af_hash = af_hash_of slot;
+  stripes = stripes_of slot;
+  key_bytes = key_size_of slot;
+  area_key_bytes = area_key_size_of slot;
+  area_offset = area_offset_of slot;
+  area_size = area_size_of slot;
+  area_mode = area_mode_of slot;
+}
+
+-- what it takes to open the slot of this number, where there is no reason to skip it but a limit on iterations
+unfoldable pub slot2_of : Data → ℕ → ℕ → Data → Option Slot
+slot2_of tree end number slot =
+    if is_none (reason2_of tree end None number slot) then slot_from (slot_parts2_of slot) else None
+
+-- what becomes of the slot of this number
+unfoldable pub verdict2_of : Data → ℕ → Option ℕ → ℕ → Data → Verdict
+verdict2_of tree end limit number slot =
+    judged (reason2_of tree end limit number slot) (slot2_of tree end number slot)
+
+-- what becomes of the key slot of this number, where there is one
+unfoldable pub verdict2_at : Data → ℕ → Option ℕ → ℕ → Option Verdict
+verdict2_at tree end limit number =
+    option_map (verdict2_of tree end limit number) (numbered (codes "keyslots") tree number)
+
+-- what it takes to open it
+unfoldable pub slot2_at : Data → ℕ → ℕ → Option Slot
+slot2_at tree end number = option_and_then (slot2_of tree end number) (numbered (codes "keyslots") tree number)

@@ -1,0 +1,206 @@
+//! The digests of a header, by which its volume key is known.
+
+ghost use Rattle.std.specs.Prelude.{◌≡◌, ◌≤◌, [], IfOk, length, option_map, unwrap_or, vec_len};
+ghost use Rattle.luks_verdict.specs.Rule.{most_slots};
+ghost use Rattle.luks2_metadata.specs.Digest2.{digest_of_slot_at, digest2_for, digest2_numbered, digest2_of, digests2_of, is_digest2, is_of_slot, iterations_of, listed_of, value_in};
+ghost use Rattle.serde_json.specs.View.{view as data_of};
+
+use itoa::Buffer;
+use luks_verdict::bytes::HeaderBytes;
+use luks_verdict::digest::{DigestParts, KeyDigest};
+use luks_verdict::rule::{MOST_ITERATIONS, MOST_SLOTS, usable_digest};
+use luks2_members::derivation::{bytes_in, hash_in, iterations_in, salt_in};
+use luks2_members::list::{Names, has_texts, lists, texts_at};
+use luks2_members::member::{base64_len, is_type, whole_number};
+use luks2_members::numbered::numbered;
+use luks2_members::tree::Metadata;
+use serde_json::Value;
+use std::alloc::{AllocError, Global};
+
+/// A usable digest, and what it is a digest of.
+#[derive(Drop, Debug)]
+pub struct Digest {
+    /// By what the volume key is known.
+    pub key: KeyDigest,
+    /// The names of the key slots that hold the key.
+    pub keyslots: Names,
+    /// The names of the segments that are encrypted under it.
+    pub segments: Names,
+}
+
+// The value of a digest, or no bytes where it is missing.
+#[tactic(auto, unfolding(crate::specs::Digest2::value_in))]
+fn value_in(alloc: Global, digest: &Value) -> Result<HeaderBytes, AllocError>
+    ensures { IfOk result (λ value. value ≡ value_in (data_of digest.now)) }
+{
+    bytes_in(alloc, digest, "digest")
+}
+
+// How many bytes the value has.
+#[tactic(auto, unfolding(crate::specs::Digest2::value_in))]
+fn value_len(digest: &Value) -> usize
+    ensures { result ≡ length (value_in (data_of digest.now)) }
+{
+    base64_len(digest, "digest").unwrap_or(0)
+}
+
+// Each member of a digest is there, in its kind, and its hash function is known.
+#[tactic(auto, unfolding(crate::specs::Digest2::is_digest2))]
+fn is_digest(digest: &Value) -> bool
+    ensures { result ≡ is_digest2 (data_of digest.now) }
+{
+    is_type(digest, "pbkdf2")
+        && has_texts(digest, "keyslots")
+        && has_texts(digest, "segments")
+        && hash_in(digest).is_some()
+        && whole_number(digest, "iterations").is_some()
+        && base64_len(digest, "salt").is_some()
+        && base64_len(digest, "digest").is_some()
+}
+
+// The digest lists the key slot of this number, and the segment.
+#[tactic(auto, unfolding(crate::specs::Digest2::is_of_slot))]
+fn is_of_slot(digest: &Value, number: u8) -> bool
+    ensures { result ≡ is_of_slot number (data_of digest.now) }
+{
+    let mut name = Buffer::new();
+    lists(digest, "keyslots", name.format(number)) && lists(digest, "segments", "0")
+}
+
+// The digest, where it is usable.
+#[tactic(auto, unfolding(crate::specs::Digest2::digest2_of, crate::specs::Digest2::digest_parts2_of))]
+fn usable(alloc: Global, digest: &Value) -> Result<Option<KeyDigest>, AllocError>
+    ensures { IfOk result (λ key. key ≡ digest2_of (data_of digest.now)) }
+{
+    if !is_digest(digest) {
+        return Ok(None);
+    }
+    let iterations = iterations_in(digest);
+    if MOST_ITERATIONS < iterations {
+        return Ok(None);
+    }
+    let parts = DigestParts {
+        hash: hash_in(digest),
+        iterations: iterations as u32,
+        salt: salt_in(alloc, digest)?,
+        value: value_in(alloc, digest)?,
+    };
+    Ok(KeyDigest::from_parts(parts))
+}
+
+// The iterations of the digest, where it is usable.
+fn usable_iterations(digest: &Value) -> Option<u32>
+    ensures { result ≡ option_map iterations_of (digest2_of (data_of digest.now)) }
+{
+    if !is_digest(digest) {
+        return None;
+    }
+    let iterations = iterations_in(digest);
+    if !usable_digest(iterations, value_len(digest)) {
+        return None;
+    }
+    Some(iterations as u32)
+}
+
+// The digest of a number, where it is usable and is of the key slot.
+#[tactic(auto, unfolding(crate::specs::Digest2::digest_of_slot, crate::specs::Digest2::digest_of_slot_at))]
+fn of_slot_at(
+    alloc: Global,
+    tree: &Value,
+    slot: u8,
+    number: u8,
+) -> Result<Option<KeyDigest>, AllocError>
+    ensures { IfOk result (λ key. key ≡ digest_of_slot_at (data_of tree.now) slot number) }
+{
+    match numbered(tree, "digests", number) {
+        Some(digest) if is_of_slot(digest, slot) => usable(alloc, digest),
+        _ => Ok(None),
+    }
+}
+
+// The iterations of the digest of a number, where it is usable and is of the key slot.
+#[tactic(auto, unfolding(crate::specs::Digest2::digest_of_slot, crate::specs::Digest2::digest_of_slot_at))]
+fn iterations_of_slot_at(tree: &Value, slot: u8, number: u8) -> Option<u32>
+    ensures { result
+        ≡ option_map iterations_of (digest_of_slot_at (data_of tree.now) slot number) }
+{
+    match numbered(tree, "digests", number) {
+        Some(digest) if is_of_slot(digest, slot) => usable_iterations(digest),
+        _ => None,
+    }
+}
+
+/// The digest that the key slot of this number is opened against, where there is one: of the usable
+/// digests that list the slot and the segment, the one with the lowest number.
+pub fn digest_for(
+    alloc: Global,
+    metadata: &Metadata,
+    number: u8,
+) -> Result<Option<KeyDigest>, AllocError>
+    ensures { IfOk result (λ key. key ≡ digest2_for metadata.now number) }
+{
+    for digest in 0..MOST_SLOTS {
+        let found = of_slot_at(alloc, metadata.tree(), number, digest)?;
+        if found.is_some() {
+            return Ok(found);
+        }
+    }
+    Ok(None)
+}
+
+/// The iterations of that digest. This takes no memory.
+pub(crate) fn iterations_for(tree: &Value, number: u8) -> Option<u32>
+    ensures { result ≡ option_map iterations_of (digest2_for (data_of tree.now) number) }
+{
+    for digest in 0..MOST_SLOTS {
+        let found = iterations_of_slot_at(tree, number, digest);
+        if found.is_some() {
+            return found;
+        }
+    }
+    None
+}
+
+// A digest as dumps tell it, where it is usable.
+#[tactic(auto, unfolding(crate::specs::Digest2::listed_of))]
+fn listed(alloc: Global, digest: &Value) -> Result<Option<Digest>, AllocError>
+    ensures { IfOk result (λ listed. listed ≡ listed_of (data_of digest.now)) }
+{
+    let Some(key) = usable(alloc, digest)? else {
+        return Ok(None);
+    };
+    Ok(Some(Digest {
+        key,
+        keyslots: texts_at(alloc, digest, "keyslots")?,
+        segments: texts_at(alloc, digest, "segments")?,
+    }))
+}
+
+// The digest of a number beside it, where there is one.
+fn numbered_digest(
+    alloc: Global,
+    tree: &Value,
+    number: u8,
+) -> Result<Option<(u8, Option<Digest>)>, AllocError>
+    ensures { IfOk result (λ digest. digest ≡ digest2_numbered (data_of tree.now) number) }
+{
+    match numbered(tree, "digests", number) {
+        Some(digest) => Ok(Some((number, listed(alloc, digest)?))),
+        None => Ok(None),
+    }
+}
+
+/// The digests by rising number, each with what it is a digest of, or `None` where it is not
+/// usable.
+pub fn digests(alloc: Global, metadata: &Metadata) -> Result<Vec<(u8, Option<Digest>)>, AllocError>
+    ensures value { IfOk result (λ digests. digests.items ≡ digests2_of metadata.now) }
+    ensures few { IfOk result (λ digests. vec_len digests ≤ most_slots) }
+{
+    let mut digests = Vec::new(alloc);
+    for number in 0..MOST_SLOTS {
+        if let Some(digest) = numbered_digest(alloc, metadata.tree(), number)? {
+            digests.push(digest)?;
+        }
+    }
+    Ok(digests)
+}

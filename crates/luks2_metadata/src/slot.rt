@@ -1,0 +1,398 @@
+//! What becomes of the key slots of a header.
+
+ghost use Rattle.std.specs.Prelude.{◌≡◌, ◌≤◌, IfOk, codes, option_map};
+ghost use Rattle.luks_verdict.specs.Digest.{is_undigested};
+ghost use Rattle.luks_verdict.specs.Rule.{most_iterations};
+ghost use Rattle.luks_verdict.specs.Slot.{judgement_of};
+ghost use Rattle.luks2_members.specs.Member.{passes};
+ghost use Rattle.luks2_metadata.specs.Digest2.{digest2_for};
+ghost use Rattle.luks2_metadata.specs.Slot2.{af_hash_of, are_key_sizes, area_key_size_of, area_mode_of, area_offset_of, area_size_of, has_members, has_unknown_hash, is_af, is_area, is_kdf, is_kdf_type, is_misplaced2, is_pbkdf2, iterations_of, kdf_hash_of, key_size_of, priority_of, reason2_of, salt_of, slot2_at, slot2_of, slot_parts2_of, stripes_of, verdict2_at, verdict2_of};
+ghost use Rattle.serde_json.specs.View.{view as data_of};
+
+use crate::digest::iterations_for;
+use crate::payload::{payload, payload_mode};
+use luks_cipher::Mode;
+use luks_kdf::Hash;
+use luks_verdict::bytes::HeaderBytes;
+use luks_verdict::refusal::SkipReason;
+use luks_verdict::rule::{beyond, misplaced, need, unstriped};
+use luks_verdict::slot::{Judgement, Slot, SlotParts};
+use luks2_members::derivation::{hash_in, iterations_in, salt_in};
+use luks2_members::encryption::{is_length_for, mode_of};
+use luks2_members::member::{base64_len, decimal_text, is_type, text, whole_number};
+use luks2_members::numbered::numbered;
+use luks2_members::tree::Metadata;
+use serde_json::Value;
+use std::alloc::{AllocError, Global};
+
+// How soon the slot is tried: 0, 1 or 2, and 1 where nothing is said.
+#[tactic(auto, unfolding(crate::specs::Slot2::priority_of))]
+fn priority(slot: &Value) -> Option<u8>
+    ensures { result ≡ priority_of (data_of slot.now) }
+{
+    if slot.get("priority").is_none() {
+        return Some(1);
+    }
+    match whole_number(slot, "priority")? {
+        0 => Some(0),
+        1 => Some(1),
+        2 => Some(2),
+        _ => None,
+    }
+}
+
+// How the key material is split into stripes.
+#[tactic(auto, unfolding(crate::specs::Slot2::is_af))]
+fn is_af(af: &Value) -> bool
+    ensures { result ≡ is_af (data_of af.now) }
+{
+    is_type(af, "luks1") && whole_number(af, "stripes").is_some() && text(af, "hash").is_some()
+}
+
+// Where the key material lies, and how it is encrypted.
+#[tactic(auto, unfolding(crate::specs::Slot2::is_area))]
+fn is_area(area: &Value) -> bool
+    ensures { result ≡ is_area (data_of area.now) }
+{
+    is_type(area, "raw")
+        && decimal_text(area, "offset").is_some()
+        && decimal_text(area, "size").is_some()
+        && text(area, "encryption").is_some()
+        && whole_number(area, "key_size").is_some()
+}
+
+// What PBKDF2 takes.
+#[tactic(auto, unfolding(crate::specs::Slot2::is_pbkdf2))]
+fn is_pbkdf2(kdf: &Value) -> bool
+    ensures { result ≡ is_pbkdf2 (data_of kdf.now) }
+{
+    text(kdf, "hash").is_some()
+        && whole_number(kdf, "iterations").is_some()
+        && base64_len(kdf, "salt").is_some()
+}
+
+// How the key material's key comes of a passphrase.
+#[tactic(auto, unfolding(crate::specs::Slot2::is_kdf))]
+fn is_kdf(kdf: &Value) -> bool
+    ensures { result ≡ is_kdf (data_of kdf.now) }
+{
+    text(kdf, "type").is_some() && (!is_type(kdf, "pbkdf2") || is_pbkdf2(kdf))
+}
+
+// The slot's `af` is whole.
+fn has_af(slot: &Value) -> bool
+    ensures { result ≡ passes (codes "af") is_af (data_of slot.now) }
+{
+    match slot.get("af") {
+        Some(af) => is_af(af),
+        None => false,
+    }
+}
+
+// The slot's `area` is whole.
+fn has_area(slot: &Value) -> bool
+    ensures { result ≡ passes (codes "area") is_area (data_of slot.now) }
+{
+    match slot.get("area") {
+        Some(area) => is_area(area),
+        None => false,
+    }
+}
+
+// The slot's `kdf` is whole.
+fn has_kdf(slot: &Value) -> bool
+    ensures { result ≡ passes (codes "kdf") is_kdf (data_of slot.now) }
+{
+    match slot.get("kdf") {
+        Some(kdf) => is_kdf(kdf),
+        None => false,
+    }
+}
+
+// Each member of a key slot is there, in its kind.
+#[tactic(auto, unfolding(crate::specs::Slot2::has_members))]
+fn has_members(slot: &Value) -> bool
+    ensures { result ≡ has_members (data_of slot.now) }
+{
+    whole_number(slot, "key_size").is_some()
+        && priority(slot).is_some()
+        && has_af(slot)
+        && has_area(slot)
+        && has_kdf(slot)
+}
+
+// The function by which the key comes of a passphrase is of this type.
+fn is_kdf_type(slot: &Value, expected: &str) -> bool
+    ensures { result ≡ is_kdf_type expected.now (data_of slot.now) }
+{
+    match slot.get("kdf") {
+        Some(kdf) => is_type(kdf, expected),
+        None => false,
+    }
+}
+
+// The hash function by which it does.
+fn kdf_hash(slot: &Value) -> Option<Hash>
+    ensures { result ≡ kdf_hash_of (data_of slot.now) }
+{
+    hash_in(slot.get("kdf")?)
+}
+
+// The iterations by which it does, or 0 where they are missing.
+fn iterations(slot: &Value) -> u64
+    ensures { result ≡ iterations_of (data_of slot.now) }
+{
+    match slot.get("kdf") {
+        Some(kdf) => iterations_in(kdf),
+        None => 0,
+    }
+}
+
+// The salt by which it does, or no bytes where it is missing.
+fn salt(alloc: Global, slot: &Value) -> Result<HeaderBytes, AllocError>
+    ensures { IfOk result (λ salt. salt ≡ salt_of (data_of slot.now)) }
+{
+    match slot.get("kdf") {
+        Some(kdf) => salt_in(alloc, kdf),
+        None => HeaderBytes::new(alloc, &[]),
+    }
+}
+
+// The hash function of the stripes.
+fn af_hash(slot: &Value) -> Option<Hash>
+    ensures { result ≡ af_hash_of (data_of slot.now) }
+{
+    hash_in(slot.get("af")?)
+}
+
+// How many stripes the key material has, or 0 where that is missing.
+fn stripes(slot: &Value) -> u64
+    ensures { result ≡ stripes_of (data_of slot.now) }
+{
+    match slot.get("af") {
+        Some(af) => whole_number(af, "stripes").unwrap_or(0),
+        None => 0,
+    }
+}
+
+// The length of the volume key in bytes, or 0 where it is missing.
+fn key_size(slot: &Value) -> u64
+    ensures { result ≡ key_size_of (data_of slot.now) }
+{
+    whole_number(slot, "key_size").unwrap_or(0)
+}
+
+// The length in bytes of the key material's key, or 0 where it is missing.
+fn area_key_size(slot: &Value) -> u64
+    ensures { result ≡ area_key_size_of (data_of slot.now) }
+{
+    match slot.get("area") {
+        Some(area) => whole_number(area, "key_size").unwrap_or(0),
+        None => 0,
+    }
+}
+
+// The mode in which the key material is encrypted.
+fn area_mode(slot: &Value) -> Option<Mode>
+    ensures { result ≡ area_mode_of (data_of slot.now) }
+{
+    mode_of(text(slot.get("area")?, "encryption")?)
+}
+
+// The first byte of the key material, or 0 where it is missing.
+fn area_offset(slot: &Value) -> u64
+    ensures { result ≡ area_offset_of (data_of slot.now) }
+{
+    match slot.get("area") {
+        Some(area) => decimal_text(area, "offset").unwrap_or(0),
+        None => 0,
+    }
+}
+
+// How many bytes are set aside for the key material, or 0 where that is missing.
+fn area_size(slot: &Value) -> u64
+    ensures { result ≡ area_size_of (data_of slot.now) }
+{
+    match slot.get("area") {
+        Some(area) => decimal_text(area, "size").unwrap_or(0),
+        None => 0,
+    }
+}
+
+// A hash function of the slot is not known.
+#[tactic(auto, unfolding(crate::specs::Slot2::has_unknown_hash))]
+fn has_unknown_hash(slot: &Value) -> bool
+    ensures { result ≡ has_unknown_hash (data_of slot.now) }
+{
+    kdf_hash(slot).is_none() || af_hash(slot).is_none()
+}
+
+// The keys of the slot have lengths that the modes have.
+#[tactic(auto, unfolding(crate::specs::Slot2::are_key_sizes))]
+fn are_key_sizes(payload_mode: Option<Mode>, slot: &Value) -> bool
+    ensures { result ≡ are_key_sizes payload_mode (data_of slot.now) }
+{
+    is_length_for(area_mode(slot), area_key_size(slot))
+        && is_length_for(payload_mode, key_size(slot))
+}
+
+// The key material does not fit.
+#[tactic(auto, unfolding(crate::specs::Slot2::is_misplaced2))]
+fn is_misplaced(header_end: u64, payload: Option<u64>, slot: &Value) -> bool
+    requires short { key_size_of (data_of slot.now) ≤ 64 }
+    requires few { stripes_of (data_of slot.now) ≤ 4000 }
+    ensures { result ≡ is_misplaced2 header_end payload (data_of slot.now) }
+{
+    let need = need(key_size(slot) as u32, stripes(slot) as u32);
+    misplaced(
+        header_end,
+        payload,
+        area_offset(slot),
+        area_size(slot),
+        need,
+    )
+}
+
+// There is no digest to try the slot of this number against, or its iterations are not made.
+#[tactic(auto, unfolding(luks_verdict::specs::Digest::is_undigested))]
+fn is_undigested(tree: &Value, limit: Option<u32>, number: u8) -> bool
+    ensures { result ≡ is_undigested limit (digest2_for (data_of tree.now) number) }
+{
+    match iterations_for(tree, number) {
+        Some(iterations) => beyond(limit, u64::from(iterations)),
+        None => true,
+    }
+}
+
+// The first reason to skip the slot of this number.
+#[tactic(auto, unfolding(crate::specs::Slot2::reason2_of))]
+fn reason(
+    tree: &Value,
+    header_end: u64,
+    limit: Option<u32>,
+    number: u8,
+    slot: &Value,
+) -> Option<SkipReason>
+    ensures { result ≡ reason2_of (data_of tree.now) header_end limit number (data_of slot.now) }
+{
+    if !is_type(slot, "luks2") {
+        Some(SkipReason::Kind)
+    } else if !has_members(slot) {
+        Some(SkipReason::Member)
+    } else if is_kdf_type(slot, "argon2i") {
+        Some(SkipReason::Argon2i)
+    } else if is_kdf_type(slot, "argon2id") {
+        Some(SkipReason::Argon2id)
+    } else if !is_kdf_type(slot, "pbkdf2") {
+        Some(SkipReason::Kdf)
+    } else if has_unknown_hash(slot) {
+        Some(SkipReason::Hash)
+    } else if area_mode(slot).is_none() {
+        Some(SkipReason::Encryption)
+    } else if !are_key_sizes(payload_mode(tree, header_end), slot) {
+        Some(SkipReason::KeySize)
+    } else if unstriped(stripes(slot)) {
+        Some(SkipReason::Stripes)
+    } else if beyond(limit, iterations(slot)) {
+        Some(SkipReason::Iterations)
+    } else if is_misplaced(header_end, payload(tree, header_end), slot) {
+        Some(SkipReason::Area)
+    } else if is_undigested(tree, limit, number) {
+        Some(SkipReason::Digest)
+    } else {
+        None
+    }
+}
+
+// What becomes of a slot, without what it takes to open it.
+#[tactic(auto, unfolding(crate::specs::Slot2::verdict2_of))]
+fn judge_slot(
+    tree: &Value,
+    header_end: u64,
+    limit: Option<u32>,
+    number: u8,
+    slot: &Value,
+) -> Judgement
+    ensures { result ≡ judgement_of
+        (verdict2_of (data_of tree.now) header_end limit number (data_of slot.now)) }
+{
+    match reason(tree, header_end, limit, number, slot) {
+        Some(reason) => Judgement::Skipped(reason),
+        None => Judgement::Usable(priority(slot).unwrap_or(0)),
+    }
+}
+
+/// What becomes of the key slot of this number, where there is one, without what it takes to open
+/// it. The header ends at this byte. No more iterations than the limit are made. This takes no
+/// memory.
+#[tactic(auto, unfolding(crate::specs::Slot2::verdict2_at))]
+pub fn judge(
+    metadata: &Metadata,
+    header_end: u64,
+    limit: Option<u32>,
+    number: u8,
+) -> Option<Judgement>
+    ensures { result ≡ option_map judgement_of (verdict2_at metadata.now header_end limit number) }
+{
+    let slot = numbered(metadata.tree(), "keyslots", number)?;
+    Some(judge_slot(metadata.tree(), header_end, limit, number, slot))
+}
+
+// What is said of a slot.
+#[tactic(auto, unfolding(crate::specs::Slot2::slot_parts2_of))]
+fn parts(alloc: Global, slot: &Value) -> Result<SlotParts, AllocError>
+    requires iterations { iterations_of (data_of slot.now) ≤ most_iterations }
+    requires stripes { stripes_of (data_of slot.now) ≤ 4000 }
+    requires key { key_size_of (data_of slot.now) ≤ 64 }
+    requires area_key { area_key_size_of (data_of slot.now) ≤ 64 }
+    ensures { IfOk result (λ parts. parts ≡ slot_parts2_of (data_of slot.now)) }
+{
+    Ok(SlotParts {
+        priority: priority(slot).unwrap_or(0),
+        kdf_hash: kdf_hash(slot),
+        iterations: iterations(slot) as u32,
+        salt: salt(alloc, slot)?,
+        af_hash: af_hash(slot),
+        stripes: stripes(slot) as u32,
+        key_bytes: key_size(slot) as u32,
+        area_key_bytes: area_key_size(slot) as u32,
+        area_offset: area_offset(slot),
+        area_size: area_size(slot),
+        area_mode: area_mode(slot),
+    })
+}
+
+// What it takes to open a slot, where there is no reason to skip it but a limit on iterations.
+#[tactic(auto, unfolding(crate::specs::Slot2::slot2_of))]
+fn usable(
+    alloc: Global,
+    tree: &Value,
+    header_end: u64,
+    number: u8,
+    slot: &Value,
+) -> Result<Option<Slot>, AllocError>
+    ensures { IfOk result (λ usable. usable
+        ≡ slot2_of (data_of tree.now) header_end number (data_of slot.now)) }
+{
+    if reason(tree, header_end, None, number, slot).is_some() {
+        return Ok(None);
+    }
+    Ok(Slot::from_parts(parts(alloc, slot)?))
+}
+
+/// What it takes to open the key slot of this number, where there is one and there is no reason to
+/// skip it but a limit on iterations.
+#[tactic(auto, unfolding(crate::specs::Slot2::slot2_at))]
+pub fn slot(
+    alloc: Global,
+    metadata: &Metadata,
+    header_end: u64,
+    number: u8,
+) -> Result<Option<Slot>, AllocError>
+    ensures { IfOk result (λ usable. usable ≡ slot2_at metadata.now header_end number) }
+{
+    match numbered(metadata.tree(), "keyslots", number) {
+        Some(slot) => usable(alloc, metadata.tree(), header_end, number, slot),
+        None => Ok(None),
+    }
+}

@@ -1,0 +1,6 @@
+pub mod MixLemmas
+pub mod StateLemmas
+pub mod WayLemmas
+pub mod OutLemmas
+pub mod RoundLemmas
+pub mod KeyLemmas

@@ -1,0 +1,55 @@
+use Rattle.std.proofs.Common.{◌≡◌, ◌∙◌, ◌≤◌, ◌++◌, Err, ap, sym, length, false, arith}
+use Rattle.std.proofs.lemmas.Result.{err_from_is_err_and}
+use Rattle.luks1_header.specs.Header1.{is_luks1}
+use Rattle.luks2_header.specs.Text2.{json_text_of}
+use Rattle.luks2_members.specs.Tree.{tree_of}
+use Rattle.luks_header.proofs.HeldLemmas.{begins_behind, begins_longer, cost_other, header_read, reading_broken, seeking_broken, text_held}
+use Rattle.luks_header.proofs.header.read2.Goals as goal
+
+pub returns-in_err-header-clause-broken : goal.returns-in_err-header-clause-broken
+returns-in_err-header-clause-broken g c =
+    let p = err_from_is_err_and c.from_residual.result c.from_residual.ensures.1 in
+    rw (p.1, p.2) (λ rest is.
+    let long : 8 ≤ length c.args.area.now = omega (arith, c.requires.held) in
+    let other = begins_behind c.args.area.now rest long ∙ c.requires.other in
+    seeking_broken _ _ _ rest _ c.in_err-header.field-0.0 other (c.in_err-header.ensures.broken rest is))
+
+pub returns-in_err-metadata-clause-broken : goal.returns-in_err-metadata-clause-broken
+returns-in_err-metadata-clause-broken g c =
+    let p = err_from_is_err_and c.from_residual-in_err-metadata.result c.from_residual-in_err-metadata.ensures.1 in
+    rw (p.1, p.2) (λ rest is.
+    let long : 8 ≤ length c.args.area.now = omega (arith, c.requires.held) in
+    let other = begins_behind c.args.area.now rest long ∙ c.requires.other in
+    let found = c.in_ok-header.ensures.taken rest is in
+    let text = c.json_text.ensures ∙ ap (λ bytes. json_text_of bytes c.in_ok-header.header) c.as_slice.ensures.value in
+    reading_broken _ _ _ rest _ c.in_ok-header.header c.in_err-metadata.field-0.0 other found.0 found.1
+    (λ json. ap tree_of (sym text) ∙ c.in_err-metadata.ensures.json (ap Err json))
+    c.in_err-metadata.ensures.refusals)
+
+pub returns-clause-taken : goal.returns-clause-taken
+returns-clause-taken g c rest is =
+    let long : 8 ≤ length c.args.area.now = omega (arith, c.requires.held) in
+    let other = begins_behind c.args.area.now rest long ∙ c.requires.other in
+    let found = c.in_ok-header.ensures.taken rest is in
+    let text = c.json_text.ensures ∙ ap (λ bytes. json_text_of bytes c.in_ok-header.header) c.as_slice.ensures.value in
+    let same = text_held _ _ c.in_ok-header.header found.0 found.1.0 in (
+      header_read (c.args.area.now ++ rest) other c.in_ok-header.header c.in_ok-metadata.metadata found.0
+          (ap tree_of (sym (text ∙ same)) ∙ c.in_ok-metadata.ensures.ok),
+      found.1,
+    )
+
+pub returns-clause-held : goal.returns-clause-held
+returns-clause-held g c =
+    let long : 8 ≤ length c.args.area.now = omega (arith, c.requires.held) in
+    let read = c.in_ok-header.ensures in
+    let other = begins_longer c.args.area.now c.read_header2.new.area long read.kept ∙ c.requires.other in
+    let text = c.json_text.ensures ∙ ap (λ bytes. json_text_of bytes c.in_ok-header.header) c.as_slice.ensures.value in
+    header_read c.read_header2.new.area other c.in_ok-header.header c.in_ok-metadata.metadata read.held
+    (ap tree_of (sym text) ∙ c.in_ok-metadata.ensures.ok)
+
+pub returns-clause-only : goal.returns-clause-only
+returns-clause-only g c =
+    let long : 8 ≤ length c.args.area.now = omega (arith, c.requires.held) in
+    let read = c.in_ok-header.ensures in
+    let other = begins_longer c.args.area.now c.read_header2.new.area long read.kept ∙ c.requires.other in
+    read.only ∙ sym (cost_other c.read_header2.new.area other)

@@ -1,0 +1,4 @@
+pub mod Tables
+pub mod RowLemmas
+pub mod LaneLemmas
+pub mod ExchangeLemmas

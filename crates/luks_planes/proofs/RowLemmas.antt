@@ -1,0 +1,86 @@
+-- Rows: sums, and turns of their columns.
+use Rattle.std.proofs.Common.{◌≡◌, ℕ, ◌+◌, ◌/◌, ◌%◌, ◌<◌, true, ltb, List, [], ◌∷◌, ◌++◌, length, arith, refl, sym, ap, ◌∙◌}
+use Rattle.std.specs.Prelude.{slice_index}
+use Rattle.std.specs.Int.{bit_at}
+use Rattle.std.specs.Int.Bits.{bit_xor}
+use Rattle.std.specs.Simd.Lanes.{zip2, pick_l}
+use Rattle.std.proofs.lemmas.Simd.{get_or-zip2, length-zip2}
+use Rattle.std.proofs.lemmas.Nat.Bits.{bit_at_xor}
+use Rattle.std.proofs.lemmas.List.{length-map, get_or-map, get_or_append_left}
+use Rattle.std.proofs.lemmas.Bool.{agree_below_at, ltb-true}
+use Rattle.luks_aes.specs.Field.{◌⊕◌}
+use Rattle.luks_aes.proofs.Bytes.{same_below}
+use Rattle.luks_planes.specs.Planes.{plane_bit, IsPlane, turned_place}
+
+pub sum_plane : {y z : ℕ → ℕ} {j : ℕ} {v w r : List ℕ} → IsPlane y j v → IsPlane z j w → r ≡ zip2 bit_xor v w
+    → IsPlane (λ q. y q ⊕ z q) j r
+sum_plane {y} {z} {j} {v} {w} {r} first second is = record {
+  len = ap length is ∙ length-zip2 bit_xor v w (first.len ∙ sym second.len) ∙ first.len;
+  at = λ q low.
+      let p = q / 8 in
+      let k = q % 8 in
+      ap (λ l. plane_bit l q) is
+      ∙ ap (λ b. bit_at b k) (get_or-zip2 bit_xor v w p 0 0 0 (omega (arith, first.len)) (omega (arith, second.len)))
+      ∙ bit_at_xor (slice_index v p) (slice_index w p) k
+      ∙ (λ i. (first.at q low i + second.at q low i) % 2)
+      ∙ sym (bit_at_xor (y q) (z q) j);
+}
+
+-- a vector whose bytes are exchanged
+exchanged : (a ks : List ℕ) (y t : ℕ → ℕ) (j : ℕ) → IsPlane y j a → length ks ≡ 16
+    → ((q : ℕ) → q < 128 → t q < 128) → ((q : ℕ) → q < 128 → t q / 8 ≡ slice_index ks (q / 8))
+    → ((q : ℕ) → q < 128 → t q % 8 ≡ q % 8)
+    → IsPlane (λ q. y (t q)) j (pick_l 0 (a ++ a) ks)
+exchanged a ks y t j is long inside place bit = record {
+  len = length-map ks (λ k. slice_index (a ++ a) k) ∙ long;
+  at = λ q low.
+      let here = inside q low in
+      ap (λ b. bit_at b (q % 8))
+      (get_or-map (λ k. slice_index (a ++ a) k) ks (q / 8) 0 0 (omega (arith, long))
+      ∙ ap (slice_index (a ++ a)) (sym (place q low))
+      ∙ get_or_append_left a a 0 (t q / 8) (omega (arith, is.len)))
+      ∙ ap (bit_at (slice_index a (t q / 8))) (sym (bit q low))
+      ∙ is.at (t q) here;
+}
+
+inside_1 : (q : ℕ) → q < 128 → turned_place 1 q < 128
+inside_1 q low = ltb-true (turned_place 1 q) 128 (agree_below_at (λ q. ltb (turned_place 1 q) 128) (λ q. true) 128 q
+    refl low)
+
+pub plane_1 : (a : List ℕ) (y : ℕ → ℕ) (j : ℕ) → IsPlane y j a
+    → IsPlane (λ q. y (turned_place 1 q)) j (pick_l 0 (a ++ a) (2 ∷ 0 ∷ 3 ∷ 1 ∷ 6 ∷ 4 ∷ 7 ∷ 5 ∷ 10 ∷ 8 ∷ 11 ∷ 9 ∷ 14 ∷
+    12 ∷ 15 ∷ 13 ∷ []))
+plane_1 a y j is =
+    exchanged a (2 ∷ 0 ∷ 3 ∷ 1 ∷ 6 ∷ 4 ∷ 7 ∷ 5 ∷ 10 ∷ 8 ∷ 11 ∷ 9 ∷ 14 ∷ 12 ∷ 15 ∷ 13 ∷ []) y (turned_place 1) j is refl
+    inside_1
+    (same_below (λ q. turned_place 1 q / 8) (λ q. slice_index (2 ∷ 0 ∷ 3 ∷ 1 ∷ 6 ∷ 4 ∷ 7 ∷ 5 ∷ 10 ∷ 8 ∷ 11 ∷ 9 ∷ 14 ∷
+    12 ∷ 15 ∷ 13 ∷ []) (q / 8)) 128 refl)
+    (same_below (λ q. turned_place 1 q % 8) (λ q. q % 8) 128 refl)
+
+inside_2 : (q : ℕ) → q < 128 → turned_place 2 q < 128
+inside_2 q low = ltb-true (turned_place 2 q) 128 (agree_below_at (λ q. ltb (turned_place 2 q) 128) (λ q. true) 128 q
+    refl low)
+
+pub plane_2 : (a : List ℕ) (y : ℕ → ℕ) (j : ℕ) → IsPlane y j a
+    → IsPlane (λ q. y (turned_place 2 q)) j (pick_l 0 (a ++ a) (3 ∷ 2 ∷ 1 ∷ 0 ∷ 7 ∷ 6 ∷ 5 ∷ 4 ∷ 11 ∷ 10 ∷ 9 ∷ 8 ∷ 15 ∷
+    14 ∷ 13 ∷ 12 ∷ []))
+plane_2 a y j is =
+    exchanged a (3 ∷ 2 ∷ 1 ∷ 0 ∷ 7 ∷ 6 ∷ 5 ∷ 4 ∷ 11 ∷ 10 ∷ 9 ∷ 8 ∷ 15 ∷ 14 ∷ 13 ∷ 12 ∷ []) y (turned_place 2) j is refl
+    inside_2
+    (same_below (λ q. turned_place 2 q / 8) (λ q. slice_index (3 ∷ 2 ∷ 1 ∷ 0 ∷ 7 ∷ 6 ∷ 5 ∷ 4 ∷ 11 ∷ 10 ∷ 9 ∷ 8 ∷ 15 ∷
+    14 ∷ 13 ∷ 12 ∷ []) (q / 8)) 128 refl)
+    (same_below (λ q. turned_place 2 q % 8) (λ q. q % 8) 128 refl)
+
+inside_3 : (q : ℕ) → q < 128 → turned_place 3 q < 128
+inside_3 q low = ltb-true (turned_place 3 q) 128 (agree_below_at (λ q. ltb (turned_place 3 q) 128) (λ q. true) 128 q
+    refl low)
+
+pub plane_3 : (a : List ℕ) (y : ℕ → ℕ) (j : ℕ) → IsPlane y j a
+    → IsPlane (λ q. y (turned_place 3 q)) j (pick_l 0 (a ++ a) (1 ∷ 3 ∷ 0 ∷ 2 ∷ 5 ∷ 7 ∷ 4 ∷ 6 ∷ 9 ∷ 11 ∷ 8 ∷ 10 ∷ 13 ∷
+    15 ∷ 12 ∷ 14 ∷ []))
+plane_3 a y j is =
+    exchanged a (1 ∷ 3 ∷ 0 ∷ 2 ∷ 5 ∷ 7 ∷ 4 ∷ 6 ∷ 9 ∷ 11 ∷ 8 ∷ 10 ∷ 13 ∷ 15 ∷ 12 ∷ 14 ∷ []) y (turned_place 3) j is refl
+    inside_3
+    (same_below (λ q. turned_place 3 q / 8) (λ q. slice_index (1 ∷ 3 ∷ 0 ∷ 2 ∷ 5 ∷ 7 ∷ 4 ∷ 6 ∷ 9 ∷ 11 ∷ 8 ∷ 10 ∷ 13 ∷
+    15 ∷ 12 ∷ 14 ∷ []) (q / 8)) 128 refl)
+    (same_below (λ q. turned_place 3 q % 8) (λ q. q % 8) 128 refl)

@@ -1,0 +1,307 @@
+-- What gates do to tables of truth.
+use Rattle.std.proofs.Common.{◌≡◌, ℕ, ◌+◌, ◌/◌, ◌%◌, ◌<◌, List, [], ◌∷◌, length, min, max, arith, refl, sym, ap, ◌∙◌, suc, zero}
+use Rattle.std.specs.Prelude.{slice_index, slice_index_or}
+use Rattle.std.specs.Int.{bit_at}
+use Rattle.std.specs.Int.Bits.{bit_xor, bit_and, bit_or}
+use Rattle.std.specs.Simd.Lanes.{zip2}
+use Rattle.std.proofs.lemmas.Simd.{get_or-zip2, length-zip2}
+use Rattle.std.proofs.lemmas.Nat.Bits.{bit_at_xor, bit_at_and, bit_at_or}
+use Rattle.luks_aes.specs.Field.{◌⊕◌, times_x}
+use Rattle.luks_aes.specs.Aes.{inv_sbox}
+use Rattle.luks_aes.proofs.Bytes.{same_below}
+use Rattle.luks_aes.proofs.SboxLemmas.{inv_sbox_entry, inv_sbox_byte, inv_sbox_in_table}
+use Rattle.luks_aes.proofs.ByteLists.{xor_byte, times_x_byte}
+use Rattle.luks_planes.specs.Planes.{plane_bit, Carries, IsPlane, Stands}
+
+-- ---- gates
+
+pub sum_carried : {y : ℕ → ℕ} {v w r : List ℕ} {f g : ℕ} → Carries y v f → Carries y w g → r ≡ zip2 bit_xor v w
+    → Carries y r (bit_xor f g)
+sum_carried {y} {v} {w} {r} {f} {g} first second is = record {
+  len = ap length is ∙ length-zip2 bit_xor v w (first.len ∙ sym second.len) ∙ first.len;
+  at = λ q low.
+      let p = q / 8 in
+      let k = q % 8 in
+      ap (λ l. plane_bit l q) is
+      ∙ ap (λ b. bit_at b k) (get_or-zip2 bit_xor v w p 0 0 0 (omega (arith, first.len)) (omega (arith, second.len)))
+      ∙ bit_at_xor (slice_index v p) (slice_index w p) k
+      ∙ (λ i. (first.at q low i + second.at q low i) % 2)
+      ∙ sym (bit_at_xor f g (y q));
+}
+
+pub both_carried : {y : ℕ → ℕ} {v w r : List ℕ} {f g : ℕ} → Carries y v f → Carries y w g → r ≡ zip2 bit_and v w
+    → Carries y r (bit_and f g)
+both_carried {y} {v} {w} {r} {f} {g} first second is = record {
+  len = ap length is ∙ length-zip2 bit_and v w (first.len ∙ sym second.len) ∙ first.len;
+  at = λ q low.
+      let p = q / 8 in
+      let k = q % 8 in
+      ap (λ l. plane_bit l q) is
+      ∙ ap (λ b. bit_at b k) (get_or-zip2 bit_and v w p 0 0 0 (omega (arith, first.len)) (omega (arith, second.len)))
+      ∙ bit_at_and (slice_index v p) (slice_index w p) k
+      ∙ (λ i. min (first.at q low i) (second.at q low i))
+      ∙ sym (bit_at_and f g (y q));
+}
+
+pub either_carried : {y : ℕ → ℕ} {v w r : List ℕ} {f g : ℕ} → Carries y v f → Carries y w g → r ≡ zip2 bit_or v w
+    → Carries y r (bit_or f g)
+either_carried {y} {v} {w} {r} {f} {g} first second is = record {
+  len = ap length is ∙ length-zip2 bit_or v w (first.len ∙ sym second.len) ∙ first.len;
+  at = λ q low.
+      let p = q / 8 in
+      let k = q % 8 in
+      ap (λ l. plane_bit l q) is
+      ∙ ap (λ b. bit_at b k) (get_or-zip2 bit_or v w p 0 0 0 (omega (arith, first.len)) (omega (arith, second.len)))
+      ∙ bit_at_or (slice_index v p) (slice_index w p) k
+      ∙ (λ i. max (first.at q low i) (second.at q low i))
+      ∙ sym (bit_at_or f g (y q));
+}
+
+pub other_carried : {y : ℕ → ℕ} {v w r : List ℕ} {f g : ℕ} → Carries y v f → Carries y w g → r
+    ≡ zip2 bit_xor (zip2 bit_and v w) w
+    → Carries y r (bit_xor (bit_and f g) g)
+other_carried first second is = sum_carried (both_carried first second refl) second is
+
+-- ---- the planes of bytes
+
+plane_0 : (b : ℕ) → b < 256 → bit_at b 0 ≡ bit_at 0xaaaaaaaaaaaaaaaaaaaaaaaaaaaaaaaaaaaaaaaaaaaaaaaaaaaaaaaaaaaaaaaa b
+plane_0 = same_below (λ b. bit_at b 0) (bit_at 0xaaaaaaaaaaaaaaaaaaaaaaaaaaaaaaaaaaaaaaaaaaaaaaaaaaaaaaaaaaaaaaaa) 256
+    refl
+
+pub carries_plane_0 : (y : ℕ → ℕ) (x : List (List ℕ)) → Stands y x → Carries y (slice_index_or x 0 [])
+    0xaaaaaaaaaaaaaaaaaaaaaaaaaaaaaaaaaaaaaaaaaaaaaaaaaaaaaaaaaaaaaaaa
+carries_plane_0 y x is =
+    let plane = is.at 0 (omega arith) in
+    record { len = plane.len; at = λ q low. plane.at q low ∙ plane_0 (y q) (is.bytes q) }
+
+plane_1 : (b : ℕ) → b < 256 → bit_at b 1 ≡ bit_at 0xcccccccccccccccccccccccccccccccccccccccccccccccccccccccccccccccc b
+plane_1 = same_below (λ b. bit_at b 1) (bit_at 0xcccccccccccccccccccccccccccccccccccccccccccccccccccccccccccccccc) 256
+    refl
+
+pub carries_plane_1 : (y : ℕ → ℕ) (x : List (List ℕ)) → Stands y x → Carries y (slice_index_or x 1 [])
+    0xcccccccccccccccccccccccccccccccccccccccccccccccccccccccccccccccc
+carries_plane_1 y x is =
+    let plane = is.at 1 (omega arith) in
+    record { len = plane.len; at = λ q low. plane.at q low ∙ plane_1 (y q) (is.bytes q) }
+
+plane_2 : (b : ℕ) → b < 256 → bit_at b 2 ≡ bit_at 0xf0f0f0f0f0f0f0f0f0f0f0f0f0f0f0f0f0f0f0f0f0f0f0f0f0f0f0f0f0f0f0f0 b
+plane_2 = same_below (λ b. bit_at b 2) (bit_at 0xf0f0f0f0f0f0f0f0f0f0f0f0f0f0f0f0f0f0f0f0f0f0f0f0f0f0f0f0f0f0f0f0) 256
+    refl
+
+pub carries_plane_2 : (y : ℕ → ℕ) (x : List (List ℕ)) → Stands y x → Carries y (slice_index_or x 2 [])
+    0xf0f0f0f0f0f0f0f0f0f0f0f0f0f0f0f0f0f0f0f0f0f0f0f0f0f0f0f0f0f0f0f0
+carries_plane_2 y x is =
+    let plane = is.at 2 (omega arith) in
+    record { len = plane.len; at = λ q low. plane.at q low ∙ plane_2 (y q) (is.bytes q) }
+
+plane_3 : (b : ℕ) → b < 256 → bit_at b 3 ≡ bit_at 0xff00ff00ff00ff00ff00ff00ff00ff00ff00ff00ff00ff00ff00ff00ff00ff00 b
+plane_3 = same_below (λ b. bit_at b 3) (bit_at 0xff00ff00ff00ff00ff00ff00ff00ff00ff00ff00ff00ff00ff00ff00ff00ff00) 256
+    refl
+
+pub carries_plane_3 : (y : ℕ → ℕ) (x : List (List ℕ)) → Stands y x → Carries y (slice_index_or x 3 [])
+    0xff00ff00ff00ff00ff00ff00ff00ff00ff00ff00ff00ff00ff00ff00ff00ff00
+carries_plane_3 y x is =
+    let plane = is.at 3 (omega arith) in
+    record { len = plane.len; at = λ q low. plane.at q low ∙ plane_3 (y q) (is.bytes q) }
+
+plane_4 : (b : ℕ) → b < 256 → bit_at b 4 ≡ bit_at 0xffff0000ffff0000ffff0000ffff0000ffff0000ffff0000ffff0000ffff0000 b
+plane_4 = same_below (λ b. bit_at b 4) (bit_at 0xffff0000ffff0000ffff0000ffff0000ffff0000ffff0000ffff0000ffff0000) 256
+    refl
+
+pub carries_plane_4 : (y : ℕ → ℕ) (x : List (List ℕ)) → Stands y x → Carries y (slice_index_or x 4 [])
+    0xffff0000ffff0000ffff0000ffff0000ffff0000ffff0000ffff0000ffff0000
+carries_plane_4 y x is =
+    let plane = is.at 4 (omega arith) in
+    record { len = plane.len; at = λ q low. plane.at q low ∙ plane_4 (y q) (is.bytes q) }
+
+plane_5 : (b : ℕ) → b < 256 → bit_at b 5 ≡ bit_at 0xffffffff00000000ffffffff00000000ffffffff00000000ffffffff00000000 b
+plane_5 = same_below (λ b. bit_at b 5) (bit_at 0xffffffff00000000ffffffff00000000ffffffff00000000ffffffff00000000) 256
+    refl
+
+pub carries_plane_5 : (y : ℕ → ℕ) (x : List (List ℕ)) → Stands y x → Carries y (slice_index_or x 5 [])
+    0xffffffff00000000ffffffff00000000ffffffff00000000ffffffff00000000
+carries_plane_5 y x is =
+    let plane = is.at 5 (omega arith) in
+    record { len = plane.len; at = λ q low. plane.at q low ∙ plane_5 (y q) (is.bytes q) }
+
+plane_6 : (b : ℕ) → b < 256 → bit_at b 6 ≡ bit_at 0xffffffffffffffff0000000000000000ffffffffffffffff0000000000000000 b
+plane_6 = same_below (λ b. bit_at b 6) (bit_at 0xffffffffffffffff0000000000000000ffffffffffffffff0000000000000000) 256
+    refl
+
+pub carries_plane_6 : (y : ℕ → ℕ) (x : List (List ℕ)) → Stands y x → Carries y (slice_index_or x 6 [])
+    0xffffffffffffffff0000000000000000ffffffffffffffff0000000000000000
+carries_plane_6 y x is =
+    let plane = is.at 6 (omega arith) in
+    record { len = plane.len; at = λ q low. plane.at q low ∙ plane_6 (y q) (is.bytes q) }
+
+plane_7 : (b : ℕ) → b < 256 → bit_at b 7 ≡ bit_at 0xffffffffffffffffffffffffffffffff00000000000000000000000000000000 b
+plane_7 = same_below (λ b. bit_at b 7) (bit_at 0xffffffffffffffffffffffffffffffff00000000000000000000000000000000) 256
+    refl
+
+pub carries_plane_7 : (y : ℕ → ℕ) (x : List (List ℕ)) → Stands y x → Carries y (slice_index_or x 7 [])
+    0xffffffffffffffffffffffffffffffff00000000000000000000000000000000
+carries_plane_7 y x is =
+    let plane = is.at 7 (omega arith) in
+    record { len = plane.len; at = λ q low. plane.at q low ∙ plane_7 (y q) (is.bytes q) }
+
+value_0 : (b : ℕ) → b < 256 → bit_at 0x66f01ac744211cfdddd7997ddd4cf62332f6fa25f5422334e5e0c000df616922 b
+    ≡ bit_at (inv_sbox_in_table (b ⊕ 0x63)) 0
+value_0 = same_below (bit_at 0x66f01ac744211cfdddd7997ddd4cf62332f6fa25f5422334e5e0c000df616922)
+    (λ b. bit_at (inv_sbox_in_table (b ⊕ 0x63)) 0) 256 refl
+
+value_1 : (b : ℕ) → b < 256 → bit_at 0x3a893fd82dc7bf0a9322946901fdc6c256f57b4a4e15f9e58b10309a75f35832 b
+    ≡ bit_at (inv_sbox_in_table (b ⊕ 0x63)) 1
+value_1 = same_below (bit_at 0x3a893fd82dc7bf0a9322946901fdc6c256f57b4a4e15f9e58b10309a75f35832)
+    (λ b. bit_at (inv_sbox_in_table (b ⊕ 0x63)) 1) 256 refl
+
+value_2 : (b : ℕ) → b < 256 → bit_at 0xf2fe6be0518e2da83d52b06cb27b01a1cd78296198251e9affc8ef9306673dc0 b
+    ≡ bit_at (inv_sbox_in_table (b ⊕ 0x63)) 2
+value_2 = same_below (bit_at 0xf2fe6be0518e2da83d52b06cb27b01a1cd78296198251e9affc8ef9306673dc0)
+    (λ b. bit_at (inv_sbox_in_table (b ⊕ 0x63)) 2) 256 refl
+
+value_3 : (b : ℕ) → b < 256 → bit_at 0xb54403b8ed2bf9d27bb3318e34852fc374ea1916c5cc5d1468fa836436e782d6 b
+    ≡ bit_at (inv_sbox_in_table (b ⊕ 0x63)) 3
+value_3 = same_below (bit_at 0xb54403b8ed2bf9d27bb3318e34852fc374ea1916c5cc5d1468fa836436e782d6)
+    (λ b. bit_at (inv_sbox_in_table (b ⊕ 0x63)) 3) 256 refl
+
+value_4 : (b : ℕ) → b < 256 → bit_at 0xe62adc2ebd6e7487a3c61f1d92e9633248aa79d92c50421f2db5ba3e424aca6c b
+    ≡ bit_at (inv_sbox_in_table (b ⊕ 0x63)) 4
+value_4 = same_below (bit_at 0xe62adc2ebd6e7487a3c61f1d92e9633248aa79d92c50421f2db5ba3e424aca6c)
+    (λ b. bit_at (inv_sbox_in_table (b ⊕ 0x63)) 4) 256 refl
+
+value_5 : (b : ℕ) → b < 256 → bit_at 0x5fe7f458913aae451e4ba8135dd517fe286e5af29ab748b580ec644f1644cc42 b
+    ≡ bit_at (inv_sbox_in_table (b ⊕ 0x63)) 5
+value_5 = same_below (bit_at 0x5fe7f458913aae451e4ba8135dd517fe286e5af29ab748b580ec644f1644cc42)
+    (λ b. bit_at (inv_sbox_in_table (b ⊕ 0x63)) 5) 256 refl
+
+value_6 : (b : ℕ) → b < 256 → bit_at 0x7d82b7f1f7ed0a2d562e31249d615c25f32c740bad41fc4c0bdfcb4f18882e24 b
+    ≡ bit_at (inv_sbox_in_table (b ⊕ 0x63)) 6
+value_6 = same_below (bit_at 0x7d82b7f1f7ed0a2d562e31249d615c25f32c740bad41fc4c0bdfcb4f18882e24)
+    (λ b. bit_at (inv_sbox_in_table (b ⊕ 0x63)) 6) 256 refl
+
+value_7 : (b : ℕ) → b < 256 → bit_at 0x2ddcef345fc8a434f54168a608a0aebcf4b5fb2162526ac2f0f03da62e89ccee b
+    ≡ bit_at (inv_sbox_in_table (b ⊕ 0x63)) 7
+value_7 = same_below (bit_at 0x2ddcef345fc8a434f54168a608a0aebcf4b5fb2162526ac2f0f03da62e89ccee)
+    (λ b. bit_at (inv_sbox_in_table (b ⊕ 0x63)) 7) 256 refl
+
+-- bit j of a function of bytes by its table of truth
+pub value_plane : (y g : ℕ → ℕ) (v : List ℕ) (j f : ℕ) → ((q : ℕ) → y q < 256) → Carries y v f
+    → ((b : ℕ) → b < 256 → bit_at f b ≡ bit_at (g b) j) → IsPlane (λ q. g (y q)) j v
+value_plane y g v j f bytes carried same = record {
+  len = carried.len;
+  at = λ q low. carried.at q low
+      ∙ same (y q) (bytes q);
+}
+
+inv_sbox_bit : (j b : ℕ) → b < 256 → bit_at (inv_sbox_in_table (b ⊕ 0x63)) j ≡ bit_at (inv_sbox (b ⊕ 0x63)) j
+inv_sbox_bit j b low = ap (λ n. bit_at n j) (inv_sbox_entry (b ⊕ 0x63) (xor_byte b 0x63 low (omega arith)))
+
+pub eight : (z : ℕ → ℕ) (a b c d e f g h : List ℕ) → IsPlane z 0 a → IsPlane z 1 b → IsPlane z 2 c → IsPlane z 3 d
+    → IsPlane z 4 e → IsPlane z 5 f → IsPlane z 6 g → IsPlane z 7 h
+    → (j : ℕ) → j < 8 → IsPlane z j (slice_index_or (a ∷ b ∷ c ∷ d ∷ e ∷ f ∷ g ∷ h ∷ []) j [])
+eight z a b c d e f g h p0 p1 p2 p3 p4 p5 p6 p7 zero low = p0
+eight z a b c d e f g h p0 p1 p2 p3 p4 p5 p6 p7 (suc zero) low = p1
+eight z a b c d e f g h p0 p1 p2 p3 p4 p5 p6 p7 (suc (suc zero)) low = p2
+eight z a b c d e f g h p0 p1 p2 p3 p4 p5 p6 p7 (suc (suc (suc zero))) low = p3
+eight z a b c d e f g h p0 p1 p2 p3 p4 p5 p6 p7 (suc (suc (suc (suc zero)))) low = p4
+eight z a b c d e f g h p0 p1 p2 p3 p4 p5 p6 p7 (suc (suc (suc (suc (suc zero))))) low = p5
+eight z a b c d e f g h p0 p1 p2 p3 p4 p5 p6 p7 (suc (suc (suc (suc (suc (suc zero)))))) low = p6
+eight z a b c d e f g h p0 p1 p2 p3 p4 p5 p6 p7 (suc (suc (suc (suc (suc (suc (suc zero))))))) low = p7
+eight z a b c d e f g h p0 p1 p2 p3 p4 p5 p6 p7 (suc (suc (suc (suc (suc (suc (suc (suc j)))))))) low = absurd
+    (omega arith)
+
+pub stands_unsubstituted : (y : ℕ → ℕ) → ((q : ℕ) → y q < 256) → {a b c d e f g h : List ℕ}
+    → Carries y a 0x66f01ac744211cfdddd7997ddd4cf62332f6fa25f5422334e5e0c000df616922
+    → Carries y b 0x3a893fd82dc7bf0a9322946901fdc6c256f57b4a4e15f9e58b10309a75f35832
+    → Carries y c 0xf2fe6be0518e2da83d52b06cb27b01a1cd78296198251e9affc8ef9306673dc0
+    → Carries y d 0xb54403b8ed2bf9d27bb3318e34852fc374ea1916c5cc5d1468fa836436e782d6
+    → Carries y e 0xe62adc2ebd6e7487a3c61f1d92e9633248aa79d92c50421f2db5ba3e424aca6c
+    → Carries y f 0x5fe7f458913aae451e4ba8135dd517fe286e5af29ab748b580ec644f1644cc42
+    → Carries y g 0x7d82b7f1f7ed0a2d562e31249d615c25f32c740bad41fc4c0bdfcb4f18882e24
+    → Carries y h 0x2ddcef345fc8a434f54168a608a0aebcf4b5fb2162526ac2f0f03da62e89ccee
+    → Stands (λ q. inv_sbox (y q ⊕ 0x63)) (a ∷ b ∷ c ∷ d ∷ e ∷ f ∷ g ∷ h ∷ [])
+stands_unsubstituted y bytes {a} {b} {c} {d} {e} {f} {g} {h} p0 p1 p2 p3 p4 p5 p6 p7 = record {
+  bytes = λ q. inv_sbox_byte (y q ⊕ 0x63) (xor_byte (y q) 0x63 (bytes q) (omega arith));
+  at = eight (λ q. inv_sbox (y q ⊕ 0x63)) a b c d e f g h
+      (value_plane y (λ b. inv_sbox (b ⊕ 0x63)) a 0 _ bytes p0 (λ b low. value_0 b low ∙ inv_sbox_bit 0 b low))
+      (value_plane y (λ b. inv_sbox (b ⊕ 0x63)) b 1 _ bytes p1 (λ b low. value_1 b low ∙ inv_sbox_bit 1 b low))
+      (value_plane y (λ b. inv_sbox (b ⊕ 0x63)) c 2 _ bytes p2 (λ b low. value_2 b low ∙ inv_sbox_bit 2 b low))
+      (value_plane y (λ b. inv_sbox (b ⊕ 0x63)) d 3 _ bytes p3 (λ b low. value_3 b low ∙ inv_sbox_bit 3 b low))
+      (value_plane y (λ b. inv_sbox (b ⊕ 0x63)) e 4 _ bytes p4 (λ b low. value_4 b low ∙ inv_sbox_bit 4 b low))
+      (value_plane y (λ b. inv_sbox (b ⊕ 0x63)) f 5 _ bytes p5 (λ b low. value_5 b low ∙ inv_sbox_bit 5 b low))
+      (value_plane y (λ b. inv_sbox (b ⊕ 0x63)) g 6 _ bytes p6 (λ b low. value_6 b low ∙ inv_sbox_bit 6 b low))
+      (value_plane y (λ b. inv_sbox (b ⊕ 0x63)) h 7 _ bytes p7 (λ b low. value_7 b low ∙ inv_sbox_bit 7 b low));
+}
+
+-- ---- doubling
+
+double_0 : (b : ℕ) → b < 256 → bit_at 0xffffffffffffffffffffffffffffffff00000000000000000000000000000000 b
+    ≡ bit_at (times_x b) 0
+unfolding times_x
+double_0 = same_below (bit_at 0xffffffffffffffffffffffffffffffff00000000000000000000000000000000)
+    (λ b. bit_at (times_x b) 0) 256 refl
+
+double_1 : (b : ℕ) → b < 256 → bit_at 0x55555555555555555555555555555555aaaaaaaaaaaaaaaaaaaaaaaaaaaaaaaa b
+    ≡ bit_at (times_x b) 1
+unfolding times_x
+double_1 = same_below (bit_at 0x55555555555555555555555555555555aaaaaaaaaaaaaaaaaaaaaaaaaaaaaaaa)
+    (λ b. bit_at (times_x b) 1) 256 refl
+
+double_2 : (b : ℕ) → b < 256 → bit_at 0xcccccccccccccccccccccccccccccccccccccccccccccccccccccccccccccccc b
+    ≡ bit_at (times_x b) 2
+unfolding times_x
+double_2 = same_below (bit_at 0xcccccccccccccccccccccccccccccccccccccccccccccccccccccccccccccccc)
+    (λ b. bit_at (times_x b) 2) 256 refl
+
+double_3 : (b : ℕ) → b < 256 → bit_at 0x0f0f0f0f0f0f0f0f0f0f0f0f0f0f0f0ff0f0f0f0f0f0f0f0f0f0f0f0f0f0f0f0 b
+    ≡ bit_at (times_x b) 3
+unfolding times_x
+double_3 = same_below (bit_at 0x0f0f0f0f0f0f0f0f0f0f0f0f0f0f0f0ff0f0f0f0f0f0f0f0f0f0f0f0f0f0f0f0)
+    (λ b. bit_at (times_x b) 3) 256 refl
+
+double_4 : (b : ℕ) → b < 256 → bit_at 0x00ff00ff00ff00ff00ff00ff00ff00ffff00ff00ff00ff00ff00ff00ff00ff00 b
+    ≡ bit_at (times_x b) 4
+unfolding times_x
+double_4 = same_below (bit_at 0x00ff00ff00ff00ff00ff00ff00ff00ffff00ff00ff00ff00ff00ff00ff00ff00)
+    (λ b. bit_at (times_x b) 4) 256 refl
+
+double_5 : (b : ℕ) → b < 256 → bit_at 0xffff0000ffff0000ffff0000ffff0000ffff0000ffff0000ffff0000ffff0000 b
+    ≡ bit_at (times_x b) 5
+unfolding times_x
+double_5 = same_below (bit_at 0xffff0000ffff0000ffff0000ffff0000ffff0000ffff0000ffff0000ffff0000)
+    (λ b. bit_at (times_x b) 5) 256 refl
+
+double_6 : (b : ℕ) → b < 256 → bit_at 0xffffffff00000000ffffffff00000000ffffffff00000000ffffffff00000000 b
+    ≡ bit_at (times_x b) 6
+unfolding times_x
+double_6 = same_below (bit_at 0xffffffff00000000ffffffff00000000ffffffff00000000ffffffff00000000)
+    (λ b. bit_at (times_x b) 6) 256 refl
+
+double_7 : (b : ℕ) → b < 256 → bit_at 0xffffffffffffffff0000000000000000ffffffffffffffff0000000000000000 b
+    ≡ bit_at (times_x b) 7
+unfolding times_x
+double_7 = same_below (bit_at 0xffffffffffffffff0000000000000000ffffffffffffffff0000000000000000)
+    (λ b. bit_at (times_x b) 7) 256 refl
+
+pub stands_doubled : (y : ℕ → ℕ) → ((q : ℕ) → y q < 256) → {a b c d e f g h : List ℕ}
+    → Carries y a 0xffffffffffffffffffffffffffffffff00000000000000000000000000000000
+    → Carries y b 0x55555555555555555555555555555555aaaaaaaaaaaaaaaaaaaaaaaaaaaaaaaa
+    → Carries y c 0xcccccccccccccccccccccccccccccccccccccccccccccccccccccccccccccccc
+    → Carries y d 0x0f0f0f0f0f0f0f0f0f0f0f0f0f0f0f0ff0f0f0f0f0f0f0f0f0f0f0f0f0f0f0f0
+    → Carries y e 0x00ff00ff00ff00ff00ff00ff00ff00ffff00ff00ff00ff00ff00ff00ff00ff00
+    → Carries y f 0xffff0000ffff0000ffff0000ffff0000ffff0000ffff0000ffff0000ffff0000
+    → Carries y g 0xffffffff00000000ffffffff00000000ffffffff00000000ffffffff00000000
+    → Carries y h 0xffffffffffffffff0000000000000000ffffffffffffffff0000000000000000
+    → Stands (λ q. times_x (y q)) (a ∷ b ∷ c ∷ d ∷ e ∷ f ∷ g ∷ h ∷ [])
+stands_doubled y bytes {a} {b} {c} {d} {e} {f} {g} {h} p0 p1 p2 p3 p4 p5 p6 p7 = record {
+  bytes = λ q. times_x_byte (y q) (bytes q);
+  at = eight (λ q. times_x (y q)) a b c d e f g h
+      (value_plane y times_x a 0 _ bytes p0 double_0)
+      (value_plane y times_x b 1 _ bytes p1 double_1)
+      (value_plane y times_x c 2 _ bytes p2 double_2)
+      (value_plane y times_x d 3 _ bytes p3 double_3)
+      (value_plane y times_x e 4 _ bytes p4 double_4)
+      (value_plane y times_x f 5 _ bytes p5 double_5)
+      (value_plane y times_x g 6 _ bytes p6 double_6)
+      (value_plane y times_x h 7 _ bytes p7 double_7);
+}

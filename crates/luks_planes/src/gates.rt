@@ -1,0 +1,94 @@
+//! Gates on vectors of 128 bits.
+
+ghost use Rattle.std.specs.Prelude.{◌≡◌, ◌*◌, ◌/◌, ◌%◌, ◌^◌, bit_and, bit_or, bit_xor, length, map};
+ghost use Rattle.std.specs.Simd.Lanes.{zip2};
+
+use std::simd::prelude::*;
+
+/// The bits that one of the two has.
+#[inline(always)]
+pub fn xor(a: u8x16, b: u8x16) -> u8x16
+    ensures { result ≡ zip2 bit_xor a b }
+{
+    a ^ b
+}
+
+/// The bits that both have.
+#[inline(always)]
+pub fn and(a: u8x16, b: u8x16) -> u8x16
+    ensures { result ≡ zip2 bit_and a b }
+{
+    a & b
+}
+
+/// The bits that one or both have.
+#[inline(always)]
+pub fn or(a: u8x16, b: u8x16) -> u8x16
+    ensures { result ≡ zip2 bit_or a b }
+{
+    a | b
+}
+
+/// The bits that `b` has and `a` has not.
+#[inline(always)]
+pub fn andn(a: u8x16, b: u8x16) -> u8x16
+    ensures { result ≡ zip2 bit_xor (zip2 bit_and a b) b }
+{
+    (a & b) ^ b
+}
+
+/// The bits of each byte that the mask has.
+#[inline(always)]
+pub fn masked(a: u8x16, mask: u8) -> u8x16
+    ensures { length a ≡ 16 → result ≡ map (λ x. bit_and x mask) a }
+{
+    a & u8x16::splat(mask)
+}
+
+/// The bits of each byte, 1 higher.
+#[inline(always)]
+pub fn up_1(a: u8x16) -> u8x16
+    ensures { length a ≡ 16 → result ≡ map (λ x. x * 2 ^ 1 % 256) a }
+{
+    a << 1
+}
+
+/// The bits of each byte, 1 lower.
+#[inline(always)]
+pub fn down_1(a: u8x16) -> u8x16
+    ensures { length a ≡ 16 → result ≡ map (λ x. x / 2 ^ 1) a }
+{
+    a >> 1
+}
+
+/// The bits of each byte, 2 higher.
+#[inline(always)]
+pub fn up_2(a: u8x16) -> u8x16
+    ensures { length a ≡ 16 → result ≡ map (λ x. x * 2 ^ 2 % 256) a }
+{
+    a << 2
+}
+
+/// The bits of each byte, 2 lower.
+#[inline(always)]
+pub fn down_2(a: u8x16) -> u8x16
+    ensures { length a ≡ 16 → result ≡ map (λ x. x / 2 ^ 2) a }
+{
+    a >> 2
+}
+
+/// The bits of each byte, 4 higher.
+#[inline(always)]
+pub fn up_4(a: u8x16) -> u8x16
+    ensures { length a ≡ 16 → result ≡ map (λ x. x * 2 ^ 4 % 256) a }
+{
+    a << 4
+}
+
+/// The bits of each byte, 4 lower.
+#[inline(always)]
+pub fn down_4(a: u8x16) -> u8x16
+    ensures { length a ≡ 16 → result ≡ map (λ x. x / 2 ^ 4) a }
+{
+    a >> 4
+}

@@ -1,0 +1,99 @@
+//! Rows of 32 states: eight planes for the bytes that stand in one row.
+
+ghost use Rattle.std.specs.Prelude.{◌≡◌, ℕ};
+ghost use Rattle.luks_aes.specs.Field.{◌⊕◌};
+ghost use Rattle.luks_aes.specs.Aes.{inv_sbox};
+ghost use Rattle.luks_planes.specs.Planes.{IsPlane, Stands, turned_place};
+
+use crate::gates::xor;
+use std::simd::prelude::*;
+
+/// The sum of two rows.
+#[inline(always)]
+pub fn row_sum(a: [u8x16; 8], b: [u8x16; 8]) -> [u8x16; 8]
+    ensures { (y z : ℕ → ℕ) → Stands y a → Stands z b → Stands (λ q. y q ⊕ z q) result }
+{
+    [
+        xor(a[0], b[0]),
+        xor(a[1], b[1]),
+        xor(a[2], b[2]),
+        xor(a[3], b[3]),
+        xor(a[4], b[4]),
+        xor(a[5], b[5]),
+        xor(a[6], b[6]),
+        xor(a[7], b[7]),
+    ]
+}
+
+// Each byte of the vector goes to the place of the column that follows its own by one.
+#[inline(always)]
+fn plane_turned_1(a: u8x16) -> u8x16
+    ensures { (y : ℕ → ℕ) (j : ℕ) → IsPlane y j a → IsPlane (λ q. y (turned_place 1 q)) j result }
+{
+    a.swizzle([2, 0, 3, 1, 6, 4, 7, 5, 10, 8, 11, 9, 14, 12, 15, 13])
+}
+
+#[inline(always)]
+fn plane_turned_2(a: u8x16) -> u8x16
+    ensures { (y : ℕ → ℕ) (j : ℕ) → IsPlane y j a → IsPlane (λ q. y (turned_place 2 q)) j result }
+{
+    a.swizzle([3, 2, 1, 0, 7, 6, 5, 4, 11, 10, 9, 8, 15, 14, 13, 12])
+}
+
+#[inline(always)]
+fn plane_turned_3(a: u8x16) -> u8x16
+    ensures { (y : ℕ → ℕ) (j : ℕ) → IsPlane y j a → IsPlane (λ q. y (turned_place 3 q)) j result }
+{
+    a.swizzle([1, 3, 0, 2, 5, 7, 4, 6, 9, 11, 8, 10, 13, 15, 12, 14])
+}
+
+/// Row 1 after InvShiftRows (FIPS 197, 5.3.1).
+#[inline(always)]
+pub fn turned_1(a: [u8x16; 8]) -> [u8x16; 8]
+    ensures { (y : ℕ → ℕ) → Stands y a → Stands (λ q. y (turned_place 1 q)) result }
+{
+    [
+        plane_turned_1(a[0]),
+        plane_turned_1(a[1]),
+        plane_turned_1(a[2]),
+        plane_turned_1(a[3]),
+        plane_turned_1(a[4]),
+        plane_turned_1(a[5]),
+        plane_turned_1(a[6]),
+        plane_turned_1(a[7]),
+    ]
+}
+
+/// Row 2 after InvShiftRows (FIPS 197, 5.3.1).
+#[inline(always)]
+pub fn turned_2(a: [u8x16; 8]) -> [u8x16; 8]
+    ensures { (y : ℕ → ℕ) → Stands y a → Stands (λ q. y (turned_place 2 q)) result }
+{
+    [
+        plane_turned_2(a[0]),
+        plane_turned_2(a[1]),
+        plane_turned_2(a[2]),
+        plane_turned_2(a[3]),
+        plane_turned_2(a[4]),
+        plane_turned_2(a[5]),
+        plane_turned_2(a[6]),
+        plane_turned_2(a[7]),
+    ]
+}
+
+/// Row 3 after InvShiftRows (FIPS 197, 5.3.1).
+#[inline(always)]
+pub fn turned_3(a: [u8x16; 8]) -> [u8x16; 8]
+    ensures { (y : ℕ → ℕ) → Stands y a → Stands (λ q. y (turned_place 3 q)) result }
+{
+    [
+        plane_turned_3(a[0]),
+        plane_turned_3(a[1]),
+        plane_turned_3(a[2]),
+        plane_turned_3(a[3]),
+        plane_turned_3(a[4]),
+        plane_turned_3(a[5]),
+        plane_turned_3(a[6]),
+        plane_turned_3(a[7]),
+    ]
+}

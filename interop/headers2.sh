@@ -1,0 +1,132 @@
+#!/usr/bin/env bash
+# Compares what luksrd says of LUKS2 headers with what cryptsetup says of them, and with the JSON text that it prints.
+# shellcheck source=tests/common.sh
+. "$(dirname "$0")/../tests/common.sh"
+
+# theirs IMAGE PLACE SIZE: the dump of a header as luksrd words it, made of what cryptsetup prints
+theirs() {
+    cryptsetup luksDump "$1" >fields || exit 1
+    cryptsetup luksDump --dump-json-metadata "$1" >metadata || exit 1
+    python3 - "$2" "$3" <<'PYTHON'
+import base64, json, re, sys
+place, size = sys.argv[1:]
+fields = dict(re.findall(r'^([A-Z][a-z A-Z]*):\s+(.*)$', open('fields').read(), re.M))
+tree = json.load(open('metadata'))
+print('Version: 2'); print('Header:', place); print('Sequence:', fields['Epoch']); print('Header size:', size)
+print('UUID:', fields['UUID'])
+print('Label: ' + fields['Label'].replace('(no label)', ''))
+print('Subsystem: ' + fields['Subsystem'].replace('(no subsystem)', ''))
+print('Checksum: sha256')
+for n in sorted(tree['keyslots'], key=int):
+    slot = tree['keyslots'][n]; kdf = slot['kdf']; area = slot['area']
+    if kdf['type'] == 'pbkdf2':
+        print(f"Slot {n}: USABLE priority={slot.get('priority', 1)} kdf=pbkdf2 hash={kdf['hash']} iterations={kdf['iterations']}"
+              f" offset={area['offset']} size={area['size']}")
+    else:
+        print(f"Slot {n}: SKIPPED {kdf['type']}")
+s = tree['segments']['0']
+print(f"Segment 0: offset={s['offset']} size={s['size']} iv={s['iv_tweak']} encryption={s['encryption']} sector={s['sector_size']}")
+for n in sorted(tree['digests'], key=int):
+    d = tree['digests'][n]
+    print(f"Digest {n}: USABLE hash={d['hash']} iterations={d['iterations']} bytes={len(base64.b64decode(d['digest']))}"
+          f" keyslots={','.join(d['keyslots'])} segments={','.join(d['segments'])}")
+PYTHON
+}
+
+# format IMAGE OPTION..: a volume with the passphrase in pass (slot 0)
+format() {
+    local image=$1
+    shift
+    truncate -s 20M "$image"
+    cryptsetup -q luksFormat --type luks2 --key-file pass "$@" "$image" 2>err || { cat err; exit 1; }
+}
+
+# agree IMAGE PLACE SIZE: luksrd says of it what cryptsetup does
+agree() {
+    same "$1: isLuks" "$(told isLuks "$1")" 0
+    same "$1: luksUUID" "$(told luksUUID "$1")" "$(cryptsetup luksUUID "$1")
+0"
+    same "$1: luksDump" "$(told luksDump "$1")" "$(theirs "$1" "$2" "$3")
+0"
+    same "$1: luksDump of a pipe" "$(dd if="$1" bs=777 status=none | "$program" luksDump -)" "$(theirs "$1" "$2" "$3")"
+}
+
+# clean IMAGE: there is nothing amiss
+clean() {
+    same "$1: luksCheck" "$(told luksCheck "$1")" 'clean
+0'
+}
+
+printf 'a passphrase' >pass
+printf 'another one' >pass2
+fast=(--pbkdf pbkdf2 --pbkdf-force-iterations 1000)
+
+# each length of a header
+for size in 16 32 64 128 256 512 1024 2048 4096; do
+    format "of $size KiB" "${fast[@]}" --luks2-metadata-size "${size}k" --luks2-keyslots-size 1m
+    agree "of $size KiB" primary $((size * 1024))
+    clean "of $size KiB"
+done
+
+# each hash function, and key lengths, sectors, modes
+for hash in sha1 sha224 sha256 sha384 sha512; do
+    format "$hash" "${fast[@]}" --hash "$hash" --key-size 256
+    agree "$hash" primary 16384
+    clean "$hash"
+done
+for sealed in 'aes-xts-plain64 512 512' 'aes-xts-plain64 512 1024' 'aes-xts-plain64 256 2048' 'aes-xts-plain64 512 4096' 'aes-xts-plain 512 512' \
+    'aes-cbc-essiv:sha256 256 512' 'aes-cbc-plain64 128 512'; do
+    read -r cipher bits sector <<<"$sealed"
+    format "$sealed" "${fast[@]}" --cipher "$cipher" --key-size "$bits" --sector-size "$sector"
+    agree "$sealed" primary 16384
+    clean "$sealed"
+done
+
+# labels, tokens, several slots, priorities, Argon2
+format several "${fast[@]}" --label 'a label' --subsystem 'a subsystem'
+cryptsetup -q luksAddKey "${fast[@]}" --key-file pass several pass2 || exit 1
+cryptsetup -q luksAddKey "${fast[@]}" --key-slot 10 --key-file pass several pass2 || exit 1
+cryptsetup -q luksAddKey --pbkdf argon2id --pbkdf-force-iterations 4 --pbkdf-memory 32 --pbkdf-parallel 1 --key-slot 2 --key-file pass several pass2 || exit 1
+cryptsetup -q luksAddKey --pbkdf argon2i --pbkdf-force-iterations 4 --pbkdf-memory 32 --pbkdf-parallel 1 --key-slot 31 --key-file pass several pass2 || exit 1
+cryptsetup -q config --key-slot 1 --priority prefer several || exit 1
+cryptsetup -q config --key-slot 10 --priority ignore several || exit 1
+cryptsetup token add --key-description luksrd --key-slot 0 several || exit 1
+agree several primary 16384
+clean several
+cryptsetup -q luksKillSlot --key-file pass several 1 || exit 1
+agree several primary 16384
+
+# what lies in a header backup is a header too
+cryptsetup -q luksHeaderBackup --header-backup-file backup several || exit 1
+same 'a header backup: luksDump' "$(told luksDump backup)" "$(theirs several primary 16384)
+0"
+
+# Damaged headers. cryptsetup mends what it reads, so it gets copies; what it says of the undamaged one is what is left.
+cp several damaged
+dd if=/dev/zero of=damaged bs=512 count=1 conv=notrunc status=none
+same 'a damaged primary header: luksDump' "$(told luksDump damaged)" "$(theirs several secondary 16384)
+0"
+same 'a damaged primary header: luksCheck' "$(told luksCheck damaged)" 'primary header: not valid
+luksrd: the header has findings
+1'
+cp several damaged
+printf x | dd of=damaged bs=1 seek=20000 conv=notrunc status=none
+same 'a damaged secondary header: luksDump' "$(told luksDump damaged)" "$(theirs several primary 16384)
+0"
+same 'a damaged secondary header: luksCheck' "$(told luksCheck damaged)" 'secondary header: not valid
+luksrd: the header has findings
+1'
+printf x | dd of=damaged bs=1 seek=5000 conv=notrunc status=none
+for command in luksUUID luksDump luksCheck; do
+    same "both headers damaged: $command" "$(told "$command" damaged)" 'luksrd: not a LUKS image
+4'
+done
+same 'both headers damaged: isLuks' "$(told isLuks damaged)" 1
+
+# volumes are not opened yet: the header is read, and no more
+same 'luksCat' "$(told luksCat --key-file pass several)" 'luksrd: no key slot can be tried
+1'
+same 'testPassphrase' "$(told testPassphrase --key-file pass several)" 'luksrd: no key slot can be tried
+1'
+
+finish
