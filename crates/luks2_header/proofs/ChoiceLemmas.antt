@@ -1,10 +1,11 @@
 -- The choice between the headers, and how far an image is read for it.
 use Rattle.std.proofs.Common.{◌≡◌, ◌∙◌, ℕ, ◌+◌, ◌*◌, ◌≤◌, List, Option, Some, None, Bool, true, false, ap, sym, refl, length, max, arith}
-use Rattle.std.specs.Prelude.{IfOk, OnOk, Result, Ok, Err, option_and_then}
+use Rattle.std.specs.Prelude.{IfErr, IfOk, OnOk, Result, Ok, Err, option_and_then}
 use Rattle.luks_area.specs.declared.fault.HeaderFault.{HeaderFault}
+use Rattle.luks_area.specs.declared.fault.HeaderFault.TheVariants.{Memory}
 use Rattle.luks2_header.specs.Choice2.{beside_primary, binary_at, chosen2_of, found_at, is_valid, least_valid, size_at}
 use Rattle.luks2_header.specs.Cost2.{reach2_of, reach_at, search_reach}
-use Rattle.luks2_header.specs.Front2.{FallsShort, IsFront, OfEach, Reaches, valid_size}
+use Rattle.luks2_header.specs.Front2.{FallsShort, IsFront, OfEach, Reaches, StaysBelow, valid_size}
 use Rattle.luks2_header.specs.declared.header.Header2.{Header2}
 use Rattle.luks2_header.proofs.AgreeLemmas.{at-front, reach_fit, reach_least, some_holds, none_fails, valid-front}
 use Rattle.luks2_header.proofs.FrontLemmas.{over_joined}
@@ -80,6 +81,14 @@ size_valid image place size is = some_holds (is_valid image place) size (size_at
 pub no_size_valid : (image : List ℕ) (place : ℕ) → None ≡ valid_size image place → is_valid image place ≡ false
 no_size_valid image place is = none_fails (is_valid image place) (size_at image place) is
 
+-- what is held once a valid primary header was seen
+pub primary_within : (image old first both : List ℕ) (size : ℕ) → Some size ≡ valid_size image 0
+    → length first ≤ max (length old) (reach_at image 0) → length both ≤ max (length first) (2 * size)
+    → length both ≤ max (length old) (reach2_of image)
+primary_within image old first both size is near far =
+    let valid = size_valid image 0 size is in
+    omega (arith, near, far, reach_first image, reach_primary image valid.0, valid.1)
+
 -- what the search answers is what is chosen where the primary header is not valid
 pub found_chosen : (held : List ℕ) (ended : Bool) (found : Result (Option Header2) HeaderFault)
     → OfEach held ended (λ image. is_valid image 0 ≡ false)
@@ -98,6 +107,15 @@ pub found_settled : (held' : List ℕ) (ended' : Bool) (found : Result (Option H
 found_settled held' ended' (Ok header) none first reaches = λ image front goes.
     omega (arith, reach_other image (none image front), first image front goes, reaches image front goes)
 found_settled held' ended' (Err fault) none first reaches = tt
+
+-- and less is held where memory was refused
+pub found_early : (held' : List ℕ) (ended' : Bool) (found : Result (Option Header2) HeaderFault)
+    → OfEach held' ended' (λ image. is_valid image 0 ≡ false)
+    → IfErr found (λ fault. fault ≡ Memory → StaysBelow held' ended' search_reach)
+    → IfErr found (λ fault. fault ≡ Memory → StaysBelow held' ended' reach2_of)
+found_early held' ended' (Ok header) none early = tt
+found_early held' ended' (Err fault) none early = λ stops image front.
+    omega (arith, early stops image front, reach_other image (none image front))
 
 -- and less is held where the end was found
 pub found_over : (held held' : List ℕ) (e e1 e2 : Bool) (found : Result (Option Header2) HeaderFault)

@@ -14,6 +14,11 @@ use Rattle.luks2_header.specs.Front2.{Grew, HoldsFront, IsFront}
 pub longer_than : (old new : List ℕ) → take (length old) new ≡ old → length old ≤ length new
 longer_than old new kept = omega (arith, ap length kept, length-take (length old) new)
 
+-- what could not grow is shorter than it was to be
+pub not_grown : (old new : List ℕ) (end : ℕ) → new ≡ old → (end ≤ length old → ⊥) → length new < end
+not_grown old new end same some =
+    elim (cases_lt (length old) end) [ inl few ↦ omega (arith, few, ap length same) | inr all ↦ absurd (some all) ]
+
 -- a front of a front is a front
 front_of : (old new image : List ℕ) (ended' : Bool) → take (length old) new ≡ old → IsFront new ended' image
     → IsFront old false image

@@ -37,12 +37,27 @@ searched_none image held ended = record {
   behind = omega arith;
 }
 
-module _ (image old held held' : List ℕ) (ended ended' : Bool) (k place : ℕ) (is : place ≡ get_or sizes k 0)
-    (inside : k < length sizes) (so_far : Searched image old held ended k)
+-- the definitions say what the walk says
+pub least_is : (image : List ℕ) → least_valid image ≡ first_valid (is_valid image) sizes
+unfolding least_valid is_tried
+least_is image = (let one = are_one (is_valid image) (reach_at image) in sym one.0)
+
+pub search_reach_is : (image : List ℕ) → search_reach image ≡ ahead image 0
+unfolding search_reach is_tried
+search_reach_is image = (let one = are_one (is_valid image) (reach_at image) in sym one.1)
+
+-- at place number k of a list that is that of the places
+module _ (image old held held' : List ℕ) (ended ended' : Bool) (k : ℕ) (items : List ℕ) (are : items ≡ sizes)
+    (inside : k < length items) (so_far : Searched image old held ended k)
     (longer : length held ≤ length held') (stays : ended ≡ true → ended' ≡ true)
-    (within : length held' ≤ max (length held) (reach_at image place)) where
+    (within : length held' ≤ max (length held) (reach_at image (get_or items k 0))) where
+  abbrev pub place : ℕ
+  place = get_or items k 0
+
   here : drop k sizes ≡ place ∷ drop (suc k) sizes
-  here = drop-cons sizes k 0 inside ∙ ap (λ p. p ∷ drop (suc k) sizes) (sym is)
+  here =
+      drop-cons sizes k 0 (omega (arith, inside, ap length are))
+      ∙ ap (λ p. p ∷ drop (suc k) sizes) (sym (ap (λ l. get_or l k 0) are))
 
   goes_on : ended' ≡ false → ended ≡ false
   goes_on goes = went ended refl where
@@ -70,19 +85,16 @@ module _ (image old held held' : List ℕ) (ended ended' : Bool) (k place : ℕ)
     behind = omega (arith, reached fails, so_far.behind);
   }
 
-  -- what is held stays within what the search looks at
-  pub searched_within : length held' ≤ max (length old) (ahead image 0)
-  searched_within = by (is_valid image place) refl where
-    by : (b : Bool) → is_valid image place ≡ b → length held' ≤ max (length old) (ahead image 0)
-    by true e = omega (arith, reached_last e, so_far.within, so_far.behind, within)
-    by false e = omega (arith, reached e, so_far.within, so_far.behind, within)
-
   -- this place is one of those that are looked at
-  pub reach_below : reach_at image place ≤ ahead image 0
+  pub reach_below : reach_at image place ≤ search_reach image
   reach_below = by (is_valid image place) refl where
-    by : (b : Bool) → is_valid image place ≡ b → reach_at image place ≤ ahead image 0
-    by true e = omega (arith, reached_last e, so_far.behind)
-    by false e = omega (arith, reached e, so_far.behind)
+    by : (b : Bool) → is_valid image place ≡ b → reach_at image place ≤ search_reach image
+    by true e = omega (arith, reached_last e, so_far.behind, search_reach_is image)
+    by false e = omega (arith, reached e, so_far.behind, search_reach_is image)
+
+  -- what is held stays within what the search looks at
+  pub searched_within : length held' ≤ max (length old) (search_reach image)
+  searched_within = omega (arith, reach_below, so_far.within, within, search_reach_is image)
 
   -- a valid header is here: the search ends
   pub searched_place : is_valid image place ≡ true → first_valid (is_valid image) sizes ≡ Some place
@@ -90,18 +102,16 @@ module _ (image old held held' : List ℕ) (ended ended' : Bool) (k place : ℕ)
   searched_place holds = so_far.place ∙ rw (here, holds) refl
 
   pub searched_settled : is_valid image place ≡ true → (ended' ≡ false → reach_at image place ≤ length held')
-      → ended' ≡ false → ahead image 0 ≤ length held'
+      → ended' ≡ false → search_reach image ≤ length held'
   searched_settled holds settled goes =
-      omega (arith, reached_last holds, so_far.settled (goes_on goes), settled goes, longer)
-
--- the definitions say what the walk says
-pub least_is : (image : List ℕ) → least_valid image ≡ first_valid (is_valid image) sizes
-unfolding least_valid is_tried
-least_is image = (let one = are_one (is_valid image) (reach_at image) in sym one.0)
-
-pub search_reach_is : (image : List ℕ) → search_reach image ≡ ahead image 0
-unfolding search_reach is_tried
-search_reach_is image = (let one = are_one (is_valid image) (reach_at image) in sym one.1)
+      omega (
+        arith,
+        reached_last holds,
+        so_far.settled (goes_on goes),
+        settled goes,
+        longer,
+        search_reach_is image,
+      )
 
 -- what says that a header has a length says that it is valid
 pub some_valid : (image : List ℕ) (place : ℕ) (found : Option ℕ) → found ≡ valid_size image place

@@ -1,5 +1,5 @@
 -- What is held and taken once the header of an image is found, or is not.
-use Rattle.std.proofs.Common.{◌≡◌, ◌∙◌, ℕ, ◌+◌, ◌-◌, ◌≤◌, ◌⊎◌, inl, inr, List, ◌++◌, Option, Some, None, Ok, Err, Bool, true, false, ap, sym, subst, refl, take, drop, length, length-append, max, arith}
+use Rattle.std.proofs.Common.{◌≡◌, ◌∙◌, ℕ, ◌+◌, ◌-◌, ◌<◌, ◌≤◌, ◌⊎◌, inl, inr, List, ◌++◌, Option, Some, None, Ok, Err, Bool, true, false, ap, sym, subst, refl, take, drop, length, length-append, max, arith}
 use Rattle.std.specs.Prelude.{IfErr, IfOk, Result, ok_or}
 use Rattle.std.proofs.Math.Seq.{drop-append_seam, take-append-add, take-append_seam}
 use Rattle.std.proofs.lemmas.List.{drop-drop}
@@ -81,15 +81,18 @@ module _ (old new rest : List ℕ) (ended : Bool) (left' : Option (List ℕ)) wh
     subst (λ n. TookBehind old new rest left' (n - length old)) cost (took_count holds longer),
   )
 
-  -- no more than that was taken before something failed
+  -- no more than that was taken before something failed, and less than was to be read where memory was refused
   pub breaks_seeking : (fault : HeaderFault) → (fault ≡ Read) ⊎ (fault ≡ Memory)
       → HoldsFront (old ++ rest) new ended left' → length old ≤ length new → length new ≤ cost2_of (old ++ rest)
+      → (fault ≡ Memory → length new < reach2_of (old ++ rest))
       → BreaksSeeking (old ++ rest) old new rest left' fault
-  breaks_seeking Read which holds longer within = (length new - length old, omega arith, took_count holds longer)
-  breaks_seeking Memory which holds longer within = (length new - length old, omega arith, took_count holds longer)
-  breaks_seeking NotLuks which holds longer within = absurd (elim which [ inl e ↦ cc | inr e ↦ cc ])
-  breaks_seeking Cut which holds longer within = absurd (elim which [ inl e ↦ cc | inr e ↦ cc ])
-  breaks_seeking Json which holds longer within = absurd (elim which [ inl e ↦ cc | inr e ↦ cc ])
+  breaks_seeking Read which holds longer within early =
+      (length new - length old, omega arith, took_count holds longer)
+  breaks_seeking Memory which holds longer within early =
+      (length new - length old, omega (arith, early refl), took_count holds longer)
+  breaks_seeking NotLuks which holds longer within early = absurd (elim which [ inl e ↦ cc | inr e ↦ cc ])
+  breaks_seeking Cut which holds longer within early = absurd (elim which [ inl e ↦ cc | inr e ↦ cc ])
+  breaks_seeking Json which holds longer within early = absurd (elim which [ inl e ↦ cc | inr e ↦ cc ])
 
 -- the image has the header that was answered, or none
 module _ (old new : List ℕ) (left left' : Option (List ℕ)) (chosen : Option Header2)

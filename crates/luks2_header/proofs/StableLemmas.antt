@@ -1,7 +1,7 @@
 -- The first bytes of an image, as many as its header costs, have the same header and the same cost.
 use Rattle.std.proofs.Common.{◌≡◌, ◌∙◌, ℕ, ◌+◌, ◌*◌, ◌<◌, ◌≤◌, List, [], ◌∷◌, Option, Some, None, Err, Bool, true, false, ap, sym, refl, inl, inr, take, take_all, length, length-take-le, max, arith}
-use Rattle.std.specs.Prelude.{ok_or, option_and_then}
-use Rattle.std.proofs.lemmas.Bool.{cases_lt}
+use Rattle.std.specs.Prelude.{nat_lt, ok_or, option_and_then}
+use Rattle.std.proofs.lemmas.Bool.{cases_lt, le-ltb}
 use Rattle.luks_area.specs.declared.fault.HeaderFault.TheVariants.{NotLuks}
 use Rattle.luks2_header.specs.Choice2.{chosen2_of, found_at, header2_of, is_valid, least_valid, size_at}
 use Rattle.luks2_header.specs.Cost2.{cost2_of, reach2_of, reach_at, search_reach}
@@ -160,6 +160,21 @@ module _ (image : List ℕ) where
   -- and the same cost
   pub cost2_of-take : cost2_of (take (cost2_of image) image) ≡ cost2_of image
   cost2_of-take = is_stable.1
+
+  -- and end before all that is looked at where it does
+  pub falls_short-take : nat_lt (length (take (cost2_of image) image)) (reach2_of (take (cost2_of image) image))
+      ≡ nat_lt (length image) (reach2_of image)
+  unfolding cost2_of
+  falls_short-take = elim (cases_lt (length image) (reach2_of image)) [
+    | inl short ↦
+        (let all : take (cost2_of image) image ≡ image = take_all (cost2_of image) image (omega arith) in
+        ap (λ l. nat_lt (length l) (reach2_of l)) all)
+    | inr enough ↦
+        (let long = length-take-le (cost2_of image) image (omega arith) in
+        let same = stable_by (take (cost2_of image) image) image (front_of_cost image) (is_valid image 0) refl
+        (omega (arith, long)) in
+        le-ltb _ _ (omega (arith, same.1, long)) ∙ sym (le-ltb _ _ enough))
+  ]
 
   -- an image that is shorter than a binary header has none, and is read whole
   pub short_header2 : length image < 4096 → (header2_of image ≡ Err NotLuks) × (cost2_of image ≡ length image)

@@ -1,5 +1,5 @@
 -- What is held of an image while its header is sought.
-use Rattle.std.specs.Prelude.{◌≡◌, ◌-◌, ◌<◌, ◌≤◌, ◌&&◌, ℕ, Bool, true, false, not, if◌then◌else◌, List, Option, Some, None, Result, Ok, Err, drop, length, max, nat_lt, take}
+use Rattle.std.specs.Prelude.{◌≡◌, ◌+◌, ◌-◌, ◌<◌, ◌≤◌, ◌&&◌, ℕ, Bool, true, false, not, if◌then◌else◌, List, Option, Some, None, Result, Ok, Err, drop, length, max, nat_lt, take}
 use Rattle.luks_io.specs.Bytes.{counted}
 use Rattle.luks_area.specs.Area.{TookBehind}
 use Rattle.luks_area.specs.declared.fault.HeaderFault.{HeaderFault}
@@ -48,6 +48,10 @@ abbrev pub FallsShort : List ℕ → Bool → Bool → (List ℕ → ℕ) → Ty
 FallsShort held' ended ended' reach = OfEach held' ended' (λ image. ended ≡ false → ended' ≡ true
     → length held' < reach image)
 
+-- less of an image is held than it is to be read
+abbrev pub StaysBelow : List ℕ → Bool → (List ℕ → ℕ) → Type 0
+StaysBelow held ended reach = OfEach held ended (λ image. length held < reach image)
+
 -- the rest of an image, as much of it as the header costs, went behind what was held
 abbrev pub TookCost : List ℕ → List ℕ → List ℕ → List ℕ → Option (List ℕ) → Type 0
 TookCost image held held' rest left = (held' ≡ take (cost2_of image) image)
@@ -58,15 +62,20 @@ abbrev pub TookBelow : List ℕ → List ℕ → List ℕ → List ℕ → Optio
 TookBelow image held held' rest left = (count : ℕ) × (count ≤ cost2_of image - length held)
     × TookBehind held held' rest left count
 
+-- some of the rest went behind it, and less is held than the image is to be read
+abbrev pub TookEarly : List ℕ → List ℕ → List ℕ → List ℕ → Option (List ℕ) → Type 0
+TookEarly image held held' rest left = (count : ℕ) × (length held + count < reach2_of image)
+    × TookBehind held held' rest left count
+
 -- seeking the header ended without one. Where the image has none, as many of its bytes are held as that costs to learn;
--- a failed read or want of memory ended it somewhere before
+-- a failed read ended it somewhere before, and want of memory where more was still to be read
 abbrev pub BreaksSeeking : List ℕ → List ℕ → List ℕ → List ℕ → Option (List ℕ) → HeaderFault → Type 0
 BreaksSeeking image held held' rest left NotLuks = (header2_of image ≡ Err NotLuks)
     × TookCost image held held' rest left
 BreaksSeeking image held held' rest left Cut = ⊥
 BreaksSeeking image held held' rest left Json = ⊥
 BreaksSeeking image held held' rest left Read = TookBelow image held held' rest left
-BreaksSeeking image held held' rest left Memory = TookBelow image held held' rest left
+BreaksSeeking image held held' rest left Memory = TookEarly image held held' rest left
 
 -- the image ended before all that was asked of it was there
 abbrev pub finds_end : {T : Type 0} → Result T HeaderFault → List ℕ → Bool

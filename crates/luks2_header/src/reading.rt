@@ -5,7 +5,7 @@ ghost use Rattle.luks_io.specs.Bytes.{WhereKnown, counted};
 ghost use Rattle.luks_area.specs.Area.{is_read, longest_area};
 ghost use Rattle.luks2_header.specs.Choice2.{chosen2_of, found_at, header2_of, least_valid};
 ghost use Rattle.luks2_header.specs.Cost2.{cost2_of, reach2_of, reach_at, search_reach};
-ghost use Rattle.luks2_header.specs.Front2.{BreaksSeeking, FallsShort, Grew, finds_end, OfEach, Reaches, TookCost, WithinReach, valid_size};
+ghost use Rattle.luks2_header.specs.Front2.{BreaksSeeking, FallsShort, Grew, finds_end, OfEach, Reaches, StaysBelow, TookCost, WithinReach, valid_size};
 
 use crate::choice::{beside_primary, valid_header};
 use crate::header::{BINARY_LEN, Finding, Header2, Place};
@@ -28,6 +28,7 @@ fn grow<S: Source>(
     ensures within { length area.new ≤ max (length area.old) end }
     ensures over { OnOk result (ended.old ≡ false → ended.new ≡ true → length area.new < end) }
     ensures going { OnErr result (ended.new ≡ false) }
+    ensures early { IfErr result (λ fault. fault ≡ HeaderFault.Memory → length area.new < end) }
     ensures grew { Grew area.old area.new ended.old ended.new (S.to_come source.old)
         (S.to_come source.new) (S.ends source.old) (S.ends source.new) }
     ensures refusals { IfErr result (λ fault.
@@ -60,6 +61,8 @@ fn header_at<S: Source>(
     ensures over { OnOk result (FallsShort area.new ended.old ended.new
         (λ image. reach_at image place)) }
     ensures going { OnErr result (ended.new ≡ false) }
+    ensures early { IfErr result (λ fault. fault ≡ HeaderFault.Memory
+        → StaysBelow area.new ended.new (λ image. reach_at image place)) }
     ensures grew { Grew area.old area.new ended.old ended.new (S.to_come source.old)
         (S.to_come source.new) (S.ends source.old) (S.ends source.new) }
     ensures refusals { IfErr result (λ fault.
@@ -90,6 +93,8 @@ fn search<S: Source>(
     ensures settled { OnOk result (Reaches area.new ended.new search_reach) }
     ensures over { OnOk result (FallsShort area.new ended.old ended.new search_reach) }
     ensures going { OnErr result (ended.new ≡ false) }
+    ensures early { IfErr result (λ fault. fault ≡ HeaderFault.Memory
+        → StaysBelow area.new ended.new search_reach) }
     ensures grew { Grew area.old area.new ended.old ended.new (S.to_come source.old)
         (S.to_come source.new) (S.ends source.old) (S.ends source.new) }
     ensures refusals { IfErr result (λ fault.
@@ -119,6 +124,8 @@ fn choose<S: Source>(
     ensures settled { OnOk result (Reaches area.new ended.new reach2_of) }
     ensures over { OnOk result (FallsShort area.new ended.old ended.new reach2_of) }
     ensures going { OnErr result (ended.new ≡ false) }
+    ensures early { IfErr result (λ fault. fault ≡ HeaderFault.Memory
+        → StaysBelow area.new ended.new reach2_of) }
     ensures grew { Grew area.old area.new ended.old ended.new (S.to_come source.old)
         (S.to_come source.new) (S.ends source.old) (S.ends source.new) }
     ensures refusals { IfErr result (λ fault.
@@ -137,7 +144,8 @@ fn choose<S: Source>(
 ///
 /// The image is one that does not begin as LUKS1 does, and whose end was not found yet.
 /// [`HeaderFault::NotLuks`] is for one without a valid header. After [`HeaderFault::Read`] and
-/// [`HeaderFault::Memory`] the area holds what was taken before, and no more than the header costs.
+/// [`HeaderFault::Memory`] the area holds what was taken before, and no more than the header costs;
+/// after `Memory` less than the image is looked at, and its end was not found.
 pub fn read_header2<S: Source>(
     area: &mut HeaderArea,
     source: &mut S,
@@ -154,6 +162,8 @@ pub fn read_header2<S: Source>(
     ensures only { IfOk result (λ header. length area.new ≡ cost2_of area.new) }
     ensures none { result ≡ Err HeaderFault.NotLuks
         → (header2_of area.new ≡ Err HeaderFault.NotLuks) × (length area.new ≡ cost2_of area.new) }
+    ensures early { IfErr result (λ fault. fault ≡ HeaderFault.Memory
+        → StaysBelow area.new false reach2_of) }
     ensures kept { take (length area.old) area.new ≡ area.old }
     ensures refusals { IfErr result (λ fault. (fault ≡ HeaderFault.NotLuks)
         ⊎ (fault ≡ HeaderFault.Read) ⊎ (fault ≡ HeaderFault.Memory)) }

@@ -4,6 +4,7 @@ use Rattle.std.proofs.Common.{◌≡◌, ℕ, ◌<◌, ◌≤◌, Bool, true, fa
 use Rattle.luks_io.specs.Bytes.{Adds, Took}
 use Rattle.luks_io.proofs.Taking.{adds-none}
 use Rattle.luks_header.specs.Header.{BreaksReading, cost_of, header_of}
+use Rattle.luks_header.proofs.HeaderLemmas.{memory_below}
 use Rattle.luks_header.specs.declared.header.Header.{Header}
 use Rattle.luks_area.specs.declared.fault.HeaderFault.{HeaderFault}
 use Rattle.luks_area.specs.declared.fault.HeaderFault.TheVariants.{NotLuks as NoLuks, Cut as IsCut, Json as NoJson, Read, Memory}
@@ -130,22 +131,22 @@ module _ (text : Header → List ℕ) (told : Header → Message) (image : List 
   print_none fault found = rw found refl
 
   -- there was no header, or reading it failed
-  pub runs_without_header : (fault : HeaderFault) → BreaksReading image i fault
+  pub runs_without_header : (ends ends' : ℕ) (fault : HeaderFault) → BreaksReading image i ends ends' fault
       → Runs at_any_pace (print_outcome text told image) (message_for_header fault) (Took image i) TookNone (Adds w w)
-  runs_without_header NoLuks stop =
+  runs_without_header ends ends' NoLuks stop =
       rw (print_none NoLuks stop.0) (record
-      { as_stated = refl; image = stop.1; secret = refl; output = adds-none w })
-  runs_without_header IsCut stop =
+      { as_stated = refl; image = stop.1.0; secret = refl; output = adds-none w })
+  runs_without_header ends ends' IsCut stop =
       rw (print_none IsCut stop.0) (record
-      { as_stated = refl; image = stop.1; secret = refl; output = adds-none w })
-  runs_without_header NoJson stop =
+      { as_stated = refl; image = stop.1.0; secret = refl; output = adds-none w })
+  runs_without_header ends ends' NoJson stop =
       rw (print_none NoJson stop.0) (record
-      { as_stated = refl; image = stop.1; secret = refl; output = adds-none w })
-  runs_without_header Read stop =
-      let some = stop in
-      early _ image ReadFailed i w some.0 tt (omega arith) (omega (arith, some.1, print_cost)) some.2
-  runs_without_header Memory stop =
+      { as_stated = refl; image = stop.1.0; secret = refl; output = adds-none w })
+  runs_without_header ends ends' Read stop =
       let some = stop.0 in
+      early _ image ReadFailed i w some.0 tt (omega arith) (omega (arith, some.1, print_cost)) some.2
+  runs_without_header ends ends' Memory stop =
+      let some = memory_below image i ends ends' stop in
       early _ image OutOfMemory i w some.0 refl (omega arith) (omega (arith, some.1, print_cost)) some.2
 
 module _ (image : List ℕ) (i w : Option (List ℕ)) where
@@ -167,20 +168,20 @@ module _ (image : List ℕ) (i w : Option (List ℕ)) where
       { as_stated = refl; image = left; secret = refl; output = adds-none w })
 
   -- `isLuks` of one without a header that can be read
-  pub is_luks_refused : (fault : HeaderFault) → BreaksReading image i fault
+  pub is_luks_refused : (ends ends' : ℕ) (fault : HeaderFault) → BreaksReading image i ends ends' fault
       → Runs at_any_pace (is_luks_outcome image) (answer_to_is_luks (Err fault)) (Took image i) TookNone (Adds w w)
-  is_luks_refused NoLuks stop =
+  is_luks_refused ends ends' NoLuks stop =
       rw (asked (Err NoLuks) stop.0) (record
-      { as_stated = refl; image = stop.1; secret = refl; output = adds-none w })
-  is_luks_refused IsCut stop =
+      { as_stated = refl; image = stop.1.0; secret = refl; output = adds-none w })
+  is_luks_refused ends ends' IsCut stop =
       rw (asked (Err IsCut) stop.0) (record
-      { as_stated = refl; image = stop.1; secret = refl; output = adds-none w })
-  is_luks_refused NoJson stop =
+      { as_stated = refl; image = stop.1.0; secret = refl; output = adds-none w })
+  is_luks_refused ends ends' NoJson stop =
       rw (asked (Err NoJson) stop.0) (record
-      { as_stated = refl; image = stop.1; secret = refl; output = adds-none w })
-  is_luks_refused Read stop =
-      let some = stop in
-      early _ image ReadFailed i w some.0 tt (omega arith) (omega (arith, some.1, asked_cost)) some.2
-  is_luks_refused Memory stop =
+      { as_stated = refl; image = stop.1.0; secret = refl; output = adds-none w })
+  is_luks_refused ends ends' Read stop =
       let some = stop.0 in
+      early _ image ReadFailed i w some.0 tt (omega arith) (omega (arith, some.1, asked_cost)) some.2
+  is_luks_refused ends ends' Memory stop =
+      let some = memory_below image i ends ends' stop in
       early _ image OutOfMemory i w some.0 refl (omega arith) (omega (arith, some.1, asked_cost)) some.2

@@ -3,6 +3,7 @@ use Rattle.std.proofs.Common.{◌≡◌, ℕ, ◌⊎◌, inl, inr, List, [], Opt
 use Rattle.std.specs.Prelude.{is_err}
 use Rattle.luks_io.specs.Bytes.{Took}
 use Rattle.luks_header.specs.Header.{BreaksReading, cost_of, header_of}
+use Rattle.luks_header.proofs.HeaderLemmas.{memory_below}
 use Rattle.luks_header.specs.Segment.{segment_of}
 use Rattle.luks_header.specs.declared.header.Header.{Header}
 use Rattle.luks_area.specs.declared.fault.HeaderFault.{HeaderFault}
@@ -24,13 +25,13 @@ module _ (o : OpeningRequest) (image : List ℕ) (left : Option (List ℕ)) wher
   unfolding volume_of
   no_header fault none = rw none refl
 
-  pub stops_without_header : (fault : HeaderFault) → BreaksReading image left fault
+  pub stops_without_header : (ends ends' : ℕ) (fault : HeaderFault) → BreaksReading image left ends ends' fault
       → StopsFinding o image left (message_for_header fault)
-  stops_without_header NoLuks stop = (no_header NoLuks stop.0, stop.1)
-  stops_without_header IsCut stop = (no_header IsCut stop.0, stop.1)
-  stops_without_header NoJson stop = (no_header NoJson stop.0, stop.1)
-  stops_without_header LostRead stop = stop
-  stops_without_header NoMemory stop = stop.0
+  stops_without_header ends ends' NoLuks stop = (no_header NoLuks stop.0, stop.1.0)
+  stops_without_header ends ends' IsCut stop = (no_header IsCut stop.0, stop.1.0)
+  stops_without_header ends ends' NoJson stop = (no_header NoJson stop.0, stop.1.0)
+  stops_without_header ends ends' LostRead stop = stop.0
+  stops_without_header ends ends' NoMemory stop = memory_below image left ends ends' stop
 
   -- volumes of its format are not opened
   pub stops_unopened : (header : Header) → header_of image ≡ Ok header → is_opened header ≡ false

@@ -3,7 +3,7 @@ use Rattle.std.proofs.Common.{◌≡◌, ℕ, ◌+◌, ◌-◌, ◌<◌, ◌≤�
 use Rattle.std.specs.Prelude.{nat_lt, IsTrue, ◌↔◌}
 use Rattle.std.proofs.lemmas.Bool.{cases_lt, le-ltb, lt-ltb}
 use Rattle.std.proofs.lemmas.List.{length-take, take-append-drop, take-take, take_min}
-use Rattle.luks_io.specs.Bytes.{Took, TookUpTo}
+use Rattle.luks_io.specs.Bytes.{Took, TookFewer, TookUpTo, counted, raised}
 use Rattle.luks_io.proofs.Taking.{took_behind}
 use Rattle.luks_area.specs.Area.{BreaksTaking, TookBehind}
 use Rattle.luks_area.specs.declared.fault.HeaderFault.{HeaderFault}
@@ -11,17 +11,18 @@ use Rattle.luks_area.specs.declared.fault.HeaderFault.TheVariants.{NotLuks, Cut,
 use Rattle.luks1_header.specs.Header1.{header1_of, is_luks1}
 use Rattle.luks1_header.specs.declared.header.Header1.{Header1}
 use Rattle.luks2_header.specs.Choice2.{header2_of}
-use Rattle.luks2_header.specs.Cost2.{cost2_of}
-use Rattle.luks2_header.specs.Front2.{TookBelow, TookCost}
+use Rattle.luks2_header.specs.Cost2.{cost2_of, reach2_of}
+use Rattle.luks2_header.specs.Front2.{TookBelow, TookCost, TookEarly}
 use Rattle.luks2_header.proofs.AbsentLemmas.{cost_least, cost_short, none_short}
+use Rattle.luks2_header.proofs.ChoiceLemmas.{reach_some}
 use Rattle.luks2_header.specs.Text2.{json_text_of}
 use Rattle.luks2_header.specs.declared.header.Header2.{Header2}
 use Rattle.luks2_members.specs.Tree.{tree_of}
 use Rattle.serde_json.specs.Data.{Data}
-use Rattle.luks_header.specs.Header.{BreaksHeld, BreaksReading, cost_of, header_of, with_metadata, with_text}
+use Rattle.luks_header.specs.Header.{BreaksHeld, BreaksReading, TookCostly, cost_of, falls_short, header_of, reach_of, with_metadata, with_text}
 use Rattle.luks_header.specs.declared.header.Header.{Header}
 use Rattle.luks_header.specs.declared.header.Header.TheVariants.{V1}
-use Rattle.luks_header.proofs.HeldLemmas.{cost_other, header_missing}
+use Rattle.luks_header.proofs.HeldLemmas.{cost_other, header_missing, reach_other}
 
 -- an image costs as many bytes as there are of 592, or more
 pub some_cost : (image : List ℕ) → min 592 (length image) ≤ cost_of image
@@ -30,6 +31,18 @@ some_cost image = by (is_luks1 image) refl where
   by : (b : Bool) → is_luks1 image ≡ b → min 592 (length image) ≤ cost_of image
   by true is = rw is (omega arith)
   by false is = rw is (omega (arith, cost_least image))
+
+-- and is looked at as far
+pub some_reach : (image : List ℕ) → 592 ≤ reach_of image
+unfolding reach_of
+some_reach image = by (is_luks1 image) refl where
+  by : (b : Bool) → is_luks1 image ≡ b → 592 ≤ reach_of image
+  by true is = rw is (omega arith)
+  by false is = rw is (omega (arith, reach_some image))
+
+-- one that is shorter than that falls short
+pub short_falls : (image : List ℕ) → length image < 592 → falls_short image ≡ true
+short_falls image few = lt-ltb (length image) (reach_of image) (omega (arith, few, some_reach image))
 
 -- the first 592 bytes tell whether an image begins as LUKS1
 pub begins_taken : (image : List ℕ) → is_luks1 (take 592 image) ≡ is_luks1 image
@@ -62,19 +75,29 @@ header_of-cut area is short =
     rw (is, yes) refl
 
 -- what stops an empty area from taking bytes stops the reading of a header
-pub breaks_reading : (area area' image : List ℕ) (left : Option (List ℕ)) (fault : HeaderFault) → area ≡ []
-    → BreaksTaking (592 - length area) area area' image left fault → BreaksReading image left fault
-breaks_reading area area' image left Read none (count, below, took) =
-    (count, omega (arith, took.0.within, some_cost image), took.0)
-breaks_reading area area' image left Memory none took = ((0, omega arith, took.0), λ is. took.0)
-breaks_reading area area' image left NotLuks none h = absurd h
-breaks_reading area area' image left Cut none h = absurd h
-breaks_reading area area' image left Json none h = absurd h
+pub breaks_reading : (area area' image : List ℕ) (left : Option (List ℕ)) (ends ends' : ℕ) (fault : HeaderFault)
+    → area ≡ [] → BreaksTaking (592 - length area) area area' image left fault → ends' ≡ ends
+    → BreaksReading image left ends ends' fault
+breaks_reading area area' image left ends ends' Read none (count, below, took) same =
+    ((count, omega (arith, took.0.within, some_cost image), took.0), same)
+breaks_reading area area' image left ends ends' Memory none took same =
+    inl ((0, omega (arith, some_reach image), took.0), same, λ is. took.0)
+breaks_reading area area' image left ends ends' NotLuks none h same = absurd h
+breaks_reading area area' image left ends ends' Cut none h same = absurd h
+breaks_reading area area' image left ends ends' Json none h same = absurd h
 
 -- an area that is not whole is short
 pub short_from_not_whole : (whole : Bool) (end len : ℕ) → (IsTrue whole ↔ (end ≤ len)) → whole ≡ false → len < end
 short_from_not_whole whole end len iff is =
     elim (cases_lt len end) [ inl short ↦ short | inr all ↦ (let yes : whole ≡ true = iff.1 all in cc) ]
+
+-- an image whose first bytes are fewer than 592 ended there
+ended_within : (area image : List ℕ) (left : Option (List ℕ))
+    → (area ≡ take 592 image) × Took image left (min 592 (length image)) → length area < 592
+    → (ends ends' : ℕ) → ends' ≡ raised ends → ends' ≡ counted (falls_short image) ends
+ended_within area image left taken few ends ends' found =
+    let short : length image < 592 = omega (arith, ap length taken.0, length-take 592 image, few) in
+    found ∙ sym (ap (λ b. counted b ends) (short_falls image short))
 
 -- ---- LUKS1
 
@@ -82,6 +105,11 @@ short_from_not_whole whole end len iff is =
 pub all_cost : (area : List ℕ) → is_luks1 area ≡ true → length area ≤ 592 → length area ≡ cost_of area
 unfolding cost_of
 all_cost area is few = rw is (omega arith)
+
+-- one that is as long does not fall short
+pub whole_falls : (area : List ℕ) → is_luks1 area ≡ true → 592 ≤ length area → falls_short area ≡ false
+unfolding reach_of
+whole_falls area is all = rw is (le-ltb (length area) 592 all)
 
 module _ (area image : List ℕ) (left : Option (List ℕ))
     (taken : (area ≡ take 592 image) × Took image left (min 592 (length image))) (begins : is_luks1 area ≡ true) where
@@ -103,10 +131,14 @@ module _ (area image : List ℕ) (left : Option (List ℕ))
       ] in
       rw (taken.0, begins_taken image, image_begins, few, take-take 592 592 image (lit≤ tt)) refl
 
-  -- an image whose first bytes have no header has none
-  pub none_read : (fault : HeaderFault) → header_of area ≡ Err fault
-      → (header_of image ≡ Err fault) × Took image left (cost_of image)
-  none_read fault none = (sym header_is ∙ none, subst (Took image left) (sym cost_is) taken.1)
+  -- an image whose first bytes have no header has none, and ended among them
+  pub none_read : (fault : HeaderFault) → header_of area ≡ Err fault → length area < 592
+      → (ends ends' : ℕ) → ends' ≡ raised ends
+      → (header_of image ≡ Err fault) × TookCostly image left ends ends'
+  none_read fault none few ends ends' found = (
+    sym header_is ∙ none,
+    (subst (Took image left) (sym cost_is) taken.1, ended_within area image left taken few ends ends' found),
+  )
 
   -- an image whose first bytes have a header has it
   pub one_read : (header : Header) → header_of area ≡ Ok header
@@ -125,13 +157,16 @@ module _ (area image : List ℕ) (left : Option (List ℕ))
   image_other = sym (begins_taken image) ∙ (ap is_luks1 (sym taken.0) ∙ other)
 
   -- an image that is too short has no header
-  pub short_read : length area < 592 → (header_of image ≡ Err NotLuks) × Took image left (cost_of image)
-  short_read few =
+  pub short_read : length area < 592 → (ends ends' : ℕ) → ends' ≡ raised ends
+      → (header_of image ≡ Err NotLuks) × TookCostly image left ends ends'
+  short_read few ends ends' found =
       let short : length image < 4096 = omega (arith, ap length taken.0, length-take 592 image) in
       let cost : cost_of image ≡ min 592 (length image) =
       cost_other image image_other
-      ∙ (cost_short image short ∙ omega (arith, ap length taken.0, length-take 592 image)) in
-      (header_missing image image_other (none_short image short), subst (Took image left) (sym cost) taken.1)
+      ∙ (cost_short image short ∙ omega (arith, ap length taken.0, length-take 592 image)) in (
+        header_missing image image_other (none_short image short),
+        (subst (Took image left) (sym cost) taken.1, ended_within area image left taken few ends ends' found),
+      )
 
   -- what is left of it behind its first bytes
   pub left_is : length area ≡ 592 → left ≡ Some (drop 592 image)
@@ -175,19 +210,31 @@ module _ (area image : List ℕ) (left : Option (List ℕ))
           took_cost all.1.1.0,
         )
 
+    took_early : TookEarly image area area' (drop 592 image) left' → TookFewer image left' (reach_of image)
+    took_early (count, few, took) = (
+      592 + count,
+      omega (arith, few, reach_other image image_other, long),
+      took_behind image left left' 592 count took_first took.0,
+    )
+
     -- that was broken off
-    pub rest_broken : (fault : HeaderFault)
-        → BreaksHeld (area ++ drop 592 image) area area' (drop 592 image) left' fault
-        → BreaksReading image left' fault
-    rest_broken fault breaks = by fault (subst (λ l. BreaksHeld l area area' (drop 592 image) left' fault) whole breaks)
+    pub rest_broken : (ends before ends' : ℕ) (fault : HeaderFault) → before ≡ ends
+        → BreaksHeld (area ++ drop 592 image) area area' (drop 592 image) left' before ends' fault
+        → BreaksReading image left' ends ends' fault
+    rest_broken ends before ends' fault same breaks =
+        let at_first = subst (λ e. BreaksHeld (area ++ drop 592 image) area area' (drop 592 image) left' e ends' fault)
+        same breaks in
+        by fault (subst (λ l. BreaksHeld l area area' (drop 592 image) left' ends ends' fault) whole at_first)
       where
-        by : (fault : HeaderFault) → BreaksHeld image area area' (drop 592 image) left' fault
-            → BreaksReading image left' fault
-        by Read took = took_below took
-        by Memory took = (took_below took, λ is. absurd (let no = image_other in cc))
-        by NotLuks (none, took) = (none, took_cost took.1.0)
-        by Cut (none, took) = (none, took_cost took.1.0)
-        by Json (none, took) = (none, took_cost took.1.0)
+        by : (fault : HeaderFault) → BreaksHeld image area area' (drop 592 image) left' ends ends' fault
+            → BreaksReading image left' ends ends' fault
+        by Read (took, same) = (took_below took, same)
+        by Memory (inl (took, same)) =
+            inl (took_early took, same, λ is. absurd (let no = image_other in cc))
+        by Memory (inr (second, took)) = inr (second, (took_cost took.0.1.0, took.1))
+        by NotLuks (none, took) = (none, (took_cost took.0.1.0, took.1))
+        by Cut (none, took) = (none, (took_cost took.0.1.0, took.1))
+        by Json (none, took) = (none, (took_cost took.0.1.0, took.1))
 
 -- ---- what a header costs
 
@@ -209,3 +256,17 @@ cost_first image header found = by (is_luks1 image) refl
     by : (b : Bool) → is_luks1 image ≡ b → cost_of image ≤ 592
     by true is = rw is (omega arith)
     by false is = absurd (not_first image (header2_of image) header (rw is at found))
+
+below_cost2 : (image : List ℕ) (count : ℕ) → count < reach2_of image → count ≤ length image → count ≤ cost2_of image
+unfolding cost2_of
+below_cost2 image count few within = omega (arith, few, within)
+
+-- no more than that is taken before memory is refused
+pub memory_below : (image : List ℕ) (left : Option (List ℕ)) (ends ends' : ℕ)
+    → BreaksReading image left ends ends' Memory → TookUpTo image left (cost_of image)
+unfolding cost_of reach_of
+memory_below image left ends ends' (inl ((count, few, took), same, none)) = by (is_luks1 image) refl where
+  by : (b : Bool) → is_luks1 image ≡ b → TookUpTo image left (cost_of image)
+  by true is = (count, rw is (let below = (rw is at few) in omega (arith, below, took.within)), took)
+  by false is = (count, rw is (let below = (rw is at few) in below_cost2 image count below took.within), took)
+memory_below image left ends ends' (inr (second, took)) = (cost_of image, omega arith, took.0)

@@ -1,18 +1,21 @@
 -- Reading the header of LUKS2 of an image whose first bytes are held.
-use Rattle.std.proofs.Common.{◌≡◌, ◌∙◌, ℕ, ◌-◌, ◌≤◌, ◌⊎◌, inl, inr, List, ◌++◌, Option, Some, None, Ok, Err, true, false, ap, sym, subst, refl, take, length, lit≤, arith}
+use Rattle.std.proofs.Common.{◌≡◌, ◌∙◌, ℕ, ◌≤◌, ◌⊎◌, inl, inr, List, ◌++◌, Option, Some, None, Ok, Err, false, ap, sym, refl, take, length}
 use Rattle.std.proofs.lemmas.List.{take-append-le, take-take}
+use Rattle.std.specs.Prelude.{nat_lt}
+use Rattle.luks_io.specs.Bytes.{counted}
 use Rattle.luks_area.specs.declared.fault.HeaderFault.{HeaderFault}
 use Rattle.luks_area.specs.declared.fault.HeaderFault.TheVariants.{NotLuks, Cut, Json, Read, Memory}
 use Rattle.luks1_header.specs.Header1.{is_luks1}
 use Rattle.luks2_header.specs.Choice2.{header2_of}
-use Rattle.luks2_header.specs.Cost2.{cost2_of}
-use Rattle.luks2_header.specs.Front2.{BreaksSeeking, TookCost}
+use Rattle.luks2_header.specs.Cost2.{cost2_of, reach2_of}
+use Rattle.luks2_header.specs.Front2.{BreaksSeeking, TookCost, finds_end}
 use Rattle.luks2_header.specs.Text2.{json_text_of}
 use Rattle.luks2_header.specs.declared.header.Header2.{Header2}
 use Rattle.luks2_header.proofs.JsonLemmas.{json_beginning}
+use Rattle.luks2_header.proofs.StableLemmas.{falls_short-take}
 use Rattle.luks2_members.specs.Tree.{tree_of}
 use Rattle.serde_json.specs.Data.{Data}
-use Rattle.luks_header.specs.Header.{BreaksHeld, cost_of, header_of}
+use Rattle.luks_header.specs.Header.{BreaksHeld, TookCosts, cost_of, falls_short, header_of, reach_of}
 use Rattle.luks_header.specs.declared.header.Header.TheVariants.{V2}
 
 -- the first bytes tell whether an image begins as LUKS1
@@ -31,6 +34,11 @@ module _ (image : List ℕ) (other : is_luks1 image ≡ false) where
   pub cost_other : cost_of image ≡ cost2_of image
   unfolding cost_of
   cost_other = rw other refl
+
+  -- and is looked at as far as one
+  pub reach_other : reach_of image ≡ reach2_of image
+  unfolding reach_of
+  reach_other = rw other refl
 
   -- it has the header of LUKS2 whose text can be read
   pub header_read : (header : Header2) (tree : Data) → header2_of image ≡ Ok header
@@ -54,29 +62,43 @@ pub text_held : (image held : List ℕ) (header : Header2) → header2_of image 
     → held ≡ take (cost2_of image) image → json_text_of held header ≡ json_text_of image header
 text_held image held header found is = ap (λ bytes. json_text_of bytes header) is ∙ json_beginning image header found
 
--- seeking the header was broken off
-pub seeking_broken : (image held held' rest : List ℕ) (left : Option (List ℕ)) (fault : HeaderFault)
-    → is_luks1 image ≡ false → BreaksSeeking image held held' rest left fault
-    → BreaksHeld image held held' rest left fault
-seeking_broken image held held' rest left NotLuks other (none, took) = (header_missing image other none, took)
-seeking_broken image held held' rest left Cut other never = absurd never
-seeking_broken image held held' rest left Json other never = absurd never
-seeking_broken image held held' rest left Read other took = took
-seeking_broken image held held' rest left Memory other took = took
+-- the bytes that were held in the end say whether the image fell short
+pub short_held : (image held : List ℕ) → is_luks1 image ≡ false → held ≡ take (cost2_of image) image
+    → nat_lt (length held) (reach2_of held) ≡ falls_short image
+short_held image held other is =
+    ap (λ l. nat_lt (length l) (reach2_of l)) is
+    ∙ falls_short-take image
+    ∙ ap (nat_lt (length image)) (sym (reach_other image other))
 
--- reading the text was
-pub reading_broken : (image held held' rest : List ℕ) (left : Option (List ℕ)) (header : Header2) (fault : HeaderFault)
-    → is_luks1 image ≡ false → header2_of image ≡ Ok header → TookCost image held held' rest left
-    → (fault ≡ Json → tree_of (json_text_of held' header) ≡ None) → (fault ≡ Json) ⊎ (fault ≡ Memory)
-    → BreaksHeld image held held' rest left fault
-reading_broken image held held' rest left header Json other found took json refusals =
-    let same = text_held image held' header found took.0 in
-    (header_unreadable image other header found (ap tree_of (sym same) ∙ json refl), took)
-reading_broken image held held' rest left header Memory other found took json refusals =
-    (cost2_of image - length held, omega arith, took.1)
-reading_broken image held held' rest left header NotLuks other found took json refusals =
-    elim refusals [ inl wrong ↦ absurd (cc) | inr wrong ↦ absurd (cc) ]
-reading_broken image held held' rest left header Cut other found took json refusals =
-    elim refusals [ inl wrong ↦ absurd (cc) | inr wrong ↦ absurd (cc) ]
-reading_broken image held held' rest left header Read other found took json refusals =
-    elim refusals [ inl wrong ↦ absurd (cc) | inr wrong ↦ absurd (cc) ]
+module _ (image held held' rest : List ℕ) (left : Option (List ℕ)) (ends ends' : ℕ) (other : is_luks1 image ≡ false)
+  where
+    -- as much was taken as the header costs
+    costs : TookCost image held held' rest left → ends' ≡ counted (nat_lt (length held') (reach2_of held')) ends
+        → TookCosts image held held' rest left ends ends'
+    costs took found = (took, found ∙ ap (λ b. counted b ends) (short_held image held' other took.0))
+
+    -- seeking the header was broken off
+    pub seeking_broken : (fault : HeaderFault) → BreaksSeeking image held held' rest left fault
+        → ends' ≡ counted (finds_end {T = Header2} (Err fault) held') ends
+        → BreaksHeld image held held' rest left ends ends' fault
+    seeking_broken NotLuks (none, took) found = (header_missing image other none, costs took found)
+    seeking_broken Cut never found = absurd never
+    seeking_broken Json never found = absurd never
+    seeking_broken Read took found = (took, found)
+    seeking_broken Memory took found = inl (took, found)
+
+    -- reading the text was
+    pub reading_broken : (header : Header2) (fault : HeaderFault) → header2_of image ≡ Ok header
+        → TookCost image held held' rest left → ends' ≡ counted (nat_lt (length held') (reach2_of held')) ends
+        → (fault ≡ Json → tree_of (json_text_of held' header) ≡ None) → (fault ≡ Json) ⊎ (fault ≡ Memory)
+        → BreaksHeld image held held' rest left ends ends' fault
+    reading_broken header Json found took end json refusals =
+        let same = text_held image held' header found took.0 in
+        (header_unreadable image other header found (ap tree_of (sym same) ∙ json refl), costs took end)
+    reading_broken header Memory found took end json refusals = inr ((header, other, found), costs took end)
+    reading_broken header NotLuks found took end json refusals =
+        elim refusals [ inl wrong ↦ absurd (cc) | inr wrong ↦ absurd (cc) ]
+    reading_broken header Cut found took end json refusals =
+        elim refusals [ inl wrong ↦ absurd (cc) | inr wrong ↦ absurd (cc) ]
+    reading_broken header Read found took end json refusals =
+        elim refusals [ inl wrong ↦ absurd (cc) | inr wrong ↦ absurd (cc) ]

@@ -1,11 +1,11 @@
 -- Which header an image has, and how many of its bytes are read for it.
-use Rattle.std.specs.Prelude.{◌≡◌, ℕ, true, List, Option, Some, None, Result, Ok, Err, length, min, nat_lt, if◌then◌else◌}
-use Rattle.luks_io.specs.Bytes.{Took, TookUpTo}
+use Rattle.std.specs.Prelude.{◌≡◌, ◌⊎◌, ℕ, Bool, true, false, List, Option, Some, None, Result, Ok, Err, length, min, nat_lt, if◌then◌else◌}
+use Rattle.luks_io.specs.Bytes.{Took, TookFewer, TookUpTo, counted}
 use Rattle.luks_area.specs.Field.{at}
 use Rattle.luks1_header.specs.Header1.{header1_len, header1_of, is_luks1}
 use Rattle.luks2_header.specs.Choice2.{header2_of}
-use Rattle.luks2_header.specs.Cost2.{cost2_of}
-use Rattle.luks2_header.specs.Front2.{TookBelow, TookCost}
+use Rattle.luks2_header.specs.Cost2.{cost2_of, reach2_of}
+use Rattle.luks2_header.specs.Front2.{TookBelow, TookCost, TookEarly}
 use Rattle.luks2_header.specs.Text2.{json_text_of}
 use Rattle.luks2_header.specs.declared.header.Header2.{Header2}
 use Rattle.luks2_members.specs.Tree.{tree_of}
@@ -36,15 +36,44 @@ header_of image =
 unfoldable pub cost_of : List ℕ → ℕ
 cost_of image = if is_luks1 image then min header1_len (length image) else cost2_of image
 
--- reading the header ended without one: a failed read or want of memory ended it somewhere, of LUKS1 want of memory
--- before any byte was taken, and any other fault is the image's, of which as many bytes are taken as the header costs
-abbrev pub BreaksReading : List ℕ → Option (List ℕ) → HeaderFault → Type 0
-BreaksReading image left Read = TookUpTo image left (cost_of image)
-BreaksReading image left Memory = TookUpTo image left (cost_of image) × (is_luks1 image ≡ true → Took image left 0)
-BreaksReading image left fault = (header_of image ≡ Err fault) × Took image left (cost_of image)
+-- how far an image is looked at to learn which header it has
+unfoldable pub reach_of : List ℕ → ℕ
+reach_of image = if is_luks1 image then header1_len else reach2_of image
+
+-- the image ends before
+abbrev pub falls_short : List ℕ → Bool
+falls_short image = nat_lt (length image) (reach_of image)
+
+-- as many of its bytes were taken as the header costs, and its end was found where it falls short
+abbrev pub TookCostly : List ℕ → Option (List ℕ) → ℕ → ℕ → Type 0
+TookCostly image left ends ends' = Took image left (cost_of image) × (ends' ≡ counted (falls_short image) ends)
+
+-- some of its bytes were taken, of LUKS1 none, and its end was not found: more was still to be looked at
+abbrev pub TookEarlier : List ℕ → Option (List ℕ) → ℕ → ℕ → Type 0
+TookEarlier image left ends ends' = TookFewer image left (reach_of image) × (ends' ≡ ends)
+    × (is_luks1 image ≡ true → Took image left 0)
+
+-- it has a header of LUKS2
+abbrev pub HasSecond : List ℕ → Type 0
+HasSecond image = (header : Header2) × (is_luks1 image ≡ false) × (header2_of image ≡ Ok header)
+
+-- reading the header ended without one. A failed read ended it somewhere; want of memory while more was still to be
+-- looked at, or behind a header of LUKS2, for the tree of its text; any other fault is the image's
+abbrev pub BreaksReading : List ℕ → Option (List ℕ) → ℕ → ℕ → HeaderFault → Type 0
+BreaksReading image left ends ends' Read = TookUpTo image left (cost_of image) × (ends' ≡ ends)
+BreaksReading image left ends ends' Memory =
+    TookEarlier image left ends ends' ⊎ (HasSecond image × TookCostly image left ends ends')
+BreaksReading image left ends ends' fault = (header_of image ≡ Err fault) × TookCostly image left ends ends'
 
 -- the same of an image of which some bytes were held before, and more went behind them
-abbrev pub BreaksHeld : List ℕ → List ℕ → List ℕ → List ℕ → Option (List ℕ) → HeaderFault → Type 0
-BreaksHeld image held held' rest left Read = TookBelow image held held' rest left
-BreaksHeld image held held' rest left Memory = TookBelow image held held' rest left
-BreaksHeld image held held' rest left fault = (header_of image ≡ Err fault) × TookCost image held held' rest left
+abbrev pub TookCosts : List ℕ → List ℕ → List ℕ → List ℕ → Option (List ℕ) → ℕ → ℕ → Type 0
+TookCosts image held held' rest left ends ends' = TookCost image held held' rest left
+    × (ends' ≡ counted (falls_short image) ends)
+
+abbrev pub BreaksHeld : List ℕ → List ℕ → List ℕ → List ℕ → Option (List ℕ) → ℕ → ℕ → HeaderFault → Type 0
+BreaksHeld image held held' rest left ends ends' Read = TookBelow image held held' rest left × (ends' ≡ ends)
+BreaksHeld image held held' rest left ends ends' Memory =
+    (TookEarly image held held' rest left × (ends' ≡ ends))
+    ⊎ (HasSecond image × TookCosts image held held' rest left ends ends')
+BreaksHeld image held held' rest left ends ends' fault =
+    (header_of image ≡ Err fault) × TookCosts image held held' rest left ends ends'

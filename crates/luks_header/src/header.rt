@@ -5,7 +5,7 @@ ghost use Rattle.luks_io.specs.Bytes.{Took, WhereKnown, counted};
 ghost use Rattle.luks_area.specs.Area.{is_read};
 ghost use Rattle.luks1_header.specs.Header1.{is_luks1};
 ghost use Rattle.luks2_header.specs.Front2.{TookCost};
-ghost use Rattle.luks_header.specs.Header.{BreaksHeld, BreaksReading, cost_of, header_of};
+ghost use Rattle.luks_header.specs.Header.{BreaksHeld, BreaksReading, cost_of, falls_short, header_of};
 
 use luks_area::area::HeaderArea;
 use luks_area::fault::HeaderFault;
@@ -41,7 +41,7 @@ pub fn read_header<S: Source>(
         (header_of image ≡ Ok read.0) × (read.1 ≡ take (cost_of image) image)
         × Took image (S.to_come source.new) (cost_of image))) }
     ensures broken { IfErr result (λ fault. WhereKnown (S.to_come source.old) (λ image.
-        BreaksReading image (S.to_come source.new) fault)) }
+        BreaksReading image (S.to_come source.new) (S.ends source.old) (S.ends source.new) fault)) }
     ensures memory { WhereKnown (S.to_come source.old) (λ image. is_luks1 image ≡ true
         → result ≡ Err HeaderFault.Memory → source.new ≡ source.old) }
 
@@ -49,8 +49,8 @@ pub fn read_header<S: Source>(
     ensures held { IfOk result (λ read. header_of read.1 ≡ Ok read.0) }
     ensures only { IfOk result (λ read. length read.1 ≡ cost_of read.1) }
     ensures reads { S.failures source.new ≡ counted (is_read result) (S.failures source.old) }
-    ensures ends { IfOk result (λ read. is_luks1 read.1 ≡ true
-        → S.ends source.new ≡ S.ends source.old) }
+    ensures ends { IfOk result (λ read.
+        S.ends source.new ≡ counted (falls_short read.1) (S.ends source.old)) }
     ensures once { (short : Bool) × (S.ends source.new ≡ counted short (S.ends source.old)) }
 {
     let mut area = HeaderArea::new(alloc);
@@ -81,11 +81,14 @@ fn read2<S: Source>(
         (header_of (area.old ++ rest) ≡ Ok header)
         × TookCost (area.old ++ rest) area.old area.new rest (S.to_come source.new))) }
     ensures broken { IfErr result (λ fault. WhereKnown (S.to_come source.old) (λ rest.
-        BreaksHeld (area.old ++ rest) area.old area.new rest (S.to_come source.new) fault)) }
+        BreaksHeld (area.old ++ rest) area.old area.new rest (S.to_come source.new)
+        (S.ends source.old) (S.ends source.new) fault)) }
     ensures held { IfOk result (λ header. header_of area.new ≡ Ok header) }
     ensures only { IfOk result (λ header. length area.new ≡ cost_of area.new) }
     ensures kept { take (length area.old) area.new ≡ area.old }
     ensures reads { S.failures source.new ≡ counted (is_read result) (S.failures source.old) }
+    ensures ends { IfOk result (λ header.
+        S.ends source.new ≡ counted (falls_short area.new) (S.ends source.old)) }
     ensures once { (short : Bool) × (S.ends source.new ≡ counted short (S.ends source.old)) }
 {
     let header = read_header2(area, source)?;

@@ -59,7 +59,7 @@ module _ (s : Segment) (image : List ℕ) (count : ℕ) where
     pub steps_broken : (cipher : Cipher) (left' before after : Option (List ℕ)) (fault : VolumeFault)
         → count < limit_of s
         → WhereKnown left (λ rest. StopsInSector cipher (unit_number s count) (sector_len s) rest left' before after
-            fault)
+        fault)
         → Steps s cipher count (sector_start s count) image (Err fault) left' before after
     steps_broken cipher left' b a Read below stops =
         let least = at_least_512 s.sector_size in
@@ -199,40 +199,40 @@ pumped s cipher consumed count state =
 
 -- a step whose skip failed
 module _ (s : Segment) (cipher : Cipher) (consumed count : ℕ) (image : List ℕ) (r r' before after : Option (List ℕ))
-    where
-  skip_broken : (fault : VolumeFault) → count ≡ 0
-      → Skips (pumped s cipher consumed count BeforePayload) image (Err fault) r'
-      → Steps s cipher count consumed image (Err fault) r' before after
-  skip_broken CutBeforePayload none (cut, took) =
-      let len : payload_len s image ≡ 0 = omega arith in
-      let yes : nat_lt (length image) s.offset ≡ true = lt-ltb (length image) s.offset cut in
-      record {
-        all = rw len (none ∙ sym (none_whole s.size (sector_len s)));
-        as_stated = rw yes refl;
-        took = rw (ends_before s.size s.offset (length image) cut) took;
-      }
-  skip_broken Read none (place, first, last, took) =
-      let end = before_end s.size s.offset (length image) place (omega arith) took.within in
-      (place, first, omega arith, took)
-  skip_broken (Tail _) none stops = absurd stops
-  skip_broken (Short _) none stops = absurd stops
-  skip_broken Write none stops = absurd stops
+  where
+    skip_broken : (fault : VolumeFault) → count ≡ 0
+        → Skips (pumped s cipher consumed count BeforePayload) image (Err fault) r'
+        → Steps s cipher count consumed image (Err fault) r' before after
+    skip_broken CutBeforePayload none (cut, took) =
+        let len : payload_len s image ≡ 0 = omega arith in
+        let yes : nat_lt (length image) s.offset ≡ true = lt-ltb (length image) s.offset cut in
+        record {
+          all = rw len (none ∙ sym (none_whole s.size (sector_len s)));
+          as_stated = rw yes refl;
+          took = rw (ends_before s.size s.offset (length image) cut) took;
+        }
+    skip_broken Read none (place, first, last, took) =
+        let end = before_end s.size s.offset (length image) place (omega arith) took.within in
+        (place, first, omega arith, took)
+    skip_broken (Tail _) none stops = absurd stops
+    skip_broken (Short _) none stops = absurd stops
+    skip_broken Write none stops = absurd stops
 
-  pub steps_unskipped : (state : State) (fault : VolumeFault) (T : Type 0)
-      → StandsIn image (pumped s cipher consumed count state) r → SkipsAgain state (Err fault) T
-      → (state ≡ BeforePayload → count ≡ 0)
-      → (state ≡ BeforePayload → Skips (pumped s cipher consumed count state) image (Err fault) r')
-      → Steps s cipher count (position (pumped s cipher consumed count state)) image (Err fault) r' before after
-  steps_unskipped BeforePayload fault T stands again none stops = skip_broken fault (none refl) (stops refl)
-  steps_unskipped InPayload fault T stands again none stops =
-      let same = again.0 in
-      cc
-  steps_unskipped Ended fault T stands again none stops =
-      let not = stands.running in
-      cc
-  steps_unskipped (Faulted _) fault T stands again none stops =
-      let not = stands.running in
-      cc
+    pub steps_unskipped : (state : State) (fault : VolumeFault) (T : Type 0)
+        → StandsIn image (pumped s cipher consumed count state) r → SkipsAgain state (Err fault) T
+        → (state ≡ BeforePayload → count ≡ 0)
+        → (state ≡ BeforePayload → Skips (pumped s cipher consumed count state) image (Err fault) r')
+        → Steps s cipher count (position (pumped s cipher consumed count state)) image (Err fault) r' before after
+    steps_unskipped BeforePayload fault T stands again none stops = skip_broken fault (none refl) (stops refl)
+    steps_unskipped InPayload fault T stands again none stops =
+        let same = again.0 in
+        cc
+    steps_unskipped Ended fault T stands again none stops =
+        let not = stands.running in
+        cc
+    steps_unskipped (Faulted _) fault T stands again none stops =
+        let not = stands.running in
+        cc
 
 -- and no write was tried then
 pub unwritten : (state : State) (fault : VolumeFault) (T : Type 0) (n : ℕ) → SkipsAgain state (Err fault) T
@@ -255,8 +255,12 @@ steps_earlier s cipher count place place' image (Ok End) l b a le steps = steps
 steps_earlier s cipher count place place' image (Err CutBeforePayload) l b a le steps = steps
 steps_earlier s cipher count place place' image (Err (Tail _)) l b a le steps = steps
 steps_earlier s cipher count place place' image (Err (Short _)) l b a le steps = steps
-steps_earlier s cipher count place place' image (Err Read) l b a le (n, first, last, took) = (n, omega arith, last,
-    took)
+steps_earlier s cipher count place place' image (Err Read) l b a le (n, first, last, took) = (
+  n,
+  omega arith,
+  last,
+  took,
+)
 steps_earlier s cipher count place place' image (Err Write) l b a le steps = steps
 
 -- a step goes on from where its skip left the source
@@ -267,7 +271,7 @@ module _ (s : Segment) (cipher : Cipher) (consumed count : ℕ) (image : List �
       → (T → r' ≡ r) → (state ≡ BeforePayload → count ≡ 0)
       → (state ≡ BeforePayload → Skips (pumped s cipher consumed count state) image (Ok tt) r')
       → (Took image r' (sector_start s count) → Steps s cipher count (sector_start s count) image answer r'' before
-          after)
+      after)
       → Steps s cipher count (position (pumped s cipher consumed count state)) image answer r'' before after
   steps_skipped BeforePayload T stands early again same none skipped steps =
       let first : s.offset ≡ sector_start s count = rw (none refl) (omega arith) in

@@ -1,13 +1,20 @@
 use Rattle.std.proofs.Common.{◌∙◌, ◌*◌, ap, sym, arith}
+use Rattle.std.proofs.lemmas.Result.{err_from_is_err_and}
 use Rattle.luks2_header.specs.Choice2.{beside_primary}
 use Rattle.luks2_header.specs.Cost2.{reach2_of, reach_at}
-use Rattle.luks2_header.proofs.ChoiceLemmas.{beside_same, chosen_primary, found_chosen, found_over, found_settled, no_size_valid, reach_first, reach_other, reach_primary, size_valid}
+use Rattle.luks2_header.proofs.ChoiceLemmas.{beside_same, chosen_primary, found_chosen, found_early, found_over, found_settled, no_size_valid, primary_within, reach_first, reach_other, reach_primary, size_valid}
 use Rattle.luks2_header.proofs.FrontLemmas.{not_ended, over_joined}
 use Rattle.luks2_header.proofs.reading.choose.Goals as goal
 
 pub returns-in_err-size-clause-within : goal.returns-in_err-size-clause-within
 returns-in_err-size-clause-within g c = λ image front.
     omega (arith, c.header_at.ensures.within image front, reach_first image)
+
+pub returns-in_err-size-clause-early : goal.returns-in_err-size-clause-early
+returns-in_err-size-clause-early g c =
+    let p = err_from_is_err_and c.from_residual.result c.from_residual.ensures.1 in
+    rw (p.1, p.2) (λ stops image front.
+    omega (arith, c.in_err-size.ensures.early stops image front, reach_first image))
 
 -- the primary header is not valid
 pub returns-in_default-clause-chosen : goal.returns-in_default-clause-chosen
@@ -46,19 +53,28 @@ returns-in_default-clause-over g c =
     (sym c.in_default.is ∙ c.in_ok-size.ensures.valid image (c.search.ensures.grew.fronts image front)))
     c.in_ok-size.ensures.over c.search.ensures.over
 
+pub returns-in_default-clause-early : goal.returns-in_default-clause-early
+returns-in_default-clause-early g c =
+    found_early c.search.new.area c.search.new.ended c.search.result
+    (λ image front. no_size_valid image 0
+    (sym c.in_default.is ∙ c.in_ok-size.ensures.valid image (c.search.ensures.grew.fronts image front)))
+    c.search.ensures.early
+
 -- the primary header is valid
 pub returns-in_err-grow-clause-within : goal.returns-in_err-grow-clause-within
 returns-in_err-grow-clause-within g c = λ image front.
     let first = c.grow.ensures.grew.fronts image front in
+    primary_within image c.args.area.now c.header_at.new.area c.grow.new.area c.in-Some.size
+    (sym c.in-Some.is ∙ c.in_ok-size.ensures.valid image first) (c.header_at.ensures.within image first)
+    c.grow.ensures.within
+
+pub returns-in_err-grow-clause-early : goal.returns-in_err-grow-clause-early
+returns-in_err-grow-clause-early g c =
+    let p = err_from_is_err_and c.from_residual-in_err-grow.result c.from_residual-in_err-grow.ensures.1 in
+    rw (p.1, p.2) (λ stops image front.
+    let first = c.grow.ensures.grew.fronts image front in
     let is = size_valid image 0 c.in-Some.size (sym c.in-Some.is ∙ c.in_ok-size.ensures.valid image first) in
-    omega (
-      arith,
-      c.header_at.ensures.within image first,
-      c.grow.ensures.within,
-      reach_first image,
-      reach_primary image is.0,
-      is.1,
-    )
+    omega (arith, c.in_err-grow.ensures.early stops, reach_primary image is.0, is.1))
 
 pub returns-clause-chosen : goal.returns-clause-chosen
 returns-clause-chosen g c = λ image front.
@@ -73,15 +89,9 @@ returns-clause-chosen g c = λ image front.
 pub returns-clause-within : goal.returns-clause-within
 returns-clause-within g c = λ image front.
     let first = c.grow.ensures.grew.fronts image front in
-    let is = size_valid image 0 c.in-Some.size (sym c.in-Some.is ∙ c.in_ok-size.ensures.valid image first) in
-    omega (
-      arith,
-      c.header_at.ensures.within image first,
-      c.grow.ensures.within,
-      reach_first image,
-      reach_primary image is.0,
-      is.1,
-    )
+    primary_within image c.args.area.now c.header_at.new.area c.grow.new.area c.in-Some.size
+    (sym c.in-Some.is ∙ c.in_ok-size.ensures.valid image first) (c.header_at.ensures.within image first)
+    c.grow.ensures.within
 
 pub returns-clause-settled : goal.returns-clause-settled
 returns-clause-settled g c = λ image front goes.

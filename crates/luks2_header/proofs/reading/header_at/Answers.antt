@@ -1,5 +1,6 @@
 use Rattle.std.proofs.Common.{◌∙◌, ◌+◌, ◌≤◌, ap, length, arith}
 use Rattle.std.specs.Bool.{then_some}
+use Rattle.std.proofs.lemmas.Result.{err_from_is_err_and}
 use Rattle.luks2_header.specs.Cost2.{reach_at}
 use Rattle.luks2_header.proofs.AgreeLemmas.{fit_here, no_size, reach_fit, reach_least, reach_unfit, short-valid, unfit_here, valid_here, whole_image}
 use Rattle.luks2_header.proofs.FrontLemmas.{over_joined}
@@ -9,6 +10,12 @@ use Rattle.luks2_header.proofs.reading.header_at.Goals as goal
 pub returns-in_err-grow-clause-within : goal.returns-in_err-grow-clause-within
 returns-in_err-grow-clause-within g c =
     λ image front. omega (arith, c.grow.ensures.within, reach_least image c.args.place)
+
+pub returns-in_err-grow-clause-early : goal.returns-in_err-grow-clause-early
+returns-in_err-grow-clause-early g c =
+    let p = err_from_is_err_and c.from_residual.result c.from_residual.ensures.1 in
+    rw (p.1, p.2) (λ stops image front.
+    omega (arith, c.in_err-grow.ensures.early stops, reach_least image c.args.place))
 
 -- the image ends before a binary header does
 pub returns-then-not-branch-clause-valid : goal.returns-then-not-branch-clause-valid
@@ -54,6 +61,15 @@ returns-in_err-grow-2-clause-within g c =
     (c.grow-2.ensures.grew.fronts image front) c.as_slice.ensures.value
     (c.in_ok-grow.ensures.whole.0 c.if-not-branch.false) c.in-Some.size c.in-Some.ensures.value in
     omega (arith, c.grow.ensures.within, c.grow-2.ensures.within, reach_fit image c.args.place fit.0, fit.1)
+
+pub returns-in_err-grow-2-clause-early : goal.returns-in_err-grow-2-clause-early
+returns-in_err-grow-2-clause-early g c =
+    let p = err_from_is_err_and c.from_residual-in_err-grow-2.result c.from_residual-in_err-grow-2.ensures.1 in
+    rw (p.1, p.2) (λ stops image front.
+    let fit = fit_here c.grow.new.area c.grow.new.ended image c.as_slice.result.now c.args.place
+    (c.grow-2.ensures.grew.fronts image front) c.as_slice.ensures.value
+    (c.in_ok-grow.ensures.whole.0 c.if-not-branch.false) c.in-Some.size c.in-Some.ensures.value in
+    omega (arith, c.in_err-grow-2.ensures.early stops, reach_fit image c.args.place fit.0, fit.1))
 
 -- the image ends before the header does
 pub returns-then-not-branch-2-clause-valid : goal.returns-then-not-branch-2-clause-valid

@@ -1,5 +1,6 @@
-use Rattle.std.proofs.Common.{◌∙◌, ◌++◌}
+use Rattle.std.proofs.Common.{◌∙◌, ◌++◌, subst, sym}
 use Rattle.std.proofs.lemmas.Result.{err_from_is_err_and}
+use Rattle.luks2_header.specs.Front2.{IsFront}
 use Rattle.luks2_header.proofs.FrontLemmas.{front_self}
 use Rattle.luks2_header.proofs.SeekingLemmas.{answer_is, below_cost, breaks_seeking, cost_held, header_taken, holds_start, if_answered, if_header, none_taken, took_cost}
 use Rattle.luks2_header.proofs.reading.read_header2.Goals as goal
@@ -14,7 +15,16 @@ returns-in_err-header-clause-broken g c =
     let holds = grew.holds (old ++ rest) (holds_start old rest _ knows) in
     breaks_seeking old new rest c.choose.new.ended _ _ c.in_err-header.ensures.refusals holds grew.longer
     (below_cost (old ++ rest) old new c.choose.new.ended holds.front c.requires
-    (c.choose.ensures.within (old ++ rest) holds.front)))
+    (c.choose.ensures.within (old ++ rest) holds.front))
+    (λ stops. c.in_err-header.ensures.early stops (old ++ rest) holds.front))
+
+pub returns-in_err-header-clause-early : goal.returns-in_err-header-clause-early
+returns-in_err-header-clause-early g c =
+    let p = err_from_is_err_and c.from_residual.result c.from_residual.ensures.1 in
+    let new = c.choose.new.area in
+    rw (p.1, p.2) (λ stops image front.
+    c.in_err-header.ensures.early stops image
+    (subst (λ ended. IsFront new ended image) (sym c.in_err-header.ensures.going) front))
 
 pub returns-clause-taken : goal.returns-clause-taken
 returns-clause-taken g c =

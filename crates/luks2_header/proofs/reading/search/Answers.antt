@@ -1,10 +1,11 @@
 use Rattle.std.proofs.Common.{◌∙◌, ◌<◌, ap, sym, refl, length, get_or, arith}
 use Rattle.std.specs.Prelude.{option_and_then}
+use Rattle.std.proofs.lemmas.Result.{err_from_is_err_and}
 use Rattle.luks2_header.specs.Choice2.{found_at}
 use Rattle.luks2_header.specs.Cost2.{reach_at, search_reach}
 use Rattle.luks2_header.specs.Header2.{sizes}
 use Rattle.luks2_header.proofs.FrontLemmas.{front_self, grew_more, grew_none, over_joined}
-use Rattle.luks2_header.proofs.SearchLemmas.{ahead, reach_below, found_least, least_is, none_valid, place_range, search_reach_is, searched_all, searched_none, searched_on, searched_place, searched_settled, searched_within, some_valid}
+use Rattle.luks2_header.proofs.SearchLemmas.{found_least, least_is, none_valid, place_range, reach_below, search_reach_is, searched_all, searched_none, searched_on, searched_place, searched_settled, searched_within, some_valid}
 use Rattle.luks2_header.proofs.reading.search.Goals as goal
 
 pub loop-place-init : goal.loop-place-init
@@ -21,19 +22,27 @@ header_at-requires g c =
     omega (arith, c.loop-place-test.true, ap length c.places-place-items.ensures) in
     rw c.places-place-items.ensures (place_range c.loop-place.place-index inside)
 
+-- reading is broken off at a place
 pub returns-in_err-header_at-clause-within : goal.returns-in_err-header_at-clause-within
 returns-in_err-header_at-clause-within g c = λ image front.
-    let k = c.loop-place.place-index in
-    let inside : k < length sizes =
-    omega (arith, c.loop-place-test.true, ap length c.places-place-items.ensures) in
     let grew = c.header_at.ensures.grew in
-    let within = searched_within image c.args.area.now c.loop-place.area c.header_at.new.area c.loop-place.ended
-    c.header_at.new.ended k (get_or c.places-place-items.result.now k 0)
-    (ap (λ l. get_or l k 0) c.places-place-items.ensures) inside
+    searched_within image c.args.area.now c.loop-place.area _ c.loop-place.ended _ c.loop-place.place-index _
+    c.places-place-items.ensures c.loop-place-test.true
+    (c.loop-place.invariant.searched image (grew.fronts image front)) grew.longer grew.stays
+    (c.header_at.ensures.within image front)
+
+pub returns-in_err-header_at-clause-early : goal.returns-in_err-header_at-clause-early
+returns-in_err-header_at-clause-early g c =
+    let p = err_from_is_err_and c.from_residual.result c.from_residual.ensures.1 in
+    let grew = c.header_at.ensures.grew in
+    rw (p.1, p.2) (λ is image front.
+    let below = reach_below image c.args.area.now c.loop-place.area _ c.loop-place.ended _ c.loop-place.place-index _
+    c.places-place-items.ensures c.loop-place-test.true
     (c.loop-place.invariant.searched image (grew.fronts image front)) grew.longer grew.stays
     (c.header_at.ensures.within image front) in
-    omega (arith, within, search_reach_is image)
+    omega (arith, below, c.in_err-header_at.ensures.early is image front))
 
+-- a valid header is at a place
 pub valid_header-requires-clause-valid : goal.valid_header-requires-clause-valid
 valid_header-requires-clause-valid g c =
     rw c.as_slice-bytes.ensures.value (some_valid _ _ c.in_ok-header_at.field-0
@@ -48,15 +57,11 @@ valid_header-requires-clause-range g c =
 
 pub returns-then-is_some-clause-found : goal.returns-then-is_some-clause-found
 returns-then-is_some-clause-found g c = λ image front.
-    let k = c.loop-place.place-index in
-    let inside : k < length sizes =
-    omega (arith, c.loop-place-test.true, ap length c.places-place-items.ensures) in
     let some = sym c.is_some.ensures ∙ c.if-is_some.true in
-    let place = get_or c.places-place-items.result.now k 0 in
+    let place = get_or c.places-place-items.result.now c.loop-place.place-index 0 in
     let grew = c.header_at.ensures.grew in
-    let first = searched_place image c.args.area.now c.loop-place.area c.header_at.new.area c.loop-place.ended
-    c.header_at.new.ended k place
-    (ap (λ l. get_or l k 0) c.places-place-items.ensures) inside
+    let first = searched_place image c.args.area.now c.loop-place.area _ c.loop-place.ended _
+    c.loop-place.place-index _ c.places-place-items.ensures c.loop-place-test.true
     (c.loop-place.invariant.searched image (grew.fronts image front)) grew.longer grew.stays
     (c.header_at.ensures.within image front)
     (some_valid image place c.in_ok-header_at.field-0 (c.in_ok-header_at.ensures.valid image front) some) in
@@ -68,69 +73,66 @@ returns-then-is_some-clause-found g c = λ image front.
 
 pub returns-then-is_some-clause-within : goal.returns-then-is_some-clause-within
 returns-then-is_some-clause-within g c = λ image front.
-    let k = c.loop-place.place-index in
-    let inside : k < length sizes =
-    omega (arith, c.loop-place-test.true, ap length c.places-place-items.ensures) in
     let grew = c.header_at.ensures.grew in
-    let within = searched_within image c.args.area.now c.loop-place.area c.header_at.new.area c.loop-place.ended
-    c.header_at.new.ended k (get_or c.places-place-items.result.now k 0)
-    (ap (λ l. get_or l k 0) c.places-place-items.ensures) inside
+    searched_within image c.args.area.now c.loop-place.area _ c.loop-place.ended _ c.loop-place.place-index _
+    c.places-place-items.ensures c.loop-place-test.true
     (c.loop-place.invariant.searched image (grew.fronts image front)) grew.longer grew.stays
-    (c.header_at.ensures.within image front) in
-    omega (arith, within, search_reach_is image)
+    (c.header_at.ensures.within image front)
 
 pub returns-then-is_some-clause-settled : goal.returns-then-is_some-clause-settled
 returns-then-is_some-clause-settled g c = λ image front goes.
-    let k = c.loop-place.place-index in
-    let inside : k < length sizes =
-    omega (arith, c.loop-place-test.true, ap length c.places-place-items.ensures) in
-    let place = get_or c.places-place-items.result.now k 0 in
+    let place = get_or c.places-place-items.result.now c.loop-place.place-index 0 in
     let grew = c.header_at.ensures.grew in
-    let reached = searched_settled image c.args.area.now c.loop-place.area c.header_at.new.area c.loop-place.ended
-    c.header_at.new.ended k place
-    (ap (λ l. get_or l k 0) c.places-place-items.ensures) inside
+    searched_settled image c.args.area.now c.loop-place.area _ c.loop-place.ended _ c.loop-place.place-index _
+    c.places-place-items.ensures c.loop-place-test.true
     (c.loop-place.invariant.searched image (grew.fronts image front)) grew.longer grew.stays
     (c.header_at.ensures.within image front)
     (some_valid image place c.in_ok-header_at.field-0 (c.in_ok-header_at.ensures.valid image front)
     (sym c.is_some.ensures ∙ c.if-is_some.true))
-    (c.in_ok-header_at.ensures.settled image front) goes in
-    omega (arith, reached, search_reach_is image)
+    (c.in_ok-header_at.ensures.settled image front) goes
 
+pub returns-then-is_some-clause-over : goal.returns-then-is_some-clause-over
+returns-then-is_some-clause-over g c = λ image front.
+    let place = get_or c.places-place-items.result.now c.loop-place.place-index 0 in
+    let grew = c.header_at.ensures.grew in
+    let first = grew.fronts image front in
+    over_joined image c.loop-place.area c.header_at.new.area c.args.ended.now c.loop-place.ended
+    c.header_at.new.ended (search_reach image) (reach_at image place) (search_reach image) first front
+    (c.loop-place.invariant.over image first) (c.in_ok-header_at.ensures.over image front) (omega arith)
+    (reach_below image c.args.area.now c.loop-place.area _ c.loop-place.ended _ c.loop-place.place-index _
+    c.places-place-items.ensures c.loop-place-test.true
+    (c.loop-place.invariant.searched image first) grew.longer grew.stays
+    (c.header_at.ensures.within image front))
+
+-- none is: the search goes on
 pub loop-place-preserved : goal.loop-place-preserved
 loop-place-preserved g c = record {
   searched = λ image front.
-      let k = c.loop-place.place-index in
-      let inside : k < length sizes =
-      omega (arith, c.loop-place-test.true, ap length c.places-place-items.ensures) in
-      let place = get_or c.places-place-items.result.now k 0 in
+      let place = get_or c.places-place-items.result.now c.loop-place.place-index 0 in
       let grew = c.header_at.ensures.grew in
-      searched_on image c.args.area.now c.loop-place.area c.header_at.new.area c.loop-place.ended
-      c.header_at.new.ended k place
-      (ap (λ l. get_or l k 0) c.places-place-items.ensures) inside
+      searched_on image c.args.area.now c.loop-place.area _ c.loop-place.ended _ c.loop-place.place-index _
+      c.places-place-items.ensures c.loop-place-test.true
       (c.loop-place.invariant.searched image (grew.fronts image front)) grew.longer grew.stays
       (c.header_at.ensures.within image front)
       (none_valid image place c.in_ok-header_at.field-0 (c.in_ok-header_at.ensures.valid image front)
       (sym c.is_some.ensures ∙ c.if-is_some.false))
       (c.in_ok-header_at.ensures.settled image front);
   over = λ image front.
-      let k = c.loop-place.place-index in
-      let inside : k < length sizes =
-      omega (arith, c.loop-place-test.true, ap length c.places-place-items.ensures) in
-      let place = get_or c.places-place-items.result.now k 0 in
+      let place = get_or c.places-place-items.result.now c.loop-place.place-index 0 in
       let grew = c.header_at.ensures.grew in
       let first = grew.fronts image front in
       over_joined image c.loop-place.area c.header_at.new.area c.args.ended.now c.loop-place.ended
-      c.header_at.new.ended (ahead image 0) (reach_at image place) (ahead image 0) first front
+      c.header_at.new.ended (search_reach image) (reach_at image place) (search_reach image) first front
       (c.loop-place.invariant.over image first) (c.in_ok-header_at.ensures.over image front) (omega arith)
-      (reach_below image c.args.area.now c.loop-place.area c.header_at.new.area c.loop-place.ended
-      c.header_at.new.ended k place
-      (ap (λ l. get_or l k 0) c.places-place-items.ensures) inside
+      (reach_below image c.args.area.now c.loop-place.area _ c.loop-place.ended _ c.loop-place.place-index _
+      c.places-place-items.ensures c.loop-place-test.true
       (c.loop-place.invariant.searched image first) grew.longer grew.stays
       (c.header_at.ensures.within image front));
   grew = grew_more _ _ _ _ _ _ _ _ _ _ _ _ c.loop-place.invariant.grew c.header_at.ensures.grew;
   reads = c.in_ok-header_at.ensures.reads ∙ c.loop-place.invariant.reads;
 }
 
+-- no place has one
 pub returns-clause-found : goal.returns-clause-found
 returns-clause-found g c = λ image front.
     let none = searched_all image c.args.area.now c.loop-place.area c.loop-place.ended c.loop-place.place-index
@@ -150,28 +152,5 @@ returns-clause-settled g c = λ image front goes.
     (omega (arith, c.loop-place-test.false, ap length c.places-place-items.ensures)) in
     omega (arith, so_far.settled goes, none.1, search_reach_is image)
 
-pub returns-then-is_some-clause-over : goal.returns-then-is_some-clause-over
-returns-then-is_some-clause-over g c = λ image front.
-    let k = c.loop-place.place-index in
-    let inside : k < length sizes =
-    omega (arith, c.loop-place-test.true, ap length c.places-place-items.ensures) in
-    let place = get_or c.places-place-items.result.now k 0 in
-    let grew = c.header_at.ensures.grew in
-    let first = grew.fronts image front in
-    over_joined image c.loop-place.area c.header_at.new.area c.args.ended.now c.loop-place.ended
-    c.header_at.new.ended (ahead image 0) (reach_at image place) (search_reach image) first front
-    (c.loop-place.invariant.over image first) (c.in_ok-header_at.ensures.over image front)
-    (omega (arith, search_reach_is image))
-    (omega (
-      arith,
-      search_reach_is image,
-      reach_below image c.args.area.now c.loop-place.area c.header_at.new.area c.loop-place.ended
-          c.header_at.new.ended k place
-          (ap (λ l. get_or l k 0) c.places-place-items.ensures) inside
-          (c.loop-place.invariant.searched image first) grew.longer grew.stays
-          (c.header_at.ensures.within image front),
-    ))
-
 pub returns-clause-over : goal.returns-clause-over
-returns-clause-over g c = λ image front goes found.
-    omega (arith, c.loop-place.invariant.over image front goes found, search_reach_is image)
+returns-clause-over g c = λ image front goes found. c.loop-place.invariant.over image front goes found

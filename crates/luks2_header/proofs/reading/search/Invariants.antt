@@ -1,13 +1,14 @@
-use Rattle.std.proofs.Common.{◌≡◌, ◌<◌, true, false, length}
-use Rattle.luks2_header.specs.Front2.{Grew, OfEach}
-use Rattle.luks2_header.proofs.SearchLemmas.{Searched, ahead}
+use Rattle.std.proofs.Common.{◌≡◌}
+use Rattle.luks2_header.specs.Cost2.{search_reach}
+use Rattle.luks2_header.specs.Front2.{FallsShort, Grew, OfEach}
+use Rattle.luks2_header.proofs.SearchLemmas.{Searched}
 use Rattle.luks2_header.proofs.reading.search.Given as goal
 
 -- no valid header stands at the places so far
 abbrev pub invariant-loop-place : goal.invariant-loop-place
 invariant-loop-place g l = record {
   searched : OfEach l.area l.ended (λ image. Searched image l.fn.area l.area l.ended l.place-index);
-  over : OfEach l.area l.ended (λ image. l.fn.ended ≡ false → l.ended ≡ true → length l.area < ahead image 0);
+  over : FallsShort l.area l.fn.ended l.ended search_reach;
   grew : Grew l.fn.area l.area l.fn.ended l.ended (g.S.Source.to_come l.fn.source) (g.S.Source.to_come l.source)
       (g.S.Source.ends l.fn.source) (g.S.Source.ends l.source);
   reads : g.S.Source.failures l.source ≡ g.S.Source.failures l.fn.source;

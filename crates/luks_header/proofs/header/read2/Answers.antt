@@ -1,9 +1,10 @@
-use Rattle.std.proofs.Common.{◌≡◌, ◌∙◌, ◌≤◌, ◌++◌, Err, ap, sym, length, false, arith}
+use Rattle.std.proofs.Common.{◌∙◌, ◌≤◌, ◌++◌, Err, ap, sym, length, arith}
 use Rattle.std.proofs.lemmas.Result.{err_from_is_err_and}
-use Rattle.luks1_header.specs.Header1.{is_luks1}
+use Rattle.std.specs.Prelude.{nat_lt}
+use Rattle.luks_io.specs.Bytes.{counted}
 use Rattle.luks2_header.specs.Text2.{json_text_of}
 use Rattle.luks2_members.specs.Tree.{tree_of}
-use Rattle.luks_header.proofs.HeldLemmas.{begins_behind, begins_longer, cost_other, header_read, reading_broken, seeking_broken, text_held}
+use Rattle.luks_header.proofs.HeldLemmas.{begins_behind, begins_longer, cost_other, header_read, reach_other, reading_broken, seeking_broken, text_held}
 use Rattle.luks_header.proofs.header.read2.Goals as goal
 
 pub returns-in_err-header-clause-broken : goal.returns-in_err-header-clause-broken
@@ -12,7 +13,8 @@ returns-in_err-header-clause-broken g c =
     rw (p.1, p.2) (λ rest is.
     let long : 8 ≤ length c.args.area.now = omega (arith, c.requires.held) in
     let other = begins_behind c.args.area.now rest long ∙ c.requires.other in
-    seeking_broken _ _ _ rest _ c.in_err-header.field-0.0 other (c.in_err-header.ensures.broken rest is))
+    seeking_broken _ _ _ rest _ _ _ other c.in_err-header.field-0.0 (c.in_err-header.ensures.broken rest is)
+    c.in_err-header.ensures.ends)
 
 pub returns-in_err-metadata-clause-broken : goal.returns-in_err-metadata-clause-broken
 returns-in_err-metadata-clause-broken g c =
@@ -22,8 +24,8 @@ returns-in_err-metadata-clause-broken g c =
     let other = begins_behind c.args.area.now rest long ∙ c.requires.other in
     let found = c.in_ok-header.ensures.taken rest is in
     let text = c.json_text.ensures ∙ ap (λ bytes. json_text_of bytes c.in_ok-header.header) c.as_slice.ensures.value in
-    reading_broken _ _ _ rest _ c.in_ok-header.header c.in_err-metadata.field-0.0 other found.0 found.1
-    (λ json. ap tree_of (sym text) ∙ c.in_err-metadata.ensures.json (ap Err json))
+    reading_broken _ _ _ rest _ _ _ other c.in_ok-header.header c.in_err-metadata.field-0.0 found.0 found.1
+    c.in_ok-header.ensures.ends (λ json. ap tree_of (sym text) ∙ c.in_err-metadata.ensures.json (ap Err json))
     c.in_err-metadata.ensures.refusals)
 
 pub returns-clause-taken : goal.returns-clause-taken
@@ -53,3 +55,12 @@ returns-clause-only g c =
     let read = c.in_ok-header.ensures in
     let other = begins_longer c.args.area.now c.read_header2.new.area long read.kept ∙ c.requires.other in
     read.only ∙ sym (cost_other c.read_header2.new.area other)
+
+pub returns-clause-ends : goal.returns-clause-ends
+returns-clause-ends g c =
+    let long : 8 ≤ length c.args.area.now = omega (arith, c.requires.held) in
+    let read = c.in_ok-header.ensures in
+    let other = begins_longer c.args.area.now c.read_header2.new.area long read.kept ∙ c.requires.other in
+    read.ends
+    ∙ ap (λ reach. counted (nat_lt (length c.read_header2.new.area) reach) (g.S.Source.ends c.args.source.now))
+    (sym (reach_other c.read_header2.new.area other))

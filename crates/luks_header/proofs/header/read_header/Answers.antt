@@ -1,19 +1,19 @@
-use Rattle.std.proofs.Common.{◌≡◌, ◌≤◌, ◌∙◌, Err, ap, sym, length, true, false, not, arith}
+use Rattle.std.proofs.Common.{◌≡◌, ◌≤◌, ◌∙◌, ap, sym, length, true, false, not, arith}
 use Rattle.std.proofs.lemmas.Result.{err_from_is_err_and}
-use Rattle.luks_area.specs.Area.{is_short}
-use Rattle.luks_header.specs.Header.{header_of}
+use Rattle.luks_io.specs.Bytes.{counted}
+use Rattle.luks_header.specs.Header.{falls_short}
 use Rattle.luks1_header.specs.Header1.{header1_of, is_luks1}
 use Rattle.luks_header.specs.declared.header.Header.TheVariants.{V1}
-use Rattle.luks_area.specs.declared.fault.HeaderFault.TheVariants.{NotLuks, Cut}
-use Rattle.luks_header.proofs.HeaderLemmas.{all_cost, area_is, breaks_reading, header_of-cut, header_of-whole, image_other, left_is, none_read, one_read, rest_broken, rest_read, short_from_not_whole, short_read}
-use Rattle.luks_header.proofs.HeldLemmas.{begins_longer}
+use Rattle.luks_area.specs.declared.fault.HeaderFault.TheVariants.{Cut}
+use Rattle.luks_header.proofs.HeaderLemmas.{all_cost, area_is, breaks_reading, header_of-cut, header_of-whole, image_other, left_is, none_read, one_read, rest_broken, rest_read, short_from_not_whole, short_read, whole_falls}
 use Rattle.luks_header.proofs.header.read_header.Goals as goal
 
 pub returns-in_err-whole-clause-broken : goal.returns-in_err-whole-clause-broken
 returns-in_err-whole-clause-broken g c =
     let p = err_from_is_err_and c.from_residual.result c.from_residual.ensures.1 in
     rw (p.1, p.2) (λ image knows.
-    breaks_reading _ _ image _ _ c.new-area.ensures (let h = c.in_err-whole.ensures.broken in h image knows))
+    breaks_reading _ _ image _ _ _ _ c.new-area.ensures (let h = c.in_err-whole.ensures.broken in h image knows)
+    c.in_err-whole.ensures.ends)
 
 pub returns-then-not-whole-clause-broken : goal.returns-then-not-whole-clause-broken
 returns-then-not-whole-clause-broken g c image knows =
@@ -23,7 +23,9 @@ returns-then-not-whole-clause-broken g c image knows =
     c.if-not-whole.true in
     none_read c.extend_to.new.self image _
     (area_is c.new-area.result c.extend_to.new.self image _ c.new-area.ensures
-    (c.in_ok-whole.ensures.taken image knows)) is Cut (header_of-cut c.extend_to.new.self is short)
+    (c.in_ok-whole.ensures.taken image knows)) is Cut (header_of-cut c.extend_to.new.self is short) short _ _
+    (c.in_ok-whole.ensures.ends
+    ∙ ap (λ whole. counted (not whole) (g.S.Source.ends c.args.source.now)) c.if-not-whole.true)
 
 pub returns-then-is_header1-clause-held : goal.returns-then-is_header1-clause-held
 returns-then-is_header1-clause-held g c =
@@ -43,6 +45,14 @@ returns-then-is_header1-clause-taken g c image knows =
     (c.in_ok-whole.ensures.taken image knows)) is (V1 c.from_bytes-header.result)
     (returns-then-is_header1-clause-held g c)
 
+pub returns-then-is_header1-clause-ends : goal.returns-then-is_header1-clause-ends
+returns-then-is_header1-clause-ends g c =
+    let is : is_luks1 c.extend_to.new.self ≡ true = ap is_luks1 (sym c.as_slice.ensures.value)
+    ∙ sym c.is_header1.ensures ∙ c.if-is_header1.true in
+    let enough = whole_falls c.extend_to.new.self is (c.in_ok-whole.ensures.whole.0 c.if-not-whole.false) in
+    c.in_ok-whole.ensures.ends
+    ∙ ap (λ short. counted short (g.S.Source.ends c.args.source.now)) (ap not c.if-not-whole.false ∙ sym enough)
+
 pub returns-then-is_header1-clause-only : goal.returns-then-is_header1-clause-only
 returns-then-is_header1-clause-only g c =
     let is : is_luks1 c.extend_to.new.self ≡ true = ap is_luks1 (sym c.as_slice.ensures.value)
@@ -60,7 +70,9 @@ returns-then-not-whole-2-clause-broken g c image knows =
     c.if-not-whole-2.true in
     short_read c.extend_to.new.self image _
     (area_is c.new-area.result c.extend_to.new.self image _ c.new-area.ensures
-    (c.in_ok-whole.ensures.taken image knows)) other short
+    (c.in_ok-whole.ensures.taken image knows)) other short _ _
+    (c.in_ok-whole.ensures.ends
+    ∙ ap (λ whole. counted (not whole) (g.S.Source.ends c.args.source.now)) c.if-not-whole-2.true)
 
 pub returns-in_err-header-clause-broken : goal.returns-in_err-header-clause-broken
 returns-in_err-header-clause-broken g c =
@@ -73,7 +85,9 @@ returns-in_err-header-clause-broken g c =
     let all : length c.extend_to.new.self ≡ 592 = omega (arith, c.in_ok-whole.ensures.within) in
     let taken = area_is c.new-area.result c.extend_to.new.self image _ c.new-area.ensures
     (c.in_ok-whole.ensures.taken image knows) in
-    rest_broken c.extend_to.new.self image _ taken other all _ c.read2.new.area c.in_err-header.field-0.0
+    let same = c.in_ok-whole.ensures.ends
+    ∙ ap (λ whole. counted (not whole) (g.S.Source.ends c.args.source.now)) c.if-not-whole-2.false in
+    rest_broken c.extend_to.new.self image _ taken other all _ c.read2.new.area _ _ _ c.in_err-header.field-0.0 same
     (c.in_err-header.ensures.broken _ (left_is c.extend_to.new.self image _ taken other all)))
 
 pub returns-in_err-header-clause-memory : goal.returns-in_err-header-clause-memory
@@ -97,10 +111,7 @@ returns-clause-taken g c image knows =
     (c.in_ok-header.ensures.taken _ (left_is c.extend_to.new.self image _ taken other all))
 
 pub returns-clause-ends : goal.returns-clause-ends
-returns-clause-ends g c begins =
-    let other : is_luks1 c.extend_to.new.self ≡ false = ap is_luks1 (sym c.as_slice.ensures.value)
-    ∙ sym c.is_header1.ensures ∙ c.if-is_header1.false in
-    let none : length c.new-area.result ≡ 0 = ap length c.new-area.ensures in
-    let long : 592 ≤ length c.extend_to.new.self = c.in_ok-whole.ensures.whole.0 c.if-not-whole-2.false in
-    let some : 8 ≤ length c.extend_to.new.self = omega (arith, long) in
-    absurd (let same = begins_longer c.extend_to.new.self c.read2.new.area some c.in_ok-header.ensures.kept in cc)
+returns-clause-ends g c =
+    let same = c.in_ok-whole.ensures.ends
+    ∙ ap (λ whole. counted (not whole) (g.S.Source.ends c.args.source.now)) c.if-not-whole-2.false in
+    c.in_ok-header.ensures.ends ∙ ap (counted (falls_short c.read2.new.area)) same

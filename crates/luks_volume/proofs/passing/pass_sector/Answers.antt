@@ -19,7 +19,7 @@ returns-in_err-put_all-clause-err g c =
     rw (p.1, p.2) (λ known is.
     let next = c.in_ok-got.ensures.bytes known is in
     let unit = unit_filled c.args.cipher.now c.args.number (length c.args.sector.now) c.in_ok-got.got known
-        c.fill.new.buf
+    c.fill.new.buf
     c.decrypt_unit.new.unit c.fill.auto.buf full next.1
     c.decrypt_unit.ensures.value in
     (rw full at next.0, (c.in_err-put_all.field-0.0.written, few, rw (← unit) c.in_err-put_all.ensures.err.1)))
@@ -28,7 +28,7 @@ pub returns-clause-written : goal.returns-clause-written
 returns-clause-written g c whole known is =
     let next = c.in_ok-got.ensures.bytes known is in
     let unit = unit_filled c.args.cipher.now c.args.number (length c.args.sector.now) c.in_ok-got.got known
-        c.fill.new.buf
+    c.fill.new.buf
     c.decrypt_unit.new.unit c.fill.auto.buf whole next.1
     c.decrypt_unit.ensures.value in
     rw (whole, ← unit) c.in_ok-put_all.ensures.ok

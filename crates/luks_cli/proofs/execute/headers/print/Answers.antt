@@ -9,7 +9,7 @@ pub returns-in_err-header-clause-run : goal.returns-in_err-header-clause-run
 returns-in_err-header-clause-run g c =
     let p = err_from_is_err_and c.from_residual.result c.from_residual.ensures.1 in
     rw (p.1, p.2) (λ known is.
-    runs_without_header (text_of c.args.page) (told_of c.args.page) known _ _ c.in_err-header.field-0.0
+    runs_without_header (text_of c.args.page) (told_of c.args.page) known _ _ _ _ c.in_err-header.field-0.0
     (c.in_err-header.ensures.broken known is))
 
 pub returns-in_err-text-clause-run : goal.returns-in_err-text-clause-run

@@ -8,7 +8,7 @@ pub returns-in_err-header-clause-err : goal.returns-in_err-header-clause-err
 returns-in_err-header-clause-err g c =
     let p = err_from_is_err_and c.from_residual.result c.from_residual.ensures.1 in
     rw (p.1, p.2) (λ known is.
-    stops_without_header _ known _ c.in_err-header.field-0.0 (c.in_err-header.ensures.broken known is))
+    stops_without_header _ known _ _ _ c.in_err-header.field-0.0 (c.in_err-header.ensures.broken known is))
 
 pub returns-then-not-is_opened-clause-err : goal.returns-then-not-is_opened-clause-err
 returns-then-not-is_opened-clause-err g c known is =
