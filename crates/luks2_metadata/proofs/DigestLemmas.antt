@@ -11,7 +11,7 @@ use Rattle.luks_verdict.specs.Rule.{is_beyond, is_digest, most_iterations, most_
 use Rattle.luks_verdict.specs.declared.digest.KeyDigest.{KeyDigest}
 use Rattle.luks2_members.proofs.NumberedLemmas.{lowest_found, lowest_made}
 use Rattle.luks2_members.specs.Numbered.{lowest, numbered}
-use Rattle.luks2_metadata.specs.Digest2.{digest2_for, digest2_of, digest_of_slot, digest_of_slot_at, digest_parts2_of, is_digest2, is_of_slot, iterations_of, value_in}
+use Rattle.luks2_metadata.specs.Digest2.{digest2_for, digest2_of, own_digest, own_digest_at, digest_parts2_of, is_digest2, is_of_slot, iterations_of, value_in}
 use Rattle.luks2_members.specs.Derivation.{hash_in, iterations_in}
 use Rattle.serde_json.specs.Data.{Data}
 
@@ -23,7 +23,7 @@ not_digest digest is = rw is refl
 -- one whose numbers are not in range
 pub out_of_range : (digest : Data) → is_digest2 digest ≡ true
     → is_digest (iterations_in digest) (length (value_in digest)) ≡ false → digest2_of digest ≡ None
-unfolding digest2_of digest_parts2_of
+unfolding digest2_of
 out_of_range digest is none = rw is (digest_from-no (digest_parts2_of digest) none)
 
 -- one with more iterations than four bytes can say
@@ -40,7 +40,7 @@ many_iterations digest is many =
 pub in_range : (digest : Data) → is_digest2 digest ≡ true
     → is_digest (iterations_in digest) (length (value_in digest)) ≡ true
     → option_map iterations_of (digest2_of digest) ≡ Some (iterations_in digest)
-unfolding digest2_of digest_parts2_of digest_of
+unfolding digest2_of digest_of
 in_range digest is held = rw (is, digest_from-yes (digest_parts2_of digest) held) refl
 
 pub few_iterations : (iterations len : ℕ) → is_digest iterations len ≡ true → iterations ≤ most_iterations
@@ -87,7 +87,7 @@ has_hash digest is =
 of_usable : (digest : Data) (key : KeyDigest) (test : Bool) → is_digest2 digest ≡ test
     → (if test then digest_from (digest_parts2_of digest) else None) ≡ Some key
     → (hash : Hash) × (key.hash ≡ Some hash)
-unfolding digest_parts2_of digest_of
+unfolding digest_of
 of_usable digest key true is made =
     let known = has_hash digest is in
     let same = digest_from-some (digest_parts2_of digest) key made in
@@ -104,15 +104,15 @@ of_listed digest key true is = usable_hash digest key is
 of_listed digest key false is = absurd cc
 
 of_there : (number : ℕ) (digest : Option Data) (key : KeyDigest)
-    → option_and_then (digest_of_slot number) digest ≡ Some key → (hash : Hash) × (key.hash ≡ Some hash)
-unfolding digest_of_slot
+    → option_and_then (own_digest number) digest ≡ Some key → (hash : Hash) × (key.hash ≡ Some hash)
+unfolding own_digest
 of_there number (Some digest) key is = of_listed digest key (is_of_slot number digest) is
 of_there number None key is = absurd cc
 
 -- that of the digest that a key slot is opened against too
 pub digest2_hash : (tree : Data) (number : ℕ) (key : KeyDigest) → digest2_for tree number ≡ Some key
     → (hash : Hash) × (key.hash ≡ Some hash)
-unfolding digest2_for digest_of_slot_at
+unfolding digest2_for own_digest_at
 digest2_hash tree number key is =
-    let made = lowest_made (digest_of_slot_at tree number) most_slots key is in
+    let made = lowest_made (own_digest_at tree number) most_slots key is in
     of_there number (numbered (codes "digests") tree made.0) key made.1

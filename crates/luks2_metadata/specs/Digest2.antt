@@ -28,7 +28,7 @@ is_digest2 digest =
     && is_some (base64_text (codes "digest") digest)
 
 -- what is said of a digest
-unfoldable pub digest_parts2_of : Data → DigestParts
+abbrev pub digest_parts2_of : Data → DigestParts
 digest_parts2_of digest = record {
   hash = hash_in digest;
   iterations = iterations_in digest;
@@ -45,17 +45,17 @@ unfoldable pub is_of_slot : ℕ → Data → Bool
 is_of_slot number digest =
     lists (codes "keyslots") (decimal number) digest && lists (codes "segments") (codes "0") digest
 
--- the digest, where it is usable and is of the key slot of this number
-unfoldable pub digest_of_slot : ℕ → Data → Option KeyDigest
-digest_of_slot number digest = if is_of_slot number digest then digest2_of digest else None
+-- the digest, where it is usable and is of the key slot of this number: its own
+unfoldable pub own_digest : ℕ → Data → Option KeyDigest
+own_digest number digest = if is_of_slot number digest then digest2_of digest else None
 
--- the digest of number n, where it is usable and is of the key slot of this number
-unfoldable pub digest_of_slot_at : Data → ℕ → ℕ → Option KeyDigest
-digest_of_slot_at tree number n = option_and_then (digest_of_slot number) (numbered (codes "digests") tree n)
+-- the digest of number n, where it is usable and is of the key slot of this number: its own
+unfoldable pub own_digest_at : Data → ℕ → ℕ → Option KeyDigest
+own_digest_at tree number n = option_and_then (own_digest number) (numbered (codes "digests") tree n)
 
 -- the digest that the key slot of this number is opened against: the usable one of it with the lowest number
 unfoldable pub digest2_for : Data → ℕ → Option KeyDigest
-digest2_for tree number = lowest (digest_of_slot_at tree number) most_slots
+digest2_for tree number = lowest (own_digest_at tree number) most_slots
 
 -- its iterations
 abbrev pub iterations_of : KeyDigest → ℕ

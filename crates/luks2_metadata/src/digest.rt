@@ -2,7 +2,7 @@
 
 ghost use Rattle.std.specs.Prelude.{◌≡◌, ◌≤◌, [], IfOk, length, option_map, unwrap_or, vec_len};
 ghost use Rattle.luks_verdict.specs.Rule.{most_slots};
-ghost use Rattle.luks2_metadata.specs.Digest2.{digest_of_slot_at, digest2_for, digest2_numbered, digest2_of, digests2_of, is_digest2, is_of_slot, iterations_of, listed_of, value_in};
+ghost use Rattle.luks2_metadata.specs.Digest2.{own_digest_at, digest2_for, digest2_numbered, digest2_of, digests2_of, is_digest2, is_of_slot, iterations_of, listed_of, value_in};
 ghost use Rattle.serde_json.specs.View.{view as data_of};
 
 use itoa::Buffer;
@@ -68,7 +68,7 @@ fn is_of_slot(digest: &Value, number: u8) -> bool
 }
 
 // The digest, where it is usable.
-#[tactic(auto, unfolding(crate::specs::Digest2::digest2_of, crate::specs::Digest2::digest_parts2_of))]
+#[tactic(auto, unfolding(crate::specs::Digest2::digest2_of))]
 fn usable(alloc: Global, digest: &Value) -> Result<Option<KeyDigest>, AllocError>
     ensures { IfOk result (λ key. key ≡ digest2_of (data_of digest.now)) }
 {
@@ -103,14 +103,14 @@ fn usable_iterations(digest: &Value) -> Option<u32>
 }
 
 // The digest of a number, where it is usable and is of the key slot.
-#[tactic(auto, unfolding(crate::specs::Digest2::digest_of_slot, crate::specs::Digest2::digest_of_slot_at))]
+#[tactic(auto, unfolding(crate::specs::Digest2::own_digest, crate::specs::Digest2::own_digest_at))]
 fn of_slot_at(
     alloc: Global,
     tree: &Value,
     slot: u8,
     number: u8,
 ) -> Result<Option<KeyDigest>, AllocError>
-    ensures { IfOk result (λ key. key ≡ digest_of_slot_at (data_of tree.now) slot number) }
+    ensures { IfOk result (λ key. key ≡ own_digest_at (data_of tree.now) slot number) }
 {
     match numbered(tree, "digests", number) {
         Some(digest) if is_of_slot(digest, slot) => usable(alloc, digest),
@@ -119,10 +119,10 @@ fn of_slot_at(
 }
 
 // The iterations of the digest of a number, where it is usable and is of the key slot.
-#[tactic(auto, unfolding(crate::specs::Digest2::digest_of_slot, crate::specs::Digest2::digest_of_slot_at))]
+#[tactic(auto, unfolding(crate::specs::Digest2::own_digest, crate::specs::Digest2::own_digest_at))]
 fn iterations_of_slot_at(tree: &Value, slot: u8, number: u8) -> Option<u32>
     ensures { result
-        ≡ option_map iterations_of (digest_of_slot_at (data_of tree.now) slot number) }
+        ≡ option_map iterations_of (own_digest_at (data_of tree.now) slot number) }
 {
     match numbered(tree, "digests", number) {
         Some(digest) if is_of_slot(digest, slot) => usable_iterations(digest),

@@ -29,7 +29,8 @@ pub fn inv_cipher(block: [u8; 16], rounds: usize, schedule: &[u8], unmixed: &[u8
     requires some { 0 < rounds }
     requires words { length schedule.now ≡ 16 * (rounds + 1) }
     requires same { length unmixed.now ≡ length schedule.now }
-    requires products { IsMultiplied (14 ∷ 11 ∷ 13 ∷ 9 ∷ []) schedule.now unmixed.now (4 * (rounds + 1)) }
+    requires products { IsMultiplied (14 ∷ 11 ∷ 13 ∷ 9 ∷ []) schedule.now unmixed.now
+        (4 * (rounds + 1)) }
     ensures { result ≡ inv_cipher block rounds schedule.now }
 {
     let mut state = with_round_key(columns_of(block), schedule, rounds);

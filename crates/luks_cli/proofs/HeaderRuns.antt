@@ -86,7 +86,8 @@ module _ (text : Header → List ℕ) (told : Header → Message) (image : List 
     print_found = rw found refl
 
     -- memory was refused for its text
-    pub runs_without_text : Runs at_any_pace (print_outcome text told image) OutOfMemory (Took image i) TookNone (Adds w w)
+    pub runs_without_text : Runs at_any_pace (print_outcome text told image) OutOfMemory (Took image i) TookNone
+        (Adds w w)
     runs_without_text =
         rw print_found (early _ image OutOfMemory i w (cost_of image) refl (omega arith) (omega arith)
         (left))

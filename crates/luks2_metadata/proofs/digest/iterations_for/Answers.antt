@@ -3,7 +3,7 @@ use Rattle.std.specs.Prelude.{is_some}
 use Rattle.luks2_members.proofs.NumberedLemmas.{lowest_next, lowest_none, none_from_not_some}
 use Rattle.luks2_members.specs.Numbered.{lowest}
 use Rattle.luks2_metadata.proofs.DigestLemmas.{iterations_found, same_some}
-use Rattle.luks2_metadata.specs.Digest2.{digest2_for, digest_of_slot_at, iterations_of}
+use Rattle.luks2_metadata.specs.Digest2.{digest2_for, own_digest_at, iterations_of}
 use Rattle.luks2_metadata.proofs.digest.iterations_for.Goals as goal
 use Rattle.serde_json.specs.View.{view}
 
@@ -13,7 +13,7 @@ loop-digest-init c = lowest_none _
 pub returns-then-is_some : goal.returns-then-is_some
 unfolding digest2_for
 returns-then-is_some c =
-    let f = digest_of_slot_at (view c.args.tree.now) c.args.number in
+    let f = own_digest_at (view c.args.tree.now) c.args.number in
     let here = c.iterations_of_slot_at-found.ensures in
     let some : is_some (option_map iterations_of (f c.loop-digest.digest)) ≡ true =
     ap is_some (sym here) ∙ (sym c.is_some.ensures ∙ c.if-is_some.true) in
@@ -21,7 +21,7 @@ returns-then-is_some c =
 
 pub loop-digest-preserved : goal.loop-digest-preserved
 loop-digest-preserved c =
-    let f = digest_of_slot_at (view c.args.tree.now) c.args.number in
+    let f = own_digest_at (view c.args.tree.now) c.args.number in
     let here = c.iterations_of_slot_at-found.ensures in
     lowest_next f c.loop-digest.digest c.loop-digest.invariant
     ∙ none_from_not_some _ (sym (same_some (f c.loop-digest.digest))
@@ -32,4 +32,4 @@ unfolding digest2_for
 returns c =
     let end : c.loop-digest.digest ≡ 32 = omega arith in
     ap (option_map iterations_of)
-    (sym c.loop-digest.invariant ∙ ap (lowest (digest_of_slot_at (view c.args.tree.now) c.args.number)) end)
+    (sym c.loop-digest.invariant ∙ ap (lowest (own_digest_at (view c.args.tree.now) c.args.number)) end)

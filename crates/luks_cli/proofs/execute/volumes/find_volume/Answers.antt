@@ -43,5 +43,5 @@ pub returns-in-Ok-clause-volume : goal.returns-in-Ok-clause-volume
 returns-in-Ok-clause-volume g c known is =
     let read = c.in_ok-header.ensures.taken known is in
     volume_found (opening_request c.args.opening.now) known None c.in_ok-header.header read.0
-    (sym c.is_opened.ensures ∙ c.if-not-is_opened.false) c.in_ok-segment.segment c.in-Ok.order (sym c.in_ok-segment.ensures)
-    (rw (c.named_slot-named.ensures, c.limit.ensures) at c.in-Ok.ensures.answer)
+    (sym c.is_opened.ensures ∙ c.if-not-is_opened.false) c.in_ok-segment.segment c.in-Ok.order
+    (sym c.in_ok-segment.ensures) (rw (c.named_slot-named.ensures, c.limit.ensures) at c.in-Ok.ensures.answer)
