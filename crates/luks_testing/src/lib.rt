@@ -5,6 +5,7 @@
 #![tactic(auto)]
 
 pub mod devices;
+pub mod header2;
 pub mod scarce;
 #[cfg(test)]
 mod tests;

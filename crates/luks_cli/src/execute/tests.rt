@@ -3,6 +3,7 @@
 mod headers;
 mod hostile;
 mod modes;
+mod second;
 mod volume_devices;
 mod volumes;
 
@@ -239,7 +240,8 @@ fn tells_how_it_is_called(rt: HostRuntime) -> Result<(), Fail> {
 }
 
 // Runs with one failing call each, counted upwards until a run meets none. Each is told as what
-// failed, and what it wrote is a beginning of the whole.
+// failed, and what it wrote is a beginning of the whole. The inputs come in a hundred pieces or so,
+// of 5 bytes at least.
 fn check_failures(
     rt: &(impl Abort + AllocGlobal),
     line: &str,
@@ -250,10 +252,11 @@ fn check_failures(
     let alloc = rt.alloc();
     let words: Vec<&str> = line.split(' ').collect(alloc)?;
     let command = plan(alloc, words.as_slice()).ok().ok_or("a command")?;
+    let piece = (image.len() / 100).max(5);
     for device in 0..3 {
         for call in 0..600 {
             let at = |which: u32| if which == device { call } else { u64::MAX };
-            let mut key = Flaky::new(image, 5, at(0));
+            let mut key = Flaky::new(image, piece, at(0));
             let mut random = Flaky::new(secret, 5, at(1));
             let mut out = Leaky::new(alloc, 4096, 3, at(2))?;
             let report = execute(alloc, &command, &mut key, &mut random, &mut out);

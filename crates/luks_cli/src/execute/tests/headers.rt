@@ -10,6 +10,7 @@ use luks_report::message::Message;
 use luks_report::report::Report;
 use luks_testing::scarce::Scarcity;
 use std::alloc::{AllocError, Global};
+use std::process::Abort;
 use std::test::Fail;
 
 // Puts bytes at a place of a header.
@@ -237,47 +238,48 @@ fn tells_failed_devices(rt: HostRuntime) -> Result<(), Fail> {
 }
 
 // Runs with less and less memory refused, until one meets no refusal. Each refused run answers want
-// of memory, writes nothing and takes no more of the image than the whole run.
-#[test]
-fn answers_memory_where_it_is_refused(rt: HostRuntime) -> Result<(), Fail> {
+// of memory and writes nothing; the whole run ends so.
+pub(super) fn check_refusals(
+    rt: &(impl Abort + AllocGlobal),
+    line: &str,
+    image: &[u8],
+    whole: &str,
+    message: Message,
+) -> Result<(), Fail> {
     let alloc = rt.alloc();
-    let header = make_header();
-    for (line, whole, message) in [
-        ("isLuks i", "", Message::Done),
-        ("luksUUID i", UUID, Message::Done),
-        ("luksDump i", DUMP, Message::Done),
-        ("luksCheck i", FINDINGS, Message::Findings),
-    ] {
-        let words: Vec<&str> = line.split(' ').collect(alloc)?;
-        let command = plan(alloc, words.as_slice()).ok().ok_or("a command")?;
-        let mut out = MemSink::new(alloc, 4096)?;
-        let mut reports = Vec::with_capacity(alloc, 400)?;
-        let mut scarcity = Scarcity::new(alloc, 400, 64)?;
-        for _ in 0..400 {
-            let mut image = MemSource::new(&header);
-            let report = execute(
-                alloc,
-                &command,
-                &mut image,
-                &mut MemSource::new(&[]),
-                &mut out,
-            );
-            let done = report.message != Message::OutOfMemory;
-            let _ = reports.push((report, out.as_slice().len()));
-            if done {
-                break;
-            }
-            scarcity.relent();
+    let words: Vec<&str> = line.split(' ').collect(alloc)?;
+    let command = plan(alloc, words.as_slice()).ok().ok_or("a command")?;
+    let mut out = MemSink::new(alloc, 4096)?;
+    let mut reports = Vec::with_capacity(alloc, 400)?;
+    let mut scarcity = Scarcity::new(alloc, 400, 64)?;
+    for _ in 0..400 {
+        let mut source = MemSource::new(image);
+        let mut secret = MemSource::new(&[]);
+        let report = execute(alloc, &command, &mut source, &mut secret, &mut out);
+        let done = report.message != Message::OutOfMemory;
+        let _ = reports.push((report, out.as_slice().len()));
+        if done {
+            break;
         }
-        drop(scarcity);
-        let last = reports.pop().ok_or("a run")?;
-        assert_eq!(rt; last.0, Report::of(message), "{line}");
-        assert_eq!(rt; out.as_slice(), whole.as_bytes(), "{line}");
-        assert!(rt; !reports.is_empty(), "{line}: no refusal");
-        for (report, written) in reports.iter() {
-            assert_eq!(rt; *report, Report::of(Message::OutOfMemory), "{line}");
-            assert_eq!(rt; *written, 0, "{line}");
-        }
+        scarcity.relent();
+    }
+    drop(scarcity);
+    let last = reports.pop().ok_or("a run")?;
+    assert_eq!(rt; last.0, Report::of(message), "{line}");
+    assert_eq!(rt; out.as_slice(), whole.as_bytes(), "{line}");
+    assert!(rt; !reports.is_empty(), "{line}: no refusal");
+    for (report, written) in reports.iter() {
+        assert_eq!(rt; *report, Report::of(Message::OutOfMemory), "{line}");
+        assert_eq!(rt; *written, 0, "{line}");
     }
     Ok(())
+}
+
+#[test]
+fn answers_memory_where_it_is_refused(rt: HostRuntime) -> Result<(), Fail> {
+    let header = make_header();
+    check_refusals(&rt, "isLuks i", &header, "", Message::Done)?;
+    check_refusals(&rt, "luksUUID i", &header, UUID, Message::Done)?;
+    check_refusals(&rt, "luksDump i", &header, DUMP, Message::Done)?;
+    check_refusals(&rt, "luksCheck i", &header, FINDINGS, Message::Findings)
 }
