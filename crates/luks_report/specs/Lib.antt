@@ -1,10 +1,5 @@
 pub mod Check
-pub mod Check2
-pub mod Dump
-pub mod Dump1
-pub mod Dump2
-pub mod Escaping
 pub mod Faults
-pub mod Field
 pub mod Report
 pub mod Texts
+pub use Rattle.luks_pages.specs.Dump

@@ -1,12 +1,9 @@
 //! Every text that luksrd prints: messages, with the status that goes with each, and what is
-//! printed of a header.
+//! printed of a header, which a crate of its own beneath this one says.
 #![tactic(auto)]
 
 pub mod check;
-pub mod dump;
-mod escaping;
 mod faults;
-mod field;
 pub mod input;
 mod line;
 pub mod message;
@@ -15,3 +12,5 @@ pub mod report;
 #[cfg(test)]
 mod tests;
 mod wording;
+
+pub use luks_pages::dump;

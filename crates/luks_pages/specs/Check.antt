@@ -1,0 +1,85 @@
+-- What is amiss with a header: a finding a line, in a fixed order.
+use Rattle.std.specs.Prelude.{ℕ, ◌∷◌, ◌++◌, [], Bool, false, true, List, None, Result, Ok, Err, codes, flat_map, if◌then◌else◌, max, min, nat_lt}
+use Rattle.std.specs.Fmt.{decimal}
+use Rattle.luks_header.specs.Segment.{segment_of}
+use Rattle.luks_header.specs.SegmentFault.{fault_text}
+use Rattle.luks_header.specs.SkipReason.{reason_text}
+use Rattle.luks_header.specs.Slot.{verdicts_of}
+use Rattle.luks_header.specs.declared.header.Header.{Header}
+use Rattle.luks_header.specs.declared.header.Header.TheVariants.{V1, V2}
+use Rattle.luks_verdict.specs.Slot.{end_of}
+use Rattle.luks_verdict.specs.declared.refusal.SegmentFault.{SegmentFault}
+use Rattle.luks_verdict.specs.declared.refusal.SkipReason.{SkipReason}
+use Rattle.luks_verdict.specs.declared.refusal.SkipReason.TheVariants.{State, Kind, Member, Argon2i, Argon2id, Kdf, Hash, Encryption, KeySize, Stripes, Iterations, Area, Digest}
+use Rattle.luks_verdict.specs.declared.segment.Segment.{Segment}
+use Rattle.luks_verdict.specs.declared.slot.Slot.{Slot}
+use Rattle.luks_verdict.specs.declared.slot.Verdict.{Verdict}
+use Rattle.luks_verdict.specs.declared.slot.Verdict.TheVariants.{Usable, Disabled, Skipped}
+use Rattle.luks_pages.specs.Check2.{header2_findings}
+use Rattle.luks_pages.specs.Field.{field}
+
+-- what is found in the header itself, by its version. A LUKS1 header stands alone, and its key slots have no names
+abbrev pub header_findings : Header → List ℕ
+header_findings (V1 header) = []
+header_findings (V2 header tree) = header2_findings header tree
+
+-- what is found in the segment: its fault
+abbrev pub segment_finding : Result Segment SegmentFault → List ℕ
+segment_finding (Ok segment) = []
+segment_finding (Err fault) = field (codes "segment") (fault_text fault)
+
+-- a skipped key slot is a finding. One whose key is derived by Argon2 is in order: it is only not opened here
+abbrev pub is_amiss : SkipReason → Bool
+is_amiss State = true
+is_amiss Kind = true
+is_amiss Member = true
+is_amiss Argon2i = false
+is_amiss Argon2id = false
+is_amiss Kdf = true
+is_amiss Hash = true
+is_amiss Encryption = true
+is_amiss KeySize = true
+is_amiss Stripes = true
+is_amiss Iterations = true
+is_amiss Area = true
+is_amiss Digest = true
+
+-- what is found in the key slot of a number
+abbrev pub skip_finding : ℕ → SkipReason → List ℕ
+skip_finding number reason =
+    if is_amiss reason then field (codes "slot " ++ decimal number) (reason_text reason) else []
+
+abbrev pub slot_finding : ℕ × Verdict → List ℕ
+slot_finding (number, Usable slot) = []
+slot_finding (number, Disabled) = []
+slot_finding (number, Skipped reason) = skip_finding number reason
+
+-- what is found in key slots
+abbrev pub slot_findings : List (ℕ × Verdict) → List ℕ
+slot_findings verdicts = flat_map slot_finding verdicts
+
+-- two areas of key material share a byte: the later of their starts is below the earlier of their ends
+unfoldable pub do_overlap : Slot → Slot → Bool
+do_overlap a b = nat_lt (max a.parts.area_offset b.parts.area_offset) (min (end_of a) (end_of b))
+
+-- what is found in two key slots
+abbrev pub overlap : ℕ × Verdict → ℕ × Verdict → List ℕ
+overlap (i, Usable a) (j, Usable b) =
+    if do_overlap a b then field (codes "slots " ++ decimal i ++ codes " and " ++ decimal j) (codes "areas overlap")
+    else []
+overlap _ _ = []
+
+-- what is found in a key slot beside each of others
+abbrev pub overlaps_with : ℕ × Verdict → List (ℕ × Verdict) → List ℕ
+overlaps_with first rest = flat_map (overlap first) rest
+
+-- what is found in each two of these key slots, by the first and then by the second
+unfoldable pub overlaps : List (ℕ × Verdict) → List ℕ
+overlaps [] = []
+overlaps (first ∷ rest) = overlaps_with first rest ++ overlaps rest
+
+-- what is found in a header. Iterations have no limit here
+unfoldable pub findings_of : Header → List ℕ
+findings_of header = header_findings header ++ segment_finding (segment_of header)
+    ++ slot_findings (verdicts_of header None)
+    ++ overlaps (verdicts_of header None)

@@ -1,0 +1,7 @@
+pub mod Check
+pub mod Check2
+pub mod Dump
+pub mod Dump1
+pub mod Dump2
+pub mod Escaping
+pub mod Field
