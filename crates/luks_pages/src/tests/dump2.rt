@@ -1,8 +1,9 @@
 //! What is printed of LUKS2 headers.
 
-use super::fixture2::{SIZE, empty_image, image_of, read, write_header};
+use super::fixture2::read;
 use crate::check::luks2::push_findings;
 use crate::dump::luks2::{dump_page, uuid_page};
+use luks_testing::header2::{SIZE, empty_image, image_of, write_header};
 use std::process::Abort;
 use std::test::Fail;
 

@@ -2,64 +2,11 @@
 
 use luks_area::area::HeaderArea;
 use luks_io::memory::MemSource;
-use luks_kdf::{Hash, digest};
 use luks2_header::header::Header2;
 use luks2_header::reading::read_header2;
 use luks2_members::tree::Metadata;
-use std::alloc::{AllocError, Global};
+use std::alloc::Global;
 use std::test::Fail;
-
-/// The length of each header and its JSON area.
-pub const SIZE: usize = 16_384;
-
-// Puts bytes into others, from a place on.
-fn put(bytes: &mut [u8], place: usize, with: &[u8]) {
-    for (i, byte) in with.iter().enumerate() {
-        let at = place.saturating_add(i);
-        if at < bytes.len() {
-            bytes[at] = *byte;
-        }
-    }
-}
-
-// The bytes of the header at a place, or as many of them as there are.
-fn header_at(image: &mut [u8], place: usize) -> &mut [u8] {
-    let start = place.min(image.len());
-    let rest = &mut image[start..];
-    let len = SIZE.min(rest.len());
-    &mut rest[..len]
-}
-
-/// Writes a header with SHA-256 into an image, its checksum last.
-pub fn write_header(image: &mut [u8], place: usize, sequence: u64, json: &str) {
-    let header = header_at(image, place);
-    let magic = if place == 0 { b"LUKS" } else { b"SKUL" };
-    put(header, 0, magic);
-    put(header, 4, &[0xba, 0xbe, 0, 2]);
-    put(header, 8, &(SIZE as u64).to_be_bytes());
-    put(header, 16, &sequence.to_be_bytes());
-    put(header, 24, b"a\\label\xc3\n~");
-    put(header, 72, b"SHA256");
-    put(header, 168, b"11111111-2222-3333-4444-555555555555");
-    put(header, 256, &(place as u64).to_be_bytes());
-    put(header, 4096, json.as_bytes());
-    let mut sum = [0; 32];
-    digest(Hash::Sha256, header, b"", b"", &mut sum);
-    put(header, 448, &sum);
-}
-
-/// An image with room for both headers, and nothing in it.
-pub fn empty_image(alloc: Global) -> Result<Vec<u8>, AllocError> {
-    vec![in alloc; 0; 32_768]
-}
-
-/// An image with two headers of these sequence numbers.
-pub fn image_of(alloc: Global, first: u64, second: u64, json: &str) -> Result<Vec<u8>, AllocError> {
-    let mut image = empty_image(alloc)?;
-    write_header(image.as_mut_slice(), 0, first, json);
-    write_header(image.as_mut_slice(), SIZE, second, json);
-    Ok(image)
-}
 
 /// The header of an image, and what its JSON area says.
 pub fn read(alloc: Global, image: &[u8]) -> Result<(Header2, Metadata), Fail> {
