@@ -107,12 +107,22 @@ rounds_are words schedule unmixed key len is view =
     let nk = words_of_schedule words schedule unmixed len is in
     rw (← view, nk) refl
 
--- the bytes of the schedule up to the last round are those of the key's
-pub schedule_at : (words : ℕ) (schedule unmixed key : List ℕ) (i : ℕ) → IsSchedule words schedule unmixed
-    → take (4 * words) schedule ≡ key → i < 16 * (words + 7) → slice_index schedule i
-    ≡ slice_index (key_expansion key) i
-schedule_at words schedule unmixed key i is view low =
-    sym (get_or-take (16 * (words + 7)) schedule i 0 low) ∙ ap (λ l. slice_index l i)
+-- a key's round keys are among the 15 that a schedule has room for
+pub round_in_schedule : (words n : ℕ) (schedule unmixed key : List ℕ) → length schedule ≡ 240
+    → IsSchedule words schedule unmixed → take (4 * words) schedule ≡ key → n ≤ rounds_of key → n < 15
+round_in_schedule words n schedule unmixed key len is view low =
+    let most = (key_length (4 * words) is.key_length).most in
+    let rounds = rounds_are words schedule unmixed key len is view in
+    omega arith
+
+-- their bytes in the schedule are those of the key's expansion
+pub round_byte : (words n r c : ℕ) (schedule unmixed key : List ℕ) → length schedule ≡ 240
+    → IsSchedule words schedule unmixed → take (4 * words) schedule ≡ key → n ≤ rounds_of key → r < 4 → c < 4
+    → slice_index schedule (r + 4 * (4 * n + c)) ≡ slice_index (key_expansion key) (r + 4 * (4 * n + c))
+round_byte words n r c schedule unmixed key len is view low row column =
+    let i = r + 4 * (4 * n + c) in
+    let rounds = rounds_are words schedule unmixed key len is view in
+    sym (get_or-take (16 * (words + 7)) schedule i 0 (omega arith)) ∙ ap (λ l. slice_index l i)
     (is.expanded ∙ ap key_expansion view)
 
 -- the cipher over the schedule is that of the key

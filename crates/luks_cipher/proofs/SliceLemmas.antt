@@ -50,7 +50,7 @@ joined_more f a (suc b) =
     (f (a + b)))
 
 -- a unit of which n more blocks are done together
-pub done_many : (f : ℕ → List ℕ) (old new piece : List ℕ) (at k j n : ℕ) → at ≡ 16 * j → k ≡ 16 * n
+done_many : (f : ℕ → List ℕ) (old new piece : List ℕ) (at k j n : ℕ) → at ≡ 16 * j → k ≡ 16 * n
     → IsDoneBefore f old new j → 16 * j + 16 * n ≤ length new → length piece ≡ 16 * n
     → piece ≡ joined (λ m. f (j + m)) n → IsDoneBefore f old (put_mid at k new piece) (j + n)
 done_many f old new piece at k j n place size before room long is =
@@ -70,24 +70,33 @@ pub done_moved : (f : ℕ → List ℕ) (old new : List ℕ) (j k : ℕ) → j �
     → IsDoneBefore f old new k
 done_moved f old new j k same is = subst (λ (n : ℕ). IsDoneBefore f old new n) same is
 
--- block m of the slice that the code takes
-pub slice_block : (old new : List ℕ) (at k j m : ℕ) → at ≡ 16 * j → k ≡ 512 → drop (16 * j) new ≡ drop (16 * j) old
-    → m < 32
-    → block_at (take k (drop at new)) m ≡ block_at old (j + m)
-slice_block old new at k j m place size left low =
-    let rest = drop (16 * j) old in
-    let cut : 512 ≡ 16 * m + (512 - 16 * m) = omega arith in
+-- a unit of which slice i is done too
+pub slice_done : (f : ℕ → List ℕ) (old new piece : List ℕ) (i : ℕ) → IsDoneBefore f old new (32 * i)
+    → 512 * i + 512 ≤ length new → length piece ≡ 512 → piece ≡ joined (λ m. f (32 * i + m)) 32
+    → IsDoneBefore f old (put_mid (512 * i) (512 * i + 512 - 512 * i) new piece) (32 * (i + 1))
+slice_done f old new piece i before room long is =
+    done_moved f old _ (32 * i + 32) (32 * (i + 1)) (omega arith)
+    (done_many f old new piece (512 * i) (512 * i + 512 - 512 * i) (32 * i) 32 (omega arith) (omega arith) before
+    (omega arith) (omega arith) is)
+
+-- block m of slice i, which the code takes
+pub slice_block : (old new : List ℕ) (i : ℕ) → drop (16 * (32 * i)) new ≡ drop (16 * (32 * i)) old
+    → (m : ℕ) → m < 32 → block_at (take (512 * i + 512 - 512 * i) (drop (512 * i) new)) m ≡ block_at old (32 * i + m)
+slice_block old new i left m low =
+    let j = 32 * i in
+    let place : 512 * i ≡ 16 * j = omega arith in
+    let size : 512 * i + 512 - 512 * i ≡ 16 * m + (512 - 16 * m) = omega arith in
     let there : 16 * j + 16 * m ≡ 16 * (j + m) = omega arith in
-    (λ i. take 16 (drop (16 * m) (take (size i) (drop (place i) new))))
-    ∙ (λ i. take 16 (drop (16 * m) (take (cut i) (left i))))
-    ∙ ap (take 16) (drop-take (16 * m) (512 - 16 * m) rest)
-    ∙ take-take 16 (512 - 16 * m) (drop (16 * m) rest) (omega arith)
+    (λ t. take 16 (drop (16 * m) (take (size t) (drop (place t) new))))
+    ∙ ap (λ l. take 16 (drop (16 * m) (take (16 * m + (512 - 16 * m)) l))) left
+    ∙ ap (take 16) (drop-take (16 * m) (512 - 16 * m) (drop (16 * j) old))
+    ∙ take-take 16 (512 - 16 * m) (drop (16 * m) (drop (16 * j) old)) (omega arith)
     ∙ ap (take 16) (drop-drop (16 * m) (16 * j) old)
-    ∙ ap (λ i. take 16 (drop i old)) there
+    ∙ ap (λ n. take 16 (drop n old)) there
 
 -- ---- tweaks
 
-pub tweak_more : (key : List ℕ) (number j n : ℕ) → tweak_after (tweak_of key number j) n ≡ tweak_of key number (j + n)
+tweak_more : (key : List ℕ) (number j n : ℕ) → tweak_after (tweak_of key number j) n ≡ tweak_of key number (j + n)
 unfolding tweak_of tweak_after
 tweak_more key number j zero =
     let none : j + 0 ≡ j = omega arith in
@@ -95,6 +104,16 @@ tweak_more key number j zero =
 tweak_more key number j (suc n) =
     let next : j + suc n ≡ suc (j + n) = omega arith in
     rw next (ap doubled (tweak_more key number j n))
+
+-- the tweak after slice i
+pub slice_tweak : (key : List ℕ) (number i : ℕ) (tweak next : List ℕ) → tweak ≡ tweak_of key number (32 * i)
+    → next ≡ tweak_after tweak 32 → next ≡ tweak_of key number (32 * (i + 1))
+slice_tweak key number i tweak next same is =
+    let more : 32 * i + 32 ≡ 32 * (i + 1) = omega arith in
+    is
+    ∙ ap (λ t. tweak_after t 32) same
+    ∙ tweak_more key number (32 * i) 32
+    ∙ ap (tweak_of key number) more
 
 -- the number of the next tweak
 pub next_number : (tweak : List ℕ) (number n : ℕ) → number < 2 ^ 128 → to_le_bytes w128 number ≡ tweak_after tweak n
@@ -169,9 +188,12 @@ cbc_unit_slice key vector j before old slice new first same is =
     let here = before_same vector before old slice j n first same (omega arith) in
     (λ i. block_sum (decrypted key (same n low i)) (here i)))
 
--- the block before the next slice
-pub before_next : (vector before old slice last : List ℕ) (j : ℕ) → before ≡ block_before vector old j
-    → ((m : ℕ) → m < 32 → block_at slice m ≡ block_at old (j + m)) → last ≡ block_before before slice 32
-    → last ≡ block_before vector old (j + 32)
-before_next vector before old slice last j first same is = is ∙ before_same vector before old slice j 32 first same
-    (omega arith)
+-- the block before the slice after slice i
+pub before_next : (vector before old slice last : List ℕ) (i : ℕ) → before ≡ block_before vector old (32 * i)
+    → ((m : ℕ) → m < 32 → block_at slice m ≡ block_at old (32 * i + m)) → last ≡ block_before before slice 32
+    → last ≡ block_before vector old (32 * (i + 1))
+before_next vector before old slice last i first same is =
+    let more : 32 * i + 32 ≡ 32 * (i + 1) = omega arith in
+    is
+    ∙ before_same vector before old slice (32 * i) 32 first same (omega arith)
+    ∙ ap (block_before vector old) more

@@ -7,7 +7,7 @@ use Rattle.std.proofs.lemmas.List.{take_at, drop_at, take_all, drop-drop}
 use Rattle.std.proofs.lemmas.Slice.{take-put_mid, drop-put_mid}
 use borrow.Rule.Slice.PartMut.{put_mid}
 use Rattle.luks_aes.specs.Aes.{encrypted, decrypted}
-use Rattle.luks_cipher.specs.Xts.{data_key, tweak_key, doubled_number, tweak_of, block_at, joined, block_sum, block_encrypted, block_decrypted, xts_encrypted, xts_decrypted}
+use Rattle.luks_cipher.specs.Xts.{data_key, tweak_key, doubled_number, doubled, tweak_of, block_at, joined, block_sum, block_encrypted, block_decrypted, xts_encrypted, xts_decrypted}
 
 -- below 2^127 nothing is carried out
 pub doubled_low : (n : ℕ) → n < 2 ^ 127 → bit_xor (n * 2 % 2 ^ 128) 0 ≡ doubled_number n
@@ -84,6 +84,20 @@ pub block_is : (old new : List ℕ) (j : ℕ) → drop (16 * j) new ≡ drop (16
 block_is old new j left =
     let size : 16 * j + 16 - 16 * j ≡ 16 = omega arith in
     rw (size, left) refl
+
+-- one more block is done, by the one that the code takes and what is its own, as its tweak
+pub done_next : (g : List ℕ → List ℕ → List ℕ) (t : ℕ → List ℕ) (old new piece own : List ℕ) (j : ℕ)
+    → IsDoneBefore (λ j. g (t j) (block_at old j)) old new j → 16 * j + 16 ≤ length new → length piece ≡ 16
+    → own ≡ t j → piece ≡ g own (take (16 * j + 16 - 16 * j) (drop (16 * j) new))
+    → IsDoneBefore (λ j. g (t j) (block_at old j)) old (put_mid (16 * j) (16 * j + 16 - 16 * j) new piece) (j + 1)
+done_next g t old new piece own j before room size same is =
+    done_more (λ j. g (t j) (block_at old j)) old new piece j before room size
+    (is ∙ (λ i. g (same i) (block_is old new j before.left i)))
+
+pub next_tweak : (key : List ℕ) (number j : ℕ) (tweak next : List ℕ) → tweak ≡ tweak_of key number j
+    → next ≡ doubled tweak → next ≡ tweak_of key number (j + 1)
+unfolding tweak_of
+next_tweak key number j tweak next same is = rw add-one (is ∙ ap doubled same)
 
 pub encrypted_unit : (key : List ℕ) (number : ℕ) (old new : List ℕ) (j : ℕ)
     → IsDoneBefore (λ j. block_encrypted key (tweak_of key number j) (block_at old j)) old new j

@@ -41,6 +41,56 @@ sum_len f g v w r long also is =
     ap length is ∙ length-zip2 bit_xor (map f v) (map g w) (length-map v f ∙ long ∙ sym (length-map w g ∙ also))
     ∙ length-map v f ∙ long
 
+-- a sum of two vectors by the sums of their bits
+shows_sum : (lower upper : ℕ → ℕ) (h : ℕ → ℕ → ℕ) (v w r : List ℕ) → length v ≡ 16 → length w ≡ 16
+    → r ≡ zip2 bit_xor (map lower v) (map upper w)
+    → ((p k : ℕ) → p < 16 → k < 8
+    → (bit_at (lower (slice_index v p)) k + bit_at (upper (slice_index w p)) k) % 2 ≡ h p k)
+    → Shows h r
+shows_sum lower upper h v w r long also is bits = record {
+  len = sum_len lower upper v w r long also is;
+  at = λ p k low small. ap (λ x. bit_at x k) (at_sum lower upper v w r p long also low is)
+      ∙ bit_at_xor (lower (slice_index v p)) (upper (slice_index w p)) k
+      ∙ bits p k low small;
+}
+
+-- the sum of the runs of n bits that one vector keeps and those that the other's were moved up to
+shows_low : (n : ℕ) (lower upper : ℕ → ℕ)
+    → ((x k : ℕ) → x < 256 → k < 8 → bit_at (lower x) k ≡ cond (eqb (k / n % 2) 0) (bit_at x k) 0)
+    → ((x k : ℕ) → x < 256 → k < 8 → bit_at (upper x) k ≡ cond (eqb (k / n % 2) 0) 0 (bit_at x (k - n)))
+    → (f g : ℕ → ℕ → ℕ) (v w r : List ℕ) → Shows f v → Shows g w
+    → ((p : ℕ) → p < 16 → slice_index v p < 256) → ((p : ℕ) → p < 16 → slice_index w p < 256)
+    → r ≡ zip2 bit_xor (map lower v) (map upper w) → Shows (low_of n f g) r
+shows_low n lower upper kept risen f g v w r first second v_fits w_fits is =
+    shows_sum lower upper (low_of n f g) v w r first.len second.len is
+    (λ p k low small.
+    let t = eqb (k / n % 2) 0 in
+    let a = slice_index v p in
+    let b = slice_index w p in
+    (λ i. (kept a k (v_fits p low) small i + risen b k (w_fits p low) small i) % 2)
+    ∙ chosen t (bit_at a k) (bit_at b (k - n)) (bit_at-lt a k) (bit_at-lt b (k - n))
+    ∙ (λ i. cond t (first.at p k low small i) (second.at p (k - n) low (omega arith) i)))
+
+-- the sum of those that one vector's were moved down to and those that the other keeps
+shows_high : (n : ℕ) (lower upper : ℕ → ℕ) → ((k : ℕ) → k < 8 → k / n % 2 ≡ 0 → k + n < 8)
+    → ((x k : ℕ) → x < 256 → k < 8 → bit_at (lower x) k ≡ cond (eqb (k / n % 2) 0) (bit_at x (k + n)) 0)
+    → ((x k : ℕ) → x < 256 → k < 8 → bit_at (upper x) k ≡ cond (eqb (k / n % 2) 0) 0 (bit_at x k))
+    → (f g : ℕ → ℕ → ℕ) (v w r : List ℕ) → Shows f v → Shows g w
+    → ((p : ℕ) → p < 16 → slice_index v p < 256) → ((p : ℕ) → p < 16 → slice_index w p < 256)
+    → r ≡ zip2 bit_xor (map lower v) (map upper w) → Shows (high_of n f g) r
+shows_high n lower upper room fallen kept f g v w r first second v_fits w_fits is =
+    shows_sum lower upper (high_of n f g) v w r first.len second.len is
+    (λ p k low small.
+    let t = eqb (k / n % 2) 0 in
+    let a = slice_index v p in
+    let b = slice_index w p in
+    (λ i. (fallen a k (v_fits p low) small i + kept b k (w_fits p low) small i) % 2)
+    ∙ chosen t (bit_at a (k + n)) (bit_at b k) (bit_at-lt a (k + n)) (bit_at-lt b k)
+    ∙ elim (cases_Bool t) [
+      | inl even ↦ rw even (first.at p (k + n) low (room k small (eqb-true (k / n % 2) 0 even)))
+      | inr odd ↦ rw odd (second.at p k low small)
+    ])
+
 -- ---- runs of 1
 
 keep_1 : (x k : ℕ) → x < 256 → k < 8 → bit_at (bit_and x 0x55) k ≡ cond (eqb (k / 1 % 2) 0) (bit_at x k) 0
@@ -70,45 +120,13 @@ pub shows_low_1 : (f g : ℕ → ℕ → ℕ) (v w r : List ℕ) → Shows f v �
     → ((p : ℕ) → p < 16 → slice_index v p < 256) → ((p : ℕ) → p < 16 → slice_index w p < 256)
     → r ≡ zip2 bit_xor (map (λ x. bit_and x 0x55) v) (map (λ x. bit_and (x * 2 ^ 1 % 256) 0xaa) w)
     → Shows (low_of 1 f g) r
-shows_low_1 f g v w r first second v_fits w_fits is =
-    let lower : ℕ → ℕ = λ x. bit_and x 0x55 in
-    let upper : ℕ → ℕ = λ x. bit_and (x * 2 ^ 1 % 256) 0xaa in
-    record {
-      len = sum_len lower upper v w r first.len second.len is;
-      at = λ p k low small.
-          let t = eqb (k / 1 % 2) 0 in
-          let a = slice_index v p in
-          let b = slice_index w p in
-          ap (λ x. bit_at x k) (at_sum lower upper v w r p first.len second.len low is)
-          ∙ bit_at_xor (lower a) (upper b) k
-          ∙ (λ i. (keep_1 a k (v_fits p low) small i + rise_1 b k (w_fits p low) small i) % 2)
-          ∙ chosen t (bit_at a k) (bit_at b (k - 1)) (bit_at-lt a k) (bit_at-lt b (k - 1))
-          ∙ (λ i. cond t (first.at p k low small i) (second.at p (k - 1) low (omega arith) i));
-    }
+shows_low_1 = shows_low 1 (λ x. bit_and x 0x55) (λ x. bit_and (x * 2 ^ 1 % 256) 0xaa) keep_1 rise_1
 
 pub shows_high_1 : (f g : ℕ → ℕ → ℕ) (v w r : List ℕ) → Shows f v → Shows g w
     → ((p : ℕ) → p < 16 → slice_index v p < 256) → ((p : ℕ) → p < 16 → slice_index w p < 256)
     → r ≡ zip2 bit_xor (map (λ x. bit_and (x / 2 ^ 1) 0x55) v) (map (λ x. bit_and x 0xaa) w) → Shows (high_of 1 f g) r
-shows_high_1 f g v w r first second v_fits w_fits is =
-    let lower : ℕ → ℕ = λ x. bit_and (x / 2 ^ 1) 0x55 in
-    let upper : ℕ → ℕ = λ x. bit_and x 0xaa in
-    record {
-      len = sum_len lower upper v w r first.len second.len is;
-      at = λ p k low small.
-          let t = eqb (k / 1 % 2) 0 in
-          let a = slice_index v p in
-          let b = slice_index w p in
-          ap (λ x. bit_at x k) (at_sum lower upper v w r p first.len second.len low is)
-          ∙ bit_at_xor (lower a) (upper b) k
-          ∙ (λ i. (fall_1 a k (v_fits p low) small i + stay_1 b k (w_fits p low) small i) % 2)
-          ∙ chosen t (bit_at a (k + 1)) (bit_at b k) (bit_at-lt a (k + 1)) (bit_at-lt b k)
-          ∙ elim (cases_Bool t) [
-            | inl even ↦
-                let place = eqb-true (k / 1 % 2) 0 even in
-                rw even (first.at p (k + 1) low (omega arith))
-            | inr odd ↦ rw odd (second.at p k low small)
-          ];
-    }
+shows_high_1 = shows_high 1 (λ x. bit_and (x / 2 ^ 1) 0x55) (λ x. bit_and x 0xaa) (λ k small even. omega arith)
+    fall_1 stay_1
 
 -- ---- runs of 2
 
@@ -139,45 +157,13 @@ pub shows_low_2 : (f g : ℕ → ℕ → ℕ) (v w r : List ℕ) → Shows f v �
     → ((p : ℕ) → p < 16 → slice_index v p < 256) → ((p : ℕ) → p < 16 → slice_index w p < 256)
     → r ≡ zip2 bit_xor (map (λ x. bit_and x 0x33) v) (map (λ x. bit_and (x * 2 ^ 2 % 256) 0xcc) w)
     → Shows (low_of 2 f g) r
-shows_low_2 f g v w r first second v_fits w_fits is =
-    let lower : ℕ → ℕ = λ x. bit_and x 0x33 in
-    let upper : ℕ → ℕ = λ x. bit_and (x * 2 ^ 2 % 256) 0xcc in
-    record {
-      len = sum_len lower upper v w r first.len second.len is;
-      at = λ p k low small.
-          let t = eqb (k / 2 % 2) 0 in
-          let a = slice_index v p in
-          let b = slice_index w p in
-          ap (λ x. bit_at x k) (at_sum lower upper v w r p first.len second.len low is)
-          ∙ bit_at_xor (lower a) (upper b) k
-          ∙ (λ i. (keep_2 a k (v_fits p low) small i + rise_2 b k (w_fits p low) small i) % 2)
-          ∙ chosen t (bit_at a k) (bit_at b (k - 2)) (bit_at-lt a k) (bit_at-lt b (k - 2))
-          ∙ (λ i. cond t (first.at p k low small i) (second.at p (k - 2) low (omega arith) i));
-    }
+shows_low_2 = shows_low 2 (λ x. bit_and x 0x33) (λ x. bit_and (x * 2 ^ 2 % 256) 0xcc) keep_2 rise_2
 
 pub shows_high_2 : (f g : ℕ → ℕ → ℕ) (v w r : List ℕ) → Shows f v → Shows g w
     → ((p : ℕ) → p < 16 → slice_index v p < 256) → ((p : ℕ) → p < 16 → slice_index w p < 256)
     → r ≡ zip2 bit_xor (map (λ x. bit_and (x / 2 ^ 2) 0x33) v) (map (λ x. bit_and x 0xcc) w) → Shows (high_of 2 f g) r
-shows_high_2 f g v w r first second v_fits w_fits is =
-    let lower : ℕ → ℕ = λ x. bit_and (x / 2 ^ 2) 0x33 in
-    let upper : ℕ → ℕ = λ x. bit_and x 0xcc in
-    record {
-      len = sum_len lower upper v w r first.len second.len is;
-      at = λ p k low small.
-          let t = eqb (k / 2 % 2) 0 in
-          let a = slice_index v p in
-          let b = slice_index w p in
-          ap (λ x. bit_at x k) (at_sum lower upper v w r p first.len second.len low is)
-          ∙ bit_at_xor (lower a) (upper b) k
-          ∙ (λ i. (fall_2 a k (v_fits p low) small i + stay_2 b k (w_fits p low) small i) % 2)
-          ∙ chosen t (bit_at a (k + 2)) (bit_at b k) (bit_at-lt a (k + 2)) (bit_at-lt b k)
-          ∙ elim (cases_Bool t) [
-            | inl even ↦
-                let place = eqb-true (k / 2 % 2) 0 even in
-                rw even (first.at p (k + 2) low (omega arith))
-            | inr odd ↦ rw odd (second.at p k low small)
-          ];
-    }
+shows_high_2 = shows_high 2 (λ x. bit_and (x / 2 ^ 2) 0x33) (λ x. bit_and x 0xcc) (λ k small even. omega arith)
+    fall_2 stay_2
 
 -- ---- runs of 4
 
@@ -208,45 +194,13 @@ pub shows_low_4 : (f g : ℕ → ℕ → ℕ) (v w r : List ℕ) → Shows f v �
     → ((p : ℕ) → p < 16 → slice_index v p < 256) → ((p : ℕ) → p < 16 → slice_index w p < 256)
     → r ≡ zip2 bit_xor (map (λ x. bit_and x 0x0f) v) (map (λ x. bit_and (x * 2 ^ 4 % 256) 0xf0) w)
     → Shows (low_of 4 f g) r
-shows_low_4 f g v w r first second v_fits w_fits is =
-    let lower : ℕ → ℕ = λ x. bit_and x 0x0f in
-    let upper : ℕ → ℕ = λ x. bit_and (x * 2 ^ 4 % 256) 0xf0 in
-    record {
-      len = sum_len lower upper v w r first.len second.len is;
-      at = λ p k low small.
-          let t = eqb (k / 4 % 2) 0 in
-          let a = slice_index v p in
-          let b = slice_index w p in
-          ap (λ x. bit_at x k) (at_sum lower upper v w r p first.len second.len low is)
-          ∙ bit_at_xor (lower a) (upper b) k
-          ∙ (λ i. (keep_4 a k (v_fits p low) small i + rise_4 b k (w_fits p low) small i) % 2)
-          ∙ chosen t (bit_at a k) (bit_at b (k - 4)) (bit_at-lt a k) (bit_at-lt b (k - 4))
-          ∙ (λ i. cond t (first.at p k low small i) (second.at p (k - 4) low (omega arith) i));
-    }
+shows_low_4 = shows_low 4 (λ x. bit_and x 0x0f) (λ x. bit_and (x * 2 ^ 4 % 256) 0xf0) keep_4 rise_4
 
 pub shows_high_4 : (f g : ℕ → ℕ → ℕ) (v w r : List ℕ) → Shows f v → Shows g w
     → ((p : ℕ) → p < 16 → slice_index v p < 256) → ((p : ℕ) → p < 16 → slice_index w p < 256)
     → r ≡ zip2 bit_xor (map (λ x. bit_and (x / 2 ^ 4) 0x0f) v) (map (λ x. bit_and x 0xf0) w) → Shows (high_of 4 f g) r
-shows_high_4 f g v w r first second v_fits w_fits is =
-    let lower : ℕ → ℕ = λ x. bit_and (x / 2 ^ 4) 0x0f in
-    let upper : ℕ → ℕ = λ x. bit_and x 0xf0 in
-    record {
-      len = sum_len lower upper v w r first.len second.len is;
-      at = λ p k low small.
-          let t = eqb (k / 4 % 2) 0 in
-          let a = slice_index v p in
-          let b = slice_index w p in
-          ap (λ x. bit_at x k) (at_sum lower upper v w r p first.len second.len low is)
-          ∙ bit_at_xor (lower a) (upper b) k
-          ∙ (λ i. (fall_4 a k (v_fits p low) small i + stay_4 b k (w_fits p low) small i) % 2)
-          ∙ chosen t (bit_at a (k + 4)) (bit_at b k) (bit_at-lt a (k + 4)) (bit_at-lt b k)
-          ∙ elim (cases_Bool t) [
-            | inl even ↦
-                let place = eqb-true (k / 4 % 2) 0 even in
-                rw even (first.at p (k + 4) low (omega arith))
-            | inr odd ↦ rw odd (second.at p k low small)
-          ];
-    }
+shows_high_4 = shows_high 4 (λ x. bit_and (x / 2 ^ 4) 0x0f) (λ x. bit_and x 0xf0) (λ k small even. omega arith)
+    fall_4 stay_4
 
 -- ---- eight vectors
 

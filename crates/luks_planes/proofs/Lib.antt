@@ -1,3 +1,4 @@
+pub mod GateLemmas
 pub mod Tables
 pub mod RowLemmas
 pub mod LaneLemmas

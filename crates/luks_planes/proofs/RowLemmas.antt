@@ -4,24 +4,19 @@ use Rattle.std.specs.Prelude.{slice_index}
 use Rattle.std.specs.Int.{bit_at}
 use Rattle.std.specs.Int.Bits.{bit_xor}
 use Rattle.std.specs.Simd.Lanes.{zip2, pick_l}
-use Rattle.std.proofs.lemmas.Simd.{get_or-zip2, length-zip2}
 use Rattle.std.proofs.lemmas.Nat.Bits.{bit_at_xor}
 use Rattle.std.proofs.lemmas.List.{length-map, get_or-map, get_or_append_left}
 use Rattle.std.proofs.lemmas.Bool.{agree_below_at, ltb-true}
 use Rattle.luks_aes.specs.Field.{◌⊕◌}
 use Rattle.luks_aes.proofs.Bytes.{same_below}
-use Rattle.luks_planes.specs.Planes.{plane_bit, IsPlane, turned_place}
+use Rattle.luks_planes.proofs.GateLemmas.{gate_len, gate_bit}
+use Rattle.luks_planes.specs.Planes.{IsPlane, turned_place}
 
 pub sum_plane : {y z : ℕ → ℕ} {j : ℕ} {v w r : List ℕ} → IsPlane y j v → IsPlane z j w → r ≡ zip2 bit_xor v w
     → IsPlane (λ q. y q ⊕ z q) j r
 sum_plane {y} {z} {j} {v} {w} {r} first second is = record {
-  len = ap length is ∙ length-zip2 bit_xor v w (first.len ∙ sym second.len) ∙ first.len;
-  at = λ q low.
-      let p = q / 8 in
-      let k = q % 8 in
-      ap (λ l. plane_bit l q) is
-      ∙ ap (λ b. bit_at b k) (get_or-zip2 bit_xor v w p 0 0 0 (omega (arith, first.len)) (omega (arith, second.len)))
-      ∙ bit_at_xor (slice_index v p) (slice_index w p) k
+  len = gate_len bit_xor v w r first.len second.len is;
+  at = λ q low. gate_bit bit_xor (λ a b. (a + b) % 2) bit_at_xor v w r first.len second.len is q low
       ∙ (λ i. (first.at q low i + second.at q low i) % 2)
       ∙ sym (bit_at_xor (y q) (z q) j);
 }

@@ -1,61 +1,41 @@
 -- What gates do to tables of truth.
-use Rattle.std.proofs.Common.{◌≡◌, ℕ, ◌+◌, ◌/◌, ◌%◌, ◌<◌, List, [], ◌∷◌, length, min, max, arith, refl, sym, ap, ◌∙◌, suc, zero}
-use Rattle.std.specs.Prelude.{slice_index, slice_index_or}
+use Rattle.std.proofs.Common.{◌≡◌, ℕ, ◌+◌, ◌%◌, ◌<◌, List, [], ◌∷◌, min, max, arith, refl, sym, ap, ◌∙◌, suc, zero}
+use Rattle.std.specs.Prelude.{slice_index_or}
 use Rattle.std.specs.Int.{bit_at}
 use Rattle.std.specs.Int.Bits.{bit_xor, bit_and, bit_or}
 use Rattle.std.specs.Simd.Lanes.{zip2}
-use Rattle.std.proofs.lemmas.Simd.{get_or-zip2, length-zip2}
 use Rattle.std.proofs.lemmas.Nat.Bits.{bit_at_xor, bit_at_and, bit_at_or}
 use Rattle.luks_aes.specs.Field.{◌⊕◌, times_x}
 use Rattle.luks_aes.specs.Aes.{inv_sbox}
 use Rattle.luks_aes.proofs.Bytes.{same_below}
 use Rattle.luks_aes.proofs.SboxLemmas.{inv_sbox_entry, inv_sbox_byte, inv_sbox_in_table}
 use Rattle.luks_aes.proofs.ByteLists.{xor_byte, times_x_byte}
-use Rattle.luks_planes.specs.Planes.{plane_bit, Carries, IsPlane, Stands}
+use Rattle.luks_planes.proofs.GateLemmas.{gate_len, gate_bit}
+use Rattle.luks_planes.specs.Planes.{Carries, IsPlane, Stands}
 
 -- ---- gates
 
+carried : (op bit : ℕ → ℕ → ℕ) → ((a b k : ℕ) → bit_at (op a b) k ≡ bit (bit_at a k) (bit_at b k))
+    → {y : ℕ → ℕ} {v w r : List ℕ} {f g : ℕ} → Carries y v f → Carries y w g → r ≡ zip2 op v w
+    → Carries y r (op f g)
+carried op bit law {y} {v} {w} {r} {f} {g} first second is = record {
+  len = gate_len op v w r first.len second.len is;
+  at = λ q low. gate_bit op bit law v w r first.len second.len is q low
+      ∙ (λ i. bit (first.at q low i) (second.at q low i))
+      ∙ sym (law f g (y q));
+}
+
 pub sum_carried : {y : ℕ → ℕ} {v w r : List ℕ} {f g : ℕ} → Carries y v f → Carries y w g → r ≡ zip2 bit_xor v w
     → Carries y r (bit_xor f g)
-sum_carried {y} {v} {w} {r} {f} {g} first second is = record {
-  len = ap length is ∙ length-zip2 bit_xor v w (first.len ∙ sym second.len) ∙ first.len;
-  at = λ q low.
-      let p = q / 8 in
-      let k = q % 8 in
-      ap (λ l. plane_bit l q) is
-      ∙ ap (λ b. bit_at b k) (get_or-zip2 bit_xor v w p 0 0 0 (omega (arith, first.len)) (omega (arith, second.len)))
-      ∙ bit_at_xor (slice_index v p) (slice_index w p) k
-      ∙ (λ i. (first.at q low i + second.at q low i) % 2)
-      ∙ sym (bit_at_xor f g (y q));
-}
+sum_carried = carried bit_xor (λ a b. (a + b) % 2) bit_at_xor
 
 pub both_carried : {y : ℕ → ℕ} {v w r : List ℕ} {f g : ℕ} → Carries y v f → Carries y w g → r ≡ zip2 bit_and v w
     → Carries y r (bit_and f g)
-both_carried {y} {v} {w} {r} {f} {g} first second is = record {
-  len = ap length is ∙ length-zip2 bit_and v w (first.len ∙ sym second.len) ∙ first.len;
-  at = λ q low.
-      let p = q / 8 in
-      let k = q % 8 in
-      ap (λ l. plane_bit l q) is
-      ∙ ap (λ b. bit_at b k) (get_or-zip2 bit_and v w p 0 0 0 (omega (arith, first.len)) (omega (arith, second.len)))
-      ∙ bit_at_and (slice_index v p) (slice_index w p) k
-      ∙ (λ i. min (first.at q low i) (second.at q low i))
-      ∙ sym (bit_at_and f g (y q));
-}
+both_carried = carried bit_and min bit_at_and
 
 pub either_carried : {y : ℕ → ℕ} {v w r : List ℕ} {f g : ℕ} → Carries y v f → Carries y w g → r ≡ zip2 bit_or v w
     → Carries y r (bit_or f g)
-either_carried {y} {v} {w} {r} {f} {g} first second is = record {
-  len = ap length is ∙ length-zip2 bit_or v w (first.len ∙ sym second.len) ∙ first.len;
-  at = λ q low.
-      let p = q / 8 in
-      let k = q % 8 in
-      ap (λ l. plane_bit l q) is
-      ∙ ap (λ b. bit_at b k) (get_or-zip2 bit_or v w p 0 0 0 (omega (arith, first.len)) (omega (arith, second.len)))
-      ∙ bit_at_or (slice_index v p) (slice_index w p) k
-      ∙ (λ i. max (first.at q low i) (second.at q low i))
-      ∙ sym (bit_at_or f g (y q));
-}
+either_carried = carried bit_or max bit_at_or
 
 pub other_carried : {y : ℕ → ℕ} {v w r : List ℕ} {f g : ℕ} → Carries y v f → Carries y w g → r
     ≡ zip2 bit_xor (zip2 bit_and v w) w
@@ -68,81 +48,59 @@ plane_0 : (b : ℕ) → b < 256 → bit_at b 0 ≡ bit_at 0xaaaaaaaaaaaaaaaaaaaa
 plane_0 = same_below (λ b. bit_at b 0) (bit_at 0xaaaaaaaaaaaaaaaaaaaaaaaaaaaaaaaaaaaaaaaaaaaaaaaaaaaaaaaaaaaaaaaa) 256
     refl
 
-pub carries_plane_0 : (y : ℕ → ℕ) (x : List (List ℕ)) → Stands y x → Carries y (slice_index_or x 0 [])
-    0xaaaaaaaaaaaaaaaaaaaaaaaaaaaaaaaaaaaaaaaaaaaaaaaaaaaaaaaaaaaaaaaa
-carries_plane_0 y x is =
-    let plane = is.at 0 (omega arith) in
-    record { len = plane.len; at = λ q low. plane.at q low ∙ plane_0 (y q) (is.bytes q) }
-
 plane_1 : (b : ℕ) → b < 256 → bit_at b 1 ≡ bit_at 0xcccccccccccccccccccccccccccccccccccccccccccccccccccccccccccccccc b
 plane_1 = same_below (λ b. bit_at b 1) (bit_at 0xcccccccccccccccccccccccccccccccccccccccccccccccccccccccccccccccc) 256
     refl
-
-pub carries_plane_1 : (y : ℕ → ℕ) (x : List (List ℕ)) → Stands y x → Carries y (slice_index_or x 1 [])
-    0xcccccccccccccccccccccccccccccccccccccccccccccccccccccccccccccccc
-carries_plane_1 y x is =
-    let plane = is.at 1 (omega arith) in
-    record { len = plane.len; at = λ q low. plane.at q low ∙ plane_1 (y q) (is.bytes q) }
 
 plane_2 : (b : ℕ) → b < 256 → bit_at b 2 ≡ bit_at 0xf0f0f0f0f0f0f0f0f0f0f0f0f0f0f0f0f0f0f0f0f0f0f0f0f0f0f0f0f0f0f0f0 b
 plane_2 = same_below (λ b. bit_at b 2) (bit_at 0xf0f0f0f0f0f0f0f0f0f0f0f0f0f0f0f0f0f0f0f0f0f0f0f0f0f0f0f0f0f0f0f0) 256
     refl
 
-pub carries_plane_2 : (y : ℕ → ℕ) (x : List (List ℕ)) → Stands y x → Carries y (slice_index_or x 2 [])
-    0xf0f0f0f0f0f0f0f0f0f0f0f0f0f0f0f0f0f0f0f0f0f0f0f0f0f0f0f0f0f0f0f0
-carries_plane_2 y x is =
-    let plane = is.at 2 (omega arith) in
-    record { len = plane.len; at = λ q low. plane.at q low ∙ plane_2 (y q) (is.bytes q) }
-
 plane_3 : (b : ℕ) → b < 256 → bit_at b 3 ≡ bit_at 0xff00ff00ff00ff00ff00ff00ff00ff00ff00ff00ff00ff00ff00ff00ff00ff00 b
 plane_3 = same_below (λ b. bit_at b 3) (bit_at 0xff00ff00ff00ff00ff00ff00ff00ff00ff00ff00ff00ff00ff00ff00ff00ff00) 256
     refl
-
-pub carries_plane_3 : (y : ℕ → ℕ) (x : List (List ℕ)) → Stands y x → Carries y (slice_index_or x 3 [])
-    0xff00ff00ff00ff00ff00ff00ff00ff00ff00ff00ff00ff00ff00ff00ff00ff00
-carries_plane_3 y x is =
-    let plane = is.at 3 (omega arith) in
-    record { len = plane.len; at = λ q low. plane.at q low ∙ plane_3 (y q) (is.bytes q) }
 
 plane_4 : (b : ℕ) → b < 256 → bit_at b 4 ≡ bit_at 0xffff0000ffff0000ffff0000ffff0000ffff0000ffff0000ffff0000ffff0000 b
 plane_4 = same_below (λ b. bit_at b 4) (bit_at 0xffff0000ffff0000ffff0000ffff0000ffff0000ffff0000ffff0000ffff0000) 256
     refl
 
-pub carries_plane_4 : (y : ℕ → ℕ) (x : List (List ℕ)) → Stands y x → Carries y (slice_index_or x 4 [])
-    0xffff0000ffff0000ffff0000ffff0000ffff0000ffff0000ffff0000ffff0000
-carries_plane_4 y x is =
-    let plane = is.at 4 (omega arith) in
-    record { len = plane.len; at = λ q low. plane.at q low ∙ plane_4 (y q) (is.bytes q) }
-
 plane_5 : (b : ℕ) → b < 256 → bit_at b 5 ≡ bit_at 0xffffffff00000000ffffffff00000000ffffffff00000000ffffffff00000000 b
 plane_5 = same_below (λ b. bit_at b 5) (bit_at 0xffffffff00000000ffffffff00000000ffffffff00000000ffffffff00000000) 256
     refl
-
-pub carries_plane_5 : (y : ℕ → ℕ) (x : List (List ℕ)) → Stands y x → Carries y (slice_index_or x 5 [])
-    0xffffffff00000000ffffffff00000000ffffffff00000000ffffffff00000000
-carries_plane_5 y x is =
-    let plane = is.at 5 (omega arith) in
-    record { len = plane.len; at = λ q low. plane.at q low ∙ plane_5 (y q) (is.bytes q) }
 
 plane_6 : (b : ℕ) → b < 256 → bit_at b 6 ≡ bit_at 0xffffffffffffffff0000000000000000ffffffffffffffff0000000000000000 b
 plane_6 = same_below (λ b. bit_at b 6) (bit_at 0xffffffffffffffff0000000000000000ffffffffffffffff0000000000000000) 256
     refl
 
-pub carries_plane_6 : (y : ℕ → ℕ) (x : List (List ℕ)) → Stands y x → Carries y (slice_index_or x 6 [])
-    0xffffffffffffffff0000000000000000ffffffffffffffff0000000000000000
-carries_plane_6 y x is =
-    let plane = is.at 6 (omega arith) in
-    record { len = plane.len; at = λ q low. plane.at q low ∙ plane_6 (y q) (is.bytes q) }
-
 plane_7 : (b : ℕ) → b < 256 → bit_at b 7 ≡ bit_at 0xffffffffffffffffffffffffffffffff00000000000000000000000000000000 b
 plane_7 = same_below (λ b. bit_at b 7) (bit_at 0xffffffffffffffffffffffffffffffff00000000000000000000000000000000) 256
     refl
 
-pub carries_plane_7 : (y : ℕ → ℕ) (x : List (List ℕ)) → Stands y x → Carries y (slice_index_or x 7 [])
-    0xffffffffffffffffffffffffffffffff00000000000000000000000000000000
-carries_plane_7 y x is =
-    let plane = is.at 7 (omega arith) in
-    record { len = plane.len; at = λ q low. plane.at q low ∙ plane_7 (y q) (is.bytes q) }
+plane_carried : (y : ℕ → ℕ) (x : List (List ℕ)) (j f : ℕ) → j < 8 → ((b : ℕ) → b < 256 → bit_at b j ≡ bit_at f b)
+    → Stands y x → Carries y (slice_index_or x j []) f
+plane_carried y x j f below same is =
+    let plane = is.at j below in
+    record { len = plane.len; at = λ q low. plane.at q low ∙ same (y q) (is.bytes q) }
+
+pub planes_carried : (y : ℕ → ℕ) (x : List (List ℕ)) → Stands y x
+    → Carries y (slice_index_or x 0 []) 0xaaaaaaaaaaaaaaaaaaaaaaaaaaaaaaaaaaaaaaaaaaaaaaaaaaaaaaaaaaaaaaaa
+    × Carries y (slice_index_or x 1 []) 0xcccccccccccccccccccccccccccccccccccccccccccccccccccccccccccccccc
+    × Carries y (slice_index_or x 2 []) 0xf0f0f0f0f0f0f0f0f0f0f0f0f0f0f0f0f0f0f0f0f0f0f0f0f0f0f0f0f0f0f0f0
+    × Carries y (slice_index_or x 3 []) 0xff00ff00ff00ff00ff00ff00ff00ff00ff00ff00ff00ff00ff00ff00ff00ff00
+    × Carries y (slice_index_or x 4 []) 0xffff0000ffff0000ffff0000ffff0000ffff0000ffff0000ffff0000ffff0000
+    × Carries y (slice_index_or x 5 []) 0xffffffff00000000ffffffff00000000ffffffff00000000ffffffff00000000
+    × Carries y (slice_index_or x 6 []) 0xffffffffffffffff0000000000000000ffffffffffffffff0000000000000000
+    × Carries y (slice_index_or x 7 []) 0xffffffffffffffffffffffffffffffff00000000000000000000000000000000
+planes_carried y x is = (
+  plane_carried y x 0 _ (omega arith) plane_0 is,
+  plane_carried y x 1 _ (omega arith) plane_1 is,
+  plane_carried y x 2 _ (omega arith) plane_2 is,
+  plane_carried y x 3 _ (omega arith) plane_3 is,
+  plane_carried y x 4 _ (omega arith) plane_4 is,
+  plane_carried y x 5 _ (omega arith) plane_5 is,
+  plane_carried y x 6 _ (omega arith) plane_6 is,
+  plane_carried y x 7 _ (omega arith) plane_7 is,
+)
 
 value_0 : (b : ℕ) → b < 256 → bit_at 0x66f01ac744211cfdddd7997ddd4cf62332f6fa25f5422334e5e0c000df616922 b
     ≡ bit_at (inv_sbox_in_table (b ⊕ 0x63)) 0

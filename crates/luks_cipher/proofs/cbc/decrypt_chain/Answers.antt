@@ -1,9 +1,9 @@
-use Rattle.std.proofs.Common.{◌≡◌, ℕ, ◌+◌, ◌-◌, ◌*◌, ◌/◌, ◌<◌, length, take, drop, ap, arith, ◌∙◌, add-one, refl, rules}
+use Rattle.std.proofs.Common.{◌≡◌, ◌*◌, ◌/◌, length, ap, arith, ◌∙◌, add-one, refl, rules}
 use Rattle.luks_aes.specs.Aes.{decrypted}
-use Rattle.luks_cipher.specs.Xts.{block_at, block_sum}
+use Rattle.luks_cipher.specs.Xts.{block_sum}
 use Rattle.luks_cipher.specs.Cbc.{block_before, cbc_encrypted, cbc_decrypted}
 use Rattle.luks_cipher.proofs.TweakLemmas.{done_none, done_more, done_all, block_is}
-use Rattle.luks_cipher.proofs.SliceLemmas.{done_many, done_moved, slice_block, cbc_unit_slice, before_next}
+use Rattle.luks_cipher.proofs.SliceLemmas.{done_moved, slice_done, slice_block, cbc_unit_slice, before_next}
 use Rattle.luks_cipher.proofs.ChainsUndone.{cbc_encrypted-cbc_decrypted}
 use Rattle.luks_cipher.proofs.cbc.decrypt_chain.Goals as goal
 
@@ -19,26 +19,17 @@ loop-i-init c = record {
 pub loop-i-preserved : goal.loop-i-preserved
 loop-i-preserved c =
     let i = c.loop-i.i in
-    let key = c.args.key.now in
     let vector = c.args.vector in
     let unit = c.args.unit.now in
     let before = c.loop-i.invariant in
-    let more : 32 * i + 32 ≡ 32 * (i + 1) = omega arith in
-    let same : (m : ℕ) → m < 32
-    → block_at (take (512 * i + 512 - 512 * i) (drop (512 * i) c.loop-i.unit)) m ≡ block_at unit (32 * i + m) =
-    λ m low. slice_block unit c.loop-i.unit (512 * i) (512 * i + 512 - 512 * i) (32 * i) m (omega arith) (omega arith)
-    before.done.left low in
+    let same = slice_block unit c.loop-i.unit i before.done.left in
     record {
       bytes = before.bytes;
       vector = before.vector;
-      last = before_next vector c.loop-i.before unit _ _ (32 * i) before.last same c.decrypt_slice-next.ensures.next
-          ∙ ap (block_before vector unit) more;
-      done = done_moved _ _ _ (32 * i + 32) _ more
-          (done_many _ _ _ c.decrypt_slice-next.new.slice (512 * i) _ (32 * i) 32 (omega arith) (omega arith)
-          before.done
-          (omega arith) (omega arith)
-          (cbc_unit_slice key vector (32 * i) c.loop-i.before unit _ _ before.last same
-          c.decrypt_slice-next.ensures.value));
+      last = before_next vector c.loop-i.before unit _ _ i before.last same c.decrypt_slice-next.ensures.next;
+      done = slice_done _ _ _ c.decrypt_slice-next.new.slice i before.done (omega arith) (omega arith)
+          (cbc_unit_slice c.args.key.now vector (32 * i) c.loop-i.before unit _ _ before.last same
+          c.decrypt_slice-next.ensures.value);
     }
 
 pub loop-j-init : goal.loop-j-init

@@ -1,26 +1,11 @@
-use Rattle.std.proofs.Common.{◌≡◌, ℕ, ◌+◌, ◌*◌, ◌<◌, arith, ◌∙◌}
-use Rattle.std.specs.Prelude.{slice_index}
-use Rattle.luks_aes.specs.Aes.{key_expansion}
-use Rattle.luks_aes.proofs.ScheduleLemmas.{key_length, rounds_are, schedule_at}
+use Rattle.std.proofs.Common.{◌∙◌}
+use Rattle.luks_aes.proofs.ScheduleLemmas.{round_in_schedule, round_byte}
 use Rattle.luks_aes.proofs.aes.AesKey.round_key.Goals as goal
 
 pub round_key-requires : goal.round_key-requires
-round_key-requires c =
-    let words = c.self.inside.words in
-    let is = c.self.invariant in
-    let most = (key_length (4 * words) is.key_length).most in
-    let rounds = rounds_are words c.self.inside.schedule c.self.inside.unmixed c.args.self.now c.self.told.0 is
-    c.self.view_is in
-    omega arith
+round_key-requires c = round_in_schedule _ _ _ _ _ c.self.told.0 c.self.invariant c.self.view_is c.requires
 
 pub returns : goal.returns
-returns c =
-    let words = c.self.inside.words in
-    let schedule = c.self.inside.schedule in
-    let unmixed_schedule = c.self.inside.unmixed in
-    let key = c.args.self.now in
-    let is = c.self.invariant in
-    let rounds = rounds_are words schedule unmixed_schedule key c.self.told.0 is c.self.view_is in
-    let same : (j : ℕ) → j < 16 * (words + 7) → slice_index schedule j ≡ slice_index (key_expansion key) j =
-    λ j inside. schedule_at words schedule unmixed_schedule key j is c.self.view_is inside in
-    λ r k low small. c.round_key.ensures r k low small ∙ same (r + 4 * (4 * c.args.n + k)) (omega arith)
+returns c = λ r k low small.
+    c.round_key.ensures r k low small
+    ∙ round_byte _ c.args.n r k _ _ _ c.self.told.0 c.self.invariant c.self.view_is c.requires low small

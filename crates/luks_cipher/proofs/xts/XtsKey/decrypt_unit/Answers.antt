@@ -1,8 +1,7 @@
-use Rattle.std.proofs.Common.{◌≡◌, ℕ, ◌+◌, ◌-◌, ◌*◌, ◌/◌, ◌<◌, List, length, take, drop, ap, arith, ◌∙◌, add-one, refl, rules}
-use Rattle.luks_cipher.specs.Xts.{doubled, tweak_of, block_at, xts_encrypted, xts_decrypted}
-use Rattle.luks_cipher.specs.Slices.{tweak_after}
-use Rattle.luks_cipher.proofs.TweakLemmas.{done_none, done_more, decrypted_unit, block_is}
-use Rattle.luks_cipher.proofs.SliceLemmas.{done_many, done_moved, slice_block, tweak_more, xts_unit_slice}
+use Rattle.std.proofs.Common.{◌≡◌, ◌*◌, ◌/◌, length, ap, arith, ◌∙◌, rules}
+use Rattle.luks_cipher.specs.Xts.{tweak_of, block_decrypted, xts_encrypted, xts_decrypted}
+use Rattle.luks_cipher.proofs.TweakLemmas.{done_none, done_next, next_tweak, decrypted_unit}
+use Rattle.luks_cipher.proofs.SliceLemmas.{done_moved, slice_done, slice_block, slice_tweak, xts_unit_slice}
 use Rattle.luks_cipher.proofs.UnitsUndone.{xts_decrypted-xts_encrypted, xts_encrypted-xts_decrypted}
 use Rattle.luks_cipher.proofs.xts.XtsKey.decrypt_unit.Goals as goal
 
@@ -20,21 +19,12 @@ loop-i-preserved c =
     let number = c.args.number in
     let unit = c.args.unit.now in
     let before = c.loop-i.invariant in
-    let more : 32 * i + 32 ≡ 32 * (i + 1) = omega arith in
-    let same : (m : ℕ) → m < 32
-    → block_at (take (512 * i + 512 - 512 * i) (drop (512 * i) c.loop-i.unit)) m ≡ block_at unit (32 * i + m) =
-    λ m low. slice_block unit c.loop-i.unit (512 * i) (512 * i + 512 - 512 * i) (32 * i) m (omega arith) (omega arith)
-    before.done.left low in
     record {
       bytes = before.bytes;
-      next_tweak = c.decrypt_slice-next.ensures.next ∙ ap (λ (t : List ℕ). tweak_after t 32) before.next_tweak
-          ∙ tweak_more key number (32 * i) 32 ∙ ap (tweak_of key number) more;
-      done = done_moved _ _ _ (32 * i + 32) _ more
-          (done_many _ _ _ c.decrypt_slice-next.new.slice (512 * i) _ (32 * i) 32 (omega arith) (omega arith)
-          before.done
-          (omega arith) (omega arith)
-          (xts_unit_slice key number (32 * i) c.loop-i.tweak unit _ _ before.next_tweak same
-          c.decrypt_slice-next.ensures.value));
+      next_tweak = slice_tweak key number i _ _ before.next_tweak c.decrypt_slice-next.ensures.next;
+      done = slice_done _ _ _ c.decrypt_slice-next.new.slice i before.done (omega arith) (omega arith)
+          (xts_unit_slice key number (32 * i) c.loop-i.tweak unit _ _ before.next_tweak
+          (slice_block unit c.loop-i.unit i before.done.left) c.decrypt_slice-next.ensures.value);
     }
 
 pub loop-j-init : goal.loop-j-init
@@ -48,17 +38,13 @@ loop-j-init c =
     }
 
 pub loop-j-preserved : goal.loop-j-preserved
-unfolding tweak_of
 loop-j-preserved c =
-    let j = c.loop-j.j in
     let before = c.loop-j.invariant in
-    let block = block_is c.args.unit.now c.loop-j.unit j before.done.left in
-    let tweak = before.next_tweak in
     record {
       bytes = before.bytes;
-      next_tweak = rw add-one (c.doubled-next.ensures ∙ ap doubled tweak);
-      done = done_more _ _ _ _ j before.done (omega arith) (omega arith)
-          (c.decrypt_piece.ensures ∙ rw (block, tweak) refl);
+      next_tweak = next_tweak _ _ _ _ _ before.next_tweak c.doubled-next.ensures;
+      done = done_next (block_decrypted c.args.self.now) (tweak_of c.args.self.now c.args.number) _ _ _ _ c.loop-j.j
+          before.done (omega arith) (omega arith) before.next_tweak c.decrypt_piece.ensures;
     }
 
 pub returns : goal.returns

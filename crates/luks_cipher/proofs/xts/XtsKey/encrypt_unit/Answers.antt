@@ -1,6 +1,6 @@
-use Rattle.std.proofs.Common.{ap, arith, ◌∙◌, add-one, refl, rules}
-use Rattle.luks_cipher.specs.Xts.{doubled, tweak_of, xts_decrypted}
-use Rattle.luks_cipher.proofs.TweakLemmas.{done_none, done_more, encrypted_unit, block_is}
+use Rattle.std.proofs.Common.{ap, arith, ◌∙◌, rules}
+use Rattle.luks_cipher.specs.Xts.{tweak_of, block_encrypted, xts_decrypted}
+use Rattle.luks_cipher.proofs.TweakLemmas.{done_none, done_next, next_tweak, encrypted_unit}
 use Rattle.luks_cipher.proofs.UnitsUndone.{xts_decrypted-xts_encrypted}
 use Rattle.luks_cipher.proofs.xts.XtsKey.encrypt_unit.Goals as goal
 
@@ -9,17 +9,13 @@ loop-j-init c = record
     { bytes = record { each = search rules }; next_tweak = c.first_tweak-tweak.ensures.value; done = done_none _ _ }
 
 pub loop-j-preserved : goal.loop-j-preserved
-unfolding tweak_of
 loop-j-preserved c =
-    let j = c.loop-j.j in
     let before = c.loop-j.invariant in
-    let block = block_is c.args.unit.now c.loop-j.unit j before.done.left in
-    let tweak = before.next_tweak in
     record {
       bytes = before.bytes;
-      next_tweak = rw add-one (c.doubled-next.ensures ∙ ap doubled tweak);
-      done = done_more _ _ _ _ j before.done (omega arith) (omega arith)
-          (c.encrypt_piece.ensures ∙ rw (block, tweak) refl);
+      next_tweak = next_tweak _ _ _ _ _ before.next_tweak c.doubled-next.ensures;
+      done = done_next (block_encrypted c.args.self.now) (tweak_of c.args.self.now c.args.number) _ _ _ _ c.loop-j.j
+          before.done (omega arith) (omega arith) before.next_tweak c.encrypt_piece.ensures;
     }
 
 pub returns : goal.returns
