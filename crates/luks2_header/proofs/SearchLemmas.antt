@@ -14,6 +14,7 @@ use Rattle.luks2_header.specs.declared.header.Finding.TheVariants.{PrimaryNotVal
 use Rattle.luks2_header.specs.declared.header.Header2.{Header2}
 use Rattle.luks2_header.specs.declared.header.Place.TheVariants.{Secondary}
 use Rattle.luks2_header.proofs.AgreeLemmas.{at-front}
+use Rattle.luks2_header.proofs.FrontLemmas.{over_joined}
 use Rattle.luks2_header.proofs.ValidLemmas.{valid_range}
 use Rattle.luks2_header.proofs.WalkLemmas.{are_one, first_valid, furthest}
 
@@ -95,6 +96,15 @@ module _ (image old held held' : List ℕ) (ended ended' : Bool) (k : ℕ) (item
   -- what is held stays within what the search looks at
   pub searched_within : length held' ≤ max (length old) (search_reach image)
   searched_within = omega (arith, reach_below, so_far.within, within, search_reach_is image)
+
+  -- where the end was found by now less is held than the search looks at
+  pub over_here : (before : Bool) → IsFront held ended image → IsFront held' ended' image
+      → (before ≡ false → ended ≡ true → length held < search_reach image)
+      → (ended ≡ false → ended' ≡ true → length held' < reach_at image place)
+      → before ≡ false → ended' ≡ true → length held' < search_reach image
+  over_here before front front' over over' =
+      over_joined image held held' before ended ended' (search_reach image) (reach_at image place)
+      (search_reach image) front front' over over' (omega arith) reach_below
 
   -- a valid header is here: the search ends
   pub searched_place : is_valid image place ≡ true → first_valid (is_valid image) sizes ≡ Some place

@@ -93,16 +93,12 @@ returns-then-is_some-clause-settled g c = λ image front goes.
 
 pub returns-then-is_some-clause-over : goal.returns-then-is_some-clause-over
 returns-then-is_some-clause-over g c = λ image front.
-    let place = get_or c.places-place-items.result.now c.loop-place.place-index 0 in
     let grew = c.header_at.ensures.grew in
     let first = grew.fronts image front in
-    over_joined image c.loop-place.area c.header_at.new.area c.args.ended.now c.loop-place.ended
-    c.header_at.new.ended (search_reach image) (reach_at image place) (search_reach image) first front
-    (c.loop-place.invariant.over image first) (c.in_ok-header_at.ensures.over image front) (omega arith)
-    (reach_below image c.args.area.now c.loop-place.area _ c.loop-place.ended _ c.loop-place.place-index _
+    over_here image c.args.area.now c.loop-place.area _ c.loop-place.ended _ c.loop-place.place-index _
     c.places-place-items.ensures c.loop-place-test.true
-    (c.loop-place.invariant.searched image first) grew.longer grew.stays
-    (c.header_at.ensures.within image front))
+    (c.loop-place.invariant.searched image first) grew.longer grew.stays (c.header_at.ensures.within image front)
+    c.args.ended.now first front (c.loop-place.invariant.over image first) (c.in_ok-header_at.ensures.over image front)
 
 -- none is: the search goes on
 pub loop-place-preserved : goal.loop-place-preserved
@@ -118,16 +114,13 @@ loop-place-preserved g c = record {
       (sym c.is_some.ensures ∙ c.if-is_some.false))
       (c.in_ok-header_at.ensures.settled image front);
   over = λ image front.
-      let place = get_or c.places-place-items.result.now c.loop-place.place-index 0 in
       let grew = c.header_at.ensures.grew in
       let first = grew.fronts image front in
-      over_joined image c.loop-place.area c.header_at.new.area c.args.ended.now c.loop-place.ended
-      c.header_at.new.ended (search_reach image) (reach_at image place) (search_reach image) first front
-      (c.loop-place.invariant.over image first) (c.in_ok-header_at.ensures.over image front) (omega arith)
-      (reach_below image c.args.area.now c.loop-place.area _ c.loop-place.ended _ c.loop-place.place-index _
+      over_here image c.args.area.now c.loop-place.area _ c.loop-place.ended _ c.loop-place.place-index _
       c.places-place-items.ensures c.loop-place-test.true
-      (c.loop-place.invariant.searched image first) grew.longer grew.stays
-      (c.header_at.ensures.within image front));
+      (c.loop-place.invariant.searched image first) grew.longer grew.stays (c.header_at.ensures.within image front)
+      c.args.ended.now first front (c.loop-place.invariant.over image first)
+      (c.in_ok-header_at.ensures.over image front);
   grew = grew_more _ _ _ _ _ _ _ _ _ _ _ _ c.loop-place.invariant.grew c.header_at.ensures.grew;
   reads = c.in_ok-header_at.ensures.reads ∙ c.loop-place.invariant.reads;
 }
