@@ -1,8 +1,7 @@
 -- Images that are too short for a header, and what each image costs at least.
-use Rattle.std.proofs.Common.{◌≡◌, ◌∙◌, ℕ, ◌<◌, ◌≤◌, List, [], ◌∷◌, None, Err, Bool, false, true, ap, refl, length, min, arith}
-use Rattle.std.specs.List.{find}
+use Rattle.std.proofs.Common.{◌≡◌, ℕ, ◌<◌, ◌≤◌, List, [], ◌∷◌, None, Err, Bool, false, refl, length, min, arith}
 use Rattle.luks_area.specs.declared.fault.HeaderFault.TheVariants.{NotLuks}
-use Rattle.luks2_header.specs.Choice2.{chosen2_of, found_at, header2_of, is_tried, is_valid, least_valid}
+use Rattle.luks2_header.specs.Choice2.{header2_of, is_valid}
 use Rattle.luks2_header.specs.Cost2.{cost2_of}
 use Rattle.luks2_header.specs.Header2.{sizes}
 use Rattle.luks2_header.proofs.ChoiceLemmas.{chosen_other, reach_some}
