@@ -34,6 +34,7 @@ check: all
 	interop/headers.sh $(PROGRAM)
 	interop/headers2.sh $(PROGRAM)
 	interop/volumes.sh $(PROGRAM)
+	interop/volumes2.sh $(PROGRAM)
 
 test:
 	tests/gate

@@ -21,21 +21,23 @@ static const u32 H1[5] = {0x67452301, 0xEFCDAB89, 0x98BADCFE, 0x10325476, 0xC3D2
 static u32 H256[8];
 static u64 H512[8];
 
-static void compress1(u32 h[5], const u32 block[16]) {
-    u32 w[80], a = h[0], b = h[1], c = h[2], d = h[3], e = h[4];
-    for (int t = 0; t < 16; t++) w[t] = block[t];
-    for (int t = 16; t < 80; t++) w[t] = ROL32(w[t - 3] ^ w[t - 8] ^ w[t - 14] ^ w[t - 16], 1);
-#define TURNS1(from, to, f, k)                              \
+#define TURNS1(T, from, to, f, k)                           \
     for (int t = from; t < to; t++) {                       \
-        u32 x = ROL32(a, 5) + (f) + e + (k) + w[t];         \
+        T x = ROL32(a, 5) + (f) + e + (k) + w[t];           \
         e = d, d = c, c = ROL32(b, 30), b = a, a = x;       \
     }
-    TURNS1(0, 20, (b & c) | (~b & d), 0x5A827999)
-    TURNS1(20, 40, b ^ c ^ d, 0x6ED9EBA1)
-    TURNS1(40, 60, (b & c) | (b & d) | (c & d), 0x8F1BBCDC)
-    TURNS1(60, 80, b ^ c ^ d, 0xCA62C1D6)
+
+#define ROUNDS1(T)                                                                              \
+    T w[80], a = h[0], b = h[1], c = h[2], d = h[3], e = h[4];                                  \
+    for (int t = 0; t < 16; t++) w[t] = block[t];                                               \
+    for (int t = 16; t < 80; t++) w[t] = ROL32(w[t - 3] ^ w[t - 8] ^ w[t - 14] ^ w[t - 16], 1); \
+    TURNS1(T, 0, 20, (b & c) | (~b & d), 0x5A827999)                                            \
+    TURNS1(T, 20, 40, b ^ c ^ d, 0x6ED9EBA1)                                                    \
+    TURNS1(T, 40, 60, (b & c) | (b & d) | (c & d), 0x8F1BBCDC)                                  \
+    TURNS1(T, 60, 80, b ^ c ^ d, 0xCA62C1D6)                                                    \
     h[0] += a, h[1] += b, h[2] += c, h[3] += d, h[4] += e;
-}
+
+static void compress1(u32 h[5], const u32 block[16]) { ROUNDS1(u32) }
 
 #define ROUNDS(T, R, N, K, s0, s1, S0, S1)                                                     \
     T w[N], a = h[0], b = h[1], c = h[2], d = h[3], e = h[4], f = h[5], g = h[6], z = h[7];    \

@@ -44,6 +44,11 @@ told() {
     echo $?
 }
 
+# slot_of IMAGE KEY_FILE: the key slot that cryptsetup opens, in our words
+slot_of() {
+    cryptsetup open --test-passphrase --verbose --key-file "$2" "$1" 2>&1 | sed -n 's/^Key slot \([0-9]*\) unlocked\.$/Key slot \1 opens the volume./p'
+}
+
 # sealed_by_qemu OPTIONS IMAGE: qemu-img makes a LUKS volume of 1 MiB. It times its own key derivation by the processor's clock, and gives up
 # where that has not moved; so it is asked again.
 sealed_by_qemu() {

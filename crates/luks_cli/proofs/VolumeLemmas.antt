@@ -1,6 +1,7 @@
 -- Finding the volume of an image.
-use Rattle.std.proofs.Common.{◌≡◌, ℕ, ◌⊎◌, inl, inr, List, [], Option, Ok, Err, true, false, refl, arith}
-use Rattle.std.specs.Prelude.{is_err}
+use Rattle.std.proofs.Common.{◌≡◌, ℕ, ◌<◌, ◌≤◌, ◌⊎◌, inl, inr, List, [], Option, Ok, Err, false, refl, arith}
+use Rattle.std.specs.Prelude.{is_err, nat_lt}
+use Rattle.std.proofs.lemmas.Bool.{le-ltb, lt-ltb}
 use Rattle.luks_io.specs.Bytes.{Took}
 use Rattle.luks_header.specs.Header.{BreaksReading, cost_of, header_of}
 use Rattle.luks_header.proofs.HeaderLemmas.{memory_below}
@@ -16,7 +17,7 @@ use Rattle.luks_open.specs.declared.fault.OpenFault.TheVariants.{NoSuchSlot as N
 use Rattle.luks_report.specs.Faults.{message_for_header}
 use Rattle.luks_command.specs.Request.{OpeningRequest}
 use Rattle.luks_cli.specs.VolumeParts.{StopsFinding}
-use Rattle.luks_cli.specs.Volume.{is_opened, volume_of}
+use Rattle.luks_cli.specs.Volume.{volume_of}
 use Rattle.luks_report.specs.Faults.{message_for_opening}
 use Rattle.luks_report.specs.declared.message.Message.TheVariants.{NothingTried, SegmentRefused}
 
@@ -33,51 +34,48 @@ module _ (o : OpeningRequest) (image : List ℕ) (left : Option (List ℕ)) wher
   stops_without_header ends ends' LostRead stop = stop.0
   stops_without_header ends ends' NoMemory stop = memory_below image left ends ends' stop
 
-  -- volumes of its format are not opened
-  pub stops_unopened : (header : Header) → header_of image ≡ Ok header → is_opened header ≡ false
-      → Took image left (cost_of image) → StopsFinding o image left (NothingTried [])
-  unfolding volume_of
-  stops_unopened header found unopened rest = (rw (found, unopened) refl, rest)
-
-  module _ (header : Header) (found : header_of image ≡ Ok header) (opened : is_opened header ≡ true) where
+  module _ (header : Header) (found : header_of image ≡ Ok header) where
     no_segment : (fault : SegmentFault) → segment_of header ≡ Err fault → volume_of o image ≡ Err (SegmentRefused fault)
     unfolding volume_of
-    no_segment fault none = rw (found, opened, none) refl
+    no_segment fault none = rw (found, none) refl
 
-    no_order : (segment : Segment) (fault : OpenFault) → segment_of header ≡ Ok segment
-        → order_of header o.key_slot o.max_iterations ≡ Err fault
+    pub stops_without_segment : Took image left (cost_of image) → (fault : SegmentFault) → segment_of header ≡ Err fault
+        → StopsFinding o image left (SegmentRefused fault)
+    stops_without_segment rest fault none = (no_segment fault none, rest)
+
+    -- the header goes past the payload's start
+    pub stops_past_start : (segment : Segment) → segment_of header ≡ Ok segment → segment.offset < cost_of image
+        → Took image left (cost_of image) → StopsFinding o image left (NothingTried [])
+    unfolding volume_of
+    stops_past_start segment is past rest =
+        (rw (found, is, lt-ltb segment.offset (cost_of image) past) refl, rest)
+
+  module _ (header : Header) (found : header_of image ≡ Ok header) (segment : Segment)
+      (is : segment_of header ≡ Ok segment) (before : cost_of image ≤ segment.offset) where
+    no : nat_lt segment.offset (cost_of image) ≡ false
+    no = le-ltb segment.offset (cost_of image) before
+
+    no_order : (fault : OpenFault) → order_of header o.key_slot o.max_iterations ≡ Err fault
         → volume_of o image ≡ Err (message_for_opening o.key_slot fault)
     unfolding volume_of
-    no_order segment fault is none = rw (found, opened, is, none) refl
+    no_order fault none = rw (found, is, no, none) refl
 
-    pub volume_is : (segment : Segment) (tries : Tries) → segment_of header ≡ Ok segment
-        → order_of header o.key_slot o.max_iterations ≡ Ok tries
+    pub volume_is : (tries : Tries) → order_of header o.key_slot o.max_iterations ≡ Ok tries
         → volume_of o image ≡ Ok (record { header = header; segment = segment; tries = tries })
     unfolding volume_of
-    volume_is segment tries is ordered = rw (found, opened, is, ordered) refl
+    volume_is tries ordered = rw (found, is, no, ordered) refl
 
-    pub volume_found : (segment : Segment) (tries : Tries) → segment_of header ≡ Ok segment
-        → order_of header o.key_slot o.max_iterations ≡ Ok tries
+    pub volume_found : (tries : Tries) → order_of header o.key_slot o.max_iterations ≡ Ok tries
         → is_err (volume_of o image) ≡ false
-    volume_found segment tries is ordered = rw (volume_is segment tries is ordered) refl
+    volume_found tries ordered = rw (volume_is tries ordered) refl
 
-    module _ (rest : Took image left (cost_of image)) where
-      pub stops_without_segment : (fault : SegmentFault) → segment_of header ≡ Err fault
-          → StopsFinding o image left (SegmentRefused fault)
-      stops_without_segment fault none = (no_segment fault none, rest)
-
-      pub stops_without_order : (segment : Segment) (fault : OpenFault) → segment_of header ≡ Ok segment
-          → (fault ≡ Memory) ⊎ (order_of header o.key_slot o.max_iterations ≡ Err fault)
-          → StopsFinding o image left (message_for_opening o.key_slot fault)
-      stops_without_order segment Memory is why = (cost_of image, omega arith, rest)
-      stops_without_order segment NotThere is (inr why) =
-          (no_order segment NotThere is why, rest)
-      stops_without_order segment Disabled is (inr why) =
-          (no_order segment Disabled is why, rest)
-      stops_without_order segment (NamedSkipped reason) is (inr why) =
-          (no_order segment (NamedSkipped reason) is why, rest)
-      stops_without_order segment (NoneTried skipped) is (inr why) =
-          (no_order segment (NoneTried skipped) is why, rest)
-      stops_without_order segment (NoneOpens skipped) is (inr why) =
-          (no_order segment (NoneOpens skipped) is why, rest)
-      stops_without_order segment _ is (inl memory) = cc
+    pub stops_without_order : Took image left (cost_of image) → (fault : OpenFault)
+        → (fault ≡ Memory) ⊎ (order_of header o.key_slot o.max_iterations ≡ Err fault)
+        → StopsFinding o image left (message_for_opening o.key_slot fault)
+    stops_without_order rest Memory why = (cost_of image, omega arith, rest)
+    stops_without_order rest NotThere (inr why) = (no_order NotThere why, rest)
+    stops_without_order rest Disabled (inr why) = (no_order Disabled why, rest)
+    stops_without_order rest (NamedSkipped reason) (inr why) = (no_order (NamedSkipped reason) why, rest)
+    stops_without_order rest (NoneTried skipped) (inr why) = (no_order (NoneTried skipped) why, rest)
+    stops_without_order rest (NoneOpens skipped) (inr why) = (no_order (NoneOpens skipped) why, rest)
+    stops_without_order rest _ (inl memory) = cc

@@ -6,13 +6,10 @@ use Rattle.std.proofs.lemmas.List.{drop-drop}
 use Rattle.std.proofs.Math.Nat.{zero-div}
 use Rattle.std.proofs.Math.Seq.{take-add}
 use Rattle.std.specs.Prelude.{◌≢◌, nat_lt}
-use Rattle.luks_header.proofs.HeaderLemmas.{cost_first}
-use Rattle.luks_header.proofs.KnownLemmas.{behind_header, header_end}
 use Rattle.luks_header.specs.Area.{BreaksTaking, TookBehind}
 use Rattle.luks_header.specs.Header.{cost_of, header_of}
 use Rattle.luks_header.specs.Segment.{segment_of}
 use Rattle.luks_header.specs.declared.header.Header.{Header}
-use Rattle.luks_header.specs.declared.header.Header.TheVariants.{V1, V2}
 use Rattle.luks_area.specs.declared.fault.HeaderFault.{HeaderFault}
 use Rattle.luks_area.specs.declared.fault.HeaderFault.TheVariants.{Read as LostRead, Memory as NoMemory}
 use Rattle.luks_verdict.specs.declared.segment.Segment.{Segment}
@@ -25,7 +22,7 @@ use Rattle.luks_open.specs.declared.opening.Opened.{Opened}
 use Rattle.luks_volume.specs.Plain.{sector_len}
 use Rattle.luks_cli.proofs.VolumeLemmas.{volume_is}
 use Rattle.luks_report.specs.Faults.{message_for_header}
-use Rattle.luks_cli.specs.Volume.{is_opened, OnOpened, found_outcome, opened_outcome, outcome_after, volume_outcome}
+use Rattle.luks_cli.specs.Volume.{OnOpened, found_outcome, opened_outcome, outcome_after, volume_outcome}
 use Rattle.luks_cli.specs.Ending.{Outcome, unwritten}
 use Rattle.luks_cli.specs.VolumeParts.{cat_promptly}
 use Rattle.luks_command.specs.Request.{OpeningRequest}
@@ -43,12 +40,6 @@ use Rattle.luks_report.specs.declared.message.Message.{Message}
 use Rattle.luks_report.specs.declared.message.Message.TheVariants.{Cut, KeyFileLength, OutOfMemory, ReadFailed, WriteFailed}
 
 -- ---- how much of the image is taken for what is promised
-
--- the header of a volume that is opened costs no more than it is long
-pub cost_most : (image : List ℕ) (header : Header) → header_of image ≡ Ok header → is_opened header ≡ true
-    → cost_of image ≤ header_end header
-cost_most image (V1 header) found opened = cost_first image header found
-cost_most image (V2 header tree) found opened = absurd (cc)
 
 pub same_segment : (image : List ℕ) (s t : Segment) → HasSegment image s → HasSegment image t → t ≡ s
 same_segment image s t one other =
@@ -223,6 +214,12 @@ module _ (image area area' : List ℕ) (i : Option (List ℕ)) (held : ℕ) (fro
         let all : reached ≡ max (cost_of image) held = omega (arith, grown.1) in
         (there, grown.0 ∙ all, rw all at more.0, rw all at more.1)
 
+-- what is held of a header that ends before a place is all that it costs
+pub cost_before : (image area : List ℕ) (start : ℕ) → area ≡ take (cost_of image) image → length area ≤ start
+    → cost_of image ≤ start
+cost_before image area start front within =
+    omega (arith, ap length front, length-take-le (cost_of image) image (cost_there image), within)
+
 -- ---- runs that open no volume
 
 module _ (o : OpeningRequest) (image pass : List ℕ) (i s w : Option (List ℕ)) where
@@ -262,7 +259,7 @@ module _ (o : OpeningRequest) (image pass : List ℕ) (i s w : Option (List ℕ)
 
   -- the header names this segment and these key slots to be tried
   module _ (header : Header) (segment : Segment) (tries : Tries) (found : header_of image ≡ Ok header)
-      (opened : is_opened header ≡ true) (is_segment : segment_of header ≡ Ok segment)
+      (before : cost_of image ≤ segment.offset) (is_segment : segment_of header ≡ Ok segment)
       (ordered : order_of header o.key_slot o.max_iterations ≡ Ok tries) where
     volume : Volume
     volume = record { header = header; segment = segment; tries = tries }
@@ -271,15 +268,14 @@ module _ (o : OpeningRequest) (image pass : List ℕ) (i s w : Option (List ℕ)
         → volume_outcome on_opened o image pass ≡ found_outcome on_opened o.key_slot volume image pass
     unfolding volume
     outcome_found on_opened =
-        outcome_is on_opened (Ok volume) (volume_is o image i header found opened segment tries is_segment ordered)
+        outcome_is on_opened (Ok volume) (volume_is o image i header found segment is_segment before tries ordered)
 
     held_before : held_for image volume ≤ segment.offset
     unfolding volume
     held_before =
         omega (
           arith,
-          cost_most image header found opened,
-          behind_header header segment is_segment,
+          before,
           held_before_payload header segment o.key_slot o.max_iterations tries is_segment ordered,
         )
 

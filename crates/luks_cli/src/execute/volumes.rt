@@ -13,7 +13,7 @@ ghost use Rattle.luks_cli.specs.Run.{Counts, failures_of, Runs, at_any_pace, is_
 ghost use Rattle.luks_cli.specs.MayEnd.{OpeningMessage, PayloadMessage};
 ghost use Rattle.luks_cli.specs.VolumeParts.{TakesHeld, Unlocks};
 ghost use Rattle.luks_cli.specs.VolumeParts.{StopsFinding};
-ghost use Rattle.luks_cli.specs.Volume.{is_opened, volume_of};
+ghost use Rattle.luks_cli.specs.Volume.{volume_of};
 
 use super::payload::write_payload;
 use super::secret::read_secret;
@@ -72,16 +72,6 @@ fn limit(opening: &Opening<'_>) -> Option<u32>
     }
 }
 
-/// Whether volumes with a header of this format are opened.
-fn is_opened(header: &Header) -> bool
-    ensures { result ≡ is_opened header.now }
-{
-    match header {
-        Header::V1(_) => true,
-        Header::V2(..) => false,
-    }
-}
-
 /// Reads the header of an image, and finds its segment and the key slots that are tried.
 fn find_volume<I: Source>(
     alloc: Global,
@@ -101,16 +91,17 @@ fn find_volume<I: Source>(
         (λ known. is_err (volume_of (opening_request opening.now) known) ≡ false)) }
     ensures area { IfOk result (λ volume. length volume.area ≡ cost_of volume.area) }
     ensures front { IfOk result (λ volume. header_of volume.area ≡ Ok volume.header) }
-    ensures opened { IfOk result (λ volume. is_opened volume.header ≡ true) }
+    ensures before { IfOk result (λ volume. length volume.area ≤ volume.segment.offset) }
     ensures writes { IfErr result (λ message. message ≢ Message.WriteFailed) }
     ensures reads { I.failures image.new
         ≡ counted (is_failed_read (message_of result)) (I.failures image.old) }
 {
     let (header, area) = read_header(alloc, image)?;
-    if !is_opened(&header) {
+    let segment = segment(&header)?;
+    let cost = area.as_slice().len() as u64;
+    if segment.offset < cost {
         return Err(Message::NothingTried(SkippedSlots::new()));
     }
-    let segment = segment(&header)?;
     let named = named_slot(opening);
     match order(alloc, &header, named, limit(opening)) {
         Ok(order) => Ok(Volume {

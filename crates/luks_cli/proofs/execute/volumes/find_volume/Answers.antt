@@ -1,7 +1,7 @@
 use Rattle.std.proofs.lemmas.Result.{err_from_is_err_and}
 use Rattle.std.proofs.Common.{◌∙◌, None, sym}
 use Rattle.luks_command.specs.Request.{opening_request}
-use Rattle.luks_cli.proofs.VolumeLemmas.{stops_unopened, stops_without_header, stops_without_order, stops_without_segment, volume_found}
+use Rattle.luks_cli.proofs.VolumeLemmas.{stops_past_start, stops_without_header, stops_without_order, stops_without_segment, volume_found}
 use Rattle.luks_cli.proofs.execute.volumes.find_volume.Goals as goal
 
 pub returns-in_err-header-clause-err : goal.returns-in_err-header-clause-err
@@ -10,19 +10,12 @@ returns-in_err-header-clause-err g c =
     rw (p.1, p.2) (λ known is.
     stops_without_header _ known _ _ _ c.in_err-header.field-0.0 (c.in_err-header.ensures.broken known is))
 
-pub returns-then-not-is_opened-clause-err : goal.returns-then-not-is_opened-clause-err
-returns-then-not-is_opened-clause-err g c known is =
-    let read = c.in_ok-header.ensures.taken known is in
-    rw c.new.ensures (stops_unopened (opening_request c.args.opening.now) known _ c.in_ok-header.header read.0
-    (sym c.is_opened.ensures ∙ c.if-not-is_opened.true) read.2)
-
 pub returns-in_err-segment-clause-err : goal.returns-in_err-segment-clause-err
 returns-in_err-segment-clause-err g c =
     let p = err_from_is_err_and c.from_residual-in_err-segment.result c.from_residual-in_err-segment.ensures.1 in
     rw (p.1, p.2) (λ known is.
     let read = c.in_ok-header.ensures.taken known is in
-    stops_without_segment _ known _ c.in_ok-header.header read.0
-    (sym c.is_opened.ensures ∙ c.if-not-is_opened.false) read.2 c.in_err-segment.field-0.0
+    stops_without_segment _ known _ c.in_ok-header.header read.0 read.2 c.in_err-segment.field-0.0
     (sym c.in_err-segment.ensures))
 
 pub returns-in-Err-clause-err : goal.returns-in-Err-clause-err
@@ -30,8 +23,7 @@ returns-in-Err-clause-err g c =
     rw (c.of_opening.ensures, c.named_slot-named.ensures) (λ known is.
     let read = c.in_ok-header.ensures.taken known is in
     stops_without_order (opening_request c.args.opening.now) known _ c.in_ok-header.header read.0
-    (sym c.is_opened.ensures ∙ c.if-not-is_opened.false) read.2
-    c.in_ok-segment.segment c.in-Err.fault (sym c.in_ok-segment.ensures)
+    c.in_ok-segment.segment (sym c.in_ok-segment.ensures) BEFORE read.2 c.in-Err.fault
     (rw (c.named_slot-named.ensures, c.limit.ensures) at c.in-Err.ensures.answer))
 
 pub returns-in-Ok-clause-ok : goal.returns-in-Ok-clause-ok
@@ -43,5 +35,4 @@ pub returns-in-Ok-clause-volume : goal.returns-in-Ok-clause-volume
 returns-in-Ok-clause-volume g c known is =
     let read = c.in_ok-header.ensures.taken known is in
     volume_found (opening_request c.args.opening.now) known None c.in_ok-header.header read.0
-    (sym c.is_opened.ensures ∙ c.if-not-is_opened.false) c.in_ok-segment.segment c.in-Ok.order
-    (sym c.in_ok-segment.ensures) (rw (c.named_slot-named.ensures, c.limit.ensures) at c.in-Ok.ensures.answer)
+    c.in_ok-segment.segment (sym c.in_ok-segment.ensures) BEFORE c.in-Ok.order (rw (c.named_slot-named.ensures, c.limit.ensures) at c.in-Ok.ensures.answer)

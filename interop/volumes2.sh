@@ -1,0 +1,121 @@
+#!/usr/bin/env bash
+# Compares what luksrd reads of LUKS2 volumes with the plain bytes that cryptsetup encrypted into them, and with what cryptsetup says of their key slots.
+# shellcheck source=tests/common.sh
+. "$(dirname "$0")/../tests/common.sh"
+
+no_key='luksrd: no key opens the volume
+2'
+
+# seal IMAGE CIPHER KEY_BITS OPTION..: cryptsetup encrypts plain; the passphrase in pass opens slot 0, the one in pass2 slot 1
+seal() {
+    local image=$1 cipher=$2 bits=$3
+    shift 3
+    cp plain "$image"
+    truncate -s +4M "$image"
+    cryptsetup -q reencrypt --encrypt --type luks2 --reduce-device-size 4M --force-offline-reencrypt --luks2-metadata-size 16k \
+        --luks2-keyslots-size 1m --cipher "$cipher" --key-size "$bits" --pbkdf pbkdf2 --pbkdf-force-iterations 1000 --key-file pass "$@" \
+        "$image" 2>err || { cat err; exit 1; }
+    cryptsetup -q luksAddKey --pbkdf pbkdf2 --pbkdf-force-iterations 1200 --hash sha512 --key-file pass "$image" pass2 || exit 1
+}
+
+# gives IMAGE SOURCE KEY: the payload of the image, read from a file or as a pipe (-), begins with the plain bytes, and ends well
+gives() {
+    if [ "$2" = - ]; then
+        dd if="$1" bs=777 status=none | "$program" luksCat --key-file "$3" - >payload 2>message
+    else
+        "$program" luksCat --key-file "$3" "$1" >payload 2>message
+    fi
+    same "$1, $3, $2: status" $? 0
+    same "$1, $3, $2: message" "$(cat message)" ''
+    same "$1, $3, $2: plain bytes" "$(head -c "$(stat -c %s plain)" payload | sha256sum)" "$(sha256sum <plain)"
+    same "$1, $3, $2: length" "$(stat -c %s payload)" "$(($(stat -c %s "$1") - $(start_of "$1")))"
+}
+
+# start_of IMAGE: where its payload starts, as cryptsetup says
+start_of() {
+    cryptsetup luksDump "$1" | awk '/offset: .*bytes/ { print $2; exit }'
+}
+
+# opens IMAGE: both passphrases do, and others do not
+opens() {
+    local key
+    for key in pass pass2; do
+        same "$1, $key: testPassphrase" "$(told testPassphrase --key-file "$key" "$1")" "$(slot_of "$1" "$key")
+0"
+        gives "$1" file "$key"
+    done
+    gives "$1" - pass
+    same "$1: a wrong passphrase" "$(told luksCat --key-file wrong "$1")" "$no_key"
+}
+
+# damage IMAGE PLACE: one byte of the image is changed
+damage() {
+    printf 'X' | dd of="$1" bs=1 seek="$2" conv=notrunc status=none
+}
+
+# cut IMAGE BYTES MESSAGE: the image cut to so many bytes ends so
+cut() {
+    head -c "$2" "$1" >shorter
+    same "$1 cut to $2 bytes" "$(told luksCat --key-file pass2 shorter)" "$3
+4"
+}
+
+printf 'a passphrase' >pass
+printf 'another one' >pass2
+printf 'a wrong one' >wrong
+head -c 300032 /dev/urandom >plain
+truncate -s 303104 plain
+
+for sealed in 'xts-plain64 256' 'xts-plain64 512' 'xts-plain 512' 'cbc-essiv:sha256 128' 'cbc-essiv:sha256 256' 'cbc-plain64 128' 'cbc-plain64 256'; do
+    for sector in 512 4096; do
+        seal "$sealed $sector" "aes-${sealed% *}" "${sealed#* }" --sector-size "$sector"
+        opens "$sealed $sector"
+    done
+done
+for sector in 1024 2048; do
+    seal "in sectors of $sector" aes-xts-plain64 512 --sector-size "$sector"
+    opens "in sectors of $sector"
+done
+for hash in sha1 sha224 sha256 sha384 sha512; do
+    seal "$hash" aes-xts-plain64 512 --hash "$hash"
+    opens "$hash"
+done
+
+# key slots by number, by priority, and with a limit
+seal slots aes-xts-plain64 512
+same 'slot 1 by its number' "$(told testPassphrase --key-slot 1 --key-file pass2 slots)" 'Key slot 1 opens the volume.
+0'
+same 'slot 1 with the passphrase of slot 0' "$(told testPassphrase --key-slot 1 --key-file pass slots)" "$no_key"
+same 'a slot that is not there' "$(told testPassphrase --key-slot 7 --key-file pass slots)" 'luksrd: key slot 7 is not there
+1'
+same 'a limit that slot 0 meets' "$(told testPassphrase --max-iterations 1000 --key-file pass slots)" 'Key slot 0 opens the volume.
+0'
+same 'a limit that no slot meets' "$(told testPassphrase --max-iterations 999 --key-file pass slots)" \
+    'luksrd: no key slot can be tried; skipped: 0 (iterations), 1 (iterations)
+1'
+cryptsetup -q config --priority ignore --key-slot 0 slots
+same 'a slot that is to be ignored' "$(told testPassphrase --key-file pass slots)" "$no_key"
+same 'unless it is named' "$(told testPassphrase --key-slot 0 --key-file pass slots)" 'Key slot 0 opens the volume.
+0'
+cryptsetup -q luksConvertKey --key-slot 1 --pbkdf argon2id --pbkdf-memory 32 --pbkdf-parallel 1 --pbkdf-force-iterations 4 --key-file pass2 slots
+same 'Argon2 alone' "$(told testPassphrase --key-file pass2 slots)" 'luksrd: no key slot can be tried; skipped: 1 (argon2id)
+1'
+
+# one header is damaged
+seal damaged aes-xts-plain64 512
+cp damaged second
+damage damaged 600
+gives damaged file pass
+gives damaged - pass
+damage second 20000
+gives second file pass2
+
+# images that end early
+start=$(start_of second)
+in_area='luksrd: image ends inside the header or a key area'
+cut second 16383 'luksrd: not a LUKS image'
+cut second 16384 "$in_area"
+cut second 40000 "$in_area"
+cut second $((start - 1)) 'luksrd: image ends before the payload'
+cut second $((start + 100)) 'luksrd: image ends inside a sector: 100 bytes left over'
+finish
