@@ -15,7 +15,7 @@ seal() {
     cryptsetup -q reencrypt --encrypt --type luks2 --reduce-device-size 4M --force-offline-reencrypt --luks2-metadata-size 16k \
         --luks2-keyslots-size 1m --cipher "$cipher" --key-size "$bits" --pbkdf pbkdf2 --pbkdf-force-iterations 1000 --key-file pass "$@" \
         "$image" 2>err || { cat err; exit 1; }
-    cryptsetup -q luksAddKey --pbkdf pbkdf2 --pbkdf-force-iterations 1200 --hash sha512 --key-file pass "$image" pass2 || exit 1
+    cryptsetup -q luksAddKey --pbkdf pbkdf2 --pbkdf-force-iterations 1200 --hash sha512 --key-file pass "$image" pass2 2>err || { cat err; exit 1; }
 }
 
 # gives IMAGE SOURCE KEY: the payload of the image, read from a file or as a pipe (-), begins with the plain bytes, and ends well

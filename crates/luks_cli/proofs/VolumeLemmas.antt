@@ -1,5 +1,5 @@
 -- Finding the volume of an image.
-use Rattle.std.proofs.Common.{◌≡◌, ℕ, ◌<◌, ◌≤◌, ◌⊎◌, inl, inr, List, [], Option, Ok, Err, false, refl, arith}
+use Rattle.std.proofs.Common.{◌≡◌, ◌∙◌, ℕ, ◌<◌, ◌≤◌, ◌⊎◌, inl, inr, List, [], Option, Ok, Err, false, ap, refl, length, length-take-le, take, arith}
 use Rattle.std.specs.Prelude.{is_err, nat_lt}
 use Rattle.std.proofs.lemmas.Bool.{le-ltb, lt-ltb}
 use Rattle.luks_io.specs.Bytes.{Took}
@@ -16,10 +16,20 @@ use Rattle.luks_open.specs.declared.fault.OpenFault.{OpenFault}
 use Rattle.luks_open.specs.declared.fault.OpenFault.TheVariants.{NoSuchSlot as NotThere, Disabled, NamedSkipped, NothingTried as NoneTried, NoKey as NoneOpens, Memory}
 use Rattle.luks_report.specs.Faults.{message_for_header}
 use Rattle.luks_command.specs.Request.{OpeningRequest}
+use Rattle.luks_cli.proofs.HeaderTaking.{cost_there}
 use Rattle.luks_cli.specs.VolumeParts.{StopsFinding}
 use Rattle.luks_cli.specs.Volume.{volume_of}
 use Rattle.luks_report.specs.Faults.{message_for_opening}
 use Rattle.luks_report.specs.declared.message.Message.TheVariants.{NothingTried, SegmentRefused}
+
+-- as much is held of the header as it costs
+pub cost_held : (image area : List ℕ) → area ≡ take (cost_of image) image → length area ≡ cost_of image
+cost_held image area front = ap length front ∙ length-take-le (cost_of image) image (cost_there image)
+
+-- and where that ends before a place, so does what it costs
+pub cost_before : (image area : List ℕ) (place : ℕ) → area ≡ take (cost_of image) image → length area ≤ place
+    → cost_of image ≤ place
+cost_before image area place front within = omega (arith, cost_held image area front, within)
 
 module _ (o : OpeningRequest) (image : List ℕ) (left : Option (List ℕ)) where
   no_header : (fault : HeaderFault) → header_of image ≡ Err fault → volume_of o image ≡ Err (message_for_header fault)

@@ -20,7 +20,7 @@ use Rattle.luks_open.specs.declared.fault.OpenFault.{OpenFault}
 use Rattle.luks_open.specs.declared.fault.OpenFault.TheVariants.{NoSuchSlot as NotThere, Disabled, NamedSkipped, NothingTried as NoneTried, NoKey as NoneOpens, Memory}
 use Rattle.luks_open.specs.declared.opening.Opened.{Opened}
 use Rattle.luks_volume.specs.Plain.{sector_len}
-use Rattle.luks_cli.proofs.VolumeLemmas.{volume_is}
+use Rattle.luks_cli.proofs.VolumeLemmas.{cost_held, volume_is}
 use Rattle.luks_report.specs.Faults.{message_for_header}
 use Rattle.luks_cli.specs.Volume.{OnOpened, found_outcome, opened_outcome, outcome_after, volume_outcome}
 use Rattle.luks_cli.specs.Ending.{Outcome, unwritten}
@@ -169,7 +169,7 @@ module _ (on_opened : OnOpened) (named : Option ℕ) (v : Volume) (image secret 
 
 module _ (image area area' : List ℕ) (i : Option (List ℕ)) (held : ℕ) (front : area ≡ take (cost_of image) image) where
   front_len : length area ≡ cost_of image
-  front_len = ap length front ∙ length-take-le (cost_of image) image (cost_there image)
+  front_len = cost_held image area front
 
   -- so many bytes more are held
   area_more : (n : ℕ) → TookBehind area area' (drop (cost_of image) image) i n
@@ -213,12 +213,6 @@ module _ (image area area' : List ℕ) (i : Option (List ℕ)) (held : ℕ) (fro
         let there : held ≤ length image = omega (arith, grown.0, grown.1, cost_there image, more.1.within) in
         let all : reached ≡ max (cost_of image) held = omega (arith, grown.1) in
         (there, grown.0 ∙ all, rw all at more.0, rw all at more.1)
-
--- what is held of a header that ends before a place is all that it costs
-pub cost_before : (image area : List ℕ) (start : ℕ) → area ≡ take (cost_of image) image → length area ≤ start
-    → cost_of image ≤ start
-cost_before image area start front within =
-    omega (arith, ap length front, length-take-le (cost_of image) image (cost_there image), within)
 
 -- ---- runs that open no volume
 
