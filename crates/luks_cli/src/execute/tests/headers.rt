@@ -237,12 +237,13 @@ fn tells_failed_devices(rt: HostRuntime) -> Result<(), Fail> {
     Ok(())
 }
 
-// Runs with less and less memory refused, until one meets no refusal. Each refused run answers want
-// of memory and writes nothing; the whole run ends so.
+// Runs with less and less memory refused, in pieces of so many bytes, until one meets no refusal.
+// Each refused run answers want of memory and writes nothing; the whole run ends so.
 pub(super) fn check_refusals(
     rt: &(impl Abort + AllocGlobal),
     line: &str,
     image: &[u8],
+    piece: usize,
     whole: &str,
     message: Message,
 ) -> Result<(), Fail> {
@@ -251,7 +252,7 @@ pub(super) fn check_refusals(
     let command = plan(alloc, words.as_slice()).ok().ok_or("a command")?;
     let mut out = MemSink::new(alloc, 4096)?;
     let mut reports = Vec::with_capacity(alloc, 400)?;
-    let mut scarcity = Scarcity::new(alloc, 400, 64)?;
+    let mut scarcity = Scarcity::new(alloc, 400, piece)?;
     for _ in 0..400 {
         let mut source = MemSource::new(image);
         let mut secret = MemSource::new(&[]);
@@ -278,8 +279,8 @@ pub(super) fn check_refusals(
 #[test]
 fn answers_memory_where_it_is_refused(rt: HostRuntime) -> Result<(), Fail> {
     let header = make_header();
-    check_refusals(&rt, "isLuks i", &header, "", Message::Done)?;
-    check_refusals(&rt, "luksUUID i", &header, UUID, Message::Done)?;
-    check_refusals(&rt, "luksDump i", &header, DUMP, Message::Done)?;
-    check_refusals(&rt, "luksCheck i", &header, FINDINGS, Message::Findings)
+    check_refusals(&rt, "isLuks i", &header, 64, "", Message::Done)?;
+    check_refusals(&rt, "luksUUID i", &header, 64, UUID, Message::Done)?;
+    check_refusals(&rt, "luksDump i", &header, 64, DUMP, Message::Done)?;
+    check_refusals(&rt, "luksCheck i", &header, 64, FINDINGS, Message::Findings)
 }

@@ -85,7 +85,7 @@ fn tells_each_failed_call(rt: HostRuntime) -> Result<(), Fail> {
 fn answers_memory_where_it_is_refused(rt: HostRuntime) -> Result<(), Fail> {
     let image = image(rt.alloc())?;
     for (line, page) in PRINTED {
-        check_refusals(&rt, line, &image, page, Message::Done)?;
+        check_refusals(&rt, line, &image, 1100, page, Message::Done)?;
     }
     Ok(())
 }

@@ -2,6 +2,7 @@
 
 use super::execute;
 use crate::tests::volume::{PASSPHRASE, SMALL, USUAL, plain_bytes, sealed};
+use crate::tests::volume2::sealed2;
 use luks_command::planning::plan;
 use luks_io::memory::{MemSink, MemSource};
 use luks_report::message::Message;
@@ -13,16 +14,16 @@ use std::test::Fail;
 
 const NEVER: u64 = u64::MAX;
 
-#[test]
-fn writes_the_same_for_all_pieces(rt: HostRuntime) -> Result<(), Fail> {
+const OPENED: &[u8] = b"Key slot 0 opens the volume.\n";
+
+fn check_pieces(rt: &(impl Abort + AllocGlobal), image: &[u8]) -> Result<(), Fail> {
     let alloc = rt.alloc();
-    let image = sealed(alloc, SMALL, PASSPHRASE)?;
     let plain = plain_bytes(alloc)?;
     let words = ["luksCat", "--key-file", "f", "i"];
     let command = plan(alloc, &words).ok().ok_or("a command")?;
     for given in [1, 511, 512, 513, 5000] {
         for taken in [1, 700] {
-            let mut source = Flaky::new(&image, given, NEVER);
+            let mut source = Flaky::new(image, given, NEVER);
             let mut secret = Flaky::new(PASSPHRASE, given, NEVER);
             let mut out = Leaky::new(alloc, 4096, taken, NEVER)?;
             let report = execute(alloc, &command, &mut source, &mut secret, &mut out);
@@ -32,6 +33,12 @@ fn writes_the_same_for_all_pieces(rt: HostRuntime) -> Result<(), Fail> {
         }
     }
     Ok(())
+}
+
+#[test]
+fn writes_the_same_for_all_pieces(rt: HostRuntime) -> Result<(), Fail> {
+    check_pieces(&rt, &sealed(rt.alloc(), SMALL, PASSPHRASE)?)?;
+    check_pieces(&rt, &sealed2(rt.alloc())?)
 }
 
 #[test]
@@ -100,15 +107,19 @@ fn stops_at_a_failed_read(rt: HostRuntime) -> Result<(), Fail> {
 // Runs with one failing call each, counted upwards until a run meets none. Each is told as what
 // failed, and what it wrote is a beginning of the whole: for a failed read of the image the whole
 // sectors that were taken.
-fn check_failures(rt: &(impl Abort + AllocGlobal), name: &str, whole: &[u8]) -> Result<(), Fail> {
+fn check_failures(
+    rt: &(impl Abort + AllocGlobal),
+    name: &str,
+    image: &[u8],
+    whole: &[u8],
+) -> Result<(), Fail> {
     let alloc = rt.alloc();
-    let image = sealed(alloc, SMALL, PASSPHRASE)?;
     let words = [name, "--key-file", "f", "i"];
     let command = plan(alloc, &words).ok().ok_or("a command")?;
     for device in 0..3 {
         for call in 0..600 {
             let at = |which: u32| if which == device { call } else { NEVER };
-            let mut source = Flaky::new(&image, 200, at(0));
+            let mut source = Flaky::new(image, 200, at(0));
             let mut secret = Flaky::new(PASSPHRASE, 5, at(1));
             let mut out = Leaky::new(alloc, 4096, 7, at(2))?;
             let report = execute(alloc, &command, &mut source, &mut secret, &mut out);
@@ -132,45 +143,81 @@ fn check_failures(rt: &(impl Abort + AllocGlobal), name: &str, whole: &[u8]) -> 
 
 #[test]
 fn tells_each_failed_call(rt: HostRuntime) -> Result<(), Fail> {
-    let plain = plain_bytes(rt.alloc())?;
-    check_failures(&rt, "luksCat", &plain)?;
-    check_failures(&rt, "testPassphrase", b"Key slot 0 opens the volume.\n")
+    let alloc = rt.alloc();
+    let plain = plain_bytes(alloc)?;
+    for image in [sealed(alloc, SMALL, PASSPHRASE)?, sealed2(alloc)?] {
+        check_failures(&rt, "luksCat", &image, &plain)?;
+        check_failures(&rt, "testPassphrase", &image, OPENED)?;
+    }
+    Ok(())
 }
 
-// Runs with less and less memory refused, until one meets no refusal. Each refused run answers want
-// of memory, and writes nothing.
+// A run with ample memory.
+fn run_whole(
+    rt: &(impl Abort + AllocGlobal),
+    words: &[&str],
+    image: &[u8],
+    whole: &[u8],
+) -> Result<(), Fail> {
+    let alloc = rt.alloc();
+    let command = plan(alloc, words).ok().ok_or("a command")?;
+    let mut source = MemSource::new(image);
+    let mut secret = MemSource::new(PASSPHRASE);
+    let mut out = MemSink::new(alloc, 4096)?;
+    let report = execute(alloc, &command, &mut source, &mut secret, &mut out);
+    assert_eq!(rt; report, Report::of(Message::Done));
+    assert_eq!(rt; out.as_slice(), whole);
+    Ok(())
+}
+
+// Runs with less and less memory refused, in pieces of so many bytes, until one meets no refusal.
+// Each refused run answers want of memory, and writes nothing.
+fn check_refusals(
+    rt: &(impl Abort + AllocGlobal),
+    name: &str,
+    image: &[u8],
+    piece: usize,
+    whole: &[u8],
+) -> Result<(), Fail> {
+    let alloc = rt.alloc();
+    let words = [name, "--key-file", "f", "i"];
+    let command = plan(alloc, &words).ok().ok_or("a command")?;
+    // The stack grows in a first run, since it cannot once all memory is taken.
+    run_whole(rt, &words, image, whole)?;
+    let mut out = MemSink::new(alloc, 4096)?;
+    let mut reports = Vec::with_capacity(alloc, 400)?;
+    let mut scarcity = Scarcity::new(alloc, 400, piece)?;
+    for _ in 0..400 {
+        let mut source = MemSource::new(image);
+        let mut secret = MemSource::new(PASSPHRASE);
+        let report = execute(alloc, &command, &mut source, &mut secret, &mut out);
+        let done = report.status == 0;
+        let _ = reports.push((report, out.as_slice().len()));
+        if done {
+            break;
+        }
+        scarcity.relent();
+    }
+    drop(scarcity);
+    let last = reports.pop().ok_or("a run")?;
+    assert_eq!(rt; last.0, Report::of(Message::Done), "{name}");
+    assert_eq!(rt; out.as_slice(), whole, "{name}");
+    assert!(rt; 10 < reports.len(), "{name}");
+    for (report, written) in reports.iter() {
+        assert_eq!(rt; *report, Report::of(Message::OutOfMemory), "{name}");
+        assert_eq!(rt; *written, 0, "{name}");
+    }
+    Ok(())
+}
+
 #[test]
 fn answers_memory_where_it_is_refused(rt: HostRuntime) -> Result<(), Fail> {
     let alloc = rt.alloc();
-    let image = sealed(alloc, SMALL, PASSPHRASE)?;
     let plain = plain_bytes(alloc)?;
-    let line: &[u8] = b"Key slot 0 opens the volume.\n";
-    for (name, whole) in [("luksCat", plain.as_slice()), ("testPassphrase", line)] {
-        let words = [name, "--key-file", "f", "i"];
-        let command = plan(alloc, &words).ok().ok_or("a command")?;
-        let mut out = MemSink::new(alloc, 4096)?;
-        let mut reports = Vec::with_capacity(alloc, 400)?;
-        let mut scarcity = Scarcity::new(alloc, 400, 136)?;
-        for _ in 0..400 {
-            let mut source = MemSource::new(&image);
-            let mut secret = MemSource::new(PASSPHRASE);
-            let report = execute(alloc, &command, &mut source, &mut secret, &mut out);
-            let done = report.status == 0;
-            let _ = reports.push((report, out.as_slice().len()));
-            if done {
-                break;
-            }
-            scarcity.relent();
-        }
-        drop(scarcity);
-        let last = reports.pop().ok_or("a run")?;
-        assert_eq!(rt; last.0, Report::of(Message::Done), "{name}");
-        assert_eq!(rt; out.as_slice(), whole, "{name}");
-        assert!(rt; 10 < reports.len(), "{name}");
-        for (report, written) in reports.iter() {
-            assert_eq!(rt; *report, Report::of(Message::OutOfMemory), "{name}");
-            assert_eq!(rt; *written, 0, "{name}");
-        }
-    }
-    Ok(())
+    let first = sealed(alloc, SMALL, PASSPHRASE)?;
+    check_refusals(&rt, "luksCat", &first, 136, &plain)?;
+    check_refusals(&rt, "testPassphrase", &first, 136, OPENED)?;
+    let second = sealed2(alloc)?;
+    check_refusals(&rt, "luksCat", &second, 1100, &plain)?;
+    check_refusals(&rt, "testPassphrase", &second, 1100, OPENED)
 }

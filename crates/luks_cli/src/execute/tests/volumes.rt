@@ -2,6 +2,7 @@
 
 use super::{Ended, check, run};
 use crate::tests::volume::{PASSPHRASE, PLAIN_LEN, SMALL, USUAL, changed, plain_bytes, sealed};
+use crate::tests::volume2::sealed2;
 use std::alloc::{AllocError, Global};
 use std::process::Abort;
 use std::test::Fail;
@@ -114,10 +115,15 @@ fn check_cut(
 #[test]
 fn tells_where_a_payload_is_cut(rt: HostRuntime) -> Result<(), Fail> {
     let alloc = rt.alloc();
-    let image = sealed(alloc, SMALL, PASSPHRASE)?;
     let plain = plain_bytes(alloc)?;
+    let image = sealed(alloc, SMALL, PASSPHRASE)?;
     assert_eq!(rt; image.len(), 38_400);
     for len in 0..PLAIN_LEN + 1 {
+        check_cut(&rt, &image, &plain, len)?;
+    }
+    let image = sealed2(alloc)?;
+    assert_eq!(rt; image.len(), 38_400);
+    for len in [0, 1, 511, 512, 513, 1024, 1535, 1536] {
         check_cut(&rt, &image, &plain, len)?;
     }
     Ok(())
