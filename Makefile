@@ -1,7 +1,7 @@
 # make            builds the program, crates/luksrd/out/luksrd, which proves it and all that it stands on
 # make demo       builds it and reads the sample volume, from a pipe
 # make check      runs the built program on files and pipes, and beside cryptsetup and qemu-img: all of `make test` but the gate
-# make test       what CI runs: the gate, which proves everything from nothing, and beside it `make check` on a copy
+# make test       what CI runs: the gate, which proves everything from nothing, and beside it the same scripts on the program that it builds
 # make bench      measures key derivation, decryption and whole volumes beside other implementations
 # make install    puts the program and its man page below PREFIX (/usr/local where it is not given), in DESTDIR where that is given
 # make uninstall  takes them away again
@@ -11,7 +11,7 @@ PREFIX ?= /usr/local
 BINARIES = $(DESTDIR)$(PREFIX)/bin
 PAGES = $(DESTDIR)$(PREFIX)/share/man/man1
 
-.PHONY: all demo check test bench install uninstall
+.PHONY: all demo check scripts test bench install uninstall
 
 all: $(PROGRAM)
 
@@ -26,7 +26,10 @@ demo: all
 	gzip -dc sample/volume.img.gz | $(PROGRAM) testPassphrase --key-file sample/passphrase -
 	gzip -dc sample/volume.img.gz | $(PROGRAM) luksCat --key-file sample/passphrase -
 
-check: all
+check: all scripts
+
+# The program is taken as it is.
+scripts:
 	tests/packages
 	tests/stripes.sh $(PROGRAM)
 	tests/volumes.sh $(PROGRAM)
