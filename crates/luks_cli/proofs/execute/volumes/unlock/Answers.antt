@@ -95,10 +95,10 @@ returns-clause-err g c written known is pass has on_opened takes =
     let whole = c.in_ok-pass.ensures.ok pass has in
     let short : length pass
     ≤ longest_key_file = omega (arith, ap length whole.0, c.in_ok-pass.pass.ok.0, c.in_ok-pass.ensures.few) in
-    let end = c.held_end.ensures.value in
     let enough = c.in_ok-extend_to.ensures.whole.0 c.if-not-branch.false in
     let tried = sym (rw (c.deref.ensures.value, whole.0) at c.in-Err.ensures.value) in
     rw (c.of_opening.ensures, c.named_slot.ensures)
     (runs_unopened (opening_request c.args.opening.now) known pass _ _ _ _ _ _ read.0 before
     volume.segment volume.order short whole.1 _ _ read.1
-    (rw end at (c.in_ok-extend_to.ensures.taken _ read.2.left)) (rw end at enough) c.in-Err.fault tried on_opened)
+    (rw c.held_end.ensures.value at (c.in_ok-extend_to.ensures.taken _ read.2.left))
+    (rw c.held_end.ensures.value at enough) c.in-Err.fault tried on_opened)
