@@ -123,10 +123,8 @@ for command in luksUUID luksDump luksCheck; do
 done
 same 'both headers damaged: isLuks' "$(told isLuks damaged)" 1
 
-# volumes are not opened yet: the header is read, and no more
-same 'luksCat' "$(told luksCat --key-file pass several)" 'luksrd: no key slot can be tried
-1'
-same 'testPassphrase' "$(told testPassphrase --key-file pass several)" 'luksrd: no key slot can be tried
-1'
+# such a header opens its volume
+same 'several: testPassphrase' "$(told testPassphrase --key-file pass several)" "$(slot_of several pass)
+0"
 
 finish
