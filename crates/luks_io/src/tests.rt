@@ -160,13 +160,23 @@ fn a_failure_is_told_at_once_and_the_next_call_goes_on(rt: HostRuntime) {
     let mut source = ReadSource::new(failing_once());
     assert_eq!(rt; source.read(&mut buf), Err(DeviceFault));
     assert_eq!(rt; source.read(&mut buf), Ok(1));
-    let mut source = ReadSource::new(moving_nothing_once());
-    assert_eq!(rt; source.read(&mut buf), Ok(0));
     for device in [failing_once(), moving_nothing_once()] {
         let mut sink = WriteSink::new(device);
         assert_eq!(rt; sink.write(b"abcd"), Err(DeviceFault));
         assert_eq!(rt; sink.write(b"abcd"), Ok(1));
     }
+}
+
+// The reader would give a byte after its end.
+#[test]
+fn a_reader_ends_once(rt: HostRuntime) {
+    let mut buf = [0u8; 4];
+    let mut source = ReadSource::new(moving_nothing_once());
+    for _ in 0..3 {
+        assert_eq!(rt; source.read(&mut buf), Ok(0));
+    }
+    assert_eq!(rt; fill(&mut source, &mut buf), Ok(0));
+    assert_eq!(rt; buf, [0; 4]);
 }
 
 #[test]

@@ -64,7 +64,8 @@ fn read_counted<D: Reading>(
     }
 }
 
-/// A source over a reader. It knows the bytes that the reader knows.
+/// A source over a reader. It knows the bytes that the reader knows. Once the reader has said that
+/// no bytes are left it is not asked again, so a file that grows or a terminal ends once.
 #[derive(Drop)]
 pub struct ReadSource<R> {
     reader: R,
@@ -88,13 +89,19 @@ impl<R: Read> ReadSource<R> {
 }
 
 impl<R: Read> Source for ReadSource<R> {
-    ghost to_come = { λ s. R.remaining s.reader };
+    ghost use Rattle.luks_io.specs.Reads.{left_of};
+
+    ghost to_come = { λ s. left_of s.ends (R.remaining s.reader) };
 
     ghost failures = { λ s. s.failures };
 
     ghost ends = { λ s. s.ends };
 
     fn read(&mut self, buf: &mut [u8]) -> Result<usize, DeviceFault> {
+        if self.ends > 0 {
+            count_end(&mut self.ends, 0, buf.len());
+            return Ok(0);
+        }
         read_counted(&mut self.reader, buf, &mut self.failures, &mut self.ends)
     }
 }
