@@ -1,4 +1,5 @@
 pub mod MixLemmas
+pub mod PlaneLemmas
 pub mod StateLemmas
 pub mod WayLemmas
 pub mod OutLemmas

@@ -3,8 +3,9 @@ use Rattle.std.proofs.Common.{◌≡◌, ℕ, ◌<◌, arith, refl, sym, ap, ◌
 use Rattle.std.proofs.lemmas.Nat.Bits.{same_from_bits, bit_at_xor}
 use Rattle.luks_aes.specs.Field.{◌⊕◌, ◌•◌, times_x, product_of_bits}
 use Rattle.luks_aes.proofs.Bytes.{same_below}
-use Rattle.luks_aes.proofs.ByteLists.{times_x_byte, xor_byte}
+use Rattle.luks_aes.proofs.ByteLists.{times_x_byte, product_byte, xor_byte}
 use Rattle.luks_aes.proofs.MixingLemmas.{unmixed, times_x_sum}
+use Rattle.luks_blocks.specs.Mixing.{sum_of, even_of, next_of}
 
 -- products by doublings
 times_14 : (x : ℕ) → x < 256 → 14 • x ≡ times_x x ⊕ times_x (times_x x) ⊕ times_x (times_x (times_x x))
@@ -31,18 +32,7 @@ in_doublings : (a b c d : ℕ) → a < 256 → b < 256 → c < 256 → d < 256
     ⊕ (c ⊕ times_x (times_x c) ⊕ times_x (times_x (times_x c))) ⊕ (d ⊕ times_x (times_x (times_x d)))
 in_doublings a b c d p q r s = λ i. times_14 a p i ⊕ times_11 b q i ⊕ times_13 c r i ⊕ times_9 d s i
 
--- ---- what the code computes, of a column's bytes
-abbrev pub pair_of : ℕ → ℕ → ℕ
-pair_of a c = a ⊕ c
-
-abbrev pub sum_of : ℕ → ℕ → ℕ → ℕ → ℕ
-sum_of a b c d = ((a ⊕ c) ⊕ b) ⊕ d
-
-abbrev pub even_of : ℕ → ℕ → ℕ → ℕ → ℕ
-even_of a b c d = times_x (sum_of a b c d) ⊕ (a ⊕ c)
-
-abbrev pub next_of : ℕ → ℕ → ℕ → ℕ → ℕ
-next_of a b c d = (times_x (even_of a b c d) ⊕ a) ⊕ b
+-- ---- the sums
 
 -- sums and their doublings
 sum_doubled : (a b c d : ℕ) → a < 256 → b < 256 → c < 256 → d < 256
@@ -164,3 +154,8 @@ fourth_row a b c d p q r s =
     c (times_x c) (times_x (times_x c)) (times_x (times_x (times_x c))) d (times_x d) (times_x (times_x d))
     (times_x (times_x (times_x d)))
     ∙ sym (in_doublings d a b c s p q r)
+
+pub unmixed_byte : (a b c d : ℕ) → a < 256 → b < 256 → c < 256 → d < 256 → unmixed a b c d < 256
+unmixed_byte a b c d p q r s =
+    xor_byte _ _ (xor_byte _ _ (xor_byte _ _ (product_byte 14 a p) (product_byte 11 b q)) (product_byte 13 c r))
+    (product_byte 9 d s)

@@ -12,7 +12,7 @@ use Rattle.luks_aes.proofs.MixingLemmas.{unmixed}
 use Rattle.luks_aes.proofs.Undone.{xor_twice}
 use Rattle.luks_aes.proofs.UnmixedLemmas.{row_sum, cell_of}
 use Rattle.luks_planes.specs.Planes.{block_of, column_of, turned_place}
-use Rattle.luks_blocks.specs.States.{StandAll, HoldStates, laid}
+use Rattle.luks_blocks.specs.States.{StandAll, HoldStates, HoldTurned, laid}
 use Rattle.luks_planes.proofs.LaneLemmas.{each_below_4}
 use Rattle.luks_blocks.proofs.StateLemmas.{all_also}
 use Rattle.luks_blocks.proofs.WayLemmas.{ordered_below}
@@ -110,23 +110,31 @@ rows_substituted t rows all is =
     ∙ (λ i. inv_sbox (cell (t (turned_block r q low inside i)) r (turned_column r q low inside i)))
     ∙ sym (substituted_cell (t (block_of q)) r (column_of q) low (ordered_below (q / 8 % 4))))
 
+-- a byte of a row with a round key, after InvMixColumns
+laid_unmixed : (t : ℕ → List ℕ) (w : List ℕ) (n r q : ℕ) → ((m : ℕ) → IsBytes (t m)) → IsBytes w → r < 4
+    → unmixed (cells t r q) (cells t ((r + 1) % 4) q) (cells t ((r + 2) % 4) q) (cells t ((r + 3) % 4) q)
+    ⊕ (unmixed_key_byte w n r (column_of q) ⊕ 0x63)
+    ≡ laid (λ m. inv_mix_columns (add_round_key (t m) w n)) 0x63 r q
+laid_unmixed t w n r q all keys low =
+    sym (xor_assoc _ _ 0x63)
+    ∙ ap (λ x. x ⊕ 0x63)
+    (sym (unmixed_cell (t (block_of q)) w n r (column_of q) (all (block_of q)) keys low (ordered_below (q / 8 % 4))))
+
 pub rows_unmixed : (t : ℕ → List ℕ) (w : List ℕ) (n : ℕ) (rows : List (List (List ℕ))) → ((m : ℕ) → IsBytes (t m))
     → IsBytes w
     → StandAll
-    (λ r q. unmixed (cells t r q) (cells t ((r + 1) % 4) q) (cells t ((r + 2) % 4) q) (cells t ((r + 3) % 4) q)
-    ⊕ (unmixed_key_byte w n r (column_of q) ⊕ 0x63))
+    (λ r q. unmixed (cells t r (turned_place r q)) (cells t ((r + 1) % 4) (turned_place r q))
+    (cells t ((r + 2) % 4) (turned_place r q)) (cells t ((r + 3) % 4) (turned_place r q))
+    ⊕ (unmixed_key_byte w n r (column_of (turned_place r q)) ⊕ 0x63))
     rows
-    → HoldStates (λ m. inv_mix_columns (add_round_key (t m) w n)) 0x63 rows
+    → HoldTurned (λ m. inv_mix_columns (add_round_key (t m) w n)) rows
 rows_unmixed t w n rows all keys is = record {
-  stand = all_also _ (laid (λ m. inv_mix_columns (add_round_key (t m) w n)) 0x63) rows is
+  stand = all_also _ (λ r q. laid (λ m. inv_mix_columns (add_round_key (t m) w n)) 0x63 r (turned_place r q)) rows is
       (λ r q low.
-      let state = columns_state (14 ∷ 11 ∷ 13 ∷ 9 ∷ []) _ (added_state (t (block_of q)) w n (all (block_of q)) keys) in
-      xor_byte _ 0x63 (state.bytes.each (r + 4 * column_of q)) (omega arith))
-      (λ r q low inside.
-      sym (xor_assoc _ _ 0x63)
-      ∙ ap (λ x. x ⊕ 0x63)
-      (sym (unmixed_cell (t (block_of q)) w n r (column_of q) (all (block_of q)) keys low
-      (ordered_below (q / 8 % 4)))));
+      let p = turned_place r q in
+      let state = columns_state (14 ∷ 11 ∷ 13 ∷ 9 ∷ []) _ (added_state (t (block_of p)) w n (all (block_of p)) keys) in
+      xor_byte _ 0x63 (state.bytes.each (r + 4 * column_of p)) (omega arith))
+      (λ r q low inside. laid_unmixed t w n r (turned_place r q) all keys low);
 }
 
 pub rows_keyed : (t : ℕ → List ℕ) (w : List ℕ) (n k : ℕ) (rows : List (List (List ℕ))) → k < 256
@@ -153,3 +161,7 @@ rows_plain t rows hold all =
 pub hold_same : (s t : ℕ → List ℕ) (k : ℕ) (rows : List (List (List ℕ))) → ((m : ℕ) → s m ≡ t m) → HoldStates s k rows
     → HoldStates t k rows
 hold_same s t k rows same hold = subst (λ (f : ℕ → List ℕ). HoldStates f k rows) (λ i m. same m i) hold
+
+pub turned_same : (s t : ℕ → List ℕ) (rows : List (List (List ℕ))) → ((m : ℕ) → s m ≡ t m) → HoldTurned s rows
+    → HoldTurned t rows
+turned_same s t rows same hold = subst (λ (f : ℕ → List ℕ). HoldTurned f rows) (λ i m. same m i) hold

@@ -1,12 +1,12 @@
 -- Four rows, of which each stands for bytes.
-use Rattle.std.proofs.Common.{◌≡◌, ℕ, zero, suc, ◌<◌, List, [], ◌∷◌, arith, ap, ◌∙◌}
+use Rattle.std.proofs.Common.{◌≡◌, ℕ, zero, suc, ◌<◌, List, [], ◌∷◌, arith, sym, ap, subst, ◌∙◌}
 use Rattle.std.specs.Prelude.{slice_index_or}
 use Rattle.std.specs.Int.{bit_at}
 use Rattle.luks_planes.specs.Planes.{IsPlane, Stands}
 use Rattle.luks_blocks.specs.States.{StandAll}
 
 -- what stands for bytes stands for equal ones
-plane_also : (y z : ℕ → ℕ) (j : ℕ) (v : List ℕ) → IsPlane y j v → ((q : ℕ) → q < 128 → y q ≡ z q) → IsPlane z j v
+pub plane_also : (y z : ℕ → ℕ) (j : ℕ) (v : List ℕ) → IsPlane y j v → ((q : ℕ) → q < 128 → y q ≡ z q) → IsPlane z j v
 plane_also y z j v is same = record { len = is.len; at = λ q low. is.at q low ∙ ap (λ b. bit_at b j) (same q low) }
 
 pub stands_also : (y z : ℕ → ℕ) (x : List (List ℕ)) → Stands y x → ((q : ℕ) → z q < 256)
@@ -34,3 +34,6 @@ four_rows z a b c d p q r s (suc (suc (suc (suc n)))) low = absurd (omega arith)
 pub four : (z : ℕ → ℕ → ℕ) (a b c d : List (List ℕ)) → Stands (z 0) a → Stands (z 1) b → Stands (z 2) c → Stands (z 3) d
     → StandAll z (a ∷ b ∷ c ∷ d ∷ [])
 four z a b c d p q r s = record { at = four_rows z a b c d p q r s }
+
+pub stands_as : {y : ℕ → ℕ} {a b : List (List ℕ)} → a ≡ b → Stands y b → Stands y a
+stands_as {y} same is = subst (λ (x : List (List ℕ)). Stands y x) (sym same) is

@@ -2,7 +2,7 @@
 use Rattle.std.specs.Prelude.{ℕ, ◌*◌, ◌<◌, List, [], take, drop, slice_index_or}
 use Rattle.luks_aes.specs.Field.{◌⊕◌}
 use Rattle.luks_aes.specs.Aes.{cell}
-use Rattle.luks_planes.specs.Planes.{block_of, column_of, Stands}
+use Rattle.luks_planes.specs.Planes.{block_of, column_of, turned_place, Stands}
 
 -- four rows, the bytes y r q of row r
 pub record StandAll (y : ℕ → ℕ → ℕ) (rows : List (List (List ℕ))) : Type 0 where
@@ -15,6 +15,10 @@ laid s k r q = cell (s (block_of q)) r (column_of q) ⊕ k
 -- the four rows hold the states of 32 blocks, k added to each byte
 pub record HoldStates (s : ℕ → List ℕ) (k : ℕ) (rows : List (List (List ℕ))) : Type 0 where
   pub stand : StandAll (laid s k) rows
+
+-- the same after InvShiftRows, 0x63 added to each byte
+pub record HoldTurned (s : ℕ → List ℕ) (rows : List (List (List ℕ))) : Type 0 where
+  pub stand : StandAll (λ r q. laid s 0x63 r (turned_place r q)) rows
 
 -- block n of a slice
 abbrev pub block_in : List ℕ → ℕ → List ℕ

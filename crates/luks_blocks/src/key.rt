@@ -7,8 +7,8 @@ ghost use Rattle.luks_aes.specs.Bytes.{IsBytes};
 ghost use Rattle.luks_blocks.specs.States.{block_in, HoldStates};
 ghost use Rattle.luks_blocks.specs.RoundKeys.{rows_of, HasRoundKey, HasUnmixedKey, HasUnmixedKeys, IsSliceKey};
 
-use crate::round_key::RoundKey;
-use crate::states::{last_round, unmixed_round, with_key};
+use crate::rows::Rows;
+use crate::states::{last_round, turned, unmixed_round, with_key};
 use crate::ways::{put_rows, rows_of, rows_of_one};
 use luks_aes::AesKey;
 use std::marker::Model;
@@ -25,9 +25,9 @@ const CONSTANT: u8 = 0x63;
 // have 0x63 added to each byte.
 #[derive(Drop)]
 struct RoundKeys {
-    first: RoundKey,
-    between: [RoundKey; MOST],
-    last: RoundKey,
+    first: Rows,
+    between: [Rows; MOST],
+    last: Rows,
 }
 
 /// A key of AES-128, AES-192 or AES-256 (FIPS 197). Contracts see it as its bytes.
@@ -58,23 +58,23 @@ fn block_plus(block: [u8; 16], number: u8) -> [u8; 16]
 }
 
 // Round key `n`, with a number added to each byte.
-fn plain_round_key(key: &AesKey, n: usize, number: u8) -> RoundKey
+fn plain_round_key(key: &AesKey, n: usize, number: u8) -> Rows
     requires { n ≤ rounds_of key.now }
     ensures { HasRoundKey (key_expansion key.now) n number (rows_of result) }
 {
-    RoundKey::new(rows_of_one(block_plus(key.round_key(n), number)))
+    Rows::new(rows_of_one(block_plus(key.round_key(n), number)))
 }
 
 // Round key `n` after InvMixColumns, with 0x63 added to each byte.
-fn unmixed_round_key(key: &AesKey, n: usize) -> RoundKey
+fn unmixed_round_key(key: &AesKey, n: usize) -> Rows
     requires { n ≤ rounds_of key.now }
     ensures { HasUnmixedKey (key_expansion key.now) n 0x63 (rows_of result) }
 {
-    RoundKey::new(rows_of_one(block_plus(key.unmixed_round_key(n), CONSTANT)))
+    Rows::new(rows_of_one(block_plus(key.unmixed_round_key(n), CONSTANT)))
 }
 
 // Fills in the round keys between the first and the last.
-fn fill(key: &AesKey, round_keys: &mut [RoundKey; MOST])
+fn fill(key: &AesKey, round_keys: &mut [Rows; MOST])
     ensures { HasUnmixedKeys (key_expansion key.now) round_keys.new (rounds_of key.now) }
 {
     let rounds = key.rounds();
@@ -100,7 +100,7 @@ fn round_keys(key: &AesKey) -> RoundKeys
 
 // Round key `n` + 1.
 #[inline(always)]
-fn key_between(keys: &RoundKeys, n: usize) -> &RoundKey
+fn key_between(keys: &RoundKeys, n: usize) -> &Rows
     requires { n < MOST }
     ensures { (w : List ℕ) (end : ℕ) → HasUnmixedKeys w keys.now.between end → n + 1 < end
         → HasUnmixedKey w (n + 1) 0x63 (rows_of result.now) }
@@ -121,12 +121,11 @@ fn decrypted_rows(rows: [[u8x16; 8]; 4], rounds: usize, keys: &RoundKeys) -> [[u
         → rounds ≡ rounds_of key → IsBytes key → ((n : ℕ) → IsBytes (s n)) → HoldStates s 0 rows
         → HoldStates (λ n. decrypted key (s n)) 0 result }
 {
-    let mut state = with_key(rows, keys.first.rows());
+    let mut state = Rows::new(turned(with_key(rows, keys.first.rows())));
     for round in (1..rounds).rev() {
-        let next = unmixed_round(state, key_between(keys, round - 1));
-        state = next;
+        unmixed_round(&mut state, key_between(keys, round - 1));
     }
-    last_round(state, &keys.last)
+    last_round(&mut state, &keys.last)
 }
 
 impl SliceKey {

@@ -6,7 +6,8 @@
 #![tactic(auto)]
 
 mod key;
-mod round_key;
+mod mixing;
+mod rows;
 mod states;
 #[cfg(test)]
 mod tests;

@@ -149,10 +149,10 @@ row_3 a b c d k l m n =
     (left d 15 n (omega arith))
     (left d 11 n (omega arith))
 
-first_of : (v w : List ℕ) (k : ℕ) → length v ≡ 16 → k < 16 → slice_index (v ++ w) k ≡ slice_index v k
+pub first_of : (v w : List ℕ) (k : ℕ) → length v ≡ 16 → k < 16 → slice_index (v ++ w) k ≡ slice_index v k
 first_of v w k long low = get_or_append_left v w 0 k (omega arith)
 
-second_of : (v w : List ℕ) (k : ℕ) → length v ≡ 16 → k < 16 → slice_index (v ++ w) (16 + k) ≡ slice_index w k
+pub second_of : (v w : List ℕ) (k : ℕ) → length v ≡ 16 → k < 16 → slice_index (v ++ w) (16 + k) ≡ slice_index w k
 second_of v w k long low =
     let place : 16 + k - 16 ≡ k = omega arith in
     get_or-append_right v w 16 (16 + k) 0 long (omega arith) ∙ ap (slice_index w) place

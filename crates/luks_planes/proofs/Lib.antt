@@ -2,4 +2,5 @@ pub mod GateLemmas
 pub mod Tables
 pub mod RowLemmas
 pub mod LaneLemmas
+pub mod HalfLemmas
 pub mod ExchangeLemmas

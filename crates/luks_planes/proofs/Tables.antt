@@ -5,11 +5,11 @@ use Rattle.std.specs.Int.{bit_at}
 use Rattle.std.specs.Int.Bits.{bit_xor, bit_and, bit_or}
 use Rattle.std.specs.Simd.Lanes.{zip2}
 use Rattle.std.proofs.lemmas.Nat.Bits.{bit_at_xor, bit_at_and, bit_at_or}
-use Rattle.luks_aes.specs.Field.{◌⊕◌, times_x}
+use Rattle.luks_aes.specs.Field.{◌⊕◌}
 use Rattle.luks_aes.specs.Aes.{inv_sbox}
 use Rattle.luks_aes.proofs.Bytes.{same_below}
 use Rattle.luks_aes.proofs.SboxLemmas.{inv_sbox_entry, inv_sbox_byte, inv_sbox_in_table}
-use Rattle.luks_aes.proofs.ByteLists.{xor_byte, times_x_byte}
+use Rattle.luks_aes.proofs.ByteLists.{xor_byte}
 use Rattle.luks_planes.proofs.GateLemmas.{gate_len, gate_bit}
 use Rattle.luks_planes.specs.Planes.{Carries, IsPlane, Stands}
 
@@ -189,77 +189,4 @@ stands_unsubstituted y bytes {a} {b} {c} {d} {e} {f} {g} {h} p0 p1 p2 p3 p4 p5 p
       (value_plane y (λ b. inv_sbox (b ⊕ 0x63)) f 5 _ bytes p5 (λ b low. value_5 b low ∙ inv_sbox_bit 5 b low))
       (value_plane y (λ b. inv_sbox (b ⊕ 0x63)) g 6 _ bytes p6 (λ b low. value_6 b low ∙ inv_sbox_bit 6 b low))
       (value_plane y (λ b. inv_sbox (b ⊕ 0x63)) h 7 _ bytes p7 (λ b low. value_7 b low ∙ inv_sbox_bit 7 b low));
-}
-
--- ---- doubling
-
-double_0 : (b : ℕ) → b < 256 → bit_at 0xffffffffffffffffffffffffffffffff00000000000000000000000000000000 b
-    ≡ bit_at (times_x b) 0
-unfolding times_x
-double_0 = same_below (bit_at 0xffffffffffffffffffffffffffffffff00000000000000000000000000000000)
-    (λ b. bit_at (times_x b) 0) 256 refl
-
-double_1 : (b : ℕ) → b < 256 → bit_at 0x55555555555555555555555555555555aaaaaaaaaaaaaaaaaaaaaaaaaaaaaaaa b
-    ≡ bit_at (times_x b) 1
-unfolding times_x
-double_1 = same_below (bit_at 0x55555555555555555555555555555555aaaaaaaaaaaaaaaaaaaaaaaaaaaaaaaa)
-    (λ b. bit_at (times_x b) 1) 256 refl
-
-double_2 : (b : ℕ) → b < 256 → bit_at 0xcccccccccccccccccccccccccccccccccccccccccccccccccccccccccccccccc b
-    ≡ bit_at (times_x b) 2
-unfolding times_x
-double_2 = same_below (bit_at 0xcccccccccccccccccccccccccccccccccccccccccccccccccccccccccccccccc)
-    (λ b. bit_at (times_x b) 2) 256 refl
-
-double_3 : (b : ℕ) → b < 256 → bit_at 0x0f0f0f0f0f0f0f0f0f0f0f0f0f0f0f0ff0f0f0f0f0f0f0f0f0f0f0f0f0f0f0f0 b
-    ≡ bit_at (times_x b) 3
-unfolding times_x
-double_3 = same_below (bit_at 0x0f0f0f0f0f0f0f0f0f0f0f0f0f0f0f0ff0f0f0f0f0f0f0f0f0f0f0f0f0f0f0f0)
-    (λ b. bit_at (times_x b) 3) 256 refl
-
-double_4 : (b : ℕ) → b < 256 → bit_at 0x00ff00ff00ff00ff00ff00ff00ff00ffff00ff00ff00ff00ff00ff00ff00ff00 b
-    ≡ bit_at (times_x b) 4
-unfolding times_x
-double_4 = same_below (bit_at 0x00ff00ff00ff00ff00ff00ff00ff00ffff00ff00ff00ff00ff00ff00ff00ff00)
-    (λ b. bit_at (times_x b) 4) 256 refl
-
-double_5 : (b : ℕ) → b < 256 → bit_at 0xffff0000ffff0000ffff0000ffff0000ffff0000ffff0000ffff0000ffff0000 b
-    ≡ bit_at (times_x b) 5
-unfolding times_x
-double_5 = same_below (bit_at 0xffff0000ffff0000ffff0000ffff0000ffff0000ffff0000ffff0000ffff0000)
-    (λ b. bit_at (times_x b) 5) 256 refl
-
-double_6 : (b : ℕ) → b < 256 → bit_at 0xffffffff00000000ffffffff00000000ffffffff00000000ffffffff00000000 b
-    ≡ bit_at (times_x b) 6
-unfolding times_x
-double_6 = same_below (bit_at 0xffffffff00000000ffffffff00000000ffffffff00000000ffffffff00000000)
-    (λ b. bit_at (times_x b) 6) 256 refl
-
-double_7 : (b : ℕ) → b < 256 → bit_at 0xffffffffffffffff0000000000000000ffffffffffffffff0000000000000000 b
-    ≡ bit_at (times_x b) 7
-unfolding times_x
-double_7 = same_below (bit_at 0xffffffffffffffff0000000000000000ffffffffffffffff0000000000000000)
-    (λ b. bit_at (times_x b) 7) 256 refl
-
-pub stands_doubled : (y : ℕ → ℕ) → ((q : ℕ) → y q < 256) → {a b c d e f g h : List ℕ}
-    → Carries y a 0xffffffffffffffffffffffffffffffff00000000000000000000000000000000
-    → Carries y b 0x55555555555555555555555555555555aaaaaaaaaaaaaaaaaaaaaaaaaaaaaaaa
-    → Carries y c 0xcccccccccccccccccccccccccccccccccccccccccccccccccccccccccccccccc
-    → Carries y d 0x0f0f0f0f0f0f0f0f0f0f0f0f0f0f0f0ff0f0f0f0f0f0f0f0f0f0f0f0f0f0f0f0
-    → Carries y e 0x00ff00ff00ff00ff00ff00ff00ff00ffff00ff00ff00ff00ff00ff00ff00ff00
-    → Carries y f 0xffff0000ffff0000ffff0000ffff0000ffff0000ffff0000ffff0000ffff0000
-    → Carries y g 0xffffffff00000000ffffffff00000000ffffffff00000000ffffffff00000000
-    → Carries y h 0xffffffffffffffff0000000000000000ffffffffffffffff0000000000000000
-    → Stands (λ q. times_x (y q)) (a ∷ b ∷ c ∷ d ∷ e ∷ f ∷ g ∷ h ∷ [])
-stands_doubled y bytes {a} {b} {c} {d} {e} {f} {g} {h} p0 p1 p2 p3 p4 p5 p6 p7 = record {
-  bytes = λ q. times_x_byte (y q) (bytes q);
-  at = eight (λ q. times_x (y q)) a b c d e f g h
-      (value_plane y times_x a 0 _ bytes p0 double_0)
-      (value_plane y times_x b 1 _ bytes p1 double_1)
-      (value_plane y times_x c 2 _ bytes p2 double_2)
-      (value_plane y times_x d 3 _ bytes p3 double_3)
-      (value_plane y times_x e 4 _ bytes p4 double_4)
-      (value_plane y times_x f 5 _ bytes p5 double_5)
-      (value_plane y times_x g 6 _ bytes p6 double_6)
-      (value_plane y times_x h 7 _ bytes p7 double_7);
 }

@@ -1,7 +1,7 @@
-//! The inverse S-box as a circuit, and doubling in the field, on eight planes.
+//! The inverse S-box as a circuit on eight planes.
 
 ghost use Rattle.std.specs.Prelude.{◌≡◌, ℕ};
-ghost use Rattle.luks_aes.specs.Field.{◌⊕◌, times_x};
+ghost use Rattle.luks_aes.specs.Field.{◌⊕◌};
 ghost use Rattle.luks_aes.specs.Aes.{inv_sbox};
 ghost use Rattle.luks_planes.specs.Planes.{Stands};
 
@@ -129,15 +129,4 @@ pub fn unsubstituted(x: [u8x16; 8]) -> [u8x16; 8]
     let y3 = xor(z38, z40);
     let y0 = xor(z34, z47);
     [y0, y1, y2, y3, y4, y5, y6, y7]
-}
-
-/// Each byte times x (FIPS 197, 4.2).
-#[inline(always)]
-pub fn doubled(x: [u8x16; 8]) -> [u8x16; 8]
-    ensures { (y : ℕ → ℕ) → Stands y x → Stands (λ q. times_x (y q)) result }
-{
-    let y1 = xor(x[0], x[7]);
-    let y3 = xor(x[2], x[7]);
-    let y4 = xor(x[3], x[7]);
-    [x[7], y1, x[1], y3, y4, x[4], x[5], x[6]]
 }

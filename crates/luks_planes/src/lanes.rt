@@ -25,21 +25,25 @@ fn words_high(a: u8x16, b: u8x16) -> u8x16
     )
 }
 
+// Their halves: in lanes of 64 bits, which the compiler moves as they are.
 #[inline(always)]
 fn firsts(a: u8x16, b: u8x16) -> u8x16
     ensures { result ≡ firsts a b }
 {
-    a.shuffle(b, [0, 1, 2, 3, 4, 5, 6, 7, 16, 17, 18, 19, 20, 21, 22, 23])
+    let halves = u64x2::from_le_bytes(a);
+    halves
+        .shuffle(u64x2::from_le_bytes(b), [0, 2])
+        .to_le_bytes()
 }
 
 #[inline(always)]
 fn lasts(a: u8x16, b: u8x16) -> u8x16
     ensures { result ≡ lasts a b }
 {
-    a.shuffle(
-        b,
-        [8, 9, 10, 11, 12, 13, 14, 15, 24, 25, 26, 27, 28, 29, 30, 31],
-    )
+    let halves = u64x2::from_le_bytes(a);
+    halves
+        .shuffle(u64x2::from_le_bytes(b), [1, 3])
+        .to_le_bytes()
 }
 
 // The bytes of a block by rows.

@@ -10,7 +10,10 @@ mod gates;
 mod lanes;
 mod rows;
 
-pub use circuit::{doubled, unsubstituted};
+pub use circuit::unsubstituted;
 pub use exchange::exchanged;
+pub use gates::xor;
 pub use lanes::{gathered, scattered};
-pub use rows::{row_sum, turned_1, turned_2, turned_3};
+pub use rows::{
+    plane_turned_1, plane_turned_2, plane_turned_3, row_sum, turned_1, turned_2, turned_3,
+};

@@ -25,23 +25,25 @@ pub fn row_sum(a: [u8x16; 8], b: [u8x16; 8]) -> [u8x16; 8]
     ]
 }
 
-// Each byte of the vector goes to the place of the column that follows its own by one.
+/// Each byte of the vector goes to the place of the column that follows its own by one.
 #[inline(always)]
-fn plane_turned_1(a: u8x16) -> u8x16
+pub fn plane_turned_1(a: u8x16) -> u8x16
     ensures { (y : ℕ → ℕ) (j : ℕ) → IsPlane y j a → IsPlane (λ q. y (turned_place 1 q)) j result }
 {
     a.swizzle([2, 0, 3, 1, 6, 4, 7, 5, 10, 8, 11, 9, 14, 12, 15, 13])
 }
 
+/// By two.
 #[inline(always)]
-fn plane_turned_2(a: u8x16) -> u8x16
+pub fn plane_turned_2(a: u8x16) -> u8x16
     ensures { (y : ℕ → ℕ) (j : ℕ) → IsPlane y j a → IsPlane (λ q. y (turned_place 2 q)) j result }
 {
     a.swizzle([3, 2, 1, 0, 7, 6, 5, 4, 11, 10, 9, 8, 15, 14, 13, 12])
 }
 
+/// By three.
 #[inline(always)]
-fn plane_turned_3(a: u8x16) -> u8x16
+pub fn plane_turned_3(a: u8x16) -> u8x16
     ensures { (y : ℕ → ℕ) (j : ℕ) → IsPlane y j a → IsPlane (λ q. y (turned_place 3 q)) j result }
 {
     a.swizzle([1, 3, 0, 2, 5, 7, 4, 6, 9, 11, 8, 10, 13, 15, 12, 14])

@@ -6,7 +6,7 @@ use Rattle.luks_aes.proofs.ByteLists.{expansion_bytes}
 use Rattle.luks_aes.proofs.CipherLemmas.{inv_round_after}
 use Rattle.luks_planes.specs.Planes.{column_of}
 use Rattle.luks_blocks.specs.RoundKeys.{rows_of, HasRoundKey, HasUnmixedKey}
-use Rattle.luks_blocks.proofs.RoundLemmas.{cells, after_bytes, rows_keyed, rows_plain, hold_same}
+use Rattle.luks_blocks.proofs.RoundLemmas.{cells, after_bytes, rows_keyed, rows_plain, hold_same, turned_same}
 use Rattle.luks_blocks.proofs.key.decrypted_rows.Goals as goal
 
 pub loop-round-init : goal.loop-round-init
@@ -19,11 +19,13 @@ loop-round-init c =
           let w = key_expansion key in
           let first = subst (λ (x : List (List (List ℕ))). HasRoundKey w (rounds_of key) 0x63 x) (sym c.rows.ensures)
           is.first_key in
-          let keyed = c.with_key-state.ensures (cells s) (λ r q. key_byte w (rounds_of key) r (column_of q) ⊕ 0x63)
+          let keyed = c.with_key.ensures (cells s) (λ r q. key_byte w (rounds_of key) r (column_of q) ⊕ 0x63)
           (rows_plain s c.args.rows hold all) first.stand in
           let held = rows_keyed s w (rounds_of key) 0x63 _ (omega arith) all (expansion_bytes key bytes) keyed in
-          hold_same _ _ 0x63 _ (λ m. ap (add_round_key (s m) w) (sym rounds)
-          ∙ sym (ap (inv_state_after (s m) c.args.rounds w) none)) held;
+          let turned = c.turned.ensures _ held.stand in
+          turned_same _ _ _ (λ m. ap (add_round_key (s m) w) (sym rounds)
+          ∙ sym (ap (inv_state_after (s m) c.args.rounds w) none))
+          (record { stand = c.new-state.ensures _ turned });
     }
 
 pub loop-round-preserved : goal.loop-round-preserved
@@ -39,10 +41,10 @@ loop-round-preserved c =
           let before = l.invariant.hold key s is rounds bytes all hold in
           let place : round - 1 - 1 + 1 ≡ round - 1 = omega arith in
           let between = c.key_between.ensures w (rounds_of key) is.between_keys (omega (arith, rounds)) in
-          let after = c.unmixed_round-next.ensures _ w (round - 1) (λ m. after_bytes (s m) w nr (nr - round) (all m)
+          let after = c.unmixed_round.ensures _ w (round - 1) (λ m. after_bytes (s m) w nr (nr - round) (all m)
           words) words before
           (subst (λ (n : ℕ). HasUnmixedKey w n 0x63 (rows_of c.key_between.result.now)) place between).stand in
-          hold_same _ _ 0x63 _
+          turned_same _ _ _
           (λ m. inv_round_after (s m) w _ nr (nr - round) (nr - (round - 1)) (round - 1) refl (omega arith)
           (omega arith)) after;
     }

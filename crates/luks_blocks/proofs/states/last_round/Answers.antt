@@ -9,11 +9,11 @@ use Rattle.luks_blocks.proofs.states.last_round.Goals as goal
 
 pub returns : goal.returns
 returns c = λ t w n all keys hold kept.
+    let circuit = c.unsubstitute.ensures (λ r q. laid t 0x63 r (turned_place r q)) hold.stand in
+    let substituted = subst (λ (x : List (List (List ℕ))). StandAll (cells (λ m. inv_sub_bytes (inv_shift_rows (t m)))) x)
+    (sym c.rows.ensures) (rows_substituted t _ all circuit) in
     let key = subst (λ (x : List (List (List ℕ))). StandAll (λ r q. key_byte w n r (column_of q) ⊕ 0) x)
-    (sym c.rows.ensures) kept in
-    let turned = c.turned.ensures (laid t 0x63) hold.stand in
-    let circuit = c.all_unsubstituted-substituted.ensures (λ r q. laid t 0x63 r (turned_place r q)) turned in
-    let substituted = rows_substituted t _ all circuit in
+    (sym c.rows-2.ensures) kept in
     rows_keyed (λ m. inv_sub_bytes (inv_shift_rows (t m))) w n 0 _ (omega arith) (λ m. substituted_bytes (t m) (all m))
     keys
     (c.with_key.ensures (cells (λ m. inv_sub_bytes (inv_shift_rows (t m)))) (λ r q. key_byte w n r (column_of q) ⊕ 0)

@@ -1,0 +1,118 @@
+//! InvMixColumns, a round key and InvShiftRows on rows, plane by plane.
+
+ghost use Rattle.std.specs.Prelude.{◌≡◌, ◌+◌, ◌%◌, ◌<◌, ℕ};
+ghost use Rattle.luks_aes.specs.Field.{◌⊕◌, ◌•◌, times_x};
+ghost use Rattle.luks_planes.specs.Planes.{IsPlane, turned_place};
+ghost use Rattle.luks_blocks.specs.Mixing.{sum_of, even_of, next_of, AreBytes, IsOfPlane, HasSums, HasDoubled, unmixed_row};
+ghost use Rattle.luks_blocks.specs.RoundKeys.{rows_of};
+ghost use Rattle.luks_blocks.specs.States.{StandAll};
+
+use crate::rows::{FourPlanes, Rows};
+use luks_planes::{plane_turned_1, plane_turned_2, plane_turned_3, xor};
+use std::simd::prelude::*;
+
+/// One plane of the sums that the rows after InvMixColumns share: of a column's four bytes, of
+/// this doubled and the bytes of even rows, and of that doubled and the first two bytes.
+#[derive(Clone, Copy, Drop)]
+struct Sums {
+    all: u8x16,
+    even: u8x16,
+    step: u8x16,
+}
+
+impl Sums {
+    // The sums of the plane below, to which those of plane 7 come where x^8 is reduced
+    // (FIPS 197, 4.2).
+    #[inline(always)]
+    fn reduced(&self, top: &Sums) -> Sums
+        ensures to_1 { (y : ℕ → ℕ → ℕ) → AreBytes y → HasSums y 0 self.now → HasSums y 7 top.now
+            → HasDoubled y 1 result }
+        ensures to_3 { (y : ℕ → ℕ → ℕ) → AreBytes y → HasSums y 2 self.now → HasSums y 7 top.now
+            → HasDoubled y 3 result }
+        ensures to_4 { (y : ℕ → ℕ → ℕ) → AreBytes y → HasSums y 3 self.now → HasSums y 7 top.now
+            → HasDoubled y 4 result }
+    {
+        Sums {
+            all: xor(self.all, top.all),
+            even: xor(self.even, top.even),
+            step: xor(self.step, top.step),
+        }
+    }
+}
+
+impl FourPlanes {
+    // The plane's sums, of the doubled ones in this plane.
+    #[inline(always)]
+    fn sums(&self, all_doubled: u8x16, even_doubled: u8x16) -> Sums
+        ensures all { (y : ℕ → ℕ → ℕ) (j : ℕ) → IsOfPlane y j self.now
+            → IsPlane (λ q. sum_of (y 0 q) (y 1 q) (y 2 q) (y 3 q)) j result.all }
+        ensures even { (y : ℕ → ℕ → ℕ) (j : ℕ) → IsOfPlane y j self.now
+            → IsPlane (λ q. times_x (sum_of (y 0 q) (y 1 q) (y 2 q) (y 3 q))) j all_doubled
+            → IsPlane (λ q. even_of (y 0 q) (y 1 q) (y 2 q) (y 3 q)) j result.even }
+        ensures step { (y : ℕ → ℕ → ℕ) (j : ℕ) → IsOfPlane y j self.now
+            → IsPlane (λ q. times_x (even_of (y 0 q) (y 1 q) (y 2 q) (y 3 q))) j even_doubled
+            → IsPlane (λ q. next_of (y 0 q) (y 1 q) (y 2 q) (y 3 q)) j result.step }
+    {
+        let ends = xor(self.row_0, self.row_2);
+        let three = xor(ends, self.row_1);
+        let all = xor(three, self.row_3);
+        let even = xor(all_doubled, ends);
+        let with_first = xor(even_doubled, self.row_0);
+        let step = xor(with_first, self.row_1);
+        Sums { all, even, step }
+    }
+
+    // The plane after InvMixColumns, the round key and InvShiftRows, of the doubled sums in this
+    // plane; gives its sums.
+    #[inline(always)]
+    fn unmix(&mut self, key: &FourPlanes, doubled: Sums) -> Sums
+        ensures plane { (y z : ℕ → ℕ → ℕ) (j : ℕ) → AreBytes y → IsOfPlane y j self.old
+            → IsOfPlane z j key.now → HasDoubled y j doubled
+            → IsOfPlane (λ r q. unmixed_row y r (turned_place r q) ⊕ z r (turned_place r q)) j
+            self.new }
+        ensures sums { (y : ℕ → ℕ → ℕ) (j : ℕ) → IsOfPlane y j self.old → HasDoubled y j doubled
+            → HasSums y j result }
+    {
+        let sums = self.sums(doubled.all, doubled.even);
+        let with_all = xor(doubled.step, sums.all);
+        let first = xor(with_all, self.row_0);
+        let second = xor(first, sums.step);
+        let third = xor(first, sums.even);
+        let with_even = xor(second, sums.even);
+        let fourth = xor(with_even, sums.all);
+        self.row_0 = xor(first, key.row_0);
+        self.row_1 = plane_turned_1(xor(second, key.row_1));
+        self.row_2 = plane_turned_2(xor(third, key.row_2));
+        self.row_3 = plane_turned_3(xor(fourth, key.row_3));
+        sums
+    }
+}
+
+// The sums of plane 7, which take those of the planes 5 and 6.
+#[inline(always)]
+fn top_sums(rows: &Rows) -> Sums
+    ensures { (y : ℕ → ℕ → ℕ) → StandAll y (rows_of rows.now) → HasSums y 7 result }
+{
+    let unknown = u8x16::splat(0);
+    let below = rows.plane_5.sums(unknown, unknown);
+    let middle = rows.plane_6.sums(below.all, unknown);
+    rows.plane_7.sums(middle.all, middle.even)
+}
+
+/// InvMixColumns (FIPS 197, 5.3.3), AddRoundKey of a key that went through it, and InvShiftRows.
+#[inline(never)]
+pub fn unmix(rows: &mut Rows, key: &Rows)
+    ensures { (y z : ℕ → ℕ → ℕ) → StandAll y (rows_of rows.old) → StandAll z (rows_of key.now)
+        → StandAll (λ r q. unmixed_row y r (turned_place r q) ⊕ z r (turned_place r q))
+        (rows_of rows.new) }
+{
+    let top = top_sums(rows);
+    let sums_0 = rows.plane_0.unmix(&key.plane_0, top);
+    let sums_1 = rows.plane_1.unmix(&key.plane_1, sums_0.reduced(&top));
+    let sums_2 = rows.plane_2.unmix(&key.plane_2, sums_1);
+    let sums_3 = rows.plane_3.unmix(&key.plane_3, sums_2.reduced(&top));
+    let sums_4 = rows.plane_4.unmix(&key.plane_4, sums_3.reduced(&top));
+    let sums_5 = rows.plane_5.unmix(&key.plane_5, sums_4);
+    let sums_6 = rows.plane_6.unmix(&key.plane_6, sums_5);
+    rows.plane_7.unmix(&key.plane_7, sums_6);
+}

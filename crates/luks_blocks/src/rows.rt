@@ -1,0 +1,240 @@
+//! Four rows of eight planes, as they are kept.
+
+ghost use Rattle.std.specs.Prelude.{◌≡◌, ◌<◌, ℕ};
+ghost use Rattle.luks_aes.specs.Field.{◌⊕◌};
+ghost use Rattle.luks_aes.specs.Aes.{inv_sbox};
+ghost use Rattle.luks_planes.specs.Planes.{Stands};
+ghost use Rattle.luks_blocks.specs.Mixing.{IsOfPlane};
+ghost use Rattle.luks_blocks.specs.States.{StandAll};
+ghost use Rattle.luks_blocks.specs.RoundKeys.{row_0_of, row_1_of, row_2_of, row_3_of, rows_of};
+
+use luks_planes::unsubstituted;
+use std::simd::prelude::*;
+
+/// One plane of each row. (An array of vectors cannot be a field, so each has a name.)
+#[derive(Clone, Copy, Drop)]
+pub struct FourPlanes {
+    pub row_0: u8x16,
+    pub row_1: u8x16,
+    pub row_2: u8x16,
+    pub row_3: u8x16,
+}
+
+/// Four rows of eight planes, kept plane by plane, as the columns are mixed.
+#[derive(Clone, Copy, Drop)]
+pub struct Rows {
+    pub plane_0: FourPlanes,
+    pub plane_1: FourPlanes,
+    pub plane_2: FourPlanes,
+    pub plane_3: FourPlanes,
+    pub plane_4: FourPlanes,
+    pub plane_5: FourPlanes,
+    pub plane_6: FourPlanes,
+    pub plane_7: FourPlanes,
+}
+
+// Plane `j` of the rows.
+#[inline(always)]
+fn plane_at(rows: &[[u8x16; 8]; 4], j: usize) -> FourPlanes
+    requires { j < 8 }
+    ensures { (y : ℕ → ℕ → ℕ) → StandAll y rows.now → IsOfPlane y j result }
+{
+    FourPlanes {
+        row_0: rows[0][j],
+        row_1: rows[1][j],
+        row_2: rows[2][j],
+        row_3: rows[3][j],
+    }
+}
+
+impl Rows {
+    /// These rows.
+    #[inline(always)]
+    pub fn new(rows: [[u8x16; 8]; 4]) -> Rows
+        ensures { (y : ℕ → ℕ → ℕ) → StandAll y rows → StandAll y (rows_of result) }
+    {
+        Rows {
+            plane_0: plane_at(&rows, 0),
+            plane_1: plane_at(&rows, 1),
+            plane_2: plane_at(&rows, 2),
+            plane_3: plane_at(&rows, 3),
+            plane_4: plane_at(&rows, 4),
+            plane_5: plane_at(&rows, 5),
+            plane_6: plane_at(&rows, 6),
+            plane_7: plane_at(&rows, 7),
+        }
+    }
+
+    /// The rows.
+    #[inline(always)]
+    #[tactic(auto, unfolding(crate::specs::RoundKeys::rows_of))]
+    pub fn rows(&self) -> [[u8x16; 8]; 4]
+        ensures { result ≡ rows_of self.now }
+    {
+        [self.row_0(), self.row_1(), self.row_2(), self.row_3()]
+    }
+
+    #[inline(always)]
+    #[tactic(auto, unfolding(crate::specs::RoundKeys::row_0_of))]
+    fn row_0(&self) -> [u8x16; 8]
+        ensures { result ≡ row_0_of self.now }
+    {
+        [
+            self.plane_0.row_0,
+            self.plane_1.row_0,
+            self.plane_2.row_0,
+            self.plane_3.row_0,
+            self.plane_4.row_0,
+            self.plane_5.row_0,
+            self.plane_6.row_0,
+            self.plane_7.row_0,
+        ]
+    }
+
+    #[inline(always)]
+    #[tactic(auto, unfolding(crate::specs::RoundKeys::row_1_of))]
+    fn row_1(&self) -> [u8x16; 8]
+        ensures { result ≡ row_1_of self.now }
+    {
+        [
+            self.plane_0.row_1,
+            self.plane_1.row_1,
+            self.plane_2.row_1,
+            self.plane_3.row_1,
+            self.plane_4.row_1,
+            self.plane_5.row_1,
+            self.plane_6.row_1,
+            self.plane_7.row_1,
+        ]
+    }
+
+    #[inline(always)]
+    #[tactic(auto, unfolding(crate::specs::RoundKeys::row_2_of))]
+    fn row_2(&self) -> [u8x16; 8]
+        ensures { result ≡ row_2_of self.now }
+    {
+        [
+            self.plane_0.row_2,
+            self.plane_1.row_2,
+            self.plane_2.row_2,
+            self.plane_3.row_2,
+            self.plane_4.row_2,
+            self.plane_5.row_2,
+            self.plane_6.row_2,
+            self.plane_7.row_2,
+        ]
+    }
+
+    #[inline(always)]
+    #[tactic(auto, unfolding(crate::specs::RoundKeys::row_3_of))]
+    fn row_3(&self) -> [u8x16; 8]
+        ensures { result ≡ row_3_of self.now }
+    {
+        [
+            self.plane_0.row_3,
+            self.plane_1.row_3,
+            self.plane_2.row_3,
+            self.plane_3.row_3,
+            self.plane_4.row_3,
+            self.plane_5.row_3,
+            self.plane_6.row_3,
+            self.plane_7.row_3,
+        ]
+    }
+
+    // InvSubBytes (FIPS 197, 5.3.2) in row 0, of bytes to which 0x63 was added.
+    #[inline(never)]
+    #[tactic(auto, unfolding(crate::specs::RoundKeys::row_0_of))]
+    fn unsubstitute_0(&mut self)
+        ensures here { (y : ℕ → ℕ) → Stands y (row_0_of self.old)
+            → Stands (λ q. inv_sbox (y q ⊕ 0x63)) (row_0_of self.new) }
+        ensures row_1 { row_1_of self.new ≡ row_1_of self.old }
+        ensures row_2 { row_2_of self.new ≡ row_2_of self.old }
+        ensures row_3 { row_3_of self.new ≡ row_3_of self.old }
+    {
+        let row = unsubstituted(self.row_0());
+        self.plane_0.row_0 = row[0];
+        self.plane_1.row_0 = row[1];
+        self.plane_2.row_0 = row[2];
+        self.plane_3.row_0 = row[3];
+        self.plane_4.row_0 = row[4];
+        self.plane_5.row_0 = row[5];
+        self.plane_6.row_0 = row[6];
+        self.plane_7.row_0 = row[7];
+    }
+
+    // InvSubBytes (FIPS 197, 5.3.2) in row 1, of bytes to which 0x63 was added.
+    #[inline(never)]
+    #[tactic(auto, unfolding(crate::specs::RoundKeys::row_1_of))]
+    fn unsubstitute_1(&mut self)
+        ensures here { (y : ℕ → ℕ) → Stands y (row_1_of self.old)
+            → Stands (λ q. inv_sbox (y q ⊕ 0x63)) (row_1_of self.new) }
+        ensures row_0 { row_0_of self.new ≡ row_0_of self.old }
+        ensures row_2 { row_2_of self.new ≡ row_2_of self.old }
+        ensures row_3 { row_3_of self.new ≡ row_3_of self.old }
+    {
+        let row = unsubstituted(self.row_1());
+        self.plane_0.row_1 = row[0];
+        self.plane_1.row_1 = row[1];
+        self.plane_2.row_1 = row[2];
+        self.plane_3.row_1 = row[3];
+        self.plane_4.row_1 = row[4];
+        self.plane_5.row_1 = row[5];
+        self.plane_6.row_1 = row[6];
+        self.plane_7.row_1 = row[7];
+    }
+
+    // InvSubBytes (FIPS 197, 5.3.2) in row 2, of bytes to which 0x63 was added.
+    #[inline(never)]
+    #[tactic(auto, unfolding(crate::specs::RoundKeys::row_2_of))]
+    fn unsubstitute_2(&mut self)
+        ensures here { (y : ℕ → ℕ) → Stands y (row_2_of self.old)
+            → Stands (λ q. inv_sbox (y q ⊕ 0x63)) (row_2_of self.new) }
+        ensures row_0 { row_0_of self.new ≡ row_0_of self.old }
+        ensures row_1 { row_1_of self.new ≡ row_1_of self.old }
+        ensures row_3 { row_3_of self.new ≡ row_3_of self.old }
+    {
+        let row = unsubstituted(self.row_2());
+        self.plane_0.row_2 = row[0];
+        self.plane_1.row_2 = row[1];
+        self.plane_2.row_2 = row[2];
+        self.plane_3.row_2 = row[3];
+        self.plane_4.row_2 = row[4];
+        self.plane_5.row_2 = row[5];
+        self.plane_6.row_2 = row[6];
+        self.plane_7.row_2 = row[7];
+    }
+
+    // InvSubBytes (FIPS 197, 5.3.2) in row 3, of bytes to which 0x63 was added.
+    #[inline(never)]
+    #[tactic(auto, unfolding(crate::specs::RoundKeys::row_3_of))]
+    fn unsubstitute_3(&mut self)
+        ensures here { (y : ℕ → ℕ) → Stands y (row_3_of self.old)
+            → Stands (λ q. inv_sbox (y q ⊕ 0x63)) (row_3_of self.new) }
+        ensures row_0 { row_0_of self.new ≡ row_0_of self.old }
+        ensures row_1 { row_1_of self.new ≡ row_1_of self.old }
+        ensures row_2 { row_2_of self.new ≡ row_2_of self.old }
+    {
+        let row = unsubstituted(self.row_3());
+        self.plane_0.row_3 = row[0];
+        self.plane_1.row_3 = row[1];
+        self.plane_2.row_3 = row[2];
+        self.plane_3.row_3 = row[3];
+        self.plane_4.row_3 = row[4];
+        self.plane_5.row_3 = row[5];
+        self.plane_6.row_3 = row[6];
+        self.plane_7.row_3 = row[7];
+    }
+
+    /// InvSubBytes (FIPS 197, 5.3.2) of bytes to which 0x63 was added.
+    #[inline(always)]
+    pub fn unsubstitute(&mut self)
+        ensures { (y : ℕ → ℕ → ℕ) → StandAll y (rows_of self.old)
+            → StandAll (λ r q. inv_sbox (y r q ⊕ 0x63)) (rows_of self.new) }
+    {
+        self.unsubstitute_0();
+        self.unsubstitute_1();
+        self.unsubstitute_2();
+        self.unsubstitute_3();
+    }
+}
