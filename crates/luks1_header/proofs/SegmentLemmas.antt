@@ -13,7 +13,7 @@ use Rattle.luks_verdict.specs.declared.refusal.SegmentFault.TheVariants.{Hash as
 use Rattle.luks_verdict.specs.declared.segment.Segment.{Segment}
 use Rattle.luks_verdict.proofs.MadeLemmas.{digest_from-some}
 use Rattle.luks_verdict.proofs.TableLemmas.{first_not}
-use Rattle.luks1_header.specs.Segment1.{fault1_of, is_key_length1, segment1_of, segment_parts1_of}
+use Rattle.luks1_header.specs.Segment1.{fault1_of, is_key_length1, segment1_of, segment_parts1_of, starts_inside}
 use Rattle.luks1_header.specs.Slot1.{digest1_of, digest_parts1_of, hash1_of, mode1_of}
 use Rattle.luks1_header.specs.declared.header.Header1.{Header1}
 
@@ -22,7 +22,7 @@ pub record IsReadable (header : Header1) : Type 0 where
   pub mode : (mode : Mode) × (mode1_of header ≡ Some mode)
   pub hash : (hash : Hash) × (hash1_of header ≡ Some hash)
   pub key : is_key_length1 (mode1_of header) header.key_bytes ≡ true
-  pub behind_header : 592 ≤ 512 * header.payload_offset
+  pub behind_header : header.detached ≡ false → 592 ≤ 512 * header.payload_offset
 
 not_false : (b : Bool) → not b ≡ false → b ≡ true
 not_false true h = refl
@@ -32,22 +32,28 @@ some_from_not_none : {T : Type 0} (o : Option T) → is_none o ≡ false → (t 
 some_from_not_none None h = cc
 some_from_not_none (Some t) h = (t, refl)
 
+-- a payload in the header's image that does not start inside the header starts behind it
+starts_behind : (header : Header1) → starts_inside header ≡ false → header.detached ≡ false
+    → 592 ≤ 512 * header.payload_offset
+unfolding starts_inside
+starts_behind header outside attached = ltb-false (512 * header.payload_offset) 592 (rw attached at outside)
+
 IsReadable-none : (header : Header1) → fault1_of header ≡ None → IsReadable header
 unfolding fault1_of
 IsReadable-none header none =
-    let last : List (Bool × SegmentFault) = (nat_lt (512 * header.payload_offset) 592, Offset) ∷ [] in
+    let last : List (Bool × SegmentFault) = (starts_inside header, Offset) ∷ [] in
     let third : List (Bool × SegmentFault) = (not (is_key_length1 (mode1_of header) header.key_bytes), KeyBytes)
     ∷ last in
     let mode = first_not (is_none (mode1_of header)) Encryption ((is_none (hash1_of header), UnknownHash) ∷ third)
     none in
     let hash = first_not (is_none (hash1_of header)) UnknownHash third mode.1 in
     let key = first_not (not (is_key_length1 (mode1_of header) header.key_bytes)) KeyBytes last hash.1 in
-    let offset = first_not (nat_lt (512 * header.payload_offset) 592) Offset [] key.1 in
+    let offset = first_not (starts_inside header) Offset [] key.1 in
     record {
       mode = some_from_not_none (mode1_of header) mode.0;
       hash = some_from_not_none (hash1_of header) hash.0;
       key = not_false (is_key_length1 (mode1_of header) header.key_bytes) key.0;
-      behind_header = ltb-false (512 * header.payload_offset) 592 offset.0;
+      behind_header = starts_behind header offset.0;
     }
 
 -- its segment

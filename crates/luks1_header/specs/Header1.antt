@@ -1,5 +1,5 @@
 -- The header of LUKS1 (LUKS1 On-Disk Format Specification 1.2.3, section 2.1 and figures 1 to 3).
-use Rattle.std.specs.Prelude.{ℕ, ◌+◌, ◌*◌, ◌==◌, Bool, List, [], ◌∷◌, bytes_eq, map, if◌then◌else◌}
+use Rattle.std.specs.Prelude.{ℕ, ◌+◌, ◌*◌, ◌==◌, Bool, false, List, [], ◌∷◌, bytes_eq, map, if◌then◌else◌}
 use Rattle.luks_area.specs.Field.{at, be32, text_of}
 use Rattle.luks1_header.specs.declared.header.Header1.{Header1}
 use Rattle.luks1_header.specs.declared.header.KeySlot.{KeySlot}
@@ -36,7 +36,7 @@ key_slot_of bytes = record {
 unfoldable pub key_slots_of : List ℕ → List KeySlot
 key_slots_of bytes = map (λ i. key_slot_of (at (208 + 48 * i) 48 bytes)) (0 ∷ 1 ∷ 2 ∷ 3 ∷ 4 ∷ 5 ∷ 6 ∷ 7 ∷ [])
 
--- the header that 592 bytes write
+-- the header that 592 bytes write. It is read as one that stands in the payload's image
 unfoldable pub header1_of : List ℕ → Header1
 header1_of bytes = record {
   cipher_name = text_of (at 8 32 bytes);
@@ -49,4 +49,5 @@ header1_of bytes = record {
   digest_iterations = be32 (at 164 4 bytes);
   uuid = text_of (at 168 40 bytes);
   slots = key_slots_of bytes;
+  detached = false;
 }

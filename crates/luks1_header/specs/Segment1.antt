@@ -1,5 +1,5 @@
 -- Where the payload of LUKS1 lies, or why it cannot be read.
-use Rattle.std.specs.Prelude.{◌*◌, ℕ, not, nat_lt, Bool, false, [], ◌∷◌, Option, Some, None, Result, is_none}
+use Rattle.std.specs.Prelude.{◌*◌, ◌&&◌, ℕ, not, nat_lt, Bool, false, [], ◌∷◌, Option, Some, None, Result, is_none}
 use Rattle.luks_cipher.specs.Sector.{is_mode_key_length}
 use Rattle.luks_cipher.specs.declared.mode.Mode.{Mode}
 use Rattle.luks_verdict.specs.Segment.{refused_or, segment_from}
@@ -18,13 +18,17 @@ abbrev pub is_key_length1 : Option Mode → ℕ → Bool
 is_key_length1 (Some mode) n = is_mode_key_length mode n
 is_key_length1 None n = false
 
+-- the payload starts inside the header, where both stand in one image. (It starts where a sector of 512 bytes does.)
+unfoldable pub starts_inside : Header1 → Bool
+starts_inside header = not header.detached && nat_lt (512 * header.payload_offset) header1_len
+
 -- the first fault of the segment
 unfoldable pub fault1_of : Header1 → Option SegmentFault
 fault1_of header = first_holding (
     (is_none (mode1_of header), Encryption)
     ∷ (is_none (hash1_of header), Hash)
     ∷ (not (is_key_length1 (mode1_of header) header.key_bytes), KeyBytes)
-    ∷ (nat_lt (512 * header.payload_offset) header1_len, Offset)
+    ∷ (starts_inside header, Offset)
     ∷ [])
 
 -- what the header says of the segment: its units are numbered from 0 in sectors of 512 bytes up to the image's end

@@ -56,10 +56,14 @@ digest_parts1_of header = record {
 unfoldable pub digest1_of : Header1 → Option KeyDigest
 digest1_of header = digest_from (digest_parts1_of header)
 
+-- where the payload starts, if it stands in the header's image. Key material ends there at the latest
+unfoldable pub payload1_of : Header1 → Option ℕ
+payload1_of header = if header.detached then None else Some (512 * header.payload_offset)
+
 -- the key material of a slot does not fit. Its area has just the bytes that it needs
 unfoldable pub is_misplaced1 : Header1 → KeySlot → Bool
 is_misplaced1 header slot =
-    is_misplaced header1_len (Some (512 * header.payload_offset)) (512 * slot.offset)
+    is_misplaced header1_len (payload1_of header) (512 * slot.offset)
     (need_of header.key_bytes slot.stripes) (need_of header.key_bytes slot.stripes)
 
 -- the first reason to skip a slot that is not disabled

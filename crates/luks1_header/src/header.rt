@@ -12,7 +12,7 @@ const MAGIC_AND_VERSION: [u8; 8] = [0x4c, 0x55, 0x4b, 0x53, 0xba, 0xbe, 0x00, 0x
 /// The length of a header in bytes.
 pub const HEADER1_LEN: usize = 592;
 
-/// The fields of a header, as they are stored.
+/// The fields of a header, as they are stored, and whether it is detached.
 #[derive(Drop, Debug)]
 pub struct Header1 {
     /// The cipher, as `aes`.
@@ -35,6 +35,9 @@ pub struct Header1 {
     pub uuid: Text<40>,
     /// The key slots.
     pub slots: [KeySlot; 8],
+    /// Whether it stands apart from the payload's image. No header says so of itself: it is read
+    /// as one that does not.
+    pub detached: bool,
 }
 
 /// A key slot, as it is stored.
@@ -132,6 +135,7 @@ impl Header1 {
             digest_iterations: number_at(bytes, 164),
             uuid: text_at(bytes, 168),
             slots: key_slots(bytes),
+            detached: false,
         }
     }
 }

@@ -4,8 +4,8 @@ ghost use Rattle.std.specs.Prelude.{◌≡◌, ◌*◌, option_map, IfOk};
 ghost use Rattle.luks_cipher.specs.Sector.{mode_named};
 ghost use Rattle.luks_verdict.specs.Digest.{is_undigested};
 ghost use Rattle.luks_verdict.specs.Slot.{judgement_of};
-ghost use Rattle.luks1_header.specs.Segment1.{fault1_of, segment1_of};
-ghost use Rattle.luks1_header.specs.Slot1.{digest1_of, hash1_of, is_disabled, is_misplaced1, mode1_of, reason1_of, slot1_at, slot1_of, verdict1_at, verdict1_of};
+ghost use Rattle.luks1_header.specs.Segment1.{fault1_of, segment1_of, starts_inside};
+ghost use Rattle.luks1_header.specs.Slot1.{digest1_of, hash1_of, is_disabled, is_misplaced1, mode1_of, payload1_of, reason1_of, slot1_at, slot1_of, verdict1_at, verdict1_of};
 
 use crate::header::{HEADER1_LEN, Header1, KeySlot, SlotState};
 use luks_cipher::Mode;
@@ -63,6 +63,18 @@ fn place(sector: u32) -> u64
     512 * u64::from(sector)
 }
 
+// Where the payload starts, if it stands in the header's image.
+#[tactic(auto, unfolding(crate::specs::Slot1::payload1_of))]
+fn payload(header: &Header1) -> Option<u64>
+    ensures { result ≡ payload1_of header.now }
+{
+    if header.detached {
+        None
+    } else {
+        Some(place(header.payload_offset))
+    }
+}
+
 // The key material of a slot starts inside the header, or it ends past the payload's start or past
 // what is held.
 #[tactic(auto, unfolding(crate::specs::Slot1::is_misplaced1))]
@@ -70,8 +82,8 @@ fn misplaced1(header: &Header1, slot: &KeySlot) -> bool
     ensures { result ≡ is_misplaced1 header.now slot.now }
 {
     let need = need(header.key_bytes, slot.stripes);
-    let payload = place(header.payload_offset);
-    misplaced(HEADER_END, Some(payload), place(slot.offset), need, need)
+    let payload = payload(header);
+    misplaced(HEADER_END, payload, place(slot.offset), need, need)
 }
 
 // There is no digest to try a slot against, or its iterations are not made.
@@ -180,6 +192,14 @@ pub fn digest(alloc: Global, header: &Header1) -> Result<Option<KeyDigest>, Allo
     Ok(KeyDigest::from_parts(parts))
 }
 
+// The payload starts inside the header, where both stand in one image.
+#[tactic(auto, unfolding(crate::specs::Segment1::starts_inside))]
+fn starts_inside(header: &Header1) -> bool
+    ensures { result ≡ starts_inside header.now }
+{
+    !header.detached && place(header.payload_offset) < HEADER_END
+}
+
 // The first fault of the segment.
 #[tactic(auto, unfolding(crate::specs::Segment1::fault1_of))]
 fn fault(header: &Header1) -> Option<SegmentFault>
@@ -192,7 +212,7 @@ fn fault(header: &Header1) -> Option<SegmentFault>
         Some(SegmentFault::Hash)
     } else if !mode.has_key_length(header.key_bytes as usize) {
         Some(SegmentFault::KeyBytes)
-    } else if place(header.payload_offset) < HEADER_END {
+    } else if starts_inside(header) {
         Some(SegmentFault::Offset)
     } else {
         None

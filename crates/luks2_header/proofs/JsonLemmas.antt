@@ -35,14 +35,15 @@ first_is valid reach (here ∷ places) place is = by (valid here) refl (first_is
       (ap valid (sym same) ∙ e, omega (arith, ap reach same))
   by false e behind = (let rest = behind (rw e at is) in (rest.0, rw e (omega (arith, rest.1))))
 
--- what the fields of a header say of its place and its length
+-- what the fields of a header say of its place, its length and the payload's image
 made_of : (place : Place) (finding : Option Finding) (binary : List ℕ) (header : Header2)
-    → header_in place finding binary ≡ Some header → (header.place ≡ place) × (header.size ≡ size_in binary)
+    → header_in place finding binary ≡ Some header
+    → (header.place ≡ place) × (header.size ≡ size_in binary) × (header.detached ≡ false)
 unfolding header_in
 made_of place finding binary header is = by (hash_in binary) refl where
   by : (known : Option Hash) → hash_in binary ≡ known
-      → (header.place ≡ place) × (header.size ≡ size_in binary)
-  by (Some hash) e = (let made = rw e at is in (cc, cc))
+      → (header.place ≡ place) × (header.size ≡ size_in binary) × (header.detached ≡ false)
+  by (Some hash) e = (let made = rw e at is in (cc, cc, cc))
   by None e = absurd (let made = rw e at is in cc)
 
 -- the header stands at this place of the image, where it is valid, and that is looked at as far as it goes
@@ -51,6 +52,7 @@ record Stands (image : List ℕ) (header : Header2) (place : ℕ) : Type 0 where
   pub here : place_of header.place header.size ≡ place
   pub size : header.size ≡ size_at image place
   pub reached : place + header.size ≤ reach2_of image
+  pub attached : header.detached ≡ false
 
 -- the sequence number of the header at a place
 abbrev sequence_at : List ℕ → ℕ → ℕ
@@ -67,6 +69,7 @@ module _ (image : List ℕ) (header : Header2) where
         here = ap (λ p. place_of p header.size) made.0;
         size = made.1;
         reached = omega (arith, made.1, reach_primary image valid);
+        attached = made.2;
       }
 
   -- a secondary header, which is as long as its place says
@@ -82,6 +85,7 @@ module _ (image : List ℕ) (header : Header2) where
         here = ap (λ p. place_of p header.size) made.0 ∙ made.1 ∙ own;
         size = made.1;
         reached = omega (arith, made.1, own, reach);
+        attached = made.2;
       }
 
   -- the header of an image with a valid primary one
@@ -149,6 +153,10 @@ size_range image header is =
     let it = stands image header is in
     let range = valid_range image it.0 it.1.valid in
     (omega (arith, range.1, it.1.size), omega (arith, range.2, it.1.size))
+
+-- it is read as one that stands in the payload's image
+pub read_attached : (image : List ℕ) (header : Header2) → header2_of image ≡ Ok header → header.detached ≡ false
+read_attached image header is = (stands image header is).1.attached
 
 -- and it ends with its JSON area within the bytes that were read to choose it
 pub json_within : (image : List ℕ) (header : Header2) → header2_of image ≡ Ok header

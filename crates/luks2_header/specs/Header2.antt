@@ -1,5 +1,5 @@
 -- The binary header of LUKS2: its fields (LUKS2 On-Disk Format Specification 1.1, section 2.1).
-use Rattle.std.specs.Prelude.{ℕ, ◌*◌, List, [], ◌∷◌, Option, option_map}
+use Rattle.std.specs.Prelude.{ℕ, ◌*◌, false, List, [], ◌∷◌, Option, option_map}
 use Rattle.luks_area.specs.Field.{at, be64, text_of}
 use Rattle.luks_kdf.specs.Hash.{hash_named}
 use Rattle.luks_kdf.specs.declared.hash.Hash.{Hash}
@@ -32,7 +32,8 @@ hash_in binary = hash_named (text_of (at 72 32 binary))
 unfoldable pub place_in : List ℕ → ℕ
 place_in binary = be64 (at 256 8 binary)
 
--- the header that 4096 bytes write, where the hash function is known
+-- the header that 4096 bytes write, where the hash function is known. It is read as one that stands in the payload's
+-- image
 unfoldable pub header_in : Place → Option Finding → List ℕ → Option Header2
 header_in place finding binary =
     option_map (λ hash. record {
@@ -45,6 +46,7 @@ header_in place finding binary =
       uuid = text_of (at 168 40 binary);
       subsystem = text_of (at 208 48 binary);
       finding = finding;
+      detached = false;
     }) (hash_in binary)
 
 -- the first byte behind both headers of an image

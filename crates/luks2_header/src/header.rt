@@ -32,7 +32,7 @@ pub enum Finding {
     SequencesDiffer,
 }
 
-/// The fields of a header, as they are stored.
+/// The fields of a header, as they are stored, and whether it is detached.
 #[derive(Drop, Debug)]
 pub struct Header2 {
     /// Where it stands.
@@ -53,6 +53,9 @@ pub struct Header2 {
     pub subsystem: Text<48>,
     /// What is amiss with the two headers, if anything.
     pub finding: Option<Finding>,
+    /// Whether it stands apart from the payload's image. No header says so of itself: it is read
+    /// as one that does not.
+    pub detached: bool,
 }
 
 /// The hash function of a header's checksum, where its name is known.
@@ -114,6 +117,7 @@ impl Header2 {
             uuid: text_at(binary, 168),
             subsystem: text_at(binary, 208),
             finding,
+            detached: false,
         })
     }
 

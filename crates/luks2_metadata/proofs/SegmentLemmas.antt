@@ -1,11 +1,13 @@
 -- The segment of a header.
-use Rattle.std.proofs.Common.{◌≡◌, ◌∙◌, ◌≢◌, ◌≤◌, ℕ, Bool, false, List, [], ◌∷◌, Option, Some, None, Ok, Ordering, Less, Equal, Greater, String, Global, nat_cmp, is_eq, ap, subst, sym, refl, arith, length}
-use Rattle.std.specs.Prelude.{◌==◌, codes, is_none, option_map, if◌then◌else◌, string_bytes}
+use Rattle.std.proofs.Common.{◌≡◌, ◌∙◌, ◌≢◌, ◌≤◌, ℕ, Bool, false, List, [], ◌∷◌, Option, Some, None, Result, Ok, Ordering, Less, Equal, Greater, String, Global, nat_cmp, is_eq, ap, subst, sym, refl, arith, length}
+use Rattle.std.specs.Prelude.{◌==◌, ◌%◌, ◌||◌, not, nat_lt, codes, is_none, option_map, if◌then◌else◌, string_bytes}
 use Rattle.std.specs.Cmp.Lexicographic.{slice_cmp}
 use Rattle.std.specs.Ordering.{match_ordering}
+use Rattle.std.specs.Result.{result_ok}
 use Rattle.std.proofs.lemmas.Map.Text.{is_eq-slice_cmp}
 use Rattle.std.proofs.lemmas.Bool.{ne_eqb}
-use Rattle.luks2_metadata.specs.Segment2.{are_none, fault2_of, has_requirement, is_empty_list, offset_of, only_member, payload2_of, payload_mode2_of, segment2_of, segment_faults, segment_parts2_of, segment_said, starts_wrong, the_segment}
+use Rattle.luks2_metadata.specs.Segment2.{are_none, fault2_of, has_requirement, is_empty_list, offset_of, only_member, payload2_of, payload_mode2_of, segment2_of, segment_faults, segment_parts2_of, segment_said, starts_inside, starts_wrong, the_segment}
+use Rattle.luks2_metadata.specs.declared.bounds.Bounds.{Bounds}
 use Rattle.luks_cipher.specs.declared.mode.Mode.{Mode}
 use Rattle.luks_verdict.proofs.TableLemmas.{first_not}
 use Rattle.luks_verdict.specs.Evidence.{where_true}
@@ -113,27 +115,40 @@ none_holds ((holds, name) ∷ lines) none =
     let first = first_not holds name lines none in
     (first.0, none_holds lines first.1)
 
-starts_right : (end offset : ℕ) → starts_wrong end (Some offset) ≡ false → end ≤ offset
-unfolding starts_wrong
-starts_right end offset is = grind (arith, nat_tests)
+-- a payload in the header's image that does not start wrong starts behind the header
+starts_right : (bounds : Bounds) (offset : ℕ) → starts_wrong bounds (Some offset) ≡ false → bounds.detached ≡ false
+    → bounds.end ≤ offset
+unfolding starts_wrong starts_inside
+starts_right bounds offset is attached =
+    let right : (nat_lt offset bounds.end || not (offset % 512 == 0)) ≡ false = rw attached at is in
+    grind (arith, nat_tests)
 
--- a segment that is not refused starts behind the header, and is what key slots are judged by
-pub record IsSegment2 (tree : Data) (end : ℕ) (segment : Segment) : Type 0 where
-  pub start : payload2_of tree end ≡ Some segment.offset
-  pub mode : payload_mode2_of tree end ≡ Some segment.mode
-  pub behind_header : end ≤ segment.offset
+-- key material ends where it starts at the latest
+payload_starts : (tree : Data) (bounds : Bounds) (segment : Segment) → segment2_of tree bounds ≡ Ok segment
+    → bounds.detached ≡ false → payload2_of tree bounds ≡ Some segment.offset
+unfolding payload2_of
+payload_starts tree bounds segment is attached =
+    let offset_in : Result Segment SegmentFault → Option ℕ = λ read. option_map (λ (s : Segment). s.offset) (result_ok read) in
+    subst (λ detached. (if detached then None else offset_in (segment2_of tree bounds)) ≡ Some segment.offset)
+    (sym attached) (ap offset_in is)
 
-pub segment2-ok : (tree : Data) (end : ℕ) (segment : Segment) → segment2_of tree end ≡ Ok segment
-    → IsSegment2 tree end segment
+-- a segment that is not refused is what key slots are judged by, and in the header's image it starts behind the header
+pub record IsSegment2 (tree : Data) (bounds : Bounds) (segment : Segment) : Type 0 where
+  pub start : bounds.detached ≡ false → payload2_of tree bounds ≡ Some segment.offset
+  pub mode : payload_mode2_of tree bounds ≡ Some segment.mode
+  pub behind_header : bounds.detached ≡ false → bounds.end ≤ segment.offset
+
+pub segment2-ok : (tree : Data) (bounds : Bounds) (segment : Segment) → segment2_of tree bounds ≡ Ok segment
+    → IsSegment2 tree bounds segment
 unfolding segment2_of payload2_of payload_mode2_of fault2_of segment_from segment_parts2_of
-segment2-ok tree end segment is =
-    let made = made_from (fault2_of tree end) (segment_from (segment_parts2_of (segment_said tree))) segment is in
+segment2-ok tree bounds segment is =
+    let made = made_from (fault2_of tree bounds) (segment_from (segment_parts2_of (segment_said tree))) segment is in
     let all = none_holds ((has_requirement tree, Requirement) ∷ (is_none (the_segment tree), Segments)
-    ∷ segment_faults end (segment_said tree)) made.0 in
+    ∷ segment_faults bounds (segment_said tree)) made.0 in
     let offset : offset_of (segment_said tree) ≡ Some segment.offset = offset_made _ _ _ _ _ segment made.1 in
-    let wrong : starts_wrong end (offset_of (segment_said tree)) ≡ false = all.1.1.1.1.1.1.1.0 in
+    let wrong : starts_wrong bounds (offset_of (segment_said tree)) ≡ false = all.1.1.1.1.1.1.1.0 in
     record {
-      start = rw is refl;
+      start = payload_starts tree bounds segment is;
       mode = rw is refl;
-      behind_header = starts_right end segment.offset (subst (λ o. starts_wrong end o ≡ false) offset wrong);
+      behind_header = starts_right bounds segment.offset (subst (λ o. starts_wrong bounds o ≡ false) offset wrong);
     }

@@ -23,6 +23,7 @@ use Rattle.luks2_metadata.proofs.SegmentLemmas.{none_holds}
 use Rattle.luks2_members.specs.Encryption.{is_length_for}
 use Rattle.luks2_members.specs.Member.{is_type}
 use Rattle.luks2_metadata.specs.Digest2.{digest2_for}
+use Rattle.luks2_metadata.specs.declared.bounds.Bounds.{Bounds}
 use Rattle.luks2_metadata.specs.Segment2.{payload2_of, payload_mode2_of}
 use Rattle.luks2_metadata.specs.Slot2.{slot_reasons, af_hash_of, are_key_sizes, area_key_size_of, area_mode_of, area_offset_of, area_size_of, has_members, has_unknown_hash, is_kdf_type, is_misplaced2, iterations_of, kdf_hash_of, key_size_of, priority_of, reason2_of, slot2_at, slot2_of, slot_parts2_of, stripes_of, verdict2_at, verdict2_of}
 use Rattle.serde_json.specs.Data.{Data}
@@ -55,7 +56,7 @@ not_not false is = absurd cc
 
 -- ---- none of the lines of its table holds
 
-pub record NoReason (tree : Data) (end : ℕ) (limit : Option ℕ) (number : ℕ) (slot : Data) : Type 0 where
+pub record NoReason (tree : Data) (bounds : Bounds) (limit : Option ℕ) (number : ℕ) (slot : Data) : Type 0 where
   pub kind : not (is_type (codes "luks2") slot) ≡ false
   pub members : not (has_members slot) ≡ false
   pub argon2i : is_kdf_type (codes "argon2i") slot ≡ false
@@ -63,17 +64,17 @@ pub record NoReason (tree : Data) (end : ℕ) (limit : Option ℕ) (number : ℕ
   pub kdf : not (is_kdf_type (codes "pbkdf2") slot) ≡ false
   pub hash : has_unknown_hash slot ≡ false
   pub encryption : is_none (area_mode_of slot) ≡ false
-  pub key_size : not (are_key_sizes (payload_mode2_of tree end) slot) ≡ false
+  pub key_size : not (are_key_sizes (payload_mode2_of tree bounds) slot) ≡ false
   pub stripes : is_unstriped (stripes_of slot) ≡ false
   pub iterations : is_beyond limit (iterations_of slot) ≡ false
-  pub area : is_misplaced2 end (payload2_of tree end) slot ≡ false
+  pub area : is_misplaced2 bounds.end (payload2_of tree bounds) slot ≡ false
   pub digest : is_undigested limit (digest2_for tree number) ≡ false
 
-pub no_reason : (tree : Data) (end : ℕ) (limit : Option ℕ) (number : ℕ) (slot : Data)
-    → reason2_of tree end limit number slot ≡ None → NoReason tree end limit number slot
+pub no_reason : (tree : Data) (bounds : Bounds) (limit : Option ℕ) (number : ℕ) (slot : Data)
+    → reason2_of tree bounds limit number slot ≡ None → NoReason tree bounds limit number slot
 unfolding reason2_of
-no_reason tree end limit number slot none =
-    let all = none_holds (slot_reasons tree end limit number slot) none in
+no_reason tree bounds limit number slot none =
+    let all = none_holds (slot_reasons tree bounds limit number slot) none in
     record {
       kind = all.0;
       members = all.1.0;
@@ -90,10 +91,10 @@ no_reason tree end limit number slot none =
     }
 
 -- so its numbers are in range
-pub range_of : (tree : Data) (end : ℕ) (limit : Option ℕ) (number : ℕ) (slot : Data)
-    → NoReason tree end limit number slot → are_in_range (slot_parts2_of slot) ≡ true
+pub range_of : (tree : Data) (bounds : Bounds) (limit : Option ℕ) (number : ℕ) (slot : Data)
+    → NoReason tree bounds limit number slot → are_in_range (slot_parts2_of slot) ≡ true
 unfolding is_in_range is_beyond is_unstriped slot_parts2_of is_misplaced2 is_misplaced
-range_of tree end limit number slot none =
+range_of tree bounds limit number slot none =
     let area = none.area in
     let stripes = none.stripes in
     let iterations = none.iterations in
@@ -111,10 +112,10 @@ unfolding is_undigested
 undigested_none limit None is = is
 undigested_none limit (Some digest) is = beyond_none limit digest.iterations is
 
-pub no_reason_none : (tree : Data) (end : ℕ) (limit : Option ℕ) (number : ℕ) (slot : Data)
-    → NoReason tree end limit number slot → reason2_of tree end None number slot ≡ None
+pub no_reason_none : (tree : Data) (bounds : Bounds) (limit : Option ℕ) (number : ℕ) (slot : Data)
+    → NoReason tree bounds limit number slot → reason2_of tree bounds None number slot ≡ None
 unfolding reason2_of
-no_reason_none tree end limit number slot none =
+no_reason_none tree bounds limit number slot none =
     rw (
       none.kind,
       none.members,
@@ -131,23 +132,23 @@ no_reason_none tree end limit number slot none =
     ) refl
 
 -- and it can be opened
-pub slot_there : (tree : Data) (end : ℕ) (limit : Option ℕ) (number : ℕ) (slot : Data)
-    → reason2_of tree end limit number slot ≡ None
+pub slot_there : (tree : Data) (bounds : Bounds) (limit : Option ℕ) (number : ℕ) (slot : Data)
+    → reason2_of tree bounds limit number slot ≡ None
     → (is : are_in_range (slot_parts2_of slot) ≡ true)
-    × (slot2_of tree end number slot ≡ Some (slot_of (slot_parts2_of slot) is))
+    × (slot2_of tree bounds number slot ≡ Some (slot_of (slot_parts2_of slot) is))
 unfolding slot2_of
-slot_there tree end limit number slot none =
-    let no = no_reason tree end limit number slot none in
-    let is = range_of tree end limit number slot no in
-    (is, rw (no_reason_none tree end limit number slot no) (slot_from-yes (slot_parts2_of slot) is))
+slot_there tree bounds limit number slot none =
+    let no = no_reason tree bounds limit number slot none in
+    let is = range_of tree bounds limit number slot no in
+    (is, rw (no_reason_none tree bounds limit number slot no) (slot_from-yes (slot_parts2_of slot) is))
 
 -- what becomes of it, without what it takes to open it
-pub judged_usable : (tree : Data) (end : ℕ) (limit : Option ℕ) (number : ℕ) (slot : Data)
-    → reason2_of tree end limit number slot ≡ None
-    → judgement_of (verdict2_of tree end limit number slot) ≡ Open (unwrap_or (priority_of slot) 0)
+pub judged_usable : (tree : Data) (bounds : Bounds) (limit : Option ℕ) (number : ℕ) (slot : Data)
+    → reason2_of tree bounds limit number slot ≡ None
+    → judgement_of (verdict2_of tree bounds limit number slot) ≡ Open (unwrap_or (priority_of slot) 0)
 unfolding verdict2_of slot_of slot_parts2_of
-judged_usable tree end limit number slot none =
-    let there = slot_there tree end limit number slot none in
+judged_usable tree bounds limit number slot none =
+    let there = slot_there tree bounds limit number slot none in
     rw (none, there.1) refl
 
 -- the lengths of its keys, its stripes and its iterations fit into four bytes
@@ -161,11 +162,11 @@ iterations_few : (limit : Option ℕ) (iterations : ℕ) → is_beyond limit ite
 unfolding is_beyond
 iterations_few limit iterations is = grind (arith, nat_tests)
 
-pub small_of : (tree : Data) (end : ℕ) (number : ℕ) (slot : Data) → reason2_of tree end None number slot ≡ None
+pub small_of : (tree : Data) (bounds : Bounds) (number : ℕ) (slot : Data) → reason2_of tree bounds None number slot ≡ None
     → IsSmall slot
-small_of tree end number slot none =
-    let no = no_reason tree end None number slot none in
-    let keys = key_sizes_few (payload_mode2_of tree end) slot (not_not (are_key_sizes (payload_mode2_of tree end) slot)
+small_of tree bounds number slot none =
+    let no = no_reason tree bounds None number slot none in
+    let keys = key_sizes_few (payload_mode2_of tree bounds) slot (not_not (are_key_sizes (payload_mode2_of tree bounds) slot)
     no.key_size) in
     record {
       iterations = iterations_few None (iterations_of slot) no.iterations;
@@ -178,14 +179,14 @@ small_of tree end number slot none =
 
 -- what it takes to open it is of the header: its hash functions and the area's mode are known ones, its keys have
 -- lengths of the modes, its key material lies behind the header and before the payload, and there is a digest
-pub record IsOf2 (tree : Data) (end number : ℕ) (usable : Slot) : Type 0 where
+pub record IsOf2 (tree : Data) (bounds : Bounds) (number : ℕ) (usable : Slot) : Type 0 where
   pub kdf : (hash : Hash) × (usable.parts.kdf_hash ≡ Some hash)
   pub af : (hash : Hash) × (usable.parts.af_hash ≡ Some hash)
   pub area : (mode : Mode) × (usable.parts.area_mode ≡ Some mode)
       × (is_mode_key_length mode usable.parts.area_key_bytes ≡ true)
-  pub volume_key : is_length_for (payload_mode2_of tree end) usable.parts.key_bytes ≡ true
-  pub behind_header : end ≤ usable.parts.area_offset
-  pub before_payload : exceeds (payload2_of tree end) (end_of usable) ≡ false
+  pub volume_key : is_length_for (payload_mode2_of tree bounds) usable.parts.key_bytes ≡ true
+  pub behind_header : bounds.end ≤ usable.parts.area_offset
+  pub before_payload : exceeds (payload2_of tree bounds) (end_of usable) ≡ false
   pub digest : (digest : KeyDigest) × (digest2_for tree number ≡ Some digest)
 
 some_from_not_none : {T : Type 0} (o : Option T) → is_none o ≡ false → (x : T) × (o ≡ Some x)
@@ -232,20 +233,20 @@ of_verdict (Some reason) made usable is = absurd cc
 of_verdict None (Some made) usable is = (refl, cc)
 of_verdict None None usable is = absurd cc
 
-usable_is : (tree : Data) (end : ℕ) (limit : Option ℕ) (number : ℕ) (slot : Data) (usable : Slot)
-    → verdict2_of tree end limit number slot ≡ Usable usable
-    → IsOf2 tree end number usable × (slot2_of tree end number slot ≡ Some usable)
+usable_is : (tree : Data) (bounds : Bounds) (limit : Option ℕ) (number : ℕ) (slot : Data) (usable : Slot)
+    → verdict2_of tree bounds limit number slot ≡ Usable usable
+    → IsOf2 tree bounds number usable × (slot2_of tree bounds number slot ≡ Some usable)
 unfolding verdict2_of slot_of slot_parts2_of are_key_sizes is_misplaced2
-usable_is tree end limit number slot usable is =
-    let verdict = of_verdict (reason2_of tree end limit number slot) (slot2_of tree end number slot) usable is in
-    let no = no_reason tree end limit number slot verdict.0 in
-    let there = slot_there tree end limit number slot verdict.0 in
+usable_is tree bounds limit number slot usable is =
+    let verdict = of_verdict (reason2_of tree bounds limit number slot) (slot2_of tree bounds number slot) usable is in
+    let no = no_reason tree bounds limit number slot verdict.0 in
+    let there = slot_there tree bounds limit number slot verdict.0 in
     let same : usable ≡ slot_of (slot_parts2_of slot) there.0 = same_Some _ _ (sym verdict.1 ∙ there.1) in
     let hashes = known_hashes slot no.hash in
     let sizes = both _ _ (not_not _ no.key_size) in
-    let place = placed end (payload2_of tree end) (area_offset_of slot) (area_size_of slot)
+    let place = placed bounds.end (payload2_of tree bounds) (area_offset_of slot) (area_size_of slot)
     (need_of (key_size_of slot) (stripes_of slot)) no.area in
-    let known : IsOf2 tree end number (slot_of (slot_parts2_of slot) there.0) = record {
+    let known : IsOf2 tree bounds number (slot_of (slot_parts2_of slot) there.0) = record {
       kdf = hashes.0;
       af = hashes.1;
       area = known_area (area_mode_of slot) (area_key_size_of slot) no.encryption sizes.0;
@@ -254,16 +255,16 @@ usable_is tree end limit number slot usable is =
       before_payload = place.1;
       digest = digest_there limit (digest2_for tree number) no.digest;
     } in
-    (subst (IsOf2 tree end number) (sym same) known, verdict.1)
+    (subst (IsOf2 tree bounds number) (sym same) known, verdict.1)
 
 -- of the slot of a number
-pub usable2_at : (tree : Data) (end : ℕ) (limit : Option ℕ) (number : ℕ) (usable : Slot)
-    → verdict2_at tree end limit number ≡ Some (Usable usable)
-    → IsOf2 tree end number usable × (slot2_at tree end number ≡ Some usable)
+pub usable2_at : (tree : Data) (bounds : Bounds) (limit : Option ℕ) (number : ℕ) (usable : Slot)
+    → verdict2_at tree bounds limit number ≡ Some (Usable usable)
+    → IsOf2 tree bounds number usable × (slot2_at tree bounds number ≡ Some usable)
 unfolding verdict2_at slot2_at
-usable2_at tree end limit number usable is = of_slot (numbered (codes "keyslots") tree number) is
+usable2_at tree bounds limit number usable is = of_slot (numbered (codes "keyslots") tree number) is
   where
-    of_slot : (slot : Option Data) → option_map (verdict2_of tree end limit number) slot ≡ Some (Usable usable)
-        → IsOf2 tree end number usable × (option_and_then (slot2_of tree end number) slot ≡ Some usable)
+    of_slot : (slot : Option Data) → option_map (verdict2_of tree bounds limit number) slot ≡ Some (Usable usable)
+        → IsOf2 tree bounds number usable × (option_and_then (slot2_of tree bounds number) slot ≡ Some usable)
     of_slot None h = absurd cc
-    of_slot (Some slot) h = usable_is tree end limit number slot usable (same_Some _ _ h)
+    of_slot (Some slot) h = usable_is tree bounds limit number slot usable (same_Some _ _ h)

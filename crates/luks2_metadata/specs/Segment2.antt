@@ -12,6 +12,7 @@ use Rattle.luks_verdict.specs.declared.sector_size.SectorSize.{SectorSize as Sec
 use Rattle.luks_verdict.specs.declared.sector_size.SectorSize.TheVariants.{B512, B1024, B2048, B4096}
 use Rattle.luks_verdict.specs.declared.segment.Segment.{Segment}
 use Rattle.luks_verdict.specs.declared.segment.SegmentParts.{SegmentParts}
+use Rattle.luks2_metadata.specs.declared.bounds.Bounds.{Bounds}
 use Rattle.luks2_members.specs.Member.{decimal_text, has, is_named, is_type, text, whole_number, within}
 use Rattle.luks2_members.specs.Encryption.{mode_of}
 use Rattle.serde_json.specs.Data.{Data, null, Items, no_items, item, Members, no_members, member}
@@ -104,34 +105,38 @@ is_segment segment =
 
 -- ---- the table of faults
 
+-- it starts inside the header, where both stand in one image
+unfoldable pub starts_inside : Bounds → ℕ → Bool
+starts_inside bounds offset = not bounds.detached && nat_lt offset bounds.end
+
 -- it starts inside the header, or within a sector of 512 bytes
-unfoldable pub starts_wrong : ℕ → Option ℕ → Bool
-starts_wrong end None = true
-starts_wrong end (Some offset) = nat_lt offset end || not (offset % 512 == 0)
+unfoldable pub starts_wrong : Bounds → Option ℕ → Bool
+starts_wrong bounds None = true
+starts_wrong bounds (Some offset) = starts_inside bounds offset || not (offset % 512 == 0)
 
 -- its length is fixed and is no multiple of its sectors' length
 unfoldable pub is_torn : Option (Option ℕ) → Option Sector → Bool
 is_torn (Some size) (Some sector_size) = not (are_sectors size sector_size)
 is_torn _ _ = true
 
--- the faults of a segment that is there, in a header that ends where `end` says
-abbrev pub segment_faults : ℕ → Data → List (Bool × SegmentFault)
-segment_faults end segment =
+-- the faults of a segment that is there, in a header with these bounds
+abbrev pub segment_faults : Bounds → Data → List (Bool × SegmentFault)
+segment_faults bounds segment =
     (not (is_segment segment), Member)
     ∷ (not (is_type (codes "crypt") segment), Kind)
     ∷ (has (codes "integrity") segment, Integrity)
     ∷ (is_none (mode2_of segment), Encryption)
     ∷ (is_none (sector_size_of segment), SectorSize)
-    ∷ (starts_wrong end (offset_of segment), Offset)
+    ∷ (starts_wrong bounds (offset_of segment), Offset)
     ∷ (is_torn (size_of segment) (sector_size_of segment), Size)
     ∷ []
 
 -- the first fault of the header's segment
-unfoldable pub fault2_of : Data → ℕ → Option SegmentFault
-fault2_of tree end = first_holding (
+unfoldable pub fault2_of : Data → Bounds → Option SegmentFault
+fault2_of tree bounds = first_holding (
     (has_requirement tree, Requirement)
     ∷ (is_none (the_segment tree), Segments)
-    ∷ segment_faults end (segment_said tree))
+    ∷ segment_faults bounds (segment_said tree))
 
 -- what is said of a segment
 unfoldable pub segment_parts2_of : Data → SegmentParts
@@ -144,15 +149,17 @@ segment_parts2_of segment = record {
 }
 
 -- the segment, or its first fault
-unfoldable pub segment2_of : Data → ℕ → Result Segment SegmentFault
-segment2_of tree end = refused_or (fault2_of tree end) (segment_from (segment_parts2_of (segment_said tree)))
+unfoldable pub segment2_of : Data → Bounds → Result Segment SegmentFault
+segment2_of tree bounds = refused_or (fault2_of tree bounds) (segment_from (segment_parts2_of (segment_said tree)))
 
 -- ---- what key slots are judged by
 
--- where the payload starts, if the segment is not refused
-unfoldable pub payload2_of : Data → ℕ → Option ℕ
-payload2_of tree end = option_map (λ segment. segment.offset) (result_ok (segment2_of tree end))
+-- where the payload starts, if it stands in the header's image and the segment is not refused. Key material ends there
+-- at the latest
+unfoldable pub payload2_of : Data → Bounds → Option ℕ
+payload2_of tree bounds =
+    if bounds.detached then None else option_map (λ segment. segment.offset) (result_ok (segment2_of tree bounds))
 
 -- the mode of the payload, if the segment is not refused
-unfoldable pub payload_mode2_of : Data → ℕ → Option Mode
-payload_mode2_of tree end = option_map (λ segment. segment.mode) (result_ok (segment2_of tree end))
+unfoldable pub payload_mode2_of : Data → Bounds → Option Mode
+payload_mode2_of tree bounds = option_map (λ segment. segment.mode) (result_ok (segment2_of tree bounds))

@@ -16,6 +16,7 @@ use Rattle.luks2_members.specs.Derivation.{hash_in, iterations_in, salt_in}
 use Rattle.luks2_metadata.specs.Digest2.{digest2_for}
 use Rattle.luks2_members.specs.Encryption.{is_length_for, mode_of}
 use Rattle.luks2_members.specs.Numbered.{numbered}
+use Rattle.luks2_metadata.specs.declared.bounds.Bounds.{Bounds}
 use Rattle.luks2_metadata.specs.Segment2.{payload2_of, payload_mode2_of}
 use Rattle.serde_json.specs.Data.{Data}
 use Rattle.serde_json.specs.Find.{get}
@@ -122,9 +123,9 @@ unfoldable pub is_misplaced2 : ℕ → Option ℕ → Data → Bool
 is_misplaced2 end payload slot =
     is_misplaced end payload (area_offset_of slot) (area_size_of slot) (need_of (key_size_of slot) (stripes_of slot))
 
--- the reasons to skip the slot of this number, in a header that ends where `end` says
-abbrev pub slot_reasons : Data → ℕ → Option ℕ → ℕ → Data → List (Bool × SkipReason)
-slot_reasons tree end limit number slot =
+-- the reasons to skip the slot of this number, in a header with these bounds
+abbrev pub slot_reasons : Data → Bounds → Option ℕ → ℕ → Data → List (Bool × SkipReason)
+slot_reasons tree bounds limit number slot =
     (not (is_type (codes "luks2") slot), Kind)
     ∷ (not (has_members slot), Member)
     ∷ (is_kdf_type (codes "argon2i") slot, Argon2i)
@@ -132,16 +133,16 @@ slot_reasons tree end limit number slot =
     ∷ (not (is_kdf_type (codes "pbkdf2") slot), Kdf)
     ∷ (has_unknown_hash slot, UnknownHash)
     ∷ (is_none (area_mode_of slot), Encryption)
-    ∷ (not (are_key_sizes (payload_mode2_of tree end) slot), KeySize)
+    ∷ (not (are_key_sizes (payload_mode2_of tree bounds) slot), KeySize)
     ∷ (is_unstriped (stripes_of slot), Stripes)
     ∷ (is_beyond limit (iterations_of slot), Iterations)
-    ∷ (is_misplaced2 end (payload2_of tree end) slot, Area)
+    ∷ (is_misplaced2 bounds.end (payload2_of tree bounds) slot, Area)
     ∷ (is_undigested limit (digest2_for tree number), Digest)
     ∷ []
 
 -- the first of them that holds
-unfoldable pub reason2_of : Data → ℕ → Option ℕ → ℕ → Data → Option SkipReason
-reason2_of tree end limit number slot = first_holding (slot_reasons tree end limit number slot)
+unfoldable pub reason2_of : Data → Bounds → Option ℕ → ℕ → Data → Option SkipReason
+reason2_of tree bounds limit number slot = first_holding (slot_reasons tree bounds limit number slot)
 
 -- ---- verdicts
 
@@ -162,20 +163,20 @@ slot_parts2_of slot = record {
 }
 
 -- what it takes to open the slot of this number, where there is no reason to skip it but a limit on iterations
-unfoldable pub slot2_of : Data → ℕ → ℕ → Data → Option Slot
-slot2_of tree end number slot =
-    if is_none (reason2_of tree end None number slot) then slot_from (slot_parts2_of slot) else None
+unfoldable pub slot2_of : Data → Bounds → ℕ → Data → Option Slot
+slot2_of tree bounds number slot =
+    if is_none (reason2_of tree bounds None number slot) then slot_from (slot_parts2_of slot) else None
 
 -- what becomes of the slot of this number
-unfoldable pub verdict2_of : Data → ℕ → Option ℕ → ℕ → Data → Verdict
-verdict2_of tree end limit number slot =
-    judged (reason2_of tree end limit number slot) (slot2_of tree end number slot)
+unfoldable pub verdict2_of : Data → Bounds → Option ℕ → ℕ → Data → Verdict
+verdict2_of tree bounds limit number slot =
+    judged (reason2_of tree bounds limit number slot) (slot2_of tree bounds number slot)
 
 -- what becomes of the key slot of this number, where there is one
-unfoldable pub verdict2_at : Data → ℕ → Option ℕ → ℕ → Option Verdict
-verdict2_at tree end limit number =
-    option_map (verdict2_of tree end limit number) (numbered (codes "keyslots") tree number)
+unfoldable pub verdict2_at : Data → Bounds → Option ℕ → ℕ → Option Verdict
+verdict2_at tree bounds limit number =
+    option_map (verdict2_of tree bounds limit number) (numbered (codes "keyslots") tree number)
 
 -- what it takes to open it
-unfoldable pub slot2_at : Data → ℕ → ℕ → Option Slot
-slot2_at tree end number = option_and_then (slot2_of tree end number) (numbered (codes "keyslots") tree number)
+unfoldable pub slot2_at : Data → Bounds → ℕ → Option Slot
+slot2_at tree bounds number = option_and_then (slot2_of tree bounds number) (numbered (codes "keyslots") tree number)

@@ -2,6 +2,7 @@
 //! On-Disk Format Specification 1.1, section 3), and what becomes of them.
 #![tactic(auto)]
 
+pub mod bounds;
 pub mod digest;
 pub mod payload;
 pub mod slot;

@@ -2,9 +2,10 @@
 
 ghost use Rattle.std.specs.Prelude.{◌≡◌, option_map};
 ghost use Rattle.luks_verdict.specs.Table.{first_holding};
-ghost use Rattle.luks2_metadata.specs.Segment2.{has_none_of, has_requirement, has_segment_members, is_empty_list, is_segment, is_torn, mode2_of, payload2_of, payload_mode2_of, requires_nothing, sector_size_of, sector_size_with, segment2_of, segment_faults, segment_parts2_of, size_of, starts_wrong, the_segment};
+ghost use Rattle.luks2_metadata.specs.Segment2.{has_none_of, has_requirement, has_segment_members, is_empty_list, is_segment, is_torn, mode2_of, payload2_of, payload_mode2_of, requires_nothing, sector_size_of, sector_size_with, segment2_of, segment_faults, segment_parts2_of, size_of, starts_inside, starts_wrong, the_segment};
 ghost use Rattle.serde_json.specs.View.{view as data_of};
 
+use crate::bounds::Bounds;
 use luks_cipher::Mode;
 use luks_verdict::refusal::SegmentFault;
 use luks_verdict::sector_size::SectorSize;
@@ -131,13 +132,21 @@ fn is_segment(segment: &Value) -> bool
     text(segment, "type").is_some() && (!is_type(segment, "crypt") || has_members(segment))
 }
 
+// It starts inside the header, where both stand in one image.
+#[tactic(auto, unfolding(crate::specs::Segment2::starts_inside))]
+fn starts_inside(bounds: Bounds, offset: u64) -> bool
+    ensures { result ≡ starts_inside bounds offset }
+{
+    !bounds.detached && offset < bounds.end
+}
+
 // It starts inside the header, or within a sector of 512 bytes.
 #[tactic(auto, unfolding(crate::specs::Segment2::starts_wrong))]
-fn starts_wrong(header_end: u64, offset: Option<u64>) -> bool
-    ensures { result ≡ starts_wrong header_end offset }
+fn starts_wrong(bounds: Bounds, offset: Option<u64>) -> bool
+    ensures { result ≡ starts_wrong bounds offset }
 {
     match offset {
-        Some(offset) => offset < header_end || offset % 512 != 0,
+        Some(offset) => starts_inside(bounds, offset) || offset % 512 != 0,
         None => true,
     }
 }
@@ -157,8 +166,8 @@ fn is_torn(size: Option<Option<u64>>, sector_size: Option<SectorSize>) -> bool
 }
 
 // The first fault of a segment that is there.
-fn fault(segment: &Value, header_end: u64) -> Option<SegmentFault>
-    ensures { result ≡ first_holding (segment_faults header_end (data_of segment.now)) }
+fn fault(segment: &Value, bounds: Bounds) -> Option<SegmentFault>
+    ensures { result ≡ first_holding (segment_faults bounds (data_of segment.now)) }
 {
     if !is_segment(segment) {
         Some(SegmentFault::Member)
@@ -170,7 +179,7 @@ fn fault(segment: &Value, header_end: u64) -> Option<SegmentFault>
         Some(SegmentFault::Encryption)
     } else if sector_size(segment).is_none() {
         Some(SegmentFault::SectorSize)
-    } else if starts_wrong(header_end, decimal_text(segment, "offset")) {
+    } else if starts_wrong(bounds, decimal_text(segment, "offset")) {
         Some(SegmentFault::Offset)
     } else if is_torn(size(segment), sector_size(segment)) {
         Some(SegmentFault::Size)
@@ -195,8 +204,8 @@ fn parts(segment: &Value) -> SegmentParts
 
 // The segment of a tree, or its first fault.
 #[tactic(auto, unfolding(crate::specs::Segment2::fault2_of, crate::specs::Segment2::segment2_of))]
-fn segment_in(tree: &Value, header_end: u64) -> Result<Segment, SegmentFault>
-    ensures { result ≡ segment2_of (data_of tree.now) header_end }
+fn segment_in(tree: &Value, bounds: Bounds) -> Result<Segment, SegmentFault>
+    ensures { result ≡ segment2_of (data_of tree.now) bounds }
 {
     if has_requirement(tree) {
         return Err(SegmentFault::Requirement);
@@ -204,7 +213,7 @@ fn segment_in(tree: &Value, header_end: u64) -> Result<Segment, SegmentFault>
     let Some(segment) = the_segment(tree) else {
         return Err(SegmentFault::Segments);
     };
-    if let Some(fault) = fault(segment, header_end) {
+    if let Some(fault) = fault(segment, bounds) {
         return Err(fault);
     }
     match Segment::from_parts(parts(segment)) {
@@ -213,19 +222,22 @@ fn segment_in(tree: &Value, header_end: u64) -> Result<Segment, SegmentFault>
     }
 }
 
-/// The segment of a header that ends at this byte, or its first fault. This takes no memory.
-pub fn segment(metadata: &Metadata, header_end: u64) -> Result<Segment, SegmentFault>
-    ensures { result ≡ segment2_of metadata.now header_end }
+/// The segment of a header with these bounds, or its first fault. This takes no memory.
+pub fn segment(metadata: &Metadata, bounds: Bounds) -> Result<Segment, SegmentFault>
+    ensures { result ≡ segment2_of metadata.now bounds }
 {
-    segment_in(metadata.tree(), header_end)
+    segment_in(metadata.tree(), bounds)
 }
 
-/// Where the payload starts, if the segment is not refused.
+/// Where the payload starts, if it stands in the header's image and the segment is not refused.
 #[tactic(auto, unfolding(crate::specs::Segment2::payload2_of))]
-pub(crate) fn payload(tree: &Value, header_end: u64) -> Option<u64>
-    ensures { result ≡ payload2_of (data_of tree.now) header_end }
+pub(crate) fn payload(tree: &Value, bounds: Bounds) -> Option<u64>
+    ensures { result ≡ payload2_of (data_of tree.now) bounds }
 {
-    match segment_in(tree, header_end) {
+    if bounds.detached {
+        return None;
+    }
+    match segment_in(tree, bounds) {
         Ok(segment) => Some(segment.offset),
         Err(_) => None,
     }
@@ -233,10 +245,10 @@ pub(crate) fn payload(tree: &Value, header_end: u64) -> Option<u64>
 
 /// The mode of the payload, if the segment is not refused.
 #[tactic(auto, unfolding(crate::specs::Segment2::payload_mode2_of))]
-pub(crate) fn payload_mode(tree: &Value, header_end: u64) -> Option<Mode>
-    ensures { result ≡ payload_mode2_of (data_of tree.now) header_end }
+pub(crate) fn payload_mode(tree: &Value, bounds: Bounds) -> Option<Mode>
+    ensures { result ≡ payload_mode2_of (data_of tree.now) bounds }
 {
-    match segment_in(tree, header_end) {
+    match segment_in(tree, bounds) {
         Ok(segment) => Some(segment.mode),
         Err(_) => None,
     }

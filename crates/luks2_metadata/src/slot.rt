@@ -9,6 +9,7 @@ ghost use Rattle.luks2_metadata.specs.Digest2.{digest2_for};
 ghost use Rattle.luks2_metadata.specs.Slot2.{af_hash_of, are_key_sizes, area_key_size_of, area_mode_of, area_offset_of, area_size_of, has_members, has_unknown_hash, is_af, is_area, is_kdf, is_kdf_type, is_misplaced2, is_pbkdf2, iterations_of, kdf_hash_of, key_size_of, priority_of, reason2_of, salt_of, slot2_at, slot2_of, slot_parts2_of, stripes_of, verdict2_at, verdict2_of};
 ghost use Rattle.serde_json.specs.View.{view as data_of};
 
+use crate::bounds::Bounds;
 use crate::digest::iterations_for;
 use crate::payload::{payload, payload_mode};
 use luks_cipher::Mode;
@@ -268,12 +269,12 @@ fn is_undigested(tree: &Value, limit: Option<u32>, number: u8) -> bool
 #[tactic(auto, unfolding(crate::specs::Slot2::reason2_of))]
 fn reason(
     tree: &Value,
-    header_end: u64,
+    bounds: Bounds,
     limit: Option<u32>,
     number: u8,
     slot: &Value,
 ) -> Option<SkipReason>
-    ensures { result ≡ reason2_of (data_of tree.now) header_end limit number (data_of slot.now) }
+    ensures { result ≡ reason2_of (data_of tree.now) bounds limit number (data_of slot.now) }
 {
     if !is_type(slot, "luks2") {
         Some(SkipReason::Kind)
@@ -289,13 +290,13 @@ fn reason(
         Some(SkipReason::Hash)
     } else if area_mode(slot).is_none() {
         Some(SkipReason::Encryption)
-    } else if !are_key_sizes(payload_mode(tree, header_end), slot) {
+    } else if !are_key_sizes(payload_mode(tree, bounds), slot) {
         Some(SkipReason::KeySize)
     } else if unstriped(stripes(slot)) {
         Some(SkipReason::Stripes)
     } else if beyond(limit, iterations(slot)) {
         Some(SkipReason::Iterations)
-    } else if is_misplaced(header_end, payload(tree, header_end), slot) {
+    } else if is_misplaced(bounds.end, payload(tree, bounds), slot) {
         Some(SkipReason::Area)
     } else if is_undigested(tree, limit, number) {
         Some(SkipReason::Digest)
@@ -308,34 +309,34 @@ fn reason(
 #[tactic(auto, unfolding(crate::specs::Slot2::verdict2_of))]
 fn judge_slot(
     tree: &Value,
-    header_end: u64,
+    bounds: Bounds,
     limit: Option<u32>,
     number: u8,
     slot: &Value,
 ) -> Judgement
     ensures { result ≡ judgement_of
-        (verdict2_of (data_of tree.now) header_end limit number (data_of slot.now)) }
+        (verdict2_of (data_of tree.now) bounds limit number (data_of slot.now)) }
 {
-    match reason(tree, header_end, limit, number, slot) {
+    match reason(tree, bounds, limit, number, slot) {
         Some(reason) => Judgement::Skipped(reason),
         None => Judgement::Usable(priority(slot).unwrap_or(0)),
     }
 }
 
 /// What becomes of the key slot of this number, where there is one, without what it takes to open
-/// it. The header ends at this byte. No more iterations than the limit are made. This takes no
+/// it, in a header with these bounds. No more iterations than the limit are made. This takes no
 /// memory.
 #[tactic(auto, unfolding(crate::specs::Slot2::verdict2_at))]
 pub fn judge(
     metadata: &Metadata,
-    header_end: u64,
+    bounds: Bounds,
     limit: Option<u32>,
     number: u8,
 ) -> Option<Judgement>
-    ensures { result ≡ option_map judgement_of (verdict2_at metadata.now header_end limit number) }
+    ensures { result ≡ option_map judgement_of (verdict2_at metadata.now bounds limit number) }
 {
     let slot = numbered(metadata.tree(), "keyslots", number)?;
-    Some(judge_slot(metadata.tree(), header_end, limit, number, slot))
+    Some(judge_slot(metadata.tree(), bounds, limit, number, slot))
 }
 
 // What is said of a slot.
@@ -367,32 +368,32 @@ fn parts(alloc: Global, slot: &Value) -> Result<SlotParts, AllocError>
 fn usable(
     alloc: Global,
     tree: &Value,
-    header_end: u64,
+    bounds: Bounds,
     number: u8,
     slot: &Value,
 ) -> Result<Option<Slot>, AllocError>
     ensures { IfOk result (λ usable. usable
-        ≡ slot2_of (data_of tree.now) header_end number (data_of slot.now)) }
+        ≡ slot2_of (data_of tree.now) bounds number (data_of slot.now)) }
 {
-    if reason(tree, header_end, None, number, slot).is_some() {
+    if reason(tree, bounds, None, number, slot).is_some() {
         return Ok(None);
     }
     Ok(Slot::from_parts(parts(alloc, slot)?))
 }
 
 /// What it takes to open the key slot of this number, where there is one and there is no reason to
-/// skip it but a limit on iterations.
+/// skip it but a limit on iterations, in a header with these bounds.
 #[tactic(auto, unfolding(crate::specs::Slot2::slot2_at))]
 pub fn slot(
     alloc: Global,
     metadata: &Metadata,
-    header_end: u64,
+    bounds: Bounds,
     number: u8,
 ) -> Result<Option<Slot>, AllocError>
-    ensures { IfOk result (λ usable. usable ≡ slot2_at metadata.now header_end number) }
+    ensures { IfOk result (λ usable. usable ≡ slot2_at metadata.now bounds number) }
 {
     match numbered(metadata.tree(), "keyslots", number) {
-        Some(slot) => usable(alloc, metadata.tree(), header_end, number, slot),
+        Some(slot) => usable(alloc, metadata.tree(), bounds, number, slot),
         None => Ok(None),
     }
 }

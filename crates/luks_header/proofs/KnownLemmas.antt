@@ -1,6 +1,7 @@
 -- What is known of the key slots and digests of a header, whatever its format.
 use Rattle.std.proofs.lemmas.Bool.{ltb-false}
-use Rattle.std.proofs.Common.{◌≡◌, ◌∙◌, ℕ, ◌≤◌, sym, subst, true, false, Option, Some, Ok, arith}
+use Rattle.std.proofs.Common.{◌≡◌, ◌∙◌, ℕ, ◌≤◌, refl, sym, subst, Bool, true, false, List, length, Option, Some, None, Result, Ok, Err, arith}
+use Rattle.std.specs.Prelude.{nat_lt, if◌then◌else◌}
 use Rattle.luks_cipher.specs.Sector.{is_mode_key_length}
 use Rattle.luks_cipher.specs.declared.mode.Mode.{Mode}
 use Rattle.luks_kdf.specs.declared.hash.Hash.{Hash}
@@ -11,15 +12,27 @@ use Rattle.luks_verdict.specs.declared.slot.Slot.{Slot}
 use Rattle.luks_verdict.specs.declared.slot.Verdict.TheVariants.{Usable}
 use Rattle.luks1_header.proofs.SegmentLemmas.{IsReadable-ok, digest_hash}
 use Rattle.luks1_header.proofs.SlotLemmas.{usable_at}
+use Rattle.luks_area.specs.Field.{at}
+use Rattle.luks_area.specs.declared.fault.HeaderFault.{HeaderFault}
+use Rattle.luks_area.specs.declared.fault.HeaderFault.TheVariants.{Cut}
+use Rattle.luks1_header.specs.Header1.{header1_len, header1_of, is_luks1}
 use Rattle.luks1_header.specs.Segment1.{is_key_length1}
+use Rattle.luks1_header.specs.Slot1.{payload1_of}
+use Rattle.luks2_header.specs.Choice2.{header2_of}
 use Rattle.luks2_header.specs.Header2.{end2_of}
+use Rattle.luks2_header.specs.Text2.{json_text_of}
+use Rattle.luks2_header.specs.declared.header.Header2.{Header2}
+use Rattle.luks2_header.proofs.JsonLemmas.{read_attached}
 use Rattle.luks2_members.specs.Encryption.{is_length_for}
+use Rattle.luks2_members.specs.Tree.{tree_of}
+use Rattle.serde_json.specs.Data.{Data}
 use Rattle.luks2_metadata.specs.Segment2.{payload2_of, payload_mode2_of}
 use Rattle.luks2_metadata.proofs.DigestLemmas.{digest2_hash}
 use Rattle.luks2_metadata.proofs.SegmentLemmas.{segment2-ok}
 use Rattle.luks2_metadata.proofs.SlotLemmas.{usable2_at}
 use Rattle.luks_verdict.specs.Rule.{exceeds}
 use Rattle.luks_header.specs.Digest.{digest_for}
+use Rattle.luks_header.specs.Header.{bounds2_of, header_of, is_detached, with_metadata, with_text}
 use Rattle.luks_header.specs.Segment.{segment_of}
 use Rattle.luks_header.specs.Slot.{slot_at, verdict_at}
 use Rattle.luks_header.specs.declared.header.Header.{Header}
@@ -55,7 +68,7 @@ pub slot_of_usable : (header : Header) (limit : Option ℕ) (number : ℕ) (slot
     → slot_at header number ≡ Some slot
 unfolding verdict_at slot_at
 slot_of_usable (V1 header) limit number slot is = (usable_at header limit number slot is).1
-slot_of_usable (V2 header tree) limit number slot is = (usable2_at tree (end2_of header) limit number slot is).1
+slot_of_usable (V2 header tree) limit number slot is = (usable2_at tree (bounds2_of header) limit number slot is).1
 
 -- and a digest
 pub digest_of_usable : (header : Header) (limit : Option ℕ) (number : ℕ) (slot : Slot)
@@ -64,7 +77,7 @@ pub digest_of_usable : (header : Header) (limit : Option ℕ) (number : ℕ) (sl
 unfolding verdict_at digest_for
 digest_of_usable (V1 header) limit number slot is = (usable_at header limit number slot is).0.digest
 digest_of_usable (V2 header tree) limit number slot is =
-    (usable2_at tree (end2_of header) limit number slot is).0.digest
+    (usable2_at tree (bounds2_of header) limit number slot is).0.digest
 
 -- where the segment is not refused, its hash functions and key lengths are known ones
 pub known_usable : (header : Header) (segment : Segment) (limit : Option ℕ) (number : ℕ) (slot : Slot)
@@ -87,12 +100,12 @@ known_usable (V1 header) segment limit number slot is_segment is =
       );
     }
 known_usable (V2 header tree) segment limit number slot is_segment is =
-    let read = segment2-ok tree (end2_of header) segment is_segment in
-    let of_header = (usable2_at tree (end2_of header) limit number slot is).0 in
+    let read = segment2-ok tree (bounds2_of header) segment is_segment in
+    let of_header = (usable2_at tree (bounds2_of header) limit number slot is).0 in
     record {
       kdf = of_header.kdf;
       af = of_header.af;
-      volume_key = length_for (payload_mode2_of tree (end2_of header)) segment.mode slot.parts.key_bytes read.mode
+      volume_key = length_for (payload_mode2_of tree (bounds2_of header)) segment.mode slot.parts.key_bytes read.mode
           of_header.volume_key;
       area = of_header.area;
     }
@@ -107,29 +120,62 @@ known_digest (V1 header) segment number digest is_segment is =
     (readable.hash.0, digest_hash header digest is ∙ readable.hash.1)
 known_digest (V2 header tree) segment number digest is_segment is = digest2_hash tree number digest is
 
--- its key material ends at or before the payload's start
+-- the header of an image is read as one that stands in the payload's image
+pub is_attached : (image : List ℕ) (header : Header) → header_of image ≡ Ok header → is_detached header ≡ false
+unfolding header_of is_detached header1_of
+is_attached image header is = by (is_luks1 image) refl
+  where
+    of_tree : (second : Header2) → header2_of image ≡ Ok second → (tree : Option Data)
+        → with_metadata second tree ≡ Ok header → is_detached header ≡ false
+    of_tree second found None h = absurd cc
+    of_tree second found (Some tree) h =
+        let same : V2 second tree ≡ header = cc in
+        subst (λ r. is_detached r ≡ false) same (read_attached image second found)
+
+    of_second : (read : Result Header2 HeaderFault) → header2_of image ≡ read → with_text image read ≡ Ok header
+        → is_detached header ≡ false
+    of_second (Ok second) e h = of_tree second e (tree_of (json_text_of image second)) h
+    of_second (Err fault) e h = absurd cc
+
+    of_first : (short : Bool) → (if short then Err Cut else Ok (V1 (header1_of (at 0 header1_len image)))) ≡ Ok header
+        → is_detached header ≡ false
+    of_first true h = absurd cc
+    of_first false h =
+        let same : V1 (header1_of (at 0 header1_len image)) ≡ header = cc in
+        subst (λ r. is_detached r ≡ false) same refl
+
+    by : (first : Bool) → is_luks1 image ≡ first → is_detached header ≡ false
+    by true e = of_first (nat_lt (length image) header1_len) (rw e at is)
+    by false e = of_second (header2_of image) refl (rw e at is)
+
+-- its key material ends at or before the payload's start, if that is in the header's image
 pub before_payload : (header : Header) (segment : Segment) (limit : Option ℕ) (number : ℕ) (slot : Slot)
+    → is_detached header ≡ false
     → segment_of header ≡ Ok segment
     → verdict_at header limit number ≡ Some (Usable slot) → end_of slot ≤ segment.offset
-unfolding verdict_at segment_of
-before_payload (V1 header) segment limit number slot is_segment is =
+unfolding verdict_at segment_of is_detached payload1_of bounds2_of
+before_payload (V1 header) segment limit number slot attached is_segment is =
     let start = (IsReadable-ok header segment is_segment).0.offset in
-    omega (arith, start, (usable_at header limit number slot is).0.before_payload)
-before_payload (V2 header tree) segment limit number slot is_segment is =
-    let read = segment2-ok tree (end2_of header) segment is_segment in
-    ends_before (payload2_of tree (end2_of header)) segment.offset (end_of slot) read.start
-    (usable2_at tree (end2_of header) limit number slot is).0.before_payload
+    let known : payload1_of header ≡ Some segment.offset = rw (attached, start) refl in
+    ends_before (payload1_of header) segment.offset (end_of slot) known
+    (usable_at header limit number slot is).0.before_payload
+before_payload (V2 header tree) segment limit number slot attached is_segment is =
+    let read = segment2-ok tree (bounds2_of header) segment is_segment in
+    ends_before (payload2_of tree (bounds2_of header)) segment.offset (end_of slot) (read.start attached)
+    (usable2_at tree (bounds2_of header) limit number slot is).0.before_payload
 
 -- the first byte behind a header
 abbrev pub header_end : Header → ℕ
 header_end (V1 header) = 592
 header_end (V2 header tree) = end2_of header
 
--- the payload of a volume starts behind its header
-pub behind_header : (header : Header) (segment : Segment) → segment_of header ≡ Ok segment
+-- the payload of a volume starts behind its header, if it stands in the header's image
+pub behind_header : (header : Header) (segment : Segment) → is_detached header ≡ false
+    → segment_of header ≡ Ok segment
     → header_end header ≤ segment.offset
-unfolding segment_of
-behind_header (V1 header) segment is =
+unfolding segment_of is_detached bounds2_of
+behind_header (V1 header) segment attached is =
     let readable = IsReadable-ok header segment is in
-    omega (arith, readable.0.offset, readable.1.behind_header)
-behind_header (V2 header tree) segment is = (segment2-ok tree (end2_of header) segment is).behind_header
+    omega (arith, readable.0.offset, readable.1.behind_header attached)
+behind_header (V2 header tree) segment attached is =
+    (segment2-ok tree (bounds2_of header) segment is).behind_header attached

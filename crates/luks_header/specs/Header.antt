@@ -6,14 +6,30 @@ use Rattle.luks1_header.specs.Header1.{header1_len, header1_of, is_luks1}
 use Rattle.luks2_header.specs.Choice2.{header2_of}
 use Rattle.luks2_header.specs.Cost2.{cost2_of, reach2_of}
 use Rattle.luks2_header.specs.Front2.{TookBelow, TookCost, TookEarly}
+use Rattle.luks2_header.specs.Header2.{end2_of}
 use Rattle.luks2_header.specs.Text2.{json_text_of}
 use Rattle.luks2_header.specs.declared.header.Header2.{Header2}
 use Rattle.luks2_members.specs.Tree.{tree_of}
+use Rattle.luks2_metadata.specs.declared.bounds.Bounds.{Bounds}
 use Rattle.serde_json.specs.Data.{Data}
 use Rattle.luks_header.specs.declared.header.Header.{Header}
 use Rattle.luks_header.specs.declared.header.Header.TheVariants.{V1, V2}
 use Rattle.luks_area.specs.declared.fault.HeaderFault.{HeaderFault}
 use Rattle.luks_area.specs.declared.fault.HeaderFault.TheVariants.{NotLuks, Cut, Json, Read, Memory}
+
+-- the header stands apart from the payload's image
+unfoldable pub is_detached : Header → Bool
+is_detached (V1 header) = header.detached
+is_detached (V2 header tree) = header.detached
+
+-- the same header, as one that stands apart from the payload's image
+unfoldable pub detached_of : Header → Header
+detached_of (V1 header) = V1 (record header { detached = true })
+detached_of (V2 header tree) = V2 (record header { detached = true }) tree
+
+-- the bounds that a header of LUKS2 sets to key material and to the payload
+unfoldable pub bounds2_of : Header2 → Bounds
+bounds2_of header = record { end = end2_of header; detached = header.detached }
 
 -- a binary header of LUKS2 with what its JSON text says, where that can be read
 abbrev pub with_metadata : Header2 → Option Data → Result Header HeaderFault

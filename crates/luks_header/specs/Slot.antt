@@ -5,20 +5,20 @@ use Rattle.luks_verdict.specs.Table.{rising}
 use Rattle.luks_verdict.specs.declared.slot.Slot.{Slot}
 use Rattle.luks_verdict.specs.declared.slot.Verdict.{Verdict}
 use Rattle.luks1_header.specs.Slot1.{slot1_at, verdict1_at}
-use Rattle.luks2_header.specs.Header2.{end2_of}
 use Rattle.luks2_metadata.specs.Slot2.{slot2_at, verdict2_at}
+use Rattle.luks_header.specs.Header.{bounds2_of}
 use Rattle.luks_header.specs.declared.header.Header.{Header}
 use Rattle.luks_header.specs.declared.header.Header.TheVariants.{V1, V2}
 
 -- what becomes of the key slot of this number, where the header has one
 unfoldable pub verdict_at : Header → Option ℕ → ℕ → Option Verdict
 verdict_at (V1 header) limit number = verdict1_at header limit number
-verdict_at (V2 header tree) limit number = verdict2_at tree (end2_of header) limit number
+verdict_at (V2 header tree) limit number = verdict2_at tree (bounds2_of header) limit number
 
 -- what it takes to open the key slot of this number, where it is there and its numbers are in range
 unfoldable pub slot_at : Header → ℕ → Option Slot
 slot_at (V1 header) number = slot1_at header number
-slot_at (V2 header tree) number = slot2_at tree (end2_of header) number
+slot_at (V2 header tree) number = slot2_at tree (bounds2_of header) number
 
 -- a key slot beside its number
 abbrev pub numbered : Header → Option ℕ → ℕ → Option (ℕ × Verdict)

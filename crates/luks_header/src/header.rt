@@ -5,7 +5,7 @@ ghost use Rattle.luks_io.specs.Bytes.{Took, WhereKnown, counted};
 ghost use Rattle.luks_area.specs.Area.{is_read};
 ghost use Rattle.luks1_header.specs.Header1.{is_luks1};
 ghost use Rattle.luks2_header.specs.Front2.{TookCost};
-ghost use Rattle.luks_header.specs.Header.{BreaksHeld, BreaksReading, cost_of, falls_short, header_of};
+ghost use Rattle.luks_header.specs.Header.{BreaksHeld, BreaksReading, bounds2_of, cost_of, detached_of, falls_short, header_of};
 
 use luks_area::area::HeaderArea;
 use luks_area::fault::HeaderFault;
@@ -15,6 +15,7 @@ pub use luks1_header::header::{Header1, KeySlot, SlotState};
 pub use luks2_header::header::{Finding, Header2, Place};
 use luks2_header::reading::read_header2;
 pub use luks2_members::tree::Metadata;
+pub use luks2_metadata::bounds::Bounds;
 use std::alloc::Global;
 
 /// A header, by the version of its format.
@@ -24,6 +25,33 @@ pub enum Header {
     V1(Header1),
     /// LUKS2: the binary header, and what its JSON area says.
     V2(Header2, Metadata),
+}
+
+impl Header {
+    /// Marks a header as detached: it stands apart from the payload's image. The payload may start
+    /// anywhere in that image where a sector of 512 bytes does, and the key areas may reach past
+    /// that place. Nothing else changes, and this takes no memory.
+    #[tactic(auto, unfolding(crate::specs::Header::detached_of))]
+    pub fn detach(self) -> Header
+        ensures { result ≡ detached_of self }
+    {
+        let detached = true;
+        match self {
+            Header::V1(header) => Header::V1(Header1 { detached, ..header }),
+            Header::V2(header, metadata) => Header::V2(Header2 { detached, ..header }, metadata),
+        }
+    }
+}
+
+/// The bounds that a header of LUKS2 sets to key material and to the payload.
+#[tactic(auto, unfolding(crate::specs::Header::bounds2_of))]
+pub fn bounds(header: &Header2) -> Bounds
+    ensures { result ≡ bounds2_of header.now }
+{
+    Bounds {
+        end: header.end(),
+        detached: header.detached,
+    }
 }
 
 /// Reads the header at the front of an image, and answers it with the bytes that were read. It

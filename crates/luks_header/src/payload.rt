@@ -3,7 +3,7 @@
 ghost use Rattle.std.specs.Prelude.{◌≡◌};
 ghost use Rattle.luks_header.specs.Segment.{segment_of};
 
-use crate::header::Header;
+use crate::header::{Header, bounds};
 use luks_verdict::refusal::SegmentFault;
 use luks_verdict::segment::Segment;
 
@@ -14,6 +14,6 @@ pub fn segment(header: &Header) -> Result<Segment, SegmentFault>
 {
     match header {
         Header::V1(header) => luks1_header::judging::segment(header),
-        Header::V2(header, metadata) => luks2_metadata::payload::segment(metadata, header.end()),
+        Header::V2(header, metadata) => luks2_metadata::payload::segment(metadata, bounds(header)),
     }
 }

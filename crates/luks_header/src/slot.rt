@@ -5,7 +5,7 @@ ghost use Rattle.luks_verdict.specs.Rule.{most_slots};
 ghost use Rattle.luks_verdict.specs.Slot.{judgement_of};
 ghost use Rattle.luks_header.specs.Slot.{slot_at, verdict_at, verdicts_of};
 
-use crate::header::Header;
+use crate::header::{Header, bounds};
 use luks_verdict::refusal::SkipReason;
 use luks_verdict::rule::MOST_SLOTS;
 pub use luks_verdict::slot::{Judgement, Slot, Verdict};
@@ -20,7 +20,7 @@ pub fn judge(header: &Header, limit: Option<u32>, number: u8) -> Option<Judgemen
     match header {
         Header::V1(header) => luks1_header::judging::judge(header, limit, number),
         Header::V2(header, metadata) => {
-            luks2_metadata::slot::judge(metadata, header.end(), limit, number)
+            luks2_metadata::slot::judge(metadata, bounds(header), limit, number)
         }
     }
 }
@@ -34,7 +34,7 @@ pub fn slot(alloc: Global, header: &Header, number: u8) -> Result<Option<Slot>, 
     match header {
         Header::V1(header) => luks1_header::judging::slot(alloc, header, number),
         Header::V2(header, metadata) => {
-            luks2_metadata::slot::slot(alloc, metadata, header.end(), number)
+            luks2_metadata::slot::slot(alloc, metadata, bounds(header), number)
         }
     }
 }

@@ -1,5 +1,5 @@
 -- What callers know of the key material that is tried, and of what opens.
-use Rattle.std.proofs.Common.{◌≡◌, ◌∙◌, ℕ, zero, suc, ◌+◌, ◌-◌, ◌*◌, ◌/◌, ◌<◌, ◌≤◌, List, [], ◌∷◌, ◌++◌, take, drop, Option, Some, None, Ok, refl, ap, arith}
+use Rattle.std.proofs.Common.{◌≡◌, ◌∙◌, ℕ, false, zero, suc, ◌+◌, ◌-◌, ◌*◌, ◌/◌, ◌<◌, ◌≤◌, List, [], ◌∷◌, ◌++◌, take, drop, Option, Some, None, Ok, refl, ap, arith}
 use Rattle.std.specs.List.{AllByRecursion}
 use Rattle.std.proofs.lemmas.List.{drop-take, take-take}
 use Rattle.luks_cipher.specs.Sector.{Cipher, sector_decrypted}
@@ -9,6 +9,7 @@ use Rattle.luks_kdf.specs.Pbkdf2.{derived_key}
 use Rattle.luks_kdf.specs.Stripes.{merged}
 use Rattle.luks_kdf.specs.declared.hash.Hash.{Hash}
 use Rattle.luks_area.specs.Field.{at}
+use Rattle.luks_header.specs.Header.{is_detached}
 use Rattle.luks_header.specs.Segment.{segment_of}
 use Rattle.luks_verdict.specs.Rule.{need_of}
 use Rattle.luks_verdict.specs.Slot.{end_of}
@@ -22,18 +23,22 @@ use Rattle.luks_open.specs.declared.entry.Entry.{Entry}
 use Rattle.luks_open.specs.declared.opening.Opened.{Opened}
 use Rattle.luks_open.proofs.OrderLemmas.{All-held_of, All-tries, IsOf, held_of-le}
 
--- the key material of all key slots that are tried ends at or before the payload's start
+-- the key material of all key slots that are tried ends at or before the payload's start, if that is in the header's
+-- image
 pub held_before_payload : (header : Header) (segment : Segment) (named limit : Option ℕ) (tries : Tries)
+    → is_detached header ≡ false
     → segment_of header ≡ Ok segment
     → order_of header named limit ≡ Ok tries → held_of tries.slots ≤ segment.offset
-held_before_payload header segment named limit tries is_segment is_order =
+held_before_payload header segment named limit tries attached is_segment is_order =
     held_of-le segment.offset tries.slots (of_entries tries.slots (All-tries header named limit tries is_order))
   where
     of_entries : (entries : List Entry) → AllByRecursion (IsOf header limit) entries
         → AllByRecursion (λ (entry : Entry). end_of entry.slot ≤ segment.offset) entries
     of_entries [] all = tt
-    of_entries (entry ∷ entries) all =
-        (before_payload header segment limit entry.number entry.slot is_segment all.0.usable, of_entries entries all.1)
+    of_entries (entry ∷ entries) all = (
+      before_payload header segment limit entry.number entry.slot attached is_segment all.0.usable,
+      of_entries entries all.1,
+    )
 
 -- bytes that stand before place n stand in the first n bytes
 at_beginning : (place len n : ℕ) (image : List ℕ) → place + len ≤ n → at place len (take n image) ≡ at place len image

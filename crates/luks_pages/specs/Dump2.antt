@@ -1,5 +1,5 @@
 -- What is printed of a LUKS2 header: the fields of its binary header, its key slots, its segment and its digests.
-use Rattle.std.specs.Prelude.{ℕ, ◌*◌, ◌∷◌, ◌++◌, [], zero, suc, List, Option, Some, None, Result, Ok, Err, codes, flat_map, length}
+use Rattle.std.specs.Prelude.{ℕ, ◌∷◌, ◌++◌, [], zero, suc, List, Option, Some, None, Result, Ok, Err, codes, flat_map, length}
 use Rattle.std.specs.Fmt.{decimal}
 use Rattle.luks_cipher.specs.Sector.{name_of as mode_name}
 use Rattle.luks_kdf.specs.Hash.{name_of}
@@ -19,14 +19,12 @@ use Rattle.luks2_header.specs.declared.header.Place.TheVariants.{Primary, Second
 use Rattle.luks2_metadata.specs.Digest2.{digests2_of}
 use Rattle.luks2_metadata.specs.Segment2.{segment2_of}
 use Rattle.luks2_metadata.specs.Slot2.{verdict2_at}
+use Rattle.luks2_metadata.specs.declared.bounds.Bounds.{Bounds}
 use Rattle.luks2_metadata.specs.declared.digest.Digest.{Digest}
+use Rattle.luks_header.specs.Header.{bounds2_of}
 use Rattle.serde_json.specs.Data.{Data}
 use Rattle.luks_pages.specs.Escaping.{escaped}
 use Rattle.luks_pages.specs.Field.{field}
-
--- where both headers and their JSON areas end
-abbrev pub header_end : Header2 → ℕ
-header_end h = 2 * h.size
 
 -- ---- the binary header
 
@@ -82,13 +80,13 @@ unfoldable pub lines_below : (ℕ → List ℕ) → ℕ → List ℕ
 lines_below line zero = []
 lines_below line (suc n) = lines_below line n ++ line n
 
--- the line of the key slot of a number, in a header that ends where `end` says. Iterations have no limit here
-abbrev pub slot_line_at : Data → ℕ → ℕ → List ℕ
-slot_line_at tree end number = slot_line number (verdict2_at tree end None number)
+-- the line of the key slot of a number, in a header with these bounds. Iterations have no limit here
+abbrev pub slot_line_at : Data → Bounds → ℕ → List ℕ
+slot_line_at tree bounds number = slot_line number (verdict2_at tree bounds None number)
 
 -- the lines of the key slots
-unfoldable pub slot_lines : Data → ℕ → List ℕ
-slot_lines tree end = lines_below (slot_line_at tree end) most_slots
+unfoldable pub slot_lines : Data → Bounds → List ℕ
+slot_lines tree bounds = lines_below (slot_line_at tree bounds) most_slots
 
 -- ---- the segment
 
@@ -147,8 +145,8 @@ unfoldable pub dump2_of : Header2 → Data → List ℕ
 dump2_of h tree =
     place_lines h
     ++ text_lines h
-    ++ slot_lines tree (header_end h)
-    ++ segment_line (segment2_of tree (header_end h))
+    ++ slot_lines tree (bounds2_of h)
+    ++ segment_line (segment2_of tree (bounds2_of h))
     ++ digest_lines (digests2_of tree)
 
 -- the line with the UUID alone

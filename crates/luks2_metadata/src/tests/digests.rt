@@ -1,6 +1,6 @@
 //! Which digests are usable, and which one a slot is opened against.
 
-use super::fixture::{HEADER_END, metadata};
+use super::fixture::{ATTACHED, metadata};
 use crate::digest::{digest_for, digests};
 use crate::slot::judge;
 use luks_kdf::Hash;
@@ -22,7 +22,7 @@ fn check(rt: &(impl Abort + AllocGlobal), part: &str, other: &str, want: bool) -
         return Err(Fail::new(other));
     };
     assert_eq!(rt; listed.is_some(), want, "{other}");
-    let judgement = judge(&metadata, HEADER_END, None, 2);
+    let judgement = judge(&metadata, ATTACHED, None, 2);
     let skipped = Some(Judgement::Skipped(SkipReason::Digest));
     assert_eq!(rt; judgement == skipped, !want, "{other}");
     Ok(())
@@ -212,7 +212,7 @@ fn what_a_digest_lists(rt: HostRuntime) -> Result<(), Fail> {
         let metadata = metadata(&rt, &[(part, other)])?;
         assert_eq!(rt; iterations(&rt, &metadata, 2)?, want, "{other}");
         let usable = matches!(
-            judge(&metadata, HEADER_END, None, 2),
+            judge(&metadata, ATTACHED, None, 2),
             Some(Judgement::Usable(_))
         );
         assert_eq!(rt; usable, want.is_some(), "{other}");
@@ -233,7 +233,7 @@ fn limits(rt: HostRuntime) -> Result<(), Fail> {
         (2000, Judgement::Usable(1)),
     ] {
         assert_eq!(rt;
-            judge(&metadata, HEADER_END, Some(limit), 2),
+            judge(&metadata, ATTACHED, Some(limit), 2),
             Some(want),
             "{limit}"
         );

@@ -1,12 +1,22 @@
 //! A JSON area, and how it is changed.
 
+use crate::bounds::Bounds;
 use luks2_members::tree::Metadata;
 use std::alloc::{AllocError, Global};
 use std::process::Abort;
 use std::test::Fail;
 
-/// The first byte behind a header of twice 16,384 bytes.
-pub const HEADER_END: u64 = 32_768;
+/// The bounds of a header of twice 16,384 bytes in the payload's image.
+pub const ATTACHED: Bounds = Bounds {
+    end: 32_768,
+    detached: false,
+};
+
+/// Those of the same header that stands apart from it.
+pub const DETACHED: Bounds = Bounds {
+    end: 32_768,
+    detached: true,
+};
 
 // A salt of 32 bytes 01, and a digest of 32 bytes 02, by Python's base64.b64encode.
 const SLOT_0: &str = "\"0\":{\"type\":\"luks2\",\"key_size\":64,\

@@ -1,6 +1,6 @@
 //! The faults of a segment, each bound from both sides.
 
-use super::fixture::{HEADER_END, metadata};
+use super::fixture::{ATTACHED, metadata};
 use crate::payload::segment;
 use luks_cipher::Mode;
 use luks_verdict::refusal::SegmentFault;
@@ -9,7 +9,7 @@ use luks_verdict::segment::Segment;
 use std::process::Abort;
 use std::test::Fail;
 
-fn word(segment: Result<Segment, SegmentFault>) -> &'static str {
+pub(super) fn word(segment: Result<Segment, SegmentFault>) -> &'static str {
     match segment {
         Ok(_) => "fine",
         Err(fault) => fault.text(),
@@ -18,13 +18,13 @@ fn word(segment: Result<Segment, SegmentFault>) -> &'static str {
 
 fn check(rt: &(impl Abort + AllocGlobal), part: &str, other: &str, want: &str) -> Result<(), Fail> {
     let metadata = metadata(rt, &[(part, other)])?;
-    assert_eq!(rt; word(segment(&metadata, HEADER_END)), want, "{other}");
+    assert_eq!(rt; word(segment(&metadata, ATTACHED)), want, "{other}");
     Ok(())
 }
 
 #[test]
 fn the_segment_as_it_is(rt: HostRuntime) -> Result<(), Fail> {
-    let segment = segment(&metadata(&rt, &[])?, HEADER_END)?;
+    let segment = segment(&metadata(&rt, &[])?, ATTACHED)?;
     assert_eq!(rt; segment.offset, 16_777_216);
     assert_eq!(rt; segment.size, None);
     assert_eq!(rt; segment.iv_tweak, 0);
@@ -50,7 +50,7 @@ fn other_values(rt: HostRuntime) -> Result<(), Fail> {
             ),
         ],
     )?;
-    let segment = segment(&metadata, HEADER_END)?;
+    let segment = segment(&metadata, ATTACHED)?;
     assert_eq!(rt; segment.offset, 32_768);
     assert_eq!(rt; segment.size, Some(8192));
     assert_eq!(rt; segment.iv_tweak, 18_446_744_073_709_551_615);
@@ -214,8 +214,8 @@ fn numbers(rt: HostRuntime) -> Result<(), Fail> {
         check(&rt, part, other, want)?;
     }
     let large = metadata(&rt, &[("512}", "4096}"), ("\"dynamic\"", "\"12288\"")])?;
-    assert_eq!(rt; word(segment(&large, HEADER_END)), "fine");
+    assert_eq!(rt; word(segment(&large, ATTACHED)), "fine");
     let torn = metadata(&rt, &[("512}", "4096}"), ("\"dynamic\"", "\"12800\"")])?;
-    assert_eq!(rt; word(segment(&torn, HEADER_END)), "size");
+    assert_eq!(rt; word(segment(&torn, ATTACHED)), "size");
     Ok(())
 }

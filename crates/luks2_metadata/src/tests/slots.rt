@@ -1,6 +1,6 @@
 //! The reasons to skip a slot, each bound from both sides.
 
-use super::fixture::{HEADER_END, metadata};
+use super::fixture::{ATTACHED, metadata};
 use crate::slot::{judge, slot};
 use luks_cipher::Mode;
 use luks_kdf::Hash;
@@ -11,9 +11,9 @@ use std::process::Abort;
 use std::test::Fail;
 
 // Slot 2 of the text, up to the end of its area: what has to be changed stands there once.
-const AREA: &str = "\"offset\":\"32768\",\"size\":\"258048\"";
+pub(super) const AREA: &str = "\"offset\":\"32768\",\"size\":\"258048\"";
 
-fn word(judgement: Option<Judgement>) -> &'static str {
+pub(super) fn word(judgement: Option<Judgement>) -> &'static str {
     match judgement {
         Some(Judgement::Usable(0)) => "usable 0",
         Some(Judgement::Usable(1)) => "usable 1",
@@ -33,9 +33,9 @@ fn check_metadata(
     want: &str,
     why: &str,
 ) -> Result<(), Fail> {
-    let judgement = judge(metadata, HEADER_END, None, 2);
+    let judgement = judge(metadata, ATTACHED, None, 2);
     assert_eq!(rt; word(judgement), want, "{why}");
-    let usable = slot(rt.alloc(), metadata, HEADER_END, 2)?;
+    let usable = slot(rt.alloc(), metadata, ATTACHED, 2)?;
     assert_eq!(rt;
         usable.is_some(),
         matches!(judgement, Some(Judgement::Usable(_))),
@@ -58,12 +58,12 @@ fn the_slots_as_they_are(rt: HostRuntime) -> Result<(), Fail> {
         (32, "not there"),
     ] {
         assert_eq!(rt;
-            word(judge(&metadata, HEADER_END, None, number)),
+            word(judge(&metadata, ATTACHED, None, number)),
             want,
             "{number}"
         );
     }
-    let Some(slot) = slot(rt.alloc(), &metadata, HEADER_END, 2)? else {
+    let Some(slot) = slot(rt.alloc(), &metadata, ATTACHED, 2)? else {
         return Err(Fail::new("no slot"));
     };
     assert_eq!(rt; slot.parts.priority, 1);
@@ -480,11 +480,11 @@ fn limits(rt: HostRuntime) -> Result<(), Fail> {
         (Some(999), "iterations"),
         (Some(0), "iterations"),
     ] {
-        let judgement = judge(&metadata, HEADER_END, limit, 2);
+        let judgement = judge(&metadata, ATTACHED, limit, 2);
         assert_eq!(rt; word(judgement), want, "{limit:?}");
     }
     assert_eq!(rt;
-        judge(&metadata, HEADER_END, Some(1), 0),
+        judge(&metadata, ATTACHED, Some(1), 0),
         Some(Judgement::Skipped(SkipReason::Argon2id))
     );
     Ok(())

@@ -5,6 +5,7 @@ ghost use Rattle.luks_pages.specs.Dump2.{dump2_of, place_lines, place_text, text
 
 use crate::escaping::escape;
 use crate::field::push_field;
+use luks_header::header::bounds;
 use luks2_header::header::{Header2, Place};
 use luks2_members::tree::Metadata;
 use std::alloc::{AllocError, Global};
@@ -32,12 +33,12 @@ pub(crate) fn dump_page(
 ) -> Result<String, AllocError>
     ensures { IfOk result (λ page. string_bytes page ≡ dump2_of header.now metadata.now) }
 {
-    let end = 2 * u64::from(header.size);
+    let bounds = bounds(header);
     let mut page = String::new(alloc);
     push_place(alloc, &mut page, header)?;
     push_texts(alloc, &mut page, header)?;
-    slots::push_slots(alloc, &mut page, metadata, end)?;
-    payload::push_segment(alloc, &mut page, metadata, end)?;
+    slots::push_slots(alloc, &mut page, metadata, bounds)?;
+    payload::push_segment(alloc, &mut page, metadata, bounds)?;
     digests::push_digests(alloc, &mut page, metadata)?;
     Ok(page)
 }

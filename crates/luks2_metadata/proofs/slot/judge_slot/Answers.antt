@@ -4,6 +4,6 @@ use Rattle.serde_json.specs.View.{view}
 
 pub returns-in-None : goal.returns-in-None
 returns-in-None c =
-    let is = judged_usable (view c.args.tree.now) c.args.header_end c.args.limit c.args.number (view c.args.slot.now)
+    let is = judged_usable (view c.args.tree.now) c.args.bounds c.args.limit c.args.number (view c.args.slot.now)
     (cc) in
     cc

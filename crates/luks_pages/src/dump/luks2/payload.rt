@@ -6,23 +6,24 @@ ghost use Rattle.luks_verdict.specs.SegmentFault.{fault_text};
 ghost use Rattle.luks2_metadata.specs.Segment2.{segment2_of};
 
 use crate::field::push_field;
+use luks_header::header::Bounds;
 use luks_verdict::refusal::SegmentFault;
 use luks_verdict::segment::Segment;
 use luks2_members::tree::Metadata;
 use luks2_metadata::payload::segment;
 use std::alloc::{AllocError, Global};
 
-/// Adds the line of the segment, or of its fault. The header ends at this byte.
+/// Adds the line of the segment of a header with these bounds, or of its fault.
 pub(super) fn push_segment(
     alloc: Global,
     page: &mut String,
     metadata: &Metadata,
-    end: u64,
+    bounds: Bounds,
 ) -> Result<(), AllocError>
     ensures { OnOk result (string_bytes page.new
-        ≡ string_bytes page.old ++ segment_line (segment2_of metadata.now end)) }
+        ≡ string_bytes page.old ++ segment_line (segment2_of metadata.now bounds)) }
 {
-    match segment(metadata, end) {
+    match segment(metadata, bounds) {
         Ok(segment) => {
             let text = describe(alloc, segment)?;
             push_field(page, "Segment 0", text.as_str())

@@ -5,6 +5,7 @@ ghost use Rattle.luks_pages.specs.Dump2.{hash_text, slot_line, slot_line_at, slo
 ghost use Rattle.luks2_metadata.specs.Slot2.{verdict2_at};
 
 use crate::field::push_field;
+use luks_header::header::Bounds;
 use luks_kdf::Hash;
 use luks_verdict::rule::MOST_SLOTS;
 use luks_verdict::slot::{Judgement, SlotParts, Verdict};
@@ -12,19 +13,19 @@ use luks2_members::tree::Metadata;
 use luks2_metadata::slot::{judge, slot};
 use std::alloc::{AllocError, Global};
 
-/// Adds a line for each key slot. The header ends at this byte.
+/// Adds a line for each key slot of a header with these bounds.
 #[tactic(auto, unfolding(crate::specs::Dump2::slot_lines))]
 pub(super) fn push_slots(
     alloc: Global,
     page: &mut String,
     metadata: &Metadata,
-    end: u64,
+    bounds: Bounds,
 ) -> Result<(), AllocError>
     ensures { OnOk result
-        (string_bytes page.new ≡ string_bytes page.old ++ slot_lines metadata.now end) }
+        (string_bytes page.new ≡ string_bytes page.old ++ slot_lines metadata.now bounds) }
 {
     for number in 0..MOST_SLOTS {
-        push_slot(alloc, page, metadata, end, number)?;
+        push_slot(alloc, page, metadata, bounds, number)?;
     }
     Ok(())
 }
@@ -34,13 +35,13 @@ fn push_slot(
     alloc: Global,
     page: &mut String,
     metadata: &Metadata,
-    end: u64,
+    bounds: Bounds,
     number: u8,
 ) -> Result<(), AllocError>
     ensures { OnOk result
-        (string_bytes page.new ≡ string_bytes page.old ++ slot_line_at metadata.now end number) }
+        (string_bytes page.new ≡ string_bytes page.old ++ slot_line_at metadata.now bounds number) }
 {
-    match verdict(alloc, metadata, end, number)? {
+    match verdict(alloc, metadata, bounds, number)? {
         Some(verdict) => push_verdict(alloc, page, number, &verdict),
         None => Ok(()),
     }
@@ -50,16 +51,16 @@ fn push_slot(
 fn verdict(
     alloc: Global,
     metadata: &Metadata,
-    end: u64,
+    bounds: Bounds,
     number: u8,
 ) -> Result<Option<Verdict>, AllocError>
-    ensures { IfOk result (λ verdict. verdict ≡ verdict2_at metadata.now end None number) }
+    ensures { IfOk result (λ verdict. verdict ≡ verdict2_at metadata.now bounds None number) }
 {
-    match judge(metadata, end, None, number) {
+    match judge(metadata, bounds, None, number) {
         None => Ok(None),
         Some(Judgement::Disabled) => Ok(Some(Verdict::Disabled)),
         Some(Judgement::Skipped(reason)) => Ok(Some(Verdict::Skipped(reason))),
-        Some(Judgement::Usable(_)) => match slot(alloc, metadata, end, number)? {
+        Some(Judgement::Usable(_)) => match slot(alloc, metadata, bounds, number)? {
             Some(slot) => Ok(Some(Verdict::Usable(slot))),
             None => unreachable!(),
         },

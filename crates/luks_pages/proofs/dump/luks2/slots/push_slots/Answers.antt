@@ -5,13 +5,13 @@ use Rattle.luks_pages.proofs.LinesLemmas.{lines_below_more, lines_below_none}
 use Rattle.luks_pages.proofs.dump.luks2.slots.push_slots.Goals as goal
 
 pub loop-number-init : goal.loop-number-init
-loop-number-init c = simp (lines_below_none (slot_line_at c.args.metadata.now c.args.end), append-nil)
+loop-number-init c = simp (lines_below_none (slot_line_at c.args.metadata.now c.args.bounds), append-nil)
 
 pub loop-number-preserved : goal.loop-number-preserved
 loop-number-preserved c =
     simp (
       c.in_ok-push_slot.ensures,
       c.loop-number.invariant,
-      lines_below_more (slot_line_at c.args.metadata.now c.args.end) c.loop-number.number,
+      lines_below_more (slot_line_at c.args.metadata.now c.args.bounds) c.loop-number.number,
       append_assoc,
     )
