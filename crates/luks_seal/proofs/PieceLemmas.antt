@@ -1,0 +1,40 @@
+-- What is written into a vector, encrypted sectors, and stripes.
+use Rattle.std.proofs.Common.{◌≡◌, ◌∙◌, ℕ, ◌+◌, ◌-◌, ◌*◌, ◌≤◌, List, [], ◌++◌, length, take, drop, refl, sym, ap, arith, add-one}
+use Rattle.std.proofs.Math.Seq.{take-append_seam}
+use Rattle.std.proofs.Math.Nat.{eq_of_mul-eq-mul_right}
+use Rattle.luks_cipher.specs.Sector.{Cipher, sector_encrypted}
+use Rattle.luks_cipher.specs.Xts.{joined}
+use Rattle.luks_kdf.specs.Bytes.{xor}
+use Rattle.luks_kdf.specs.Stripes.{IsSplit, chain_of}
+use Rattle.luks_kdf.specs.declared.hash.Hash.{Hash}
+use Rattle.luks_seal.specs.Pieces.{encrypted_sector, stripes_of, unit_number}
+
+-- a vector of so many bytes that were all written anew has what was written
+pub written : (len : ℕ) (new rest : List ℕ) → length new ≡ len → take len (new ++ rest) ≡ new
+written len new rest is = ap (λ n. take n (new ++ rest)) (sym is) ∙ take-append_seam new rest
+
+-- a split with so many random stripes is the stated one
+pub split_is : (hash : Hash) (random key stripes : List ℕ) (count : ℕ) → 1 ≤ length key
+    → length random ≡ (count - 1) * length key → IsSplit hash random key stripes
+    → stripes ≡ stripes_of hash key count random
+unfolding stripes_of
+split_is hash random key stripes count some len (before, has, is) =
+    let same : before ≡ count - 1 = eq_of_mul-eq-mul_right (length key) some before (count - 1) (sym has ∙ len) in
+    is ∙ ap (λ n. random ++ xor (chain_of hash (length key) random n) key) same
+
+module _ (cipher : Cipher) (first step size : ℕ) (bytes : List ℕ) where
+  -- no sector yet
+  pub sectors_none : [] ≡ joined (encrypted_sector cipher first step size bytes) 0
+  unfolding joined
+  sectors_none = refl
+
+  -- one sector more
+  pub sectors_more : (i number : ℕ) (before after : List ℕ)
+      → before ≡ joined (encrypted_sector cipher first step size bytes) i
+      → number ≡ unit_number first step i
+      → after ≡ before ++ sector_encrypted cipher.0 cipher.1 number (take (i * size + size - i * size) (drop (i * size) bytes))
+      → after ≡ joined (encrypted_sector cipher first step size bytes) (i + 1)
+  unfolding joined encrypted_sector
+  sectors_more i number before after is numbered next =
+      let len : i * size + size - i * size ≡ size = omega arith in
+      rw add-one (next ∙ rw (is, numbered, len) refl)

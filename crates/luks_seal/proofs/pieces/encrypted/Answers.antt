@@ -1,0 +1,26 @@
+use Rattle.std.proofs.Common.{◌≡◌, ◌∙◌, ◌/◌, ap, length, arith}
+use Rattle.luks_cipher.specs.Xts.{joined}
+use Rattle.luks_seal.specs.Pieces.{encrypted_sector, sectors_encrypted}
+use Rattle.luks_seal.proofs.PieceLemmas.{sectors_more, sectors_none}
+use Rattle.luks_seal.proofs.pieces.encrypted.Goals as goal
+
+pub fill-init : goal.fill-init
+fill-init c = c.new-sectors.ensures.items ∙ sectors_none c.args.cipher.now c.args.first c.args.step _ c.args.plain.now
+
+pub fill-preserved : goal.fill-preserved
+fill-preserved c =
+    sectors_more c.args.cipher.now c.args.first c.args.step _ c.args.plain.now c.fill.i _ _ _
+    c.fill.invariant c.unit_number.ensures c.in_ok-push_sector.ensures
+
+pub returns : goal.returns
+unfolding sectors_encrypted
+returns c =
+    let cipher = c.args.cipher.now in
+    let first = c.args.first in
+    let step = c.args.step in
+    let plain = c.args.plain.now in
+    let size = c.bytes-size.result in
+    let at_end : c.fill.i ≡ length plain / size = omega arith in
+    c.fill.invariant
+    ∙ (ap (joined (encrypted_sector cipher first step size plain)) at_end
+    ∙ ap (λ z. joined (encrypted_sector cipher first step z plain) (length plain / z)) c.bytes-size.ensures)

@@ -1,0 +1,30 @@
+-- Ranges that volumes of both formats share, and what a seal answers.
+use Rattle.std.specs.Prelude.{◌≡◌, ◌≢◌, ℕ, ◌<◌, ◌≤◌, true, List, length, slice_index, Result, Ok, Err}
+use Rattle.luks_cipher.specs.Sector.{is_mode_key_length}
+use Rattle.luks_cipher.specs.declared.mode.Mode.{Mode}
+use Rattle.luks_seal.specs.declared.parameters.SealFault.{SealFault}
+use Rattle.luks_seal.specs.declared.parameters.SealFault.TheVariants.{Parameters, Memory}
+
+-- the key has a length of the mode
+abbrev pub FitsKey : Mode → ℕ → Type 0
+FitsKey mode len = is_mode_key_length mode len ≡ true
+
+-- a text of at most so many bytes, none of them zero
+abbrev pub FitsText : ℕ → List ℕ → Type 0
+FitsText most text = (length text ≤ most) × ((i : ℕ) → i < length text → slice_index text i ≢ 0)
+
+-- the longest plain text that is sealed
+abbrev pub longest_plain : ℕ
+longest_plain = 8388608
+
+-- a volume, or why there is none: wrong parameters exactly where they are wrong, and else nothing but refused memory
+abbrev pub SealsOrSays : {T : Type 0} → Type 0 → Result T SealFault → Type 0
+SealsOrSays fits (Ok _) = fits
+SealsOrSays fits (Err Parameters) = ¬ fits
+SealsOrSays fits (Err Memory) = fits
+
+-- the same where one of the ranges is known late: memory can run out before it is
+abbrev pub SealsOrSaysLate : {T : Type 0} → Type 0 → Type 0 → Result T SealFault → Type 0
+SealsOrSaysLate fits late (Ok _) = fits × late
+SealsOrSaysLate fits late (Err Parameters) = ¬ (fits × late)
+SealsOrSaysLate fits late (Err Memory) = fits

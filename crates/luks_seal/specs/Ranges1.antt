@@ -1,0 +1,36 @@
+-- What a volume of LUKS1 may be made from.
+use Rattle.std.specs.Prelude.{◌≡◌, ◌≢◌, ℕ, ◌+◌, ◌-◌, ◌*◌, ◌/◌, ◌%◌, ◌≤◌, List, [], ◌∷◌, All, length}
+use Rattle.luks_seal.specs.Ranges.{FitsKey, FitsText, longest_plain}
+use Rattle.luks_seal.specs.declared.parameters.Seal1.{Seal1}
+use Rattle.luks_seal.specs.declared.parameters.Slot1.{Slot1}
+
+-- the sectors of 512 bytes that a slot's stripes take, rounded up to a multiple of 8
+abbrev pub area_sectors : ℕ → ℕ → ℕ
+area_sectors key stripes = (key * stripes + 4095) / 4096 * 8
+
+-- the counts are in their ranges, and the payload begins behind the areas of eight slots
+abbrev pub FitsCounts : Seal1 → Type 0
+FitsCounts p = (1 ≤ p.stripes) × (p.stripes ≤ 4000) × (1 ≤ p.digest_iterations)
+    × (8 + 8 * area_sectors (length p.key.now) p.stripes ≤ p.payload_sectors) × (p.payload_sectors ≤ 65536)
+
+-- whole sectors, and not too many
+abbrev pub FitsPlain : ℕ → Type 0
+FitsPlain len = (len % 512 ≡ 0) × (len ≤ longest_plain)
+
+-- one slot of a volume with so many random bytes for each
+abbrev pub FitsSlot : ℕ → Slot1 → Type 0
+FitsSlot random slot = (slot.number ≤ 7) × (1 ≤ slot.iterations) × (length slot.random.now ≡ random)
+
+-- no slot has the number of one before it
+abbrev pub AreDistinct : List Slot1 → Type 0
+AreDistinct [] = Unit {0}
+AreDistinct (slot ∷ slots) = All (λ other. other.number ≢ slot.number) slots × AreDistinct slots
+
+-- the parameters are all in their ranges
+pub record AreParameters (p : Seal1) : Type 0 where
+  pub key : FitsKey p.mode (length p.key.now)
+  pub counts : FitsCounts p
+  pub uuid : FitsText 40 p.uuid.now
+  pub plain : FitsPlain (length p.plain.now)
+  pub slots : All (FitsSlot ((p.stripes - 1) * length p.key.now)) p.slots.now
+  pub distinct : AreDistinct p.slots.now

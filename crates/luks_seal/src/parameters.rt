@@ -1,0 +1,137 @@
+//! What a volume is made from.
+
+use luks_cipher::Mode;
+use luks_kdf::Hash;
+use luks_verdict::sector_size::SectorSize;
+use std::alloc::AllocError;
+
+/// A volume of LUKS1.
+#[derive(Clone, Copy, Debug)]
+pub struct Seal1<'a> {
+    /// The hash of the key slots, the stripes and the digest.
+    pub hash: Hash,
+    /// The mode in which the payload and the key material are encrypted.
+    pub mode: Mode,
+    /// The volume key, of a length of the mode.
+    pub key: &'a [u8],
+    /// How many stripes hold the key, from 1 to 4000.
+    pub stripes: u32,
+    /// Where the payload begins, in sectors of 512 bytes: behind the areas of eight slots, and
+    /// 65,536 at most.
+    pub payload_sectors: u32,
+    /// The UUID, of at most 40 bytes, none of them zero.
+    pub uuid: &'a [u8],
+    /// The salt of the key's digest.
+    pub digest_salt: [u8; 32],
+    /// The iterations of the key's digest, at least 1.
+    pub digest_iterations: u32,
+    /// The key slots that are in use, each with a number of its own.
+    pub slots: &'a [Slot1<'a>],
+    /// The plain text: whole sectors of 512 bytes, and 8,388,608 bytes at most.
+    pub plain: &'a [u8],
+}
+
+/// A key slot of LUKS1 that is in use.
+#[derive(Clone, Copy, Debug)]
+pub struct Slot1<'a> {
+    /// Its number, from 0 to 7.
+    pub number: u32,
+    /// The iterations by which its key comes of the passphrase, at least 1.
+    pub iterations: u32,
+    /// The salt by which its key comes of the passphrase.
+    pub salt: [u8; 32],
+    /// The passphrase.
+    pub passphrase: &'a [u8],
+    /// The random stripes: the key's length times one less than the count of stripes.
+    pub random: &'a [u8],
+}
+
+/// A volume of LUKS2.
+#[derive(Clone, Copy, Debug)]
+pub struct Seal2<'a> {
+    /// The length of a header and its JSON area in bytes, one of the nine that the format has.
+    pub hdr_size: u64,
+    /// The number of the last change, which both headers have.
+    pub seqid: u64,
+    /// The UUID, of at most 40 bytes, none of them zero.
+    pub uuid: &'a [u8],
+    /// The label, of at most 48 bytes, none of them zero.
+    pub label: &'a [u8],
+    /// The subsystem, of at most 48 bytes, none of them zero.
+    pub subsystem: &'a [u8],
+    /// The salt of the primary header, which makes its checksum differ from others.
+    pub primary_salt: [u8; 64],
+    /// The salt of the secondary header.
+    pub secondary_salt: [u8; 64],
+    /// The mode in which the payload is encrypted.
+    pub mode: Mode,
+    /// The volume key, of a length of the mode.
+    pub key: &'a [u8],
+    /// The length of a sector of the payload.
+    pub sector_size: SectorSize,
+    /// The unit number of the payload's first sector.
+    pub iv_tweak: u64,
+    /// Where the payload begins, in bytes: a multiple of 4096 behind all areas, and 33,554,432 at
+    /// most.
+    pub offset: u64,
+    /// Whether the header has the payload's length. Else the payload ends with the image.
+    pub fixed: bool,
+    /// The mode in which the key material is encrypted.
+    pub area_mode: Mode,
+    /// The length of the keys that encrypt the key material, one of `area_mode`.
+    pub area_key_size: usize,
+    /// The hash of the key's digest.
+    pub digest_hash: Hash,
+    /// The salt of the key's digest.
+    pub digest_salt: [u8; 32],
+    /// The iterations of the key's digest, at least 1.
+    pub digest_iterations: u32,
+    /// The key slots, each with a number of its own.
+    pub slots: &'a [Slot2<'a>],
+    /// The plain text: whole sectors, and 8,388,608 bytes at most.
+    pub plain: &'a [u8],
+}
+
+/// A key slot of LUKS2.
+#[derive(Clone, Copy, Debug)]
+pub struct Slot2<'a> {
+    /// Its number, from 0 to 31.
+    pub number: u32,
+    /// Its priority: 2 is tried first, then 1, and 0 only by its number.
+    pub priority: u32,
+    /// The hash by which its key comes of the passphrase.
+    pub hash: Hash,
+    /// The iterations by which its key comes of the passphrase, at least 1.
+    pub iterations: u32,
+    /// The salt by which its key comes of the passphrase.
+    pub salt: [u8; 32],
+    /// The hash of its stripes.
+    pub af_hash: Hash,
+    /// How many stripes hold the volume key, from 1 to 4000.
+    pub stripes: u32,
+    /// The passphrase.
+    pub passphrase: &'a [u8],
+    /// The random stripes: the key's length times one less than the count of stripes.
+    pub random: &'a [u8],
+}
+
+/// Why there is no volume.
+#[derive(Clone, Copy, PartialEq, Eq, Debug)]
+pub enum SealFault {
+    /// A value is outside its range. No memory was taken, unless only the JSON text of LUKS2 does
+    /// not fit.
+    Parameters,
+    /// Memory was refused.
+    Memory,
+}
+
+impl From<AllocError> for SealFault {
+    ghost use Rattle.std.specs.Prelude.{◌≡◌};
+    ghost use Rattle.luks_seal.specs.declared.parameters.SealFault.TheVariants.{Memory};
+
+    ghost from_gives = { λ _ fault. fault ≡ Memory };
+
+    fn from(_error: AllocError) -> SealFault {
+        SealFault::Memory
+    }
+}

@@ -1,0 +1,141 @@
+//! What volumes of both formats are put together from: fields with zeros behind them, encrypted
+//! sectors, key material.
+
+ghost use Rattle.std.specs.Prelude.{◌≡◌, ◌-◌, ◌*◌, ◌%◌, ◌≤◌, ◌++◌, IfOk, OnOk, length};
+ghost use Rattle.luks_cipher.specs.Sector.{sector_encrypted};
+ghost use Rattle.luks_seal.specs.Pieces.{material_of, padded, sectors_encrypted, stripes_of, unit_number, whole_sectors};
+ghost use Rattle.luks_seal.specs.Ranges.{FitsKey};
+ghost use Rattle.luks_verdict.specs.SectorSize.{bytes_of};
+
+use luks_cipher::{Mode, SectorCipher};
+use luks_kdf::{Hash, af_split};
+use luks_verdict::sector_size::SectorSize;
+use std::alloc::{AllocError, Global};
+
+/// Some bytes, and zeros behind them up to this length.
+#[tactic(auto, unfolding(crate::specs::Pieces::padded))]
+pub(crate) fn padded(alloc: Global, bytes: &[u8], room: usize) -> Result<Vec<u8>, AllocError>
+    ensures { IfOk result (λ all. all.items ≡ padded room bytes.now) }
+{
+    let mut all = Vec::from_slice(alloc, bytes)?;
+    all.resize(room.max(bytes.len()), 0)?;
+    Ok(all)
+}
+
+/// Adds some bytes, and zeros behind them up to this length.
+pub(crate) fn push_padded(
+    alloc: Global,
+    image: &mut Vec<u8>,
+    bytes: &[u8],
+    room: usize,
+) -> Result<(), AllocError>
+    ensures { OnOk result (image.new.items ≡ image.old.items ++ padded room bytes.now) }
+{
+    let field = padded(alloc, bytes, room)?;
+    image.extend_from_slice(&field)
+}
+
+/// A cipher of this mode and key.
+pub(crate) fn cipher_of(mode: Mode, key: &[u8]) -> SectorCipher
+    requires { FitsKey mode (length key.now) }
+    ensures { result ≡ (mode, key.now) }
+{
+    let Some(cipher) = SectorCipher::new(mode, key) else {
+        unreachable!()
+    };
+    cipher
+}
+
+/// The unit number of a sector.
+fn unit_number(first: u64, step: u64, sector: u64) -> u64
+    ensures { result ≡ unit_number first step sector }
+{
+    first.wrapping_add(sector.wrapping_mul(step))
+}
+
+/// Adds a sector, encrypted under this number.
+fn push_sector(
+    alloc: Global,
+    image: &mut Vec<u8>,
+    cipher: &SectorCipher,
+    number: u64,
+    plain: &[u8],
+) -> Result<(), AllocError>
+    requires whole_blocks { length plain.now % 16 ≡ 0 }
+    requires shortest { 16 ≤ length plain.now }
+    requires longest { length plain.now ≤ 4096 }
+    ensures { OnOk result (image.new.items
+        ≡ image.old.items ++ sector_encrypted cipher.now.0 cipher.now.1 number plain.now) }
+{
+    let mut sector = Vec::from_slice(alloc, plain)?;
+    cipher.encrypt_unit(number, &mut sector);
+    image.extend_from_slice(&sector)
+}
+
+/// Whole sectors of this size, each encrypted. The first has the number `first`, and each `step`
+/// more than the one before.
+pub(crate) fn encrypted(
+    alloc: Global,
+    cipher: &SectorCipher,
+    first: u64,
+    step: u64,
+    size: SectorSize,
+    plain: &[u8],
+) -> Result<Vec<u8>, AllocError>
+    ensures { IfOk result (λ sectors. sectors.items
+        ≡ sectors_encrypted cipher.now first step (bytes_of size) plain.now) }
+{
+    let mut sectors = Vec::new(alloc);
+    let size = size.bytes();
+    'fill: for i in 0..plain.len() / size {
+        let sector = &plain[i * size..i * size + size];
+        push_sector(
+            alloc,
+            &mut sectors,
+            cipher,
+            unit_number(first, step, i as u64),
+            sector,
+        )?;
+    }
+    Ok(sectors)
+}
+
+/// The stripes of a key: the random ones, and one more that makes them merge to the key.
+pub(crate) fn stripes_of(
+    alloc: Global,
+    hash: Hash,
+    key: &[u8],
+    count: u32,
+    random: &[u8],
+) -> Result<Vec<u8>, AllocError>
+    requires some { 1 ≤ length key.now }
+    requires room { length key.now ≤ 64 }
+    requires least { 1 ≤ count }
+    requires most { count ≤ 4000 }
+    requires random { length random.now ≡ (count - 1) * length key.now }
+    ensures value { IfOk result (λ stripes. stripes.items
+        ≡ stripes_of hash key.now count random.now) }
+    ensures len { IfOk result (λ stripes. length stripes.items ≡ count * length key.now) }
+{
+    let mut stripes = vec![in alloc; 0; key.len() * count as usize]?;
+    af_split(hash, key, random, &mut stripes);
+    Ok(stripes)
+}
+
+/// Key material: these stripes in whole sectors of 512 bytes, encrypted and numbered from 0.
+#[tactic(auto, unfolding(crate::specs::Pieces::material_of, crate::specs::Pieces::whole_sectors))]
+pub(crate) fn material_of(
+    alloc: Global,
+    mode: Mode,
+    key: &[u8],
+    stripes: &[u8],
+) -> Result<Vec<u8>, AllocError>
+    requires key { FitsKey mode (length key.now) }
+    requires stripes { length stripes.now ≤ 256000 }
+    ensures { IfOk result (λ material. material.items
+        ≡ material_of (mode, key.now) stripes.now) }
+{
+    let cipher = cipher_of(mode, key);
+    let sectors = padded(alloc, stripes, stripes.len().div_ceil(512) * 512)?;
+    encrypted(alloc, &cipher, 0, 1, SectorSize::B512, &sectors)
+}

@@ -1,5 +1,0 @@
-//! Making volumes from values that are all handed in.
-
-pub mod luks1;
-pub mod parameters;
-mod ranges;
