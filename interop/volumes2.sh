@@ -31,9 +31,10 @@ gives() {
     same "$1, $3, $2: length" "$(stat -c %s payload)" "$(($(stat -c %s "$1") - $(start_of "$1")))"
 }
 
-# start_of IMAGE: where its payload starts, as cryptsetup says
+# start_of IMAGE: where its payload starts, as cryptsetup says of a copy, since it mends a damaged header that it reads
 start_of() {
-    cryptsetup luksDump "$1" | awk '/offset: .*bytes/ { print $2; exit }'
+    cp "$1" copy
+    cryptsetup luksDump copy | awk '/offset: .*bytes/ { print $2; exit }'
 }
 
 # opens IMAGE: both passphrases do, and others do not
@@ -104,11 +105,17 @@ same 'Argon2 alone' "$(told testPassphrase --key-file pass2 slots)" 'luksrd: no 
 # one header is damaged
 seal damaged aes-xts-plain64 512
 cp damaged second
+cp damaged past
 damage damaged 600
 gives damaged file pass
 gives damaged - pass
 damage second 20000
 gives second file pass2
+
+# one that says that it has 4,194,304 bytes: the search for the other one reads past the payload's start
+printf '\0\0\0\0\0\100\0\0' | dd of=past bs=1 seek=8 conv=notrunc status=none
+gives past file pass
+gives past - pass2
 
 # images that end early
 start=$(start_of second)

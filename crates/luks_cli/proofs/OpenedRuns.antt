@@ -8,7 +8,7 @@ use Rattle.luks_verdict.specs.declared.segment.Segment.{Segment}
 use Rattle.luks_io.proofs.Taking.{adds-none}
 use Rattle.luks_io.specs.Bytes.{Adds, Took, counted, raised}
 use Rattle.luks_open.specs.declared.opening.Opened.{Opened}
-use Rattle.luks_volume.specs.Plain.{end_within, payload_end_of, sector_len, sector_start, sectors_of}
+use Rattle.luks_volume.specs.Plain.{sector_len, sector_start, sectors_of}
 use Rattle.luks_cli.proofs.PayloadLemmas.{plain_len}
 use Rattle.luks_cli.proofs.VolumeRuns.{same_segment}
 use Rattle.luks_cli.specs.Ending.{Outcome}
@@ -53,7 +53,7 @@ runs_at_any_pace is_prompt out message TookImage TookSecret Wrote = either (brea
     }
     either false run = run
 
-module _ (o : OpeningRequest) (image pass : List ℕ) (segment : Segment) (opened : Opened) (held : ℕ)
+module _ (o : OpeningRequest) (image pass : List ℕ) (segment : Segment) (opened : Opened) (held : List ℕ)
     (i s : Option (List ℕ))
     (u : Unlocks o image pass segment opened held i s) where
   -- ---- `testPassphrase`
@@ -63,7 +63,7 @@ module _ (o : OpeningRequest) (image pass : List ℕ) (segment : Segment) (opene
       → Runs at_any_pace (volume_outcome (slot_outcome pass) o image pass) OutOfMemory (Took image i) (Took pass s)
       (Adds w w)
   runs_without_line w = rw (u.outcome (slot_outcome pass)) (record {
-    image_taken = held;
+    image_taken = length held;
     secret_taken = length pass;
     output_len = 0;
     image_within = omega arith;
@@ -92,7 +92,7 @@ module _ (o : OpeningRequest) (image pass : List ℕ) (segment : Segment) (opene
         → Runs at_any_pace (volume_outcome (slot_outcome pass) o image pass) WriteFailed (Took image i) (Took pass s)
         (Adds w w')
     runs_without_rest n within added = rw (u.outcome (slot_outcome pass), ← is) (record {
-      image_taken = held;
+      image_taken = length held;
       secret_taken = length pass;
       output_len = n;
       image_within = omega arith;
@@ -107,17 +107,10 @@ module _ (o : OpeningRequest) (image pass : List ℕ) (segment : Segment) (opene
 
   -- ---- `luksCat`
 
-  module _ (few : held ≤ segment.offset) (i' w w' : Option (List ℕ)) where
-    to_end : held ≤ payload_end_of segment image
-    to_end = before_end segment.size
-      where
-        before_end : (size : Option ℕ) → held ≤ end_within size segment.offset (length image)
-        before_end None = u.image_taken.within
-        before_end (Some size) = omega (arith, u.image_taken.within)
-
+  module _ (i' w w' : Option (List ℕ)) where
     -- the payload was passed on, to its end or not
     pub runs_passed : (message : Message) → message ≢ OutOfMemory
-        → PassesPayload segment (segment.mode, opened.key) image i' w w' message
+        → PassesPayload segment (segment.mode, opened.key) image (length held) i' w w' message
         → Runs (cat_promptly image) (volume_outcome (payload_outcome image pass) o image pass) message (Took image i')
         (Took pass s) (Adds w w')
     runs_passed OutOfMemory never passed = absurd (never refl)
@@ -151,22 +144,21 @@ module _ (o : OpeningRequest) (image pass : List ℕ) (segment : Segment) (opene
         let row : (count * sector_len segment + written) / sector_len segment
         ≡ count = div-eq_of_lt-le (sector_len segment) (omega arith) (omega (arith, passed.3)) in
         rw (u.outcome (payload_outcome image pass)) (record {
-          image_taken = sector_start segment (count + 1);
+          image_taken = max (length held) (sector_start segment (count + 1));
           secret_taken = length pass;
           output_len = count * sector_len segment + written;
           image_within = omega (arith, passed.4);
           secret_within = omega arith;
           output_within = omega (arith, plain_len segment image (segment.mode, opened.key), passed.3);
           is_silent = tt;
-          is_prompt = λ other is. rw (same_segment image segment other u.has is, row) (omega arith);
+          is_prompt = λ other is. rw (same_segment image segment other u.has is, row) (omega (arith, u.early));
           image = passed.5;
           secret = u.secret_taken;
           output = passed.6;
         })
     runs_passed message never passed =
-        let end : max held (payload_end_of segment image) ≡ payload_end_of segment image = omega (arith, to_end) in
         rw (u.outcome (payload_outcome image pass)) (record
-        { as_stated = passed.0; image = rw end passed.1; secret = u.secret_taken; output = passed.2 })
+        { as_stated = passed.0; image = passed.1; secret = u.secret_taken; output = passed.2 })
 
 -- the cipher of the volume has the key that was found
 pub cipher_is : (cipher : Cipher) (mode : Mode) (key : List ℕ) → is_mode_key_length mode (length key) ≡ true

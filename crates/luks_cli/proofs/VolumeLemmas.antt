@@ -1,7 +1,6 @@
 -- Finding the volume of an image.
-use Rattle.std.proofs.Common.{◌≡◌, ◌∙◌, ℕ, ◌<◌, ◌≤◌, ◌⊎◌, inl, inr, List, [], Option, Ok, Err, false, ap, refl, length, length-take-le, take, arith}
-use Rattle.std.specs.Prelude.{is_err, nat_lt}
-use Rattle.std.proofs.lemmas.Bool.{le-ltb, lt-ltb}
+use Rattle.std.proofs.Common.{◌≡◌, ◌∙◌, ℕ, ◌⊎◌, inl, inr, List, Option, Ok, Err, false, ap, refl, length, length-take-le, take, arith}
+use Rattle.std.specs.Prelude.{is_err}
 use Rattle.luks_io.specs.Bytes.{Took}
 use Rattle.luks_header.specs.Header.{BreaksReading, cost_of, header_of}
 use Rattle.luks_header.proofs.HeaderLemmas.{memory_below}
@@ -20,16 +19,11 @@ use Rattle.luks_cli.proofs.HeaderTaking.{cost_there}
 use Rattle.luks_cli.specs.VolumeParts.{StopsFinding}
 use Rattle.luks_cli.specs.Volume.{volume_of}
 use Rattle.luks_report.specs.Faults.{message_for_opening}
-use Rattle.luks_report.specs.declared.message.Message.TheVariants.{NothingTried, SegmentRefused}
+use Rattle.luks_report.specs.declared.message.Message.TheVariants.{SegmentRefused}
 
 -- as much is held of the header as it costs
 pub cost_held : (image area : List ℕ) → area ≡ take (cost_of image) image → length area ≡ cost_of image
 cost_held image area front = ap length front ∙ length-take-le (cost_of image) image (cost_there image)
-
--- and where that ends before a place, so does what it costs
-pub cost_before : (image area : List ℕ) (place : ℕ) → area ≡ take (cost_of image) image → length area ≤ place
-    → cost_of image ≤ place
-cost_before image area place front within = omega (arith, cost_held image area front, within)
 
 module _ (o : OpeningRequest) (image : List ℕ) (left : Option (List ℕ)) where
   no_header : (fault : HeaderFault) → header_of image ≡ Err fault → volume_of o image ≡ Err (message_for_header fault)
@@ -53,27 +47,17 @@ module _ (o : OpeningRequest) (image : List ℕ) (left : Option (List ℕ)) wher
         → StopsFinding o image left (SegmentRefused fault)
     stops_without_segment rest fault none = (no_segment fault none, rest)
 
-    -- the header goes past the payload's start
-    pub stops_past_start : (segment : Segment) → segment_of header ≡ Ok segment → segment.offset < cost_of image
-        → Took image left (cost_of image) → StopsFinding o image left (NothingTried [])
-    unfolding volume_of
-    stops_past_start segment is past rest =
-        (rw (found, is, lt-ltb segment.offset (cost_of image) past) refl, rest)
-
   module _ (header : Header) (found : header_of image ≡ Ok header) (segment : Segment)
-      (is : segment_of header ≡ Ok segment) (before : cost_of image ≤ segment.offset) where
-    no : nat_lt segment.offset (cost_of image) ≡ false
-    no = le-ltb segment.offset (cost_of image) before
-
+      (is : segment_of header ≡ Ok segment) where
     no_order : (fault : OpenFault) → order_of header o.key_slot o.max_iterations ≡ Err fault
         → volume_of o image ≡ Err (message_for_opening o.key_slot fault)
     unfolding volume_of
-    no_order fault none = rw (found, is, no, none) refl
+    no_order fault none = rw (found, is, none) refl
 
     pub volume_is : (tries : Tries) → order_of header o.key_slot o.max_iterations ≡ Ok tries
         → volume_of o image ≡ Ok (record { header = header; segment = segment; tries = tries })
     unfolding volume_of
-    volume_is tries ordered = rw (found, is, no, ordered) refl
+    volume_is tries ordered = rw (found, is, ordered) refl
 
     pub volume_found : (tries : Tries) → order_of header o.key_slot o.max_iterations ≡ Ok tries
         → is_err (volume_of o image) ≡ false

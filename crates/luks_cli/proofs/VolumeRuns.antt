@@ -13,6 +13,7 @@ use Rattle.luks_header.specs.declared.header.Header.{Header}
 use Rattle.luks_area.specs.declared.fault.HeaderFault.{HeaderFault}
 use Rattle.luks_area.specs.declared.fault.HeaderFault.TheVariants.{Read as LostRead, Memory as NoMemory}
 use Rattle.luks_verdict.specs.declared.segment.Segment.{Segment}
+use Rattle.luks_header.proofs.KnownLemmas.{is_attached}
 use Rattle.luks_open.proofs.CallerLemmas.{held_before_payload, opening_beginning}
 use Rattle.luks_open.specs.Opening.{opening_of}
 use Rattle.luks_open.specs.Order.{Tries, held_of, order_of}
@@ -56,17 +57,25 @@ prompt_in_header image WriteFailed a b few segment has = omega arith
 prompt_in_header image _ a b few segment has = tt
 
 -- nothing past the payload's start was taken
-prompt_before_payload : (image : List ℕ) (message : Message) (a b : ℕ) (segment : Segment) → HasSegment image segment
+prompt_to_payload : (image : List ℕ) (message : Message) (a b : ℕ) (segment : Segment) → HasSegment image segment
     → a ≤ segment.offset → cat_promptly image message a b 0
-prompt_before_payload image ReadFailed a b segment has few other is = λ past.
+prompt_to_payload image ReadFailed a b segment has few other is = λ past.
     let same = same_segment image segment other has is in
     let none : a - other.offset ≡ 0 = rw same (omega arith) in
     rw (none, zero-div (sector_len other)) (omega arith)
-prompt_before_payload image WriteFailed a b segment has few other is =
+prompt_to_payload image WriteFailed a b segment has few other is =
     let same = same_segment image segment other has is in
     let start : a ≤ other.offset = rw same few in
     omega arith
-prompt_before_payload image _ a b segment has few other is = tt
+prompt_to_payload image _ a b segment has few other is = tt
+
+-- nothing past the header and the payload's start was taken
+prompt_before_payload : (image : List ℕ) (message : Message) (a b : ℕ) (segment : Segment) → HasSegment image segment
+    → a ≤ max (cost_of image) segment.offset → cat_promptly image message a b 0
+prompt_before_payload image message a b segment has few = elim (cases_lt (cost_of image) a) [
+  | inl past ↦ prompt_to_payload image message a b segment has (omega arith)
+  | inr within ↦ prompt_in_header image message a b (omega arith)
+]
 
 -- ---- runs without output
 
@@ -253,7 +262,7 @@ module _ (o : OpeningRequest) (image pass : List ℕ) (i s w : Option (List ℕ)
 
   -- the header names this segment and these key slots to be tried
   module _ (header : Header) (segment : Segment) (tries : Tries) (found : header_of image ≡ Ok header)
-      (before : cost_of image ≤ segment.offset) (is_segment : segment_of header ≡ Ok segment)
+      (is_segment : segment_of header ≡ Ok segment)
       (ordered : order_of header o.key_slot o.max_iterations ≡ Ok tries) where
     volume : Volume
     volume = record { header = header; segment = segment; tries = tries }
@@ -262,15 +271,15 @@ module _ (o : OpeningRequest) (image pass : List ℕ) (i s w : Option (List ℕ)
         → volume_outcome on_opened o image pass ≡ found_outcome on_opened o.key_slot volume image pass
     unfolding volume
     outcome_found on_opened =
-        outcome_is on_opened (Ok volume) (volume_is o image i header found segment is_segment before tries ordered)
+        outcome_is on_opened (Ok volume) (volume_is o image i header found segment is_segment tries ordered)
 
-    held_before : held_for image volume ≤ segment.offset
+    held_before : held_for image volume ≤ max (cost_of image) segment.offset
     unfolding volume
     held_before =
         omega (
           arith,
-          before,
-          held_before_payload header segment o.key_slot o.max_iterations tries is_segment ordered,
+          held_before_payload header segment o.key_slot o.max_iterations tries (is_attached image header found)
+              is_segment ordered,
         )
 
     -- the key file was not read
@@ -371,7 +380,7 @@ module _ (o : OpeningRequest) (image pass : List ℕ) (i s w : Option (List ℕ)
           (min (held_of tries.slots - length area) (length (drop (cost_of image) image))))
           → (enough : held_of tries.slots ≤ length area') (opened : Opened)
           (tried : opening_of tries area' pass ≡ Ok opened)
-          → Unlocks o image pass segment opened (length area') i s
+          → Unlocks o image pass segment opened area' i s
       unfolding volume
       unlocks grows enough opened tried =
           let held = area_held image area area' i (held_of tries.slots) front grows enough in
@@ -380,6 +389,8 @@ module _ (o : OpeningRequest) (image pass : List ℕ) (i s w : Option (List ℕ)
                 ∙ ap (on_opened segment opened) (sym held.1);
             has = (header, found, is_segment);
             cost = omega (arith, held.1);
+            early = omega (arith, held.1, held_before);
+            front = rw (← held.1) at held.2;
             image_taken = rw (← held.1) at held.3;
             secret_taken = gone;
           }

@@ -1,6 +1,6 @@
 -- What the commands on volumes come to.
 -- First what an image's header says of its volume, before any key slot is tried; then what becomes of a run.
-use Rattle.std.specs.Prelude.{ℕ, ◌+◌, List, [], length, max, nat_lt, if◌then◌else◌, Option, Result, Ok, Err}
+use Rattle.std.specs.Prelude.{ℕ, ◌+◌, List, length, max, nat_lt, if◌then◌else◌, Option, Result, Ok, Err}
 use Rattle.luks_header.specs.Header.{cost_of, header_of}
 use Rattle.luks_header.specs.Segment.{segment_of}
 use Rattle.luks_header.specs.declared.header.Header.{Header}
@@ -19,7 +19,7 @@ use Rattle.luks_report.specs.Texts.{opened_line}
 use Rattle.luks_report.specs.declared.message.Message.TheVariants.{Done, Cut, KeyFileLength}
 use Rattle.luks_cli.specs.Ending.{Outcome, unwritten}
 use Rattle.luks_report.specs.declared.message.Message.{Message}
-use Rattle.luks_report.specs.declared.message.Message.TheVariants.{NothingTried, SegmentRefused}
+use Rattle.luks_report.specs.declared.message.Message.TheVariants.{SegmentRefused}
 
 -- a volume: its header, where its payload lies, and which key slots are tried
 pub record Volume : Type 0 where
@@ -32,23 +32,21 @@ abbrev pub volume_in_order : Option ℕ → Header → Segment → Result Tries 
 volume_in_order named header segment (Ok tries) = Ok (record { header = header; segment = segment; tries = tries })
 volume_in_order named header segment (Err fault) = Err (message_for_opening named fault)
 
--- the volume with this segment, whose header costs so many bytes of the image. Where they go past the payload's start,
--- no key slot can be tried
-abbrev pub volume_in_segment : OpeningRequest → ℕ → Header → Result Segment SegmentFault → Result Volume Message
-volume_in_segment o cost header (Ok segment) =
-    if nat_lt segment.offset cost then Err (NothingTried [])
-    else volume_in_order o.key_slot header segment (order_of header o.key_slot o.max_iterations)
-volume_in_segment o cost header (Err fault) = Err (SegmentRefused fault)
+-- the volume with this segment
+abbrev pub volume_in_segment : OpeningRequest → Header → Result Segment SegmentFault → Result Volume Message
+volume_in_segment o header (Ok segment) =
+    volume_in_order o.key_slot header segment (order_of header o.key_slot o.max_iterations)
+volume_in_segment o header (Err fault) = Err (SegmentRefused fault)
 
 -- the volume with this header
-abbrev pub volume_in_header : OpeningRequest → ℕ → Result Header HeaderFault → Result Volume Message
-volume_in_header o cost (Ok header) = volume_in_segment o cost header (segment_of header)
-volume_in_header o cost (Err fault) = Err (message_for_header fault)
+abbrev pub volume_in_header : OpeningRequest → Result Header HeaderFault → Result Volume Message
+volume_in_header o (Ok header) = volume_in_segment o header (segment_of header)
+volume_in_header o (Err fault) = Err (message_for_header fault)
 
 -- the volume of an image, or what is told where there is none: of its header first, then of its segment, then of the
 -- order of its key slots
 unfoldable pub volume_of : OpeningRequest → List ℕ → Result Volume Message
-volume_of o image = volume_in_header o (cost_of image) (header_of image)
+volume_of o image = volume_in_header o (header_of image)
 
 -- how many bytes of the image are taken to open the volume: the header and the key areas of the slots that are tried
 abbrev pub held_for : List ℕ → Volume → ℕ

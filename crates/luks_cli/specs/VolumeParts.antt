@@ -43,13 +43,17 @@ pub record TakesHeld (secret : List ℕ) (on_opened : OnOpened) : Type 0 where
   pub whole : (segment : Segment) (opened : Opened) (held : ℕ)
       → (on_opened segment opened held).secret_taken ≡ length secret
 
--- the volume of an image was opened: its segment and its key are these, and so many bytes of the image are held
-pub record Unlocks (o : OpeningRequest) (image secret : List ℕ) (segment : Segment) (opened : Opened) (held : ℕ)
+-- the volume of an image was opened: its segment and its key are these, and these first bytes of the image are held:
+-- but for the header, none of the payload's
+pub record Unlocks (o : OpeningRequest) (image secret : List ℕ) (segment : Segment) (opened : Opened) (held : List ℕ)
     (image' secret' : Option (List ℕ)) : Type 0 where
-  pub outcome : (on_opened : OnOpened) → volume_outcome on_opened o image secret ≡ on_opened segment opened held
+  pub outcome : (on_opened : OnOpened)
+      → volume_outcome on_opened o image secret ≡ on_opened segment opened (length held)
   pub has : HasSegment image segment
-  pub cost : cost_of image ≤ held
-  pub image_taken : Took image image' held
+  pub cost : cost_of image ≤ length held
+  pub early : length held ≤ max (cost_of image) segment.offset
+  pub front : held ≡ take (length held) image
+  pub image_taken : Took image image' (length held)
   pub secret_taken : Took secret secret' (length secret)
 
 -- ---- the payload
@@ -68,19 +72,19 @@ abbrev pub cat_promptly : List ℕ → Message → ℕ → ℕ → ℕ → Type 
 cat_promptly image message image_taken secret_taken output =
     (segment : Segment) → HasSegment image segment → passed_promptly segment (cost_of image) message image_taken output
 
--- passing on the payload of an image ended with this message: all of it was written and taken, or it was broken off
--- within a sector
-abbrev pub PassesPayload : Segment → Cipher → List ℕ → Option (List ℕ) → Option (List ℕ) → Option (List ℕ) → Message
-    → Type 0
-PassesPayload s cipher image left before after ReadFailed =
+-- passing on the payload of an image, of which so many bytes were taken before, ended with this message: all of it was
+-- written and taken, or it was broken off within a sector
+abbrev pub PassesPayload : Segment → Cipher → List ℕ → ℕ → Option (List ℕ) → Option (List ℕ) → Option (List ℕ)
+    → Message → Type 0
+PassesPayload s cipher image held left before after ReadFailed =
     (place : ℕ) × (count : ℕ) × (count ≡ (place - s.offset) / sector_len s) × (count ≤ sectors_of s image)
     × (place ≤ payload_end_of s image)
     × Took image left place × Adds before after (take (count * sector_len s) (plain_of s cipher image))
-PassesPayload s cipher image left before after WriteFailed =
+PassesPayload s cipher image held left before after WriteFailed =
     (count : ℕ) × (written : ℕ) × (count < sectors_of s image) × (written < sector_len s)
     × (sector_start s (count + 1) ≤ payload_end_of s image)
-    × Took image left (sector_start s (count + 1))
+    × Took image left (max held (sector_start s (count + 1)))
     × Adds before after (take (count * sector_len s + written) (plain_of s cipher image))
-PassesPayload s cipher image left before after message =
-    (message ≡ message_at_end (ending_of s image)) × Took image left (payload_end_of s image)
+PassesPayload s cipher image held left before after message =
+    (message ≡ message_at_end (ending_of s image)) × Took image left (max held (payload_end_of s image))
     × Adds before after (plain_of s cipher image)

@@ -1,7 +1,13 @@
 -- The sector that fills a buffer.
-use Rattle.std.proofs.Common.{◌≡◌, ℕ, List, ◌∙◌, ap, sym, take, length, take_all, arith}
+use Rattle.std.proofs.Common.{◌≡◌, ℕ, ◌+◌, ◌-◌, ◌<◌, ◌≤◌, inl, inr, List, [], ◌++◌, Option, ◌∙◌, ap, sym, subst, take, drop, length, length-append, length-drop, length-take-le, append-nil, min, take_all, arith}
+use Rattle.std.proofs.lemmas.Bool.{cases_lt}
+use Rattle.std.proofs.lemmas.List.{drop_all, take-append-le}
+use Rattle.std.proofs.Math.Seq.{take-append-add, take-append_seam}
 use Rattle.luks_cipher.specs.Sector.{Cipher, sector_decrypted}
+use Rattle.luks_io.specs.Bytes.{Took}
+use Rattle.luks_volume.specs.Passing.{BeginsWith, Gathers}
 use Rattle.luks_volume.specs.Plain.{unit_plain}
+use borrow.Rule.Slice.PartMut.{put_mid}
 
 -- what a buffer decrypts to, in the payload's words
 pub unit_is : (cipher : Cipher) (number : ℕ) (buf unit : List ℕ) → unit ≡ sector_decrypted cipher.0 cipher.1 number buf
@@ -17,3 +23,95 @@ unfolding unit_plain
 unit_filled cipher number len got bytes buf unit long whole same is =
     let filled : buf ≡ take len bytes = sym (take_all len buf (omega arith)) ∙ (rw whole at same) in
     is ∙ ap (sector_decrypted cipher.0 cipher.1 number) filled
+
+-- a beginning of a sector was written, and then a piece behind it
+module _ (held len : ℕ) (front new old piece : List ℕ) (is : held ≡ min (length front) len) (sized : length old ≡ len)
+    (written : new ≡ take held front) where
+  long : length new ≡ held
+  long = ap length written ∙ length-take-le held front (omega arith)
+
+  whole : length (new ++ drop held old) ≡ len
+  whole = length-append new (drop held old) ∙ (omega (arith, length-drop held old, long))
+
+  pub rest_len
+      : length piece ≡ length (take (length (new ++ drop held old) - held) (drop held (new ++ drop held old)))
+      → length piece ≡ len - min (length front) len
+  rest_len rest =
+      let behind = length-drop held (new ++ drop held old) in
+      rest ∙ length-take-le (length (new ++ drop held old) - held) (drop held (new ++ drop held old)) (omega arith)
+      ∙ (omega (arith, whole))
+
+  pub sector_is : put_mid held (length (new ++ drop held old) - held) (new ++ drop held old) piece
+      ≡ take (min (length front) len) front ++ piece
+  sector_is =
+      let none : drop (length (new ++ drop held old) - held) (drop held (new ++ drop held old)) ≡ [] =
+      drop_all (length (new ++ drop held old) - held) (drop held (new ++ drop held old))
+      (omega (arith, length-drop held (new ++ drop held old))) in
+      let first : take held (new ++ drop held old) ≡ new =
+      take-append-le held new (drop held old) (omega (arith, long)) ∙ take_all held new (omega (arith, long)) in
+      ap (λ l. take held (new ++ drop held old) ++ (piece ++ l)) none
+      ∙ ap (λ l. take held (new ++ drop held old) ++ l) (append-nil piece)
+      ∙ ap (λ l. l ++ piece) (first ∙ written ∙ ap (λ n. take n front) is)
+
+-- a sector that is filled with the bytes in front, and then with those of a piece
+module _ (len : ℕ) (front piece sector : List ℕ) (is : sector ≡ take (min (length front) len) front ++ piece)
+    (rest : length piece ≡ len - min (length front) len) where
+  first_len : length (take (min (length front) len) front) ≡ min (length front) len
+  first_len = length-take-le (min (length front) len) front (omega arith)
+
+  begins_few : length front ≤ len → BeginsWith front sector
+  begins_few few =
+      let all : min (length front) len ≡ length front = omega arith in
+      let whole : sector ≡ front ++ piece = is ∙ ap (λ l. l ++ piece)
+      (ap (λ n. take n front) all ∙ take_all (length front) front (omega arith)) in
+      let size : length front ≤ length sector = omega (arith, ap length whole, length-append front piece) in
+      rw whole (take-append_seam front piece) ∙ sym (take_all (length sector) front size)
+
+  begins_many : len < length front → BeginsWith front sector
+  begins_many many =
+      let size : length sector ≡ len = ap length is
+      ∙ length-append (take (min (length front) len) front) piece ∙ (omega (arith, first_len)) in
+      let part : sector ≡ take len front = sym (take_all len sector (omega arith))
+      ∙ ap (take len) is
+      ∙ take-append-le len (take (min (length front) len) front) piece (omega (arith, first_len))
+      ∙ take_all len (take (min (length front) len) front) (omega (arith, first_len))
+      ∙ ap (λ n. take n front) (omega arith) in
+      take_all (length front) sector (omega arith) ∙ part ∙ ap (λ n. take n front) (sym size)
+
+  -- it begins with them
+  pub begins : BeginsWith front sector
+  begins = elim (cases_lt len (length front)) [ inl many ↦ begins_many many | inr few ↦ begins_few few ]
+
+  module _ (known : List ℕ) (left' : Option (List ℕ)) (n : ℕ) (all : n ≡ min (length piece) (length known))
+      (same : take n piece ≡ take n known) (took : Took known left' n) where
+    gathered_few : length front ≤ len → Gathers len front known left' sector (min (length front) len + n)
+    gathered_few few =
+        let held : min (length front) len ≡ length front = omega arith in
+        let whole : sector ≡ front ++ piece = is ∙ ap (λ l. l ++ piece)
+        (ap (λ n. take n front) held ∙ take_all (length front) front (omega arith)) in
+        let count : n ≡ length front + n - length front = omega arith in
+        rw held (record {
+          all = omega (arith, length-append front known);
+          bytes = ap (take (length front + n)) whole ∙ take-append-add front piece n
+              ∙ ap (λ l. front ++ l) same ∙ sym (take-append-add front known n);
+          took = subst (Took known left') count took;
+        })
+
+    gathered_many : len < length front → Gathers len front known left' sector (min (length front) len + n)
+    gathered_many many =
+        let got : min (length front) len + n ≡ len = omega arith in
+        let none : n ≡ len - length front = omega arith in
+        rw got (record {
+          all = omega (arith, length-append front known);
+          bytes = ap (take len) is
+              ∙ take-append-le len (take (min (length front) len) front) piece (omega (arith, first_len))
+              ∙ take_all len (take (min (length front) len) front) (omega (arith, first_len))
+              ∙ ap (λ n. take n front) (omega arith) ∙ sym (take-append-le len front known (omega arith));
+          took = subst (Took known left') none took;
+        })
+
+    -- and what is gathered goes on with the bytes of the source
+    pub gathered : (held : ℕ) → held ≡ min (length front) len → Gathers len front known left' sector (held + n)
+    gathered held first =
+        subst (λ m. Gathers len front known left' sector (m + n)) (sym first)
+        (elim (cases_lt len (length front)) [ inl many ↦ gathered_many many | inr few ↦ gathered_few few ])

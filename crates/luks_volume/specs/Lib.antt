@@ -1,4 +1,3 @@
 pub mod Passing
 pub mod Plain
 pub mod Pumped
-pub mod Sealed

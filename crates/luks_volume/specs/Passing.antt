@@ -1,5 +1,5 @@
 -- What the parts of a pump leave in its source and its sink.
-use Rattle.std.specs.Prelude.{◌≡◌, ℕ, ◌-◌, ◌/◌, ◌^◌, ◌<◌, Bool, true, false, List, length, take, Option, None, Some, Result, Err}
+use Rattle.std.specs.Prelude.{◌≡◌, ℕ, ◌+◌, ◌-◌, ◌/◌, ◌^◌, ◌<◌, ◌++◌, min, Bool, true, false, List, drop, length, take, Option, None, Some, Result, Err}
 use Rattle.luks_cipher.specs.Sector.{Cipher}
 use Rattle.luks_io.specs.Bytes.{Adds, Took, TookFewer}
 use Rattle.luks_verdict.specs.declared.segment.Segment.{Segment}
@@ -30,21 +30,38 @@ StopsDiscarding count known left (Tail _) = ⊥
 StopsDiscarding count known left (Short _) = ⊥
 StopsDiscarding count known left Write = ⊥
 
--- the plain bytes of some unit of `len` bytes were written
-abbrev pub AddsUnit : Cipher → ℕ → ℕ → Option (List ℕ) → Option (List ℕ) → Type 0
-AddsUnit cipher number len before after = (unit : List ℕ) × (length unit ≡ len)
+-- at a place of an image the next bytes are those in front, and the source has left what is behind them
+pub record StandsAt (image front : List ℕ) (place : ℕ) (left' : Option (List ℕ)) : Type 0 where
+  pub next : front ≡ take (length front) (drop place image)
+  pub took : Took image left' (place + length front)
+
+-- the bytes of a unit are at first those in front
+abbrev pub BeginsWith : List ℕ → List ℕ → Type 0
+BeginsWith front unit = take (length front) unit ≡ take (length unit) front
+
+-- the plain bytes of some unit of `len` bytes were written that begins with those in front
+abbrev pub AddsUnit : Cipher → ℕ → ℕ → List ℕ → Option (List ℕ) → Option (List ℕ) → Type 0
+AddsUnit cipher number len front before after = (unit : List ℕ) × (length unit ≡ len) × BeginsWith front unit
     × Adds before after (unit_plain cipher number unit)
 
+-- `got` bytes of a sector were gathered: those in front, and then the next ones of the source
+pub record Gathers (len : ℕ) (front known : List ℕ) (left' : Option (List ℕ)) (sector : List ℕ) (got : ℕ)
+    : Type 0 where
+  pub all : got ≡ min len (length (front ++ known))
+  pub bytes : take got sector ≡ take got (front ++ known)
+  pub took : Took known left' (got - length front)
+
 -- passing on a sector of `len` bytes was broken off
-abbrev pub StopsInSector : Cipher → ℕ → ℕ → List ℕ → Option (List ℕ) → Option (List ℕ) → Option (List ℕ) → VolumeFault
-    → Type 0
-StopsInSector cipher number len known left before after Read = TookFewer known left len
-StopsInSector cipher number len known left before after Write =
-    Took known left len
-    × ((count : ℕ) × (count < len) × Adds before after (take count (unit_plain cipher number (take len known))))
-StopsInSector cipher number len known left before after CutBeforePayload = ⊥
-StopsInSector cipher number len known left before after (Tail _) = ⊥
-StopsInSector cipher number len known left before after (Short _) = ⊥
+abbrev pub StopsInSector : Cipher → ℕ → ℕ → List ℕ → List ℕ → Option (List ℕ) → Option (List ℕ) → Option (List ℕ)
+    → VolumeFault → Type 0
+StopsInSector cipher number len front known left before after Read = TookFewer known left (len - length front)
+StopsInSector cipher number len front known left before after Write =
+    Took known left (len - length front)
+    × ((count : ℕ) × (count < len)
+    × Adds before after (take count (unit_plain cipher number (take len (front ++ known)))))
+StopsInSector cipher number len front known left before after CutBeforePayload = ⊥
+StopsInSector cipher number len front known left before after (Tail _) = ⊥
+StopsInSector cipher number len front known left before after (Short _) = ⊥
 
 -- the most sectors that are passed on: those of a fixed size, and else as many as a count of them can say
 abbrev pub limit_within : Option ℕ → ℕ → ℕ

@@ -1,9 +1,9 @@
 -- What a pump is to its caller, and what its calls do.
-use Rattle.std.specs.Prelude.{◌≡◌, ℕ, ◌+◌, ◌*◌, ◌<◌, ◌⊎◌, min, nat_lt, List, length, take, Option, Result, Ok, Err, Bool, true, false, IsTrue}
+use Rattle.std.specs.Prelude.{◌≡◌, ℕ, ◌+◌, ◌*◌, ◌<◌, ◌⊎◌, max, min, nat_lt, List, drop, length, take, Option, Result, Ok, Err, Bool, true, false, IsTrue}
 use Rattle.luks_cipher.specs.Sector.{Cipher}
 use Rattle.luks_io.specs.Bytes.{Adds, Took, TookBetween}
 use Rattle.luks_verdict.specs.declared.segment.Segment.{Segment}
-use Rattle.luks_volume.specs.Passing.{limit_of}
+use Rattle.luks_volume.specs.Passing.{StandsAt, limit_of}
 use Rattle.luks_volume.specs.Plain.{ending_of, ending_within, payload_end_of, sector_len, sector_of, sector_start, sectors_of}
 use Rattle.luks_volume.specs.declared.fault.VolumeFault.{VolumeFault}
 use Rattle.luks_volume.specs.declared.fault.VolumeFault.TheVariants.{CutBeforePayload, Tail, Short, Read, Write}
@@ -12,15 +12,15 @@ use Rattle.luks_volume.specs.declared.state.State.TheVariants.{BeforePayload, In
 use Rattle.luks_volume.specs.declared.state.Step.{Step}
 use Rattle.luks_volume.specs.declared.state.Step.TheVariants.{Sector, End}
 
--- a pump: the payload and its cipher, how many bytes of the image were taken before it was made, how many sectors it
--- has
--- passed on, and where it stands
+-- a pump: the payload and its cipher, how many bytes of the image before the payload were taken when it was made, how
+-- many sectors it has passed on, where it stands, and which of the payload's next bytes were taken before it was made
 pub record Pumped : Type 0 where
   pub segment : Segment
   pub cipher : Cipher
   pub consumed : ℕ
   pub count : ℕ
   pub state : State
+  pub front : List ℕ
 
 -- it has neither ended nor failed
 abbrev pub is_running : State → Bool
@@ -39,10 +39,14 @@ place_in (Faulted _) consumed next = next
 abbrev pub position : Pumped → ℕ
 position p = place_in p.state p.consumed (sector_start p.segment p.count)
 
+-- how many bytes of the image were taken
+abbrev pub reach_of : Pumped → ℕ
+reach_of p = position p + length p.front
+
 -- a running pump stands in an image whose other bytes the source has left
 pub record StandsIn (image : List ℕ) (pump : Pumped) (left' : Option (List ℕ)) : Type 0 where
   pub running : IsTrue (is_running pump.state)
-  pub took : Took image left' (position pump)
+  pub stands : StandsAt image pump.front (position pump) left'
 
 -- where a pump stands after a skip
 abbrev pub state_after_skip : {T : Type 0} → State → Result T VolumeFault → State
@@ -70,7 +74,8 @@ Skips p image (Err Write) left = ⊥
 
 -- a pump after a step
 abbrev pub after_step : Pumped → Result Step VolumeFault → Pumped
-after_step p (Ok Sector) = record p { count = p.count + 1; state = InPayload }
+after_step p (Ok Sector) =
+    record p { count = p.count + 1; state = InPayload; front = drop (sector_len p.segment) p.front }
 after_step p (Ok End) = record p { state = Ended }
 after_step p (Err fault) = record p { state = Faulted fault }
 
@@ -119,30 +124,32 @@ is_found_end s count (Err (Short _)) = true
 is_found_end s count (Err Read) = false
 is_found_end s count (Err Write) = false
 
--- sector `count` was taken from the image, and nothing past it
-pub record TakesSector (image : List ℕ) (segment : Segment) (count : ℕ) (left : Option (List ℕ)) : Type 0 where
+-- sector `count` was taken from the image, of which `reach` bytes had been, and nothing past it
+pub record TakesSector (image : List ℕ) (segment : Segment) (count reach : ℕ) (left : Option (List ℕ)) : Type 0 where
   pub is_one : count < sectors_of segment image
-  pub took : Took image left (sector_start segment (count + 1))
+  pub took : Took image left (max reach (sector_start segment (count + 1)))
 
--- the payload came to its stated end after `count` sectors, and all of it was taken
-pub record Ends (image : List ℕ) (segment : Segment) (count : ℕ) (answer : Result Step VolumeFault)
+-- the payload came to its stated end after `count` sectors, and all of it was taken from an image of which `reach`
+-- bytes had been
+pub record Ends (image : List ℕ) (segment : Segment) (count reach : ℕ) (answer : Result Step VolumeFault)
     (left : Option (List ℕ)) : Type 0 where
   pub all : count ≡ sectors_of segment image
   pub as_stated : answer ≡ ending_of segment image
-  pub took : Took image left (payload_end_of segment image)
+  pub took : Took image left (max reach (payload_end_of segment image))
 
--- what a step did from this place of the image on, with so many sectors passed on before
+-- what a step did in an image of which so many bytes had been taken, with so many sectors passed on before
 abbrev pub Steps : Segment → Cipher → ℕ → ℕ → List ℕ → Result Step VolumeFault → Option (List ℕ) → Option (List ℕ)
     → Option (List ℕ) → Type 0
-Steps s cipher count place image (Ok Sector) left before after =
-    TakesSector image s count left × Adds before after (sector_of s cipher image count)
-Steps s cipher count place image (Ok End) left before after = Ends image s count (Ok End) left
-Steps s cipher count place image (Err CutBeforePayload) left before after = Ends image s count (Err CutBeforePayload)
-    left
-Steps s cipher count place image (Err (Tail bytes)) left before after = Ends image s count (Err (Tail bytes)) left
-Steps s cipher count place image (Err (Short bytes)) left before after = Ends image s count (Err (Short bytes)) left
-Steps s cipher count place image (Err Read) left before after =
-    TookBetween image left place (min (sector_start s (count + 1)) (payload_end_of s image + 1))
-Steps s cipher count place image (Err Write) left before after =
-    TakesSector image s count left
+Steps s cipher count reach image (Ok Sector) left before after =
+    TakesSector image s count reach left × Adds before after (sector_of s cipher image count)
+Steps s cipher count reach image (Ok End) left before after = Ends image s count reach (Ok End) left
+Steps s cipher count reach image (Err CutBeforePayload) left before after =
+    Ends image s count reach (Err CutBeforePayload) left
+Steps s cipher count reach image (Err (Tail bytes)) left before after = Ends image s count reach (Err (Tail bytes)) left
+Steps s cipher count reach image (Err (Short bytes)) left before after =
+    Ends image s count reach (Err (Short bytes)) left
+Steps s cipher count reach image (Err Read) left before after =
+    TookBetween image left reach (min (sector_start s (count + 1)) (payload_end_of s image + 1))
+Steps s cipher count reach image (Err Write) left before after =
+    TakesSector image s count reach left
     × ((written : ℕ) × (written < sector_len s) × Adds before after (take written (sector_of s cipher image count)))

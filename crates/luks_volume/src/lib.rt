@@ -7,8 +7,9 @@
 pub mod fault;
 mod passing;
 pub mod pump;
-pub mod seal;
 mod sector;
 pub mod state;
 #[cfg(test)]
 mod tests;
+
+pub use luks_seal as seal;

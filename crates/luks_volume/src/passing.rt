@@ -1,8 +1,8 @@
 //! Bytes on their way from a source: those before the payload, and those of one sector.
 
-ghost use Rattle.std.specs.Prelude.{◌≡◌, ◌%◌, ◌<◌, ◌≤◌, ◌⊎◌, List, ℕ, Some, IfOk, IfErr, OnOk, length, take, min};
-ghost use Rattle.luks_io.specs.Bytes.{Adds, Took, WhereKnown, counted, is_short};
-ghost use Rattle.luks_volume.specs.Passing.{AddsUnit, StopsDiscarding, StopsInSector};
+ghost use Rattle.std.specs.Prelude.{◌≡◌, ◌-◌, ◌%◌, ◌<◌, ◌≤◌, ◌⊎◌, ◌++◌, List, ℕ, Some, IfOk, IfErr, OnOk, length, take, min};
+ghost use Rattle.luks_io.specs.Bytes.{Adds, Took, TookFewer, WhereKnown, counted, is_short};
+ghost use Rattle.luks_volume.specs.Passing.{AddsUnit, BeginsWith, Gathers, StopsDiscarding, StopsInSector};
 ghost use Rattle.luks_volume.specs.Passing.{is_cut, is_failed_read, is_failed_write};
 ghost use Rattle.luks_volume.specs.Plain.{unit_plain};
 
@@ -39,11 +39,35 @@ pub(crate) fn discard<S: Source>(
     Ok(())
 }
 
-/// Takes the sector of this unit number, and writes its plain bytes where it is whole. Answers how
-/// many bytes there were.
+/// Fills a sector with the bytes in front, and then with the next ones of the source. Answers how
+/// many there were: fewer than the sector has only where the source is at its end.
+fn gather<S: Source>(front: &[u8], sector: &mut [u8], source: &mut S) -> Result<usize, VolumeFault>
+    ensures most { IfOk result (λ got. got ≤ length sector.old) }
+    ensures gathered { IfOk result (λ got. WhereKnown (S.to_come source.old)
+        (λ known. Gathers (length sector.old) front.now known (S.to_come source.new)
+        sector.new got)) }
+    ensures begins { IfOk result (λ got. BeginsWith front.now sector.new) }
+    ensures err { IfErr result (λ fault. WhereKnown (S.to_come source.old)
+        (λ known. TookFewer known (S.to_come source.new)
+        (length sector.old - length front.now))) }
+    ensures only { IfErr result (λ fault. fault ≡ VolumeFault.Read) }
+    ensures reads { S.failures source.new ≡ counted (is_failed_read result)
+        (S.failures source.old) }
+    ensures ends { S.ends source.new ≡ counted (is_short result (length sector.old))
+        (S.ends source.old) }
+{
+    let held = front.len().min(sector.len());
+    sector[..held].copy_from_slice(&front[..held]);
+    let got = fill(source, &mut sector[held..])?;
+    Ok(held + got)
+}
+
+/// Takes the sector of this unit number, whose first bytes stand in front, and writes its plain
+/// bytes where it is whole. Answers how many bytes there were.
 pub(crate) fn pass_sector<S: Source, O: Sink>(
     cipher: &SectorCipher,
     number: u64,
+    front: &[u8],
     sector: &mut [u8],
     source: &mut S,
     sink: &mut O,
@@ -53,18 +77,18 @@ pub(crate) fn pass_sector<S: Source, O: Sink>(
     requires longest { length sector.old ≤ 4096 }
     ensures most { IfOk result (λ got. got ≤ length sector.old) }
     ensures taken { IfOk result (λ got. WhereKnown (S.to_come source.old)
-        (λ known. (got ≡ min (length sector.old) (length known))
-        × Took known (S.to_come source.new) got)) }
+        (λ known. (got ≡ min (length sector.old) (length (front.now ++ known)))
+        × Took known (S.to_come source.new) (got - length front.now))) }
     ensures written { IfOk result (λ got. got ≡ length sector.old
         → WhereKnown (S.to_come source.old)
         (λ known. Adds (O.written sink.old) (O.written sink.new) (unit_plain cipher.now number
-        (take got known)))) }
+        (take got (front.now ++ known))))) }
     ensures whole { IfOk result (λ got. got ≡ length sector.old
-        → AddsUnit cipher.now number (length sector.old)
+        → AddsUnit cipher.now number (length sector.old) front.now
         (O.written sink.old) (O.written sink.new)) }
     ensures torn { IfOk result (λ got. got < length sector.old → sink.new ≡ sink.old) }
     ensures err { IfErr result (λ fault. WhereKnown (S.to_come source.old)
-        (λ known. StopsInSector cipher.now number (length sector.old) known
+        (λ known. StopsInSector cipher.now number (length sector.old) front.now known
         (S.to_come source.new) (O.written sink.old) (O.written sink.new) fault)) }
     ensures unread { IfErr result (λ fault. fault ≡ VolumeFault.Read → sink.new ≡ sink.old) }
     ensures only { IfErr result
@@ -75,7 +99,7 @@ pub(crate) fn pass_sector<S: Source, O: Sink>(
         (S.ends source.old) }
     ensures writes { O.failures sink.new ≡ counted (is_failed_write result) (O.failures sink.old) }
 {
-    let got = fill(source, sector)?;
+    let got = gather(front, sector, source)?;
     if got < sector.len() {
         return Ok(got);
     }

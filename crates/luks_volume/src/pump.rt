@@ -1,11 +1,11 @@
 //! The sector stream: an image's payload in, its plain text out, one sector at a time.
 
-ghost use Rattle.std.specs.Prelude.{◌≡◌, ◌^◌, ◌<◌, ◌≤◌, ◌⊎◌, List, ℕ, Some, Ok, IfErr, true, length};
-ghost use Rattle.luks_io.specs.Bytes.{Took, counted};
-ghost use Rattle.luks_volume.specs.Passing.{AddsUnit, is_cut, is_failed_read, is_failed_write, limit_of};
+ghost use Rattle.std.specs.Prelude.{◌≡◌, ◌+◌, ◌^◌, ◌<◌, ◌≤◌, ◌⊎◌, List, [], ℕ, Some, Ok, IfErr, true, drop, length};
+ghost use Rattle.luks_io.specs.Bytes.{counted};
+ghost use Rattle.luks_volume.specs.Passing.{AddsUnit, StandsAt, is_cut, is_failed_read, is_failed_write, limit_of};
 ghost use Rattle.luks_volume.specs.Plain.{sector_len, sector_start, unit_number};
 ghost use Rattle.luks_volume.specs.Pumped.{MayAnswer, SkipsAgain, Skips, StandsIn, Steps, StepsAgain, WritesSectors};
-ghost use Rattle.luks_volume.specs.Pumped.{after_step, is_found_end, is_running, position, state_after_skip};
+ghost use Rattle.luks_volume.specs.Pumped.{after_step, is_found_end, is_running, reach_of, state_after_skip};
 
 use crate::fault::VolumeFault;
 use crate::passing::{discard, pass_sector};
@@ -23,19 +23,21 @@ const ROOM: usize = 4096;
 /// Passes a payload on, sector by sector. It holds one sector and takes no memory.
 ///
 /// A clause sees its segment, its cipher, how many bytes of the image were consumed before it was
-/// made, how many sectors it has passed on, and where it stands.
+/// made, how many sectors it has passed on, where it stands, and which of the payload's next bytes
+/// were consumed before it was made.
 #[derive(Drop)]
-pub struct Pump {
+pub struct Pump<'a> {
     segment: Segment,
     cipher: SectorCipher,
     consumed: u64,
     count: u64,
     state: State,
+    front: &'a [u8],
     buffer: [u8; ROOM],
 }
 
-impl Model for Pump {
-    ghost use Rattle.std.specs.Prelude.{◌≡◌, ◌≤◌};
+impl<'a> Model for Pump<'a> {
+    ghost use Rattle.std.specs.Prelude.{◌≡◌, ◌≤◌, []};
     ghost use Rattle.luks_volume.specs.Passing.{limit_of};
     ghost use Rattle.luks_volume.specs.Pumped.{Pumped};
     ghost use Rattle.luks_volume.specs.declared.state.State.TheVariants.{BeforePayload};
@@ -48,20 +50,21 @@ impl Model for Pump {
           cipher = p.cipher;
           consumed = p.consumed;
           count = p.count;
-          state =
-              p.state;
+          state = p.state;
+          front = p.front.now;
         } };
 
     ghost invariant = { λ p. (p.consumed ≤ p.segment.offset) × (p.count ≤ limit_of p.segment)
-        × (p.state ≡ BeforePayload → p.count ≡ 0) };
+        × (p.state ≡ BeforePayload → (p.count ≡ 0) × (p.front.now ≡ [])) };
 }
 
-/// Passes on the sector of this number, or says how the payload ends before it. The buffer has room
-/// for it.
+/// Passes on the sector of this number, whose first bytes stand in front, or says how the payload
+/// ends before it. The buffer has room for it.
 fn next_sector<S: Source, O: Sink>(
     segment: &Segment,
     cipher: &SectorCipher,
     count: u64,
+    front: &[u8],
     buffer: &mut [u8],
     source: &mut S,
     sink: &mut O,
@@ -72,12 +75,12 @@ fn next_sector<S: Source, O: Sink>(
         → (result ≡ Ok Step.End) × (source.new ≡ source.old) × (sink.new ≡ sink.old) }
     ensures below { result ≡ Ok Step.Sector → count < limit_of segment.now }
     ensures passed { result ≡ Ok Step.Sector → AddsUnit cipher.now (unit_number segment.now count)
-        (sector_len segment.now) (O.written sink.old) (O.written sink.new) }
+        (sector_len segment.now) front.now (O.written sink.old) (O.written sink.new) }
     ensures only { MayAnswer State.InPayload segment.now count result }
     ensures run { (image : List ℕ) → length image < 2 ^ 64
-        → Took image (S.to_come source.old) (sector_start segment.now count)
-        → Steps segment.now cipher.now count (sector_start segment.now count) image result
-        (S.to_come source.new) (O.written sink.old) (O.written sink.new) }
+        → StandsAt image front.now (sector_start segment.now count) (S.to_come source.old)
+        → Steps segment.now cipher.now count (sector_start segment.now count + length front.now)
+        image result (S.to_come source.new) (O.written sink.old) (O.written sink.new) }
     ensures writes_sectors { WritesSectors result (sink.new ≡ sink.old) }
     ensures reads { S.failures source.new ≡ counted (is_failed_read result)
         (S.failures source.old) }
@@ -92,6 +95,7 @@ fn next_sector<S: Source, O: Sink>(
     let got = pass_sector(
         cipher,
         number(segment, count),
+        front,
         &mut buffer[..size],
         source,
         sink,
@@ -102,10 +106,10 @@ fn next_sector<S: Source, O: Sink>(
     Ok(Step::Sector)
 }
 
-impl Pump {
+impl<'a> Pump<'a> {
     /// A pump of this payload under this cipher, for an image of which so many bytes are consumed
     /// already, none of them the payload's.
-    pub fn new(segment: Segment, cipher: SectorCipher, consumed: u64) -> Pump
+    pub fn new(segment: Segment, cipher: SectorCipher, consumed: u64) -> Pump<'a>
         requires { consumed ≤ segment.offset }
         ensures { result ≡ record {
           segment = segment;
@@ -113,6 +117,7 @@ impl Pump {
           consumed = consumed;
           count = 0;
           state = State.BeforePayload;
+          front = [];
         } }
     {
         Pump {
@@ -121,6 +126,30 @@ impl Pump {
             consumed,
             count: 0,
             state: State::BeforePayload,
+            front: &[],
+            buffer: [0; ROOM],
+        }
+    }
+
+    /// A pump of this payload under this cipher, for an image of which the payload's first bytes
+    /// are consumed already: they come before those that the source has left.
+    pub fn with_front(segment: Segment, cipher: SectorCipher, front: &'a [u8]) -> Pump<'a>
+        ensures { result ≡ record {
+          segment = segment;
+          cipher = cipher;
+          consumed = segment.offset;
+          count = 0;
+          state = State.InPayload;
+          front = front.now;
+        } }
+    {
+        Pump {
+            segment,
+            cipher,
+            consumed: segment.offset,
+            count: 0,
+            state: State::InPayload,
+            front,
             buffer: [0; ROOM],
         }
     }
@@ -139,7 +168,8 @@ impl Pump {
             → Skips self.old image result (S.to_come source.new) }
         ensures only { self.old.state ≡ State.BeforePayload → IfErr result (λ fault.
             (fault ≡ VolumeFault.CutBeforePayload) ⊎ (fault ≡ VolumeFault.Read)) }
-        ensures fresh { self.old.state ≡ State.BeforePayload → self.old.count ≡ 0 }
+        ensures fresh { self.old.state ≡ State.BeforePayload
+            → (self.old.count ≡ 0) × (self.old.front ≡ []) }
         ensures reads { is_running self.old.state ≡ true
             → S.failures source.new ≡ counted (is_failed_read result) (S.failures source.old) }
         ensures ends { is_running self.old.state ≡ true
@@ -167,7 +197,12 @@ impl Pump {
         ensures { self.new ≡ after_step self.old answer }
     {
         match answer {
-            Ok(Step::Sector) => self.count += 1,
+            Ok(Step::Sector) => {
+                let size = self.segment.sector_size.bytes();
+                let held = size.min(self.front.len());
+                self.front = &self.front[held..];
+                self.count += 1;
+            }
             Ok(Step::End) => self.state = State::Ended,
             Err(fault) => self.state = State::Faulted(fault),
         }
@@ -191,11 +226,11 @@ impl Pump {
             → (result ≡ Ok Step.End) × (source.new ≡ source.old) × (sink.new ≡ sink.old) }
         ensures run { (image : List ℕ) → length image < 2 ^ 64
             → StandsIn image self.old (S.to_come source.old)
-            → Steps self.old.segment self.old.cipher self.old.count (position self.old) image result
+            → Steps self.old.segment self.old.cipher self.old.count (reach_of self.old) image result
             (S.to_come source.new) (O.written sink.old) (O.written sink.new) }
         ensures passed { result ≡ Ok Step.Sector
             → AddsUnit self.old.cipher (unit_number self.old.segment self.old.count)
-            (sector_len self.old.segment)
+            (sector_len self.old.segment) self.old.front
             (O.written sink.old) (O.written sink.new) }
         ensures only { is_running self.old.state ≡ true
             → MayAnswer self.old.state self.old.segment self.old.count result }
@@ -215,6 +250,7 @@ impl Pump {
             &self.segment,
             &self.cipher,
             self.count,
+            self.front,
             &mut self.buffer,
             source,
             sink,

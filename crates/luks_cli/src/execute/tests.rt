@@ -3,9 +3,11 @@
 mod headers;
 mod hostile;
 mod modes;
+mod past;
 mod second;
 mod volume_devices;
 mod volumes;
+mod volumes2;
 
 use super::execute;
 use luks_command::planning::{PlanFault, plan};

@@ -28,7 +28,6 @@ use luks_io::source::Source;
 use luks_kdf::Work;
 use luks_open::opening::{Opened, open};
 use luks_open::order::order;
-use luks_open::skipped::SkippedSlots;
 use luks_open::tries::{Order, held_end};
 use luks_report::message::Message;
 use luks_report::opened::opened_page;
@@ -46,10 +45,10 @@ struct Volume {
 /// A volume that is opened.
 #[derive(Drop)]
 struct Unlocked {
+    /// The first bytes of the image: all that are taken.
+    area: HeaderArea,
     segment: Segment,
     opened: Opened,
-    /// How many bytes of the image are taken.
-    held: u64,
 }
 
 /// The number of the key slot that is named.
@@ -91,17 +90,12 @@ fn find_volume<I: Source>(
         (λ known. is_err (volume_of (opening_request opening.now) known) ≡ false)) }
     ensures area { IfOk result (λ volume. length volume.area ≡ cost_of volume.area) }
     ensures front { IfOk result (λ volume. header_of volume.area ≡ Ok volume.header) }
-    ensures before { IfOk result (λ volume. length volume.area ≤ volume.segment.offset) }
     ensures writes { IfErr result (λ message. message ≢ Message.WriteFailed) }
     ensures reads { I.failures image.new
         ≡ counted (is_failed_read (message_of result)) (I.failures image.old) }
 {
     let (header, area) = read_header(alloc, image)?;
     let segment = segment(&header)?;
-    let cost = area.as_slice().len() as u64;
-    if segment.offset < cost {
-        return Err(Message::NothingTried(SkippedSlots::new()));
-    }
     let named = named_slot(opening);
     match order(alloc, &header, named, limit(opening)) {
         Ok(order) => Ok(Volume {
@@ -124,7 +118,7 @@ fn unlock<I: Source, K: Source>(
     ensures ok { IfOk result (λ unlocked. WhereKnown (I.to_come image.old) (λ known.
         WhereKnown (K.to_come secret.old) (λ pass.
         Unlocks (opening_request opening.now) known pass unlocked.segment unlocked.opened
-        unlocked.held (I.to_come image.new) (K.to_come secret.new)))) }
+        unlocked.area (I.to_come image.new) (K.to_come secret.new)))) }
     ensures err { IfErr result
         (λ message. (written : Option (List ℕ)) → WhereKnown (I.to_come image.old) (λ known.
         WhereKnown (K.to_come secret.old) (λ pass. (on_opened : OnOpened) → TakesHeld pass on_opened
@@ -135,7 +129,6 @@ fn unlock<I: Source, K: Source>(
     ensures unneeded { WhereKnown (I.to_come image.old) (λ known.
         is_err (volume_of (opening_request opening.now) known) ≡ true → secret.new ≡ secret.old) }
     ensures only { IfErr result OpeningMessage }
-    ensures held { IfOk result (λ unlocked. unlocked.held ≤ unlocked.segment.offset) }
     ensures key { IfOk result (λ unlocked.
         is_mode_key_length unlocked.segment.mode (length unlocked.opened.key) ≡ true) }
     ensures counts { (written : ℕ) → Counts (message_of result)
@@ -155,9 +148,9 @@ fn unlock<I: Source, K: Source>(
     }
     match open(&header, &area, &order, &pass, &mut Work::new(0)) {
         Ok(opened) => Ok(Unlocked {
+            area,
             segment,
             opened,
-            held: area.as_slice().len() as u64,
         }),
         Err(fault) => Err(Message::of_opening(named_slot(opening), fault)),
     }
@@ -219,5 +212,5 @@ pub(super) fn cat<I: Source, K: Source, O: Sink>(
     let Some(cipher) = SectorCipher::new(segment.mode, key) else {
         unreachable!()
     };
-    write_payload(segment, cipher, unlocked.held, image, out)
+    write_payload(segment, cipher, unlocked.area.as_slice(), image, out)
 }

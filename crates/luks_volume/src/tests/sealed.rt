@@ -5,7 +5,7 @@ ghost use Rattle.std.specs.Prelude.{◌≡◌, length};
 use super::fixture::{NEVER, Run, counted, dynamic, run_pump, taker};
 use crate::pump::Pump;
 use crate::seal::luks1::seal1;
-use crate::seal::parameters::{Seal1, SealFault, Slot1};
+use crate::seal::parameters::{Seal1, Slot1};
 use crate::state::Step;
 use luks_cipher::{Mode, SectorCipher};
 use luks_header::sector_size::SectorSize;
@@ -34,7 +34,7 @@ const SIXTH_SALT: [u8; 32] = [0x66; 32];
 const RANDOM: &[u8] =
     b"ninety-six bytes that nobody drew: they are only written down, once, and serve as random stripes";
 
-pub fn slot(number: u32, salt: [u8; 32], passphrase: &'static [u8]) -> Slot1<'static> {
+fn slot(number: u32, salt: [u8; 32], passphrase: &'static [u8]) -> Slot1<'static> {
     Slot1 {
         number,
         iterations: 2,
@@ -44,7 +44,7 @@ pub fn slot(number: u32, salt: [u8; 32], passphrase: &'static [u8]) -> Slot1<'st
     }
 }
 
-pub fn parameters<'a>(slots: &'a [Slot1<'a>], plain: &'a [u8]) -> Seal1<'a> {
+fn parameters<'a>(slots: &'a [Slot1<'a>], plain: &'a [u8]) -> Seal1<'a> {
     Seal1 {
         hash: Hash::Sha256,
         mode: Mode::XtsPlain64,
@@ -60,7 +60,7 @@ pub fn parameters<'a>(slots: &'a [Slot1<'a>], plain: &'a [u8]) -> Seal1<'a> {
 }
 
 // So many bytes from this place on.
-pub fn at(image: &[u8], place: usize, len: usize) -> &[u8] {
+fn at(image: &[u8], place: usize, len: usize) -> &[u8] {
     let place = place.min(image.len());
     let rest = &image[place..];
     &rest[..len.min(rest.len())]
@@ -196,147 +196,4 @@ fn check_sealed(rt: &(impl Abort + AllocGlobal)) -> Result<(), Fail> {
 #[test]
 fn a_sealed_volume_opens(rt: HostRuntime) -> Result<(), Fail> {
     check_sealed(&rt)
-}
-
-// The parameters are in range or not.
-fn check(rt: &(impl Abort + AllocGlobal), seal: Seal1<'_>, fits: bool) {
-    let answer = match seal1(rt.alloc(), &seal) {
-        Ok(_) => None,
-        Err(fault) => Some(fault),
-    };
-    let stated = if fits {
-        None
-    } else {
-        Some(SealFault::Parameters)
-    };
-    assert_eq!(rt; answer, stated);
-}
-
-fn check_numbers(rt: &(impl Abort + AllocGlobal)) {
-    let base = parameters(&[], &[]);
-    check(rt, base, true);
-    for (stripes, payload_sectors, fits) in [
-        (0, 72, false),
-        (1, 72, true),
-        (1, 71, false),
-        (4000, 2056, true),
-        (4000, 2055, false),
-        (4001, 4096, false),
-        (4, 65_536, true),
-        (4, 65_537, false),
-    ] {
-        let seal = Seal1 {
-            stripes,
-            payload_sectors,
-            ..base
-        };
-        check(rt, seal, fits);
-    }
-    let turns = Seal1 {
-        digest_iterations: 0,
-        ..base
-    };
-    check(rt, turns, false);
-    let turns = Seal1 {
-        digest_iterations: 1,
-        ..base
-    };
-    check(rt, turns, true);
-}
-
-fn check_lengths(rt: &(impl Abort + AllocGlobal)) -> Result<(), Fail> {
-    let base = parameters(&[], &[]);
-    let bytes = counted(rt.alloc(), 1025)?;
-    for (len, fits) in [
-        (0, false),
-        (31, false),
-        (32, true),
-        (33, false),
-        (48, false),
-        (63, false),
-        (64, true),
-        (65, false),
-    ] {
-        let key = at(&bytes, 0, len);
-        check(rt, Seal1 { key, ..base }, fits);
-    }
-    for (place, len, fits) in [(1, 0, true), (1, 40, true), (1, 41, false), (0, 1, false)] {
-        let uuid = at(&bytes, place, len);
-        check(rt, Seal1 { uuid, ..base }, fits);
-    }
-    for (mode, len, fits) in [
-        (Mode::XtsPlain, 64, true),
-        (Mode::XtsPlain, 16, false),
-        (Mode::CbcEssivSha256, 15, false),
-        (Mode::CbcEssivSha256, 16, true),
-        (Mode::CbcEssivSha256, 24, false),
-        (Mode::CbcPlain64, 32, true),
-        (Mode::CbcPlain64, 64, false),
-    ] {
-        let key = at(&bytes, 0, len);
-        check(rt, Seal1 { mode, key, ..base }, fits);
-    }
-    for (uuid, fits) in [
-        (b"\x00a-uuid", false),
-        (b"a-\x00uuid", false),
-        (b"a-uuid\x00", false),
-        (b"a-uuid\xff", true),
-    ] {
-        check(rt, Seal1 { uuid, ..base }, fits);
-    }
-    for (len, fits) in [
-        (0, true),
-        (511, false),
-        (512, true),
-        (513, false),
-        (1024, true),
-    ] {
-        let plain = at(&bytes, 0, len);
-        check(rt, Seal1 { plain, ..base }, fits);
-    }
-    let long = counted(rt.alloc(), 8_389_120)?;
-    check(rt, parameters(&[], &long), false);
-    Ok(())
-}
-
-fn check_slots(rt: &(impl Abort + AllocGlobal)) -> Result<(), Fail> {
-    let good = slot(7, SALT, b"");
-    check(rt, parameters(&[good], &[]), true);
-    check(rt, parameters(&[Slot1 { number: 8, ..good }], &[]), false);
-    let idle = Slot1 {
-        iterations: 0,
-        ..good
-    };
-    check(rt, parameters(&[idle], &[]), false);
-    let bytes = counted(rt.alloc(), 97)?;
-    for (stripes, len, fits) in [
-        (4, 95, false),
-        (4, 96, true),
-        (4, 97, false),
-        (1, 0, true),
-        (1, 1, false),
-        (1, 32, false),
-    ] {
-        let random = at(&bytes, 0, len);
-        let slots = [Slot1 { random, ..good }];
-        let seal = Seal1 {
-            stripes,
-            ..parameters(&slots, &[])
-        };
-        check(rt, seal, fits);
-    }
-    check(rt, parameters(&[good, slot(6, SALT, b"")], &[]), true);
-    check(
-        rt,
-        parameters(&[good, slot(6, SALT, b""), good], &[]),
-        false,
-    );
-    Ok(())
-}
-
-#[test]
-fn each_range_has_its_bounds(rt: HostRuntime) -> Result<(), Fail> {
-    check_numbers(&rt);
-    check_lengths(&rt)?;
-    check_slots(&rt)
 }

@@ -7,15 +7,19 @@ use Rattle.luks_cli.specs.Run.{is_failed_read, is_failed_write}
 use Rattle.luks_cli.proofs.execute.payload.write_payload.Goals as goal
 
 pub sectors-init : goal.sectors-init
-sectors-init g c = rw c.new-pump.ensures (record {
-  segment = refl;
-  cipher = refl;
-  count = refl;
-  running = refl;
-  reads = refl;
-  writes = refl;
-  passing = λ whole few took. passing_start _ whole _ _ refl refl took;
-})
+sectors-init g c =
+    let made = c.pump_behind-pump.ensures in
+    record {
+      segment = made.segment;
+      cipher = made.cipher;
+      count = made.count;
+      running = made.running;
+      reads = refl;
+      writes = refl;
+      passing = λ whole few front took.
+          passing_start _ whole _ _ _ made.count (rw (← made.segment) at made.early) made.bare made.reach
+          (made.stands whole _ front took);
+    }
 
 pub sectors-preserved : goal.sectors-preserved
 sectors-preserved g c =
@@ -28,9 +32,9 @@ sectors-preserved g c =
       running = refl;
       reads = step.reads so_far.running ∙ so_far.reads;
       writes = step.writes so_far.running ∙ so_far.writes;
-      passing = λ whole few took.
-          let passing = so_far.passing whole few took in
-          passing_more _ whole _ _ _ _ _ passing (step.run whole few passing.stands);
+      passing = λ whole few front took.
+          let passing = so_far.passing whole few front took in
+          passing_more _ whole _ _ _ _ _ _ passing (step.run whole few passing.stands);
     })
 
 pub returns-in_err-step-clause-run : goal.returns-in_err-step-clause-run
@@ -38,9 +42,9 @@ returns-in_err-step-clause-run g c =
     let p = err_from_is_err_and c.from_residual.result c.from_residual.ensures.1 in
     let so_far = c.sectors.invariant in
     let step = c.in_err-step.ensures in
-    rw (p.1, p.2, ← so_far.segment, ← so_far.cipher) (λ whole few took.
-    let passing = so_far.passing whole few took in
-    passing_breaks _ whole _ _ _ _ _ passing _ _ (λ same. ap g.O.Sink.written same) step.writes_sectors
+    rw (p.1, p.2, ← so_far.segment, ← so_far.cipher) (λ whole few front took.
+    let passing = so_far.passing whole few front took in
+    passing_breaks _ whole _ _ _ _ _ _ passing _ _ (λ same. ap g.O.Sink.written same) step.writes_sectors
     (step.run whole few passing.stands))
 
 pub returns-in_err-step-clause-reads : goal.returns-in_err-step-clause-reads
@@ -68,14 +72,14 @@ pub returns-in-End-clause-run : goal.returns-in-End-clause-run
 returns-in-End-clause-run g c =
     let so_far = c.sectors.invariant in
     let step = rw c.in-End.is at c.in_ok-step.ensures in
-    rw (← so_far.segment, ← so_far.cipher) (λ whole few took.
-    let passing = so_far.passing whole few took in
-    passing_ends _ whole _ _ _ _ _ passing (step.run whole few passing.stands)
+    rw (← so_far.segment, ← so_far.cipher) (λ whole few front took.
+    let passing = so_far.passing whole few front took in
+    passing_ends _ whole _ _ _ _ _ _ passing (step.run whole few passing.stands)
     (ap g.O.Sink.written step.writes_sectors))
 
 pub returns-clause-run : goal.returns-clause-run
-returns-clause-run g c whole few took =
+returns-clause-run g c whole few front took =
     let so_far = c.sectors.invariant in
-    let passing = so_far.passing whole few took in
+    let passing = so_far.passing whole few front took in
     let all = few_sectors c.sectors.pump.segment whole few in
     absurd (omega (arith, passing.few, so_far.count))

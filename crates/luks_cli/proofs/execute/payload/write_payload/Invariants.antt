@@ -1,4 +1,4 @@
-use Rattle.std.proofs.Common.{◌≡◌, ◌<◌, ◌^◌, List, ℕ, length, true}
+use Rattle.std.proofs.Common.{◌≡◌, ◌<◌, ◌^◌, List, ℕ, length, take, true}
 use Rattle.luks_io.specs.Bytes.{Took}
 use Rattle.luks_volume.specs.Pumped.{is_running}
 use Rattle.luks_cli.proofs.PayloadLemmas.{Passing}
@@ -13,6 +13,8 @@ invariant-sectors g l = record {
   running : is_running l.pump.state ≡ true;
   reads : g.I.Source.failures l.image ≡ g.I.Source.failures l.initial.image;
   writes : g.O.Sink.failures l.out ≡ g.O.Sink.failures l.initial.out;
-  passing : (whole : List ℕ) → length whole < 2 ^ 64 → Took whole (g.I.Source.to_come l.initial.image) l.fn.consumed
-      → Passing l.pump whole (g.I.Source.to_come l.image) (g.O.Sink.written l.initial.out) (g.O.Sink.written l.out);
+  passing : (whole : List ℕ) → length whole < 2 ^ 64 → l.fn.held ≡ take (length l.fn.held) whole
+      → Took whole (g.I.Source.to_come l.initial.image) (length l.fn.held)
+      → Passing l.pump whole (length l.fn.held) (g.I.Source.to_come l.image) (g.O.Sink.written l.initial.out)
+      (g.O.Sink.written l.out);
 }

@@ -11,9 +11,10 @@ returns-clause-run g c known is pass has counted =
     let cipher = cipher_is c.in-Some.cipher mode c.as_slice-key.result.now
     (ap (λ l. is_mode_key_length mode (length l)) c.as_slice-key.ensures ∙ c.in_ok-unlocked.ensures.key)
     c.in-Some.ensures in
-    let passed = rw (cipher, c.as_slice-key.ensures) at (c.write_payload.ensures.run known counted u.image_taken) in
-    runs_passed _ known pass _ _ _ _ _ u c.in_ok-unlocked.ensures.held _ _ _ (message_of c.write_payload.result)
-    (never_memory c.write_payload.result c.write_payload.ensures.memory) passed
+    let passed = rw (cipher, c.as_slice-key.ensures, c.as_slice.ensures.value)
+    at (c.write_payload.ensures.run known counted) in
+    runs_passed _ known pass _ _ _ _ _ u _ _ _ (message_of c.write_payload.result)
+    (never_memory c.write_payload.result c.write_payload.ensures.memory) (passed u.front u.image_taken)
 
 pub returns-clause-counts : goal.returns-clause-counts
 returns-clause-counts g c =

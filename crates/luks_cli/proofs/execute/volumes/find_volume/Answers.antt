@@ -1,7 +1,7 @@
 use Rattle.std.proofs.lemmas.Result.{err_from_is_err_and}
-use Rattle.std.proofs.Common.{None, ap, sym, length, arith}
+use Rattle.std.proofs.Common.{None, sym}
 use Rattle.luks_command.specs.Request.{opening_request}
-use Rattle.luks_cli.proofs.VolumeLemmas.{cost_held, stops_past_start, stops_without_header, stops_without_order, stops_without_segment, volume_found}
+use Rattle.luks_cli.proofs.VolumeLemmas.{stops_without_header, stops_without_order, stops_without_segment, volume_found}
 use Rattle.luks_cli.proofs.execute.volumes.find_volume.Goals as goal
 
 pub returns-in_err-header-clause-err : goal.returns-in_err-header-clause-err
@@ -18,20 +18,12 @@ returns-in_err-segment-clause-err g c =
     stops_without_segment _ known _ c.in_ok-header.header read.0 read.2 c.in_err-segment.field-0.0
     (sym c.in_err-segment.ensures))
 
-pub returns-then-segment-cost-clause-err : goal.returns-then-segment-cost-clause-err
-returns-then-segment-cost-clause-err g c known is =
-    let read = c.in_ok-header.ensures.taken known is in
-    rw c.new.ensures (stops_past_start (opening_request c.args.opening.now) known _ c.in_ok-header.header read.0
-    c.in_ok-segment.segment (sym c.in_ok-segment.ensures)
-    (omega (arith, c.if-segment-cost.true, ap length c.as_slice.ensures.value, cost_held known _ read.1)) read.2)
-
 pub returns-in-Err-clause-err : goal.returns-in-Err-clause-err
 returns-in-Err-clause-err g c =
     rw (c.of_opening.ensures, c.named_slot-named.ensures) (λ known is.
     let read = c.in_ok-header.ensures.taken known is in
     stops_without_order (opening_request c.args.opening.now) known _ c.in_ok-header.header read.0
     c.in_ok-segment.segment (sym c.in_ok-segment.ensures)
-    (omega (arith, c.if-segment-cost.false, ap length c.as_slice.ensures.value, cost_held known _ read.1))
     read.2 c.in-Err.fault
     (rw (c.named_slot-named.ensures, c.limit.ensures) at c.in-Err.ensures.answer))
 
@@ -45,5 +37,4 @@ returns-in-Ok-clause-volume g c known is =
     let read = c.in_ok-header.ensures.taken known is in
     volume_found (opening_request c.args.opening.now) known None c.in_ok-header.header read.0
     c.in_ok-segment.segment (sym c.in_ok-segment.ensures)
-    (omega (arith, c.if-segment-cost.false, ap length c.as_slice.ensures.value, cost_held known _ read.1))
     c.in-Ok.order (rw (c.named_slot-named.ensures, c.limit.ensures) at c.in-Ok.ensures.answer)

@@ -1,10 +1,8 @@
 use Rattle.std.proofs.lemmas.Result.{err_from_is_err_and}
 use Rattle.std.proofs.Common.{◌≤◌, [], Some, ap, sym, length, arith}
 use Rattle.luks_header.proofs.HeaderLemmas.{short_from_not_whole}
-use Rattle.luks_open.proofs.CallerLemmas.{held_before_payload}
 use Rattle.luks_command.specs.Request.{opening_request}
 use Rattle.luks_cli.specs.Volume.{longest_key_file}
-use Rattle.luks_cli.proofs.VolumeLemmas.{cost_before}
 use Rattle.luks_cli.proofs.VolumeRuns.{runs_cut, runs_unopened, runs_without_area, runs_without_secret, runs_without_volume, unlocks}
 use Rattle.luks_cli.proofs.execute.volumes.unlock.Goals as goal
 
@@ -21,8 +19,7 @@ returns-in_err-pass-clause-err g c =
     rw (p.1, p.2) (λ written known is pass has on_opened takes.
     let volume = c.in_ok-volume.ensures in
     let read = volume.ok known is in
-    let before = cost_before known c.in_ok-volume.volume.area _ read.1 volume.before in
-    runs_without_secret (opening_request c.args.opening.now) known pass _ _ _ _ _ _ read.0 before
+    runs_without_secret (opening_request c.args.opening.now) known pass _ _ _ _ _ _ read.0
     volume.segment volume.order on_opened takes _
     (c.in_err-pass.ensures.err pass has) read.2)
 
@@ -32,11 +29,10 @@ returns-in_err-extend_to-clause-err g c =
     rw (p.1, p.2) (λ written known is pass has on_opened takes.
     let volume = c.in_ok-volume.ensures in
     let read = volume.ok known is in
-    let before = cost_before known c.in_ok-volume.volume.area _ read.1 volume.before in
     let whole = c.in_ok-pass.ensures.ok pass has in
     let short : length pass
     ≤ longest_key_file = omega (arith, ap length whole.0, c.in_ok-pass.pass.ok.0, c.in_ok-pass.ensures.few) in
-    runs_without_area (opening_request c.args.opening.now) known pass _ _ _ _ _ _ read.0 before
+    runs_without_area (opening_request c.args.opening.now) known pass _ _ _ _ _ _ read.0
     volume.segment volume.order short whole.1 _ _ read.1 on_opened takes
     c.in_err-extend_to.field-0.0 (rw c.held_end.ensures.value at (c.in_err-extend_to.ensures.broken _ read.2.left)))
 
@@ -44,13 +40,12 @@ pub returns-then-not-branch-clause-err : goal.returns-then-not-branch-clause-err
 returns-then-not-branch-clause-err g c written known is pass has on_opened takes =
     let volume = c.in_ok-volume.ensures in
     let read = volume.ok known is in
-    let before = cost_before known c.in_ok-volume.volume.area _ read.1 volume.before in
     let whole = c.in_ok-pass.ensures.ok pass has in
     let short : length pass
     ≤ longest_key_file = omega (arith, ap length whole.0, c.in_ok-pass.pass.ok.0, c.in_ok-pass.ensures.few) in
     let end = c.held_end.ensures.value in
     let few = short_from_not_whole c.in_ok-extend_to.field-0 _ _ c.in_ok-extend_to.ensures.whole c.if-not-branch.true in
-    runs_cut (opening_request c.args.opening.now) known pass _ _ _ _ _ _ read.0 before
+    runs_cut (opening_request c.args.opening.now) known pass _ _ _ _ _ _ read.0
     volume.segment volume.order short whole.1 _ _ read.1
     (rw end at (c.in_ok-extend_to.ensures.taken _ read.2.left)) on_opened (rw end at few)
 
@@ -58,30 +53,15 @@ pub returns-in-Ok-clause-ok : goal.returns-in-Ok-clause-ok
 returns-in-Ok-clause-ok g c known is pass has =
     let volume = c.in_ok-volume.ensures in
     let read = volume.ok known is in
-    let before = cost_before known c.in_ok-volume.volume.area _ read.1 volume.before in
     let whole = c.in_ok-pass.ensures.ok pass has in
     let short : length pass
     ≤ longest_key_file = omega (arith, ap length whole.0, c.in_ok-pass.pass.ok.0, c.in_ok-pass.ensures.few) in
     let end = c.held_end.ensures.value in
     let enough = c.in_ok-extend_to.ensures.whole.0 c.if-not-branch.false in
     let tried = sym (rw (c.deref.ensures.value, whole.0) at c.in-Ok.ensures.value) in
-    rw c.as_slice.ensures.value
-    (unlocks (opening_request c.args.opening.now) known pass _ _ (Some []) _ _ _ read.0 before
+    (unlocks (opening_request c.args.opening.now) known pass _ _ (Some []) _ _ _ read.0
     volume.segment volume.order short whole.1 _ _ read.1
     (rw end at (c.in_ok-extend_to.ensures.taken _ read.2.left)) (rw end at enough) c.in-Ok.opened tried)
-
-pub returns-in-Ok-clause-held : goal.returns-in-Ok-clause-held
-returns-in-Ok-clause-held g c =
-    let volume = c.in_ok-volume.ensures in
-    let held = held_before_payload _ _ _ _ _ volume.segment volume.order in
-    omega (
-      arith,
-      ap length c.as_slice.ensures.value,
-      c.in_ok-extend_to.ensures.within,
-      volume.before,
-      held,
-      c.held_end.ensures.value,
-    )
 
 pub returns-in-Ok-clause-key : goal.returns-in-Ok-clause-key
 returns-in-Ok-clause-key g c =
@@ -91,14 +71,13 @@ pub returns-clause-err : goal.returns-clause-err
 returns-clause-err g c written known is pass has on_opened takes =
     let volume = c.in_ok-volume.ensures in
     let read = volume.ok known is in
-    let before = cost_before known c.in_ok-volume.volume.area _ read.1 volume.before in
     let whole = c.in_ok-pass.ensures.ok pass has in
     let short : length pass
     ≤ longest_key_file = omega (arith, ap length whole.0, c.in_ok-pass.pass.ok.0, c.in_ok-pass.ensures.few) in
     let enough = c.in_ok-extend_to.ensures.whole.0 c.if-not-branch.false in
     let tried = sym (rw (c.deref.ensures.value, whole.0) at c.in-Err.ensures.value) in
     rw (c.of_opening.ensures, c.named_slot.ensures)
-    (runs_unopened (opening_request c.args.opening.now) known pass _ _ _ _ _ _ read.0 before
+    (runs_unopened (opening_request c.args.opening.now) known pass _ _ _ _ _ _ read.0
     volume.segment volume.order short whole.1 _ _ read.1
     (rw c.held_end.ensures.value at (c.in_ok-extend_to.ensures.taken _ read.2.left))
     (rw c.held_end.ensures.value at enough) c.in-Err.fault tried on_opened)

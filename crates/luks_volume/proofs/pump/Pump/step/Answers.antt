@@ -8,7 +8,7 @@ returns-in_err-skip-clause-run g c =
     let p = err_from_is_err_and c.from_residual.result c.from_residual.ensures.1 in
     let was = c.args.self.now in
     rw (p.1, p.2) (λ image few stands.
-    steps_unskipped was.segment was.cipher was.consumed was.count image _ _ _ _ was.state _ _ stands
+    steps_unskipped was.segment was.cipher was.consumed was.count was.front image _ _ _ _ was.state _ _ stands
     c.in_err-skip.ensures.again c.in_err-skip.ensures.fresh
     (λ first. c.in_err-skip.ensures.run image first stands))
 
@@ -21,8 +21,8 @@ returns-in_err-skip-clause-writes g c =
 pub returns-clause-run : goal.returns-clause-run
 returns-clause-run g c image few stands =
     let was = c.args.self.now in
-    steps_resumed was.segment was.cipher was.consumed was.count image _ _ _ _ _ _ _ _ was.state _ _ c.self.view_is
-    c.in_ok-skip.ensures.pump stands c.self.invariant.0
+    steps_resumed was.segment was.cipher was.consumed was.count was.front image _ _ _ _ _ _ _ _ was.state _ _
+    c.self.view_is c.in_ok-skip.ensures.pump stands c.self.invariant.0
     c.in_ok-skip.ensures.again (λ same. ap g.S.Source.to_come same) c.in_ok-skip.ensures.fresh
     (λ first. c.in_ok-skip.ensures.run image first stands)
-    (λ took. c.next_sector-answer.ensures.run image few took)
+    (λ stands'. c.next_sector-answer.ensures.run image few stands')
