@@ -33,6 +33,7 @@ scripts:
 	tests/packages
 	tests/stripes.sh $(PROGRAM)
 	tests/volumes.sh $(PROGRAM)
+	tests/devices.sh $(PROGRAM)
 	tests/hostile.sh $(PROGRAM)
 	interop/headers.sh $(PROGRAM)
 	interop/headers2.sh $(PROGRAM)
@@ -49,10 +50,10 @@ bench: all
 
 # What is built already is installed as it is, so that this needs no toolchain.
 install:
-	test -x $(PROGRAM)
-	install -d $(BINARIES) $(PAGES)
-	install -m 755 $(PROGRAM) $(BINARIES)/luksrd
-	install -m 644 docs/luksrd.1 $(PAGES)/luksrd.1
+	test -x "$(PROGRAM)"
+	install -d "$(BINARIES)" "$(PAGES)"
+	install -m 755 "$(PROGRAM)" "$(BINARIES)/luksrd"
+	install -m 644 docs/luksrd.1 "$(PAGES)/luksrd.1"
 
 uninstall:
-	rm -f $(BINARIES)/luksrd $(PAGES)/luksrd.1
+	rm -f "$(BINARIES)/luksrd" "$(PAGES)/luksrd.1"

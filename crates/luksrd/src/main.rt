@@ -5,12 +5,14 @@
 #![tactic(auto)]
 
 mod input;
+mod output;
 
 use input::{Input, OpenFault};
 use luks_cli::execute::execute;
 use luks_cli::{Command, Message, NOT_OPENED, Report, not_opened_page, plan};
 use luks_io::adapters::{ReadSource, WriteSink};
 use luks_io::sink::put_all;
+use output::{Patient, stand_in};
 use std::env;
 use std::io::{BufWriter, ErrorKind, Write};
 use std::process::ExitCode;
@@ -19,6 +21,7 @@ use std::process::ExitCode;
 const BUFFER: usize = 65536;
 
 fn main(rt: HostRuntime) -> ExitCode {
+    let _stand_ins = [stand_in(&rt), stand_in(&rt), stand_in(&rt)];
     let words = match env::args(&rt) {
         Ok(words) => words,
         Err(e) if e.kind() == ErrorKind::OutOfMemory => return tell(&rt, Message::OutOfMemory),
@@ -46,7 +49,7 @@ fn run(rt: &HostRuntime, command: &Command<'_>) -> ExitCode {
             Err(fault) => return tell_fault(rt, fault, name),
         },
     };
-    let Ok(writer) = BufWriter::with_capacity(rt.alloc(), BUFFER, rt.stdout()) else {
+    let Ok(writer) = BufWriter::with_capacity(rt.alloc(), BUFFER, Patient::new(rt.stdout())) else {
         return tell(rt, Message::OutOfMemory);
     };
     let mut out = WriteSink::new(writer);

@@ -1,0 +1,142 @@
+#!/usr/bin/env bash
+# Runs the built program on devices as a shell hands them over: files that are their own output, pipes, folders, closed descriptors, and calls of the
+# system that are interrupted or fail (by strace, where a program may be traced).
+sample=$(realpath "$(dirname "$0")/../sample")
+sources=$(realpath "$(dirname "$0")/..")
+# shellcheck source=tests/common.sh
+. "$(dirname "$0")/common.sh"
+
+gzip -dc "$sample/volume.img.gz" >volume
+cp "$sample/passphrase" pass
+plain=$(hex "$sample/plain.txt")
+opens=$(printf 'Key slot 0 opens the volume.\n' >line; hex line)
+held=$((8 * 512 + 64 * 4000))
+: >in
+
+# onto NAME MESSAGE FILE WORD..: a run that appends to a file, and one that writes into it, end with this message and leave the file as it is
+onto() {
+    local name=$1 message=$2 file=$3 before
+    shift 3
+    before=$(sha256sum <"$file")
+    : >out
+    timeout 60 "$program" "$@" <in >>"$file" 2>err
+    echo $? >status
+    expect "$name, appended" 4 '' "$message"
+    timeout 60 "$program" "$@" <in 1<>"$file" 2>err
+    echo $? >status
+    expect "$name, written into" 4 '' "$message"
+    same "$name: the file" "$(sha256sum <"$file")" "$before"
+}
+
+onto 'an image onto itself' 'luksrd: cannot open volume' volume luksCat --key-file pass volume
+onto 'a key file' 'luksrd: cannot open pass' pass luksCat --key-file pass volume
+ln volume link
+onto 'another name of the image' 'luksrd: cannot open link' volume luksCat --key-file pass link
+cp volume in
+onto 'standard input' 'luksrd: cannot open -' in luksCat --key-file pass -
+: >in
+"$program" isLuks /dev/null >/dev/null 2>err
+echo $? >status
+: >out
+expect '/dev/null as input and output' 1 '' ''
+
+# folders
+run luksCat --key-file pass .
+expect 'a folder' 4 '' 'luksrd: cannot open .'
+run luksCat --key-file . volume
+expect 'a folder for a key file' 4 '' 'luksrd: cannot open .'
+
+# descriptors that are closed: no input comes in their place
+: >out
+"$program" luksCat --key-file - volume <&- >out 2>err
+echo $? >status
+expect 'no standard input' 2 '' 'luksrd: no key opens the volume'
+"$program" luksCat --key-file pass volume <&- >out 2>err
+echo $? >status
+expect 'no standard input, and none needed' 0 "$plain" ''
+"$program" testPassphrase --key-file pass volume >&- 2>err
+echo $? >status
+: >out
+expect 'no standard output' 0 '' ''
+"$program" luksCat --key-file pass volume 2>&- >out
+echo $? >status
+: >err
+expect 'no standard error' 0 "$plain" ''
+same 'none at all' "$("$program" luksCat --key-file pass volume <&- >&- 2>&-; echo $?)" 0
+
+# what is not needed of a pipe stays in it
+mkfifo pipe
+exec 3<>pipe
+(cat volume; printf 'the rest') >pipe &
+writer=$!
+run testPassphrase --key-file pass pipe
+expect 'a named pipe' 0 "$opens" ''
+timeout 60 head -c $(($(stat -c %s volume) + 8 - held)) <&3 >rest
+wait $writer
+exec 3>&-
+same 'the rest of it' "$(sha256sum <rest)" "$( (tail -c +$((held + 1)) volume; printf 'the rest') | sha256sum)"
+run luksCat --key-file <(cat pass) <(cat volume)
+expect 'pipes of the shell' 0 "$plain" ''
+
+# a long derivation ends at once where it is told to
+cp volume long
+printf '\377\377\377\377' | dd of=long bs=1 seek=212 conv=notrunc status=none
+timeout -k 60 1 "$program" testPassphrase --key-file pass long >out 2>err
+echo $? >status
+expect 'a derivation that is ended' 124 '' ''
+
+# installing into a folder with a space in its name
+mkdir 'a folder'
+make -s -C "$sources" install DESTDIR="$work/a folder" PREFIX=/usr PROGRAM="$program"
+same 'what is installed' "$(cd 'a folder' && find . -type f | sort | tr '\n' ' ')" './usr/bin/luksrd ./usr/share/man/man1/luksrd.1 '
+make -s -C "$sources" uninstall DESTDIR="$work/a folder" PREFIX=/usr PROGRAM="$program"
+same 'what is left of it' "$(find 'a folder' -type f)" ''
+
+# traced CALL FILE HOW WORD..: a run of which the calls on a file are tampered with
+traced() {
+    local call=$1 file=$2 how=$3
+    shift 3
+    timeout 120 strace -qq -o trace -P "$file" -e trace="$call" -e inject="$call:$how" "$program" "$@" <in >out 2>err
+    echo $? >status
+}
+
+if ! strace -qq -o trace true; then
+    echo 'strace cannot trace here: interrupted and failed calls are not tried'
+    finish
+    exit
+fi
+
+read_failed='luksrd: read failed'
+write_failed='luksrd: write failed'
+: >out
+traced write "$work/out" error=EINTR luksCat --key-file pass volume
+expect 'every write interrupted' 6 '' "$write_failed"
+same 'as often as it was asked' "$(grep -c '^write' trace)" 101
+traced write "$work/out" error=EINTR:when=1..100 luksCat --key-file pass volume
+expect 'a hundred writes interrupted' 0 "$plain" ''
+traced write "$work/out" error=ENOSPC:when=1 luksCat --key-file pass volume
+expect 'a write that fails once' 6 '' "$write_failed"
+for file in volume pass; do
+    traced read "$work/$file" error=EINTR luksCat --key-file pass volume
+    expect "every read of $file interrupted" 6 '' "$read_failed"
+    same "as often as $file was asked" "$(grep -c '^read' trace)" 101
+    traced read "$work/$file" error=EINTR:when=1..100 luksCat --key-file pass volume
+    expect "a hundred reads of $file interrupted" 0 "$plain" ''
+    traced read "$work/$file" error=EIO:when=1 luksCat --key-file pass volume
+    expect "a read of $file that fails" 6 '' "$read_failed"
+done
+for call in $(seq 2 40); do
+    traced read "$work/volume" "error=EIO:when=$call" luksCat --key-file pass volume
+    grep -q INJECTED trace || break
+    same "read $call that fails: status and message" "$(cat status err)" "6
+$read_failed"
+    case $plain in
+    "$(hex out)"*) passed=$((passed + 1)) ;;
+    *) failed=$((failed + 1)); echo "FAILED: what read $call that fails leaves is no beginning" ;;
+    esac
+done
+expect 'no read that fails' 0 "$plain" ''
+traced openat "$work/volume" error=EACCES luksCat --key-file pass "$work/volume"
+expect 'an image that may not be read' 4 '' "luksrd: cannot open $work/volume"
+
+finish
