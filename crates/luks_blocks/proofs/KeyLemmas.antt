@@ -16,21 +16,21 @@ use Rattle.luks_planes.specs.Planes.{column_of}
 use Rattle.luks_blocks.specs.States.{StandAll, block_in}
 use Rattle.luks_blocks.specs.RoundKeys.{rows_of, HasUnmixedKey, HasUnmixedKeys}
 use Rattle.luks_blocks.specs.declared.rows.Rows.{Rows}
-use Rattle.luks_blocks.proofs.StateLemmas.{all_also}
+use Rattle.luks_blocks.proofs.StateLemmas.{all_also, all_as}
 use Rattle.luks_blocks.proofs.WayLemmas.{ordered_below, in_block}
 
 -- the rows of a block to whose bytes k was added
 pub block_stands : (block sum : List ℕ) (k : ℕ) (f : ℕ → ℕ → ℕ) (rows kept : List (List (List ℕ)))
     → sum ≡ state_of (λ r c. cell block r c ⊕ k) → ((r c : ℕ) → r < 4 → c < 4 → cell block r c ≡ f r c)
-    → StandAll (λ r q. cell sum r (column_of q)) rows → ((y : ℕ → ℕ → ℕ) → StandAll y rows → StandAll y kept)
+    → StandAll (λ r q. cell sum r (column_of q)) rows → kept ≡ rows
     → StandAll (λ r q. f r (column_of q) ⊕ k) kept
-block_stands block sum k f rows kept is same stand keeps =
+block_stands block sum k f rows kept is same stand kept_rows =
     let at : (r q : ℕ) → r < 4 → cell sum r (column_of q) ≡ f r (column_of q) ⊕ k = λ r q low.
     let small = ordered_below (q / 8 % 4) in
     ap (λ s. cell s r (column_of q)) is
     ∙ cell_of (λ r c. cell block r c ⊕ k) r (column_of q) low small
     ∙ ap (λ x. x ⊕ k) (same r (column_of q) low small) in
-    keeps (λ r q. f r (column_of q) ⊕ k)
+    all_as kept_rows
     (all_also _ _ rows stand (λ r q low. omega (arith, (stand.at r low).bytes q, at r q low))
     (λ r q low inside. at r q low))
 

@@ -1,8 +1,9 @@
 -- Four rows, of which each stands for bytes.
-use Rattle.std.proofs.Common.{◌≡◌, ℕ, zero, suc, ◌<◌, List, [], ◌∷◌, arith, sym, ap, subst, ◌∙◌}
+use Rattle.std.proofs.Common.{◌≡◌, ℕ, zero, suc, ◌<◌, List, [], ◌∷◌, arith, length, sym, ap, subst, ◌∙◌}
 use Rattle.std.specs.Prelude.{slice_index_or}
 use Rattle.std.specs.Int.{bit_at}
 use Rattle.luks_planes.specs.Planes.{IsPlane, Stands}
+use Rattle.luks_planes.proofs.Tables.{eight}
 use Rattle.luks_blocks.specs.States.{StandAll}
 
 -- what stands for bytes stands for equal ones
@@ -37,3 +38,39 @@ four z a b c d p q r s = record { at = four_rows z a b c d p q r s }
 
 pub stands_as : {y : ℕ → ℕ} {a b : List (List ℕ)} → a ≡ b → Stands y b → Stands y a
 stands_as {y} same is = subst (λ (x : List (List ℕ)). Stands y x) (sym same) is
+
+pub all_as : {y : ℕ → ℕ → ℕ} {a b : List (List (List ℕ))} → a ≡ b → StandAll y b → StandAll y a
+all_as {y} same is = subst (λ (x : List (List (List ℕ))). StandAll y x) (sym same) is
+
+-- eight planes that are taken from a row stand as the row does
+pub taken : {y : ℕ → ℕ} {x : List (List ℕ)} → Stands y x
+    → Stands y (slice_index_or x 0 [] ∷ slice_index_or x 1 [] ∷ slice_index_or x 2 [] ∷ slice_index_or x 3 []
+    ∷ slice_index_or x 4 [] ∷ slice_index_or x 5 [] ∷ slice_index_or x 6 [] ∷ slice_index_or x 7 [] ∷ [])
+taken {y} is = record {
+  bytes = is.bytes;
+  at = eight y _ _ _ _ _ _ _ _ (is.at 0 (omega arith)) (is.at 1 (omega arith)) (is.at 2 (omega arith))
+      (is.at 3 (omega arith)) (is.at 4 (omega arith)) (is.at 5 (omega arith)) (is.at 6 (omega arith))
+      (is.at 7 (omega arith));
+}
+
+-- a list of four, and one of eight, by its elements
+pub four_same : {X : Type 0} (x : List X) (d : X) {a b c e : X} → length x ≡ 4
+    → a ≡ slice_index_or x 0 d → b ≡ slice_index_or x 1 d → c ≡ slice_index_or x 2 d → e ≡ slice_index_or x 3 d
+    → a ∷ b ∷ c ∷ e ∷ [] ≡ x
+four_same [] d len p q r s = absurd (omega arith)
+four_same (_ ∷ []) d len p q r s = absurd (omega arith)
+four_same (_ ∷ _ ∷ []) d len p q r s = absurd (omega arith)
+four_same (_ ∷ _ ∷ _ ∷ []) d len p q r s = absurd (omega arith)
+four_same (_ ∷ _ ∷ _ ∷ _ ∷ []) d len p q r s = λ i. p i ∷ q i ∷ r i ∷ s i ∷ []
+four_same (_ ∷ _ ∷ _ ∷ _ ∷ _ ∷ _) d len p q r s = absurd (omega arith)
+
+pub eight_same : {X : Type 0} (x : List X) (d : X) {a b c e f g h k : X} → length x ≡ 8
+    → a ≡ slice_index_or x 0 d → b ≡ slice_index_or x 1 d → c ≡ slice_index_or x 2 d → e ≡ slice_index_or x 3 d
+    → f ≡ slice_index_or x 4 d → g ≡ slice_index_or x 5 d → h ≡ slice_index_or x 6 d → k ≡ slice_index_or x 7 d
+    → a ∷ b ∷ c ∷ e ∷ f ∷ g ∷ h ∷ k ∷ [] ≡ x
+eight_same [] d len p q r s = absurd (omega arith)
+eight_same (_ ∷ []) d len p q r s = absurd (omega arith)
+eight_same (_ ∷ _ ∷ []) d len p q r s = absurd (omega arith)
+eight_same (_ ∷ _ ∷ _ ∷ []) d len p q r s = absurd (omega arith)
+eight_same (_ ∷ _ ∷ _ ∷ _ ∷ x) d len p q r s = λ t u v w i.
+    p i ∷ q i ∷ r i ∷ s i ∷ four_same x d (omega (arith, len)) t u v w i

@@ -1,10 +1,9 @@
 //! Four rows of eight planes, as they are kept.
 
-ghost use Rattle.std.specs.Prelude.{◌≡◌, ◌<◌, ℕ};
+ghost use Rattle.std.specs.Prelude.{◌≡◌, ◌<◌, ℕ, [], length, slice_index_or};
 ghost use Rattle.luks_aes.specs.Field.{◌⊕◌};
 ghost use Rattle.luks_aes.specs.Aes.{inv_sbox};
 ghost use Rattle.luks_planes.specs.Planes.{Stands};
-ghost use Rattle.luks_blocks.specs.Mixing.{IsOfPlane};
 ghost use Rattle.luks_blocks.specs.States.{StandAll};
 ghost use Rattle.luks_blocks.specs.RoundKeys.{row_0_of, row_1_of, row_2_of, row_3_of, rows_of};
 
@@ -33,17 +32,35 @@ pub struct Rows {
     pub plane_7: FourPlanes,
 }
 
+// Plane `j` of a row. (Of an array that is a parameter it is known how long it is.)
+#[inline(always)]
+fn plane_in(row: &[u8x16; 8], j: usize) -> u8x16
+    requires { j < 8 }
+    ensures plane { result ≡ slice_index_or row.now j [] }
+    ensures size { length row.now ≡ 8 }
+{
+    row[j]
+}
+
 // Plane `j` of the rows.
 #[inline(always)]
 fn plane_at(rows: &[[u8x16; 8]; 4], j: usize) -> FourPlanes
     requires { j < 8 }
-    ensures { (y : ℕ → ℕ → ℕ) → StandAll y rows.now → IsOfPlane y j result }
+    ensures row_0 { result.row_0 ≡ slice_index_or (slice_index_or rows.now 0 []) j [] }
+    ensures row_1 { result.row_1 ≡ slice_index_or (slice_index_or rows.now 1 []) j [] }
+    ensures row_2 { result.row_2 ≡ slice_index_or (slice_index_or rows.now 2 []) j [] }
+    ensures row_3 { result.row_3 ≡ slice_index_or (slice_index_or rows.now 3 []) j [] }
+    ensures size_0 { length (slice_index_or rows.now 0 []) ≡ 8 }
+    ensures size_1 { length (slice_index_or rows.now 1 []) ≡ 8 }
+    ensures size_2 { length (slice_index_or rows.now 2 []) ≡ 8 }
+    ensures size_3 { length (slice_index_or rows.now 3 []) ≡ 8 }
+    ensures size { length rows.now ≡ 4 }
 {
     FourPlanes {
-        row_0: rows[0][j],
-        row_1: rows[1][j],
-        row_2: rows[2][j],
-        row_3: rows[3][j],
+        row_0: plane_in(&rows[0], j),
+        row_1: plane_in(&rows[1], j),
+        row_2: plane_in(&rows[2], j),
+        row_3: plane_in(&rows[3], j),
     }
 }
 
@@ -51,7 +68,7 @@ impl Rows {
     /// These rows.
     #[inline(always)]
     pub fn new(rows: [[u8x16; 8]; 4]) -> Rows
-        ensures { (y : ℕ → ℕ → ℕ) → StandAll y rows → StandAll y (rows_of result) }
+        ensures { rows_of result ≡ rows }
     {
         Rows {
             plane_0: plane_at(&rows, 0),
@@ -144,7 +161,6 @@ impl Rows {
 
     // InvSubBytes (FIPS 197, 5.3.2) in row 0, of bytes to which 0x63 was added.
     #[inline(never)]
-    #[tactic(auto, unfolding(crate::specs::RoundKeys::row_0_of))]
     fn unsubstitute_0(&mut self)
         ensures here { (y : ℕ → ℕ) → Stands y (row_0_of self.old)
             → Stands (λ q. inv_sbox (y q ⊕ 0x63)) (row_0_of self.new) }
@@ -165,7 +181,6 @@ impl Rows {
 
     // InvSubBytes (FIPS 197, 5.3.2) in row 1, of bytes to which 0x63 was added.
     #[inline(never)]
-    #[tactic(auto, unfolding(crate::specs::RoundKeys::row_1_of))]
     fn unsubstitute_1(&mut self)
         ensures here { (y : ℕ → ℕ) → Stands y (row_1_of self.old)
             → Stands (λ q. inv_sbox (y q ⊕ 0x63)) (row_1_of self.new) }
@@ -186,7 +201,6 @@ impl Rows {
 
     // InvSubBytes (FIPS 197, 5.3.2) in row 2, of bytes to which 0x63 was added.
     #[inline(never)]
-    #[tactic(auto, unfolding(crate::specs::RoundKeys::row_2_of))]
     fn unsubstitute_2(&mut self)
         ensures here { (y : ℕ → ℕ) → Stands y (row_2_of self.old)
             → Stands (λ q. inv_sbox (y q ⊕ 0x63)) (row_2_of self.new) }
@@ -207,7 +221,6 @@ impl Rows {
 
     // InvSubBytes (FIPS 197, 5.3.2) in row 3, of bytes to which 0x63 was added.
     #[inline(never)]
-    #[tactic(auto, unfolding(crate::specs::RoundKeys::row_3_of))]
     fn unsubstitute_3(&mut self)
         ensures here { (y : ℕ → ℕ) → Stands y (row_3_of self.old)
             → Stands (λ q. inv_sbox (y q ⊕ 0x63)) (row_3_of self.new) }

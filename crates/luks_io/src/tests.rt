@@ -8,9 +8,15 @@ use crate::adapters::{ReadSource, WriteSink};
 use crate::memory::{MemSink, MemSource};
 use crate::sink::{Sink, WriteFault, put_all};
 use crate::source::{ReadFault, Source, fill};
+use std::fmt::Debug;
 use std::io::{self, ErrorKind, Read, Write};
 use std::process::Abort;
 use std::test::Fail;
+
+// Asserts that both values are the same.
+fn assert_same<T: PartialEq + Debug + Drop>(rt: &impl Abort, left: T, right: T) {
+    assert_eq!(rt; left, right);
+}
 
 /// A reader and a writer that is interrupted so many times, and then moves at most `piece` bytes a
 /// call, each of them 7. It refuses for good once `left` calls moved bytes.
@@ -68,46 +74,56 @@ fn make_device(interruptions: u32, piece: usize, left: u32) -> Device {
 #[test]
 fn reads_wait_for_a_hundred_interruptions(rt: HostRuntime) {
     let mut buf = [0u8; 4];
-    assert_eq!(rt;
+    assert_same(
+        &rt,
         ReadSource::new(make_device(100, 3, 9)).read(&mut buf),
-        Ok(3)
+        Ok(3),
     );
-    assert_eq!(rt; buf, [7, 7, 7, 0]);
-    assert_eq!(rt;
+    assert_same(&rt, buf, [7, 7, 7, 0]);
+    assert_same(
+        &rt,
         ReadSource::new(make_device(101, 3, 9)).read(&mut buf),
-        Err(DeviceFault)
+        Err(DeviceFault),
     );
 }
 
 #[test]
 fn writes_wait_for_a_hundred_interruptions(rt: HostRuntime) {
-    assert_eq!(rt;
+    assert_same(
+        &rt,
         WriteSink::new(make_device(100, 3, 9)).write(b"abcde"),
-        Ok(3)
+        Ok(3),
     );
-    assert_eq!(rt;
+    assert_same(
+        &rt,
         WriteSink::new(make_device(101, 3, 9)).write(b"abcde"),
-        Err(DeviceFault)
+        Err(DeviceFault),
     );
 }
 
 #[test]
 fn the_end_is_no_failure(rt: HostRuntime) {
     let mut buf = [0u8; 4];
-    assert_eq!(rt; ReadSource::new(make_device(0, 0, 9)).read(&mut buf), Ok(0));
-    assert_eq!(rt;
+    assert_same(
+        &rt,
+        ReadSource::new(make_device(0, 0, 9)).read(&mut buf),
+        Ok(0),
+    );
+    assert_same(
+        &rt,
         fill(&mut ReadSource::new(make_device(0, 0, 9)), &mut buf),
-        Ok(0)
+        Ok(0),
     );
 }
 
 #[test]
 fn a_write_of_nothing_is_a_failure(rt: HostRuntime) {
-    assert_eq!(rt;
+    assert_same(
+        &rt,
         WriteSink::new(make_device(0, 0, 9)).write(b"a"),
-        Err(DeviceFault)
+        Err(DeviceFault),
     );
-    assert_eq!(rt; WriteSink::new(make_device(0, 0, 0)).write(b""), Ok(0));
+    assert_same(&rt, WriteSink::new(make_device(0, 0, 0)).write(b""), Ok(0));
 }
 
 /// A reader and a writer that moves one byte a call, but for its first call, which this answers.
@@ -158,12 +174,12 @@ fn moving_nothing_once() -> Stumbling {
 fn a_failure_is_told_at_once_and_the_next_call_goes_on(rt: HostRuntime) {
     let mut buf = [0u8; 4];
     let mut source = ReadSource::new(failing_once());
-    assert_eq!(rt; source.read(&mut buf), Err(DeviceFault));
-    assert_eq!(rt; source.read(&mut buf), Ok(1));
+    assert_same(&rt, source.read(&mut buf), Err(DeviceFault));
+    assert_same(&rt, source.read(&mut buf), Ok(1));
     for device in [failing_once(), moving_nothing_once()] {
         let mut sink = WriteSink::new(device);
-        assert_eq!(rt; sink.write(b"abcd"), Err(DeviceFault));
-        assert_eq!(rt; sink.write(b"abcd"), Ok(1));
+        assert_same(&rt, sink.write(b"abcd"), Err(DeviceFault));
+        assert_same(&rt, sink.write(b"abcd"), Ok(1));
     }
 }
 
@@ -173,30 +189,34 @@ fn a_reader_ends_once(rt: HostRuntime) {
     let mut buf = [0u8; 4];
     let mut source = ReadSource::new(moving_nothing_once());
     for _ in 0..3 {
-        assert_eq!(rt; source.read(&mut buf), Ok(0));
+        assert_same(&rt, source.read(&mut buf), Ok(0));
     }
-    assert_eq!(rt; fill(&mut source, &mut buf), Ok(0));
-    assert_eq!(rt; buf, [0; 4]);
+    assert_same(&rt, fill(&mut source, &mut buf), Ok(0));
+    assert_same(&rt, buf, [0; 4]);
 }
 
 #[test]
 fn a_fault_tells_how_far_it_came(rt: HostRuntime) {
     let mut buf = [0u8; 8];
-    assert_eq!(rt;
+    assert_same(
+        &rt,
         fill(&mut ReadSource::new(make_device(0, 3, 9)), &mut buf),
-        Ok(8)
+        Ok(8),
     );
-    assert_eq!(rt;
+    assert_same(
+        &rt,
         fill(&mut ReadSource::new(make_device(0, 3, 2)), &mut buf),
-        Err(ReadFault { got: 6 })
+        Err(ReadFault { got: 6 }),
     );
-    assert_eq!(rt;
+    assert_same(
+        &rt,
         put_all(&mut WriteSink::new(make_device(0, 3, 3)), b"abcdefgh"),
-        Ok(())
+        Ok(()),
     );
-    assert_eq!(rt;
+    assert_same(
+        &rt,
         put_all(&mut WriteSink::new(make_device(0, 3, 2)), b"abcdefgh"),
-        Err(WriteFault { written: 6 })
+        Err(WriteFault { written: 6 }),
     );
 }
 
@@ -205,27 +225,32 @@ fn readers_of_std_are_sources(rt: HostRuntime) {
     let bytes: &[u8] = b"0123456789";
     let mut source = ReadSource::new(bytes);
     let mut buf = [0u8; 6];
-    assert_eq!(rt; fill(&mut source, &mut buf), Ok(6));
-    assert_eq!(rt; buf.as_slice(), b"012345".as_slice());
-    assert_eq!(rt; fill(&mut source, &mut buf), Ok(4));
-    assert_eq!(rt; buf.as_slice(), b"678945".as_slice());
+    assert_same(&rt, fill(&mut source, &mut buf), Ok(6));
+    assert_same(&rt, buf.as_slice(), b"012345".as_slice());
+    assert_same(&rt, fill(&mut source, &mut buf), Ok(4));
+    assert_same(&rt, buf.as_slice(), b"678945".as_slice());
+}
+
+// A sink with room for 8 bytes takes these six, two of them again, and no more.
+fn check_sink(rt: &(impl Abort + AllocGlobal), bytes: &[u8]) -> Result<(), Fail> {
+    let mut sink = MemSink::new(rt.alloc(), 8)?;
+    for answer in [Ok(()), Err(WriteFault { written: 2 })] {
+        assert_same(rt, put_all(&mut sink, bytes), answer);
+    }
+    assert_same(rt, sink.as_slice(), b"01234501".as_slice());
+    assert_same(rt, sink.failures(), 1);
+    assert_same(rt, sink.write(b""), Ok(0));
+    assert_same(rt, sink.write(b"a"), Err(DeviceFault));
+    assert_same(rt, sink.failures(), 2);
+    Ok(())
 }
 
 fn check_memory(rt: &(impl Abort + AllocGlobal)) -> Result<(), Fail> {
     let mut source = MemSource::new(b"0123456789");
     let mut buf = [0u8; 6];
-    assert_eq!(rt; fill(&mut source, &mut buf), Ok(6));
-    assert_eq!(rt; source.left(), b"6789".as_slice());
-
-    let mut sink = MemSink::new(rt.alloc(), 8)?;
-    assert_eq!(rt; put_all(&mut sink, &buf), Ok(()));
-    assert_eq!(rt; put_all(&mut sink, &buf), Err(WriteFault { written: 2 }));
-    assert_eq!(rt; sink.as_slice(), b"01234501".as_slice());
-    assert_eq!(rt; sink.failures(), 1);
-    assert_eq!(rt; sink.write(b""), Ok(0));
-    assert_eq!(rt; sink.write(b"a"), Err(DeviceFault));
-    assert_eq!(rt; sink.failures(), 2);
-    Ok(())
+    assert_same(rt, fill(&mut source, &mut buf), Ok(6));
+    assert_same(rt, source.left(), b"6789".as_slice());
+    check_sink(rt, &buf)
 }
 
 #[test]

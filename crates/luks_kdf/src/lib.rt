@@ -15,5 +15,3 @@ mod engine;
 mod hash;
 mod mac;
 mod stripes;
-#[cfg(test)]
-mod tests;

@@ -1,9 +1,10 @@
-use super::bytes;
 use super::mode_vectors::{CHAINS, SECTORS};
+use super::{assert_in, assert_same_in, bytes};
 use crate::cbc::{decrypt_chain, encrypt_chain};
 use crate::{Mode, SectorCipher};
 use luks_blocks::SliceKey;
 use std::alloc::Global;
+use std::process::Abort;
 use std::test::Fail;
 
 const MODES: [Mode; 4] = [
@@ -27,12 +28,20 @@ fn names(rt: HostRuntime) -> Result<(), Fail> {
         ("cbc-essiv:sha1", None),
         ("cbc-plain64 ", None),
     ] {
-        assert!(rt; Mode::from_name(name) == mode, "{name}");
+        assert_same_in(&rt, &name, Mode::from_name(name), mode);
     }
     for mode in MODES {
-        assert!(rt; Mode::from_name(mode.name()) == Some(mode));
+        assert_same_in(&rt, &mode, Mode::from_name(mode.name()), Some(mode));
     }
     Ok(())
+}
+
+// Whether the key is one of each mode.
+fn check_length(rt: &impl Abort, key: &[u8], is: [bool; 4]) {
+    for i in 0..4 {
+        let made = SectorCipher::new(MODES[i], key).is_some();
+        assert_same_in(rt, &(MODES[i], key.len()), made, is[i]);
+    }
 }
 
 #[test]
@@ -50,15 +59,7 @@ fn lengths_of_keys(rt: HostRuntime) -> Result<(), Fail> {
         (65, false, false),
     ] {
         let key = vec![in rt.alloc(); 0u8; length]?;
-        for (mode, is) in [
-            (Mode::XtsPlain64, is_xts),
-            (Mode::XtsPlain, is_xts),
-            (Mode::CbcEssivSha256, is_cbc),
-            (Mode::CbcPlain64, is_cbc),
-        ] {
-            let made = SectorCipher::new(mode, &key).is_some();
-            assert_eq!(rt; made, is, "{length} bytes");
-        }
+        check_length(&rt, &key, [is_xts, is_xts, is_cbc, is_cbc]);
     }
     Ok(())
 }
@@ -92,7 +93,7 @@ fn chain_holds(alloc: Global, line: &str) -> Result<bool, Fail> {
 #[test]
 fn chains(rt: HostRuntime) -> Result<(), Fail> {
     for line in CHAINS.lines() {
-        assert!(rt; chain_holds(rt.alloc(), line)?, "{line}");
+        assert_in(&rt, &line, chain_holds(rt.alloc(), line)?);
     }
     Ok(())
 }
@@ -133,7 +134,7 @@ fn sector_holds(alloc: Global, line: &str) -> Result<bool, Fail> {
 #[test]
 fn sectors(rt: HostRuntime) -> Result<(), Fail> {
     for line in SECTORS.lines() {
-        assert!(rt; sector_holds(rt.alloc(), line)?, "{line}");
+        assert_in(&rt, &line, sector_holds(rt.alloc(), line)?);
     }
     Ok(())
 }
@@ -151,7 +152,7 @@ xts-plain64 0000000000000000000000000000000000000000000000000000000000000000 0 0
 #[test]
 fn worked_sectors(rt: HostRuntime) -> Result<(), Fail> {
     for line in WORKED.lines() {
-        assert!(rt; sector_holds(rt.alloc(), line)?, "{line}");
+        assert_in(&rt, &line, sector_holds(rt.alloc(), line)?);
     }
     Ok(())
 }

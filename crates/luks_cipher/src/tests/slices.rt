@@ -1,6 +1,6 @@
 //! Sectors of one slice of 512 bytes, of several, of none, and of some blocks more.
 
-use super::bytes;
+use super::{assert_in, bytes};
 use crate::{Mode, SectorCipher};
 use sha2::{Digest, Sha256};
 use std::alloc::Global;
@@ -104,7 +104,7 @@ fn holds(alloc: Global, line: &str) -> Result<bool, Fail> {
 #[test]
 fn sectors_of_slices_and_blocks(rt: HostRuntime) -> Result<(), Fail> {
     for line in SECTORS.lines() {
-        assert!(rt; holds(rt.alloc(), line)?, "{line}");
+        assert_in(&rt, &line, holds(rt.alloc(), line)?);
     }
     Ok(())
 }

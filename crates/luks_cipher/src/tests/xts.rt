@@ -1,8 +1,8 @@
-use super::bytes;
 use super::xts_vectors::{
     KEY_256, KEY_512, LARGE_NUMBERS, NIST, SHORT, UNIT_00, UNIT_FD, UNIT_FF, WIDE_FF,
     WIDE_FFFFFFFFFF,
 };
+use super::{assert_in, assert_same_in, bytes};
 use crate::{AesKey, XtsKey};
 use std::alloc::Global;
 use std::test::Fail;
@@ -44,7 +44,7 @@ fn holds(alloc: Global, line: &str) -> Result<bool, Fail> {
 fn published_units(rt: HostRuntime) -> Result<(), Fail> {
     for table in [NIST, SHORT, LARGE_NUMBERS] {
         for line in table.lines() {
-            assert!(rt; holds(rt.alloc(), line)?, "{line}");
+            assert_in(&rt, &line, holds(rt.alloc(), line)?);
         }
     }
     Ok(())
@@ -72,12 +72,13 @@ fn units_of_512_bytes(rt: HostRuntime) -> Result<(), Fail> {
             0xff => UNIT_FF,
             _ => continue,
         };
-        assert_eq!(rt; unit, bytes(alloc, published)?, "number {number}");
+        let published = bytes(alloc, published)?;
+        assert_in(&rt, &number, unit == published);
     }
     for number in (0..=255u64).rev() {
         decrypt(&key, number, &mut unit)?;
     }
-    assert_eq!(rt; unit, rising(alloc, 512)?);
+    assert!(rt; unit == rising(alloc, 512)?);
     Ok(())
 }
 
@@ -88,9 +89,9 @@ fn units_of_512_bytes_under_long_keys(rt: HostRuntime) -> Result<(), Fail> {
     for (number, published) in [(0xff, WIDE_FF), (0xff_ffff_ffff, WIDE_FFFFFFFFFF)] {
         let mut unit = rising(alloc, 512)?;
         encrypt(&key, number, &mut unit)?;
-        assert_eq!(rt; unit, bytes(alloc, published)?, "number {number}");
+        assert_in(&rt, &number, unit == bytes(alloc, published)?);
         decrypt(&key, number, &mut unit)?;
-        assert_eq!(rt; unit, rising(alloc, 512)?, "number {number}");
+        assert_in(&rt, &number, unit == rising(alloc, 512)?);
     }
     Ok(())
 }
@@ -123,6 +124,26 @@ fn tweak_of(key: &AesKey, number: u64, j: usize) -> [u8; 16] {
     tweak
 }
 
+// Block `j` of a unit.
+fn block_of(unit: &[u8], j: usize) -> [u8; 16] {
+    let mut block = [0; 16];
+    for i in 0..16 {
+        let place = j.saturating_mul(16).saturating_add(i);
+        if place < unit.len() {
+            block[i] = unit[place];
+        }
+    }
+    block
+}
+
+fn masked(block: [u8; 16], mask: [u8; 16]) -> [u8; 16] {
+    let mut next = block;
+    for i in 0..16 {
+        next[i] ^= mask[i];
+    }
+    next
+}
+
 #[test]
 fn a_unit_of_4096_bytes(rt: HostRuntime) -> Result<(), Fail> {
     let alloc = rt.alloc();
@@ -133,25 +154,16 @@ fn a_unit_of_4096_bytes(rt: HostRuntime) -> Result<(), Fail> {
     let plain = rising(alloc, 4096)?;
     let mut unit = plain.clone()?;
     encrypt(&key, number, &mut unit)?;
-    assert_eq!(rt; plain.len(), 4096);
-    assert_eq!(rt; unit.len(), 4096);
+    assert!(rt; plain.len() == 4096);
+    assert!(rt; unit.len() == 4096);
     for j in 0..256usize {
         let tweak = tweak_of(&tweak_key, number, j);
-        let mut block = [0; 16];
-        for i in 0..16usize {
-            block[i] = plain[16 * j + i] ^ tweak[i];
-        }
+        let mut block = masked(block_of(&plain, j), tweak);
         data_key.encrypt_block(&mut block);
-        for i in 0..16usize {
-            assert_eq!(rt;
-                unit[16 * j + i],
-                block[i] ^ tweak[i],
-                "block {j}, byte {i}"
-            );
-        }
+        assert_same_in(&rt, &j, block_of(&unit, j), masked(block, tweak));
     }
     decrypt(&key, number, &mut unit)?;
-    assert_eq!(rt; unit, plain);
+    assert!(rt; unit == plain);
     Ok(())
 }
 
@@ -170,7 +182,7 @@ fn lengths_of_keys(rt: HostRuntime) -> Result<(), Fail> {
         (65, false),
     ] {
         let bytes = vec![in rt.alloc(); 0u8; length]?;
-        assert_eq!(rt; XtsKey::new(&bytes).is_some(), is_xts, "{length} bytes");
+        assert_same_in(&rt, &length, XtsKey::new(&bytes).is_some(), is_xts);
     }
     Ok(())
 }

@@ -6,6 +6,7 @@ use Rattle.luks_aes.proofs.ByteLists.{expansion_bytes}
 use Rattle.luks_aes.proofs.CipherLemmas.{inv_round_after}
 use Rattle.luks_planes.specs.Planes.{column_of}
 use Rattle.luks_blocks.specs.RoundKeys.{rows_of, HasRoundKey, HasUnmixedKey}
+use Rattle.luks_blocks.proofs.StateLemmas.{all_as}
 use Rattle.luks_blocks.proofs.RoundLemmas.{cells, after_bytes, rows_keyed, rows_plain, hold_same, turned_same}
 use Rattle.luks_blocks.proofs.key.decrypted_rows.Goals as goal
 
@@ -25,7 +26,7 @@ loop-round-init c =
           let turned = c.turned.ensures _ held.stand in
           turned_same _ _ _ (λ m. ap (add_round_key (s m) w) (sym rounds)
           ∙ sym (ap (inv_state_after (s m) c.args.rounds w) none))
-          (record { stand = c.new-state.ensures _ turned });
+          (record { stand = all_as c.new-state.ensures turned });
     }
 
 pub loop-round-preserved : goal.loop-round-preserved

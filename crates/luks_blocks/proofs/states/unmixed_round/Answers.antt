@@ -1,4 +1,3 @@
-use Rattle.std.proofs.Common.{ℕ}
 use Rattle.luks_aes.specs.Field.{◌⊕◌}
 use Rattle.luks_aes.specs.Aes.{inv_sub_bytes, inv_shift_rows}
 use Rattle.luks_aes.specs.Columns.{unmixed_key_byte}

@@ -1,4 +1,4 @@
-use Rattle.std.proofs.Common.{ℕ, ◌<◌, arith, refl, sym, ap}
+use Rattle.std.proofs.Common.{ℕ, arith, refl, sym, ap}
 use Rattle.luks_aes.specs.Field.{◌⊕◌}
 use Rattle.luks_aes.proofs.Bytes.{same_below}
 use Rattle.luks_planes.specs.Planes.{turned_place}

@@ -1,7 +1,6 @@
-use Rattle.std.proofs.Common.{List, arith, sym, subst, ◌∙◌}
+use Rattle.std.proofs.Common.{arith, ◌∙◌}
 use Rattle.luks_aes.specs.Field.{◌⊕◌}
 use Rattle.luks_aes.specs.Aes.{inv_sbox}
-use Rattle.luks_planes.specs.Planes.{Stands}
 use Rattle.luks_blocks.specs.RoundKeys.{rows_of}
 use Rattle.luks_blocks.proofs.StateLemmas.{four, stands_as}
 use Rattle.luks_blocks.proofs.rows.Rows.unsubstitute.Goals as goal
