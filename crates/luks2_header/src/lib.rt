@@ -5,6 +5,4 @@
 mod choice;
 pub mod header;
 pub mod reading;
-#[cfg(test)]
-mod tests;
 mod validity;

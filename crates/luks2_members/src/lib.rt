@@ -8,6 +8,4 @@ pub mod encryption;
 pub mod list;
 pub mod member;
 pub mod numbered;
-#[cfg(test)]
-mod tests;
 pub mod tree;

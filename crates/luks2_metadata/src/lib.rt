@@ -6,5 +6,3 @@ pub mod bounds;
 pub mod digest;
 pub mod payload;
 pub mod slot;
-#[cfg(test)]
-mod tests;

@@ -5,16 +5,16 @@ use Rattle.clap.specs.declared.Error.{Error}
 use Rattle.clap.specs.declared.ArgMatches.{ArgMatches}
 use Rattle.clap.proofs.OnLiterals.{clap_on_literals}
 use Rattle.luks_command.specs.Command.{fault_for, subcommand_in, unless_faulty}
-use Rattle.luks_command.specs.Grammar.{luksrd, volume_command}
+use Rattle.luks_command.specs.Grammar.{header_command, luksrd, volume_command}
 use Rattle.luks_command.specs.declared.planning.PlanFault.{PlanFault}
 use Rattle.luks_command.specs.declared.planning.PlanFault.TheVariants.{Usage}
 
 luksrd-simple : is_simple luksrd ≡ true
-unfolding luksrd volume_command clap_on_literals
+unfolding luksrd header_command volume_command clap_on_literals
 luksrd-simple = refl
 
 luksrd-free : is_simple_and_free luksrd ≡ true
-unfolding luksrd volume_command clap_on_literals
+unfolding luksrd header_command volume_command clap_on_literals
 luksrd-free = refl
 
 pub free : (app : App) → app ≡ luksrd → is_simple_and_free app ≡ true

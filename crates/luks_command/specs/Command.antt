@@ -1,5 +1,5 @@
 -- What a command line asks for.
-use Rattle.std.specs.Prelude.{◌&&◌, ◌∷◌, [], ℕ, Bool, false, List, Option, Some, None, bytes_eq}
+use Rattle.std.specs.Prelude.{◌&&◌, ◌||◌, ◌∷◌, [], ℕ, Bool, false, List, Option, Some, None, bytes_eq}
 use Rattle.std.specs.Prelude.{codes, if◌then◌else◌, option_and_then, option_map}
 use Rattle.std.specs.Option.{option_map_or}
 use Rattle.clap.specs.Words.{Kinds, Row, Text, fault_of, first_of, subcommand_of}
@@ -9,9 +9,9 @@ use Rattle.luks_kdf.specs.Hash.{hash_named}
 use Rattle.luks_kdf.specs.declared.Hash.{Hash}
 use Rattle.luks_command.specs.Grammar.{luksrd}
 use Rattle.luks_command.specs.Number.{number_within, optional_within}
-use Rattle.luks_command.specs.Request.{MergingRequest, OpeningRequest, Request, SplittingRequest}
-use Rattle.luks_command.specs.Request.{af_merge, af_split, image_of, is_luks, luks_cat, luks_check, luks_dump}
-use Rattle.luks_command.specs.Request.{luks_uuid, secret_of, test_passphrase}
+use Rattle.luks_command.specs.Request.{MergingRequest, OpeningRequest, ReadingRequest, Request, SplittingRequest}
+use Rattle.luks_command.specs.Request.{af_merge, af_split, header_file_of, image_of, is_luks, luks_cat, luks_check}
+use Rattle.luks_command.specs.Request.{luks_dump, luks_uuid, secret_of, test_passphrase}
 use Rattle.luks_command.specs.declared.planning.PlanFault.{PlanFault}
 use Rattle.luks_command.specs.declared.planning.PlanFault.TheVariants.{Memory, Usage}
 
@@ -26,6 +26,10 @@ text_in name rows = first_of name rows
 -- the name of the input that stands by itself
 abbrev pub input_in : List Row → Option Text
 input_in rows = text_in (codes "input") rows
+
+-- FILE of `--header`, where it is given
+abbrev pub header_in : List Row → Option Text
+header_in rows = text_in (codes "header") rows
 
 -- the hash function that `--hash` names
 unfoldable pub hash_in : List Row → Option Hash
@@ -47,6 +51,11 @@ key_slot_in rows = optional_within 0 31 (text_in (codes "key-slot") rows)
 unfoldable pub max_iterations_in : List Row → Option (Option ℕ)
 max_iterations_in rows = optional_within 1 4294967295 (text_in (codes "max-iterations") rows)
 
+abbrev pub reading_in : List Row → Option ReadingRequest
+reading_in rows = do
+  image ← input_in rows
+  Some (record { image = image; header = header_in rows })
+
 abbrev pub opening_in : List Row → Option OpeningRequest
 opening_in rows = do
   key_file ← text_in (codes "key-file") rows
@@ -55,6 +64,7 @@ opening_in rows = do
   image ← input_in rows
   Some (record {
     image = image;
+    header = header_in rows;
     key_file = key_file;
     key_slot = key_slot;
     max_iterations = max_iterations;
@@ -84,24 +94,31 @@ merging_in rows = do
 -- the command by its name, with its options
 abbrev pub request_in : Text × List Row → Option Request
 request_in (name, rows) =
-    if bytes_eq name (codes "isLuks") then option_map is_luks (input_in rows)
-    else (if bytes_eq name (codes "luksUUID") then option_map luks_uuid (input_in rows)
-    else (if bytes_eq name (codes "luksDump") then option_map luks_dump (input_in rows)
-    else (if bytes_eq name (codes "luksCheck") then option_map luks_check (input_in rows)
+    if bytes_eq name (codes "isLuks") then option_map is_luks (reading_in rows)
+    else (if bytes_eq name (codes "luksUUID") then option_map luks_uuid (reading_in rows)
+    else (if bytes_eq name (codes "luksDump") then option_map luks_dump (reading_in rows)
+    else (if bytes_eq name (codes "luksCheck") then option_map luks_check (reading_in rows)
     else (if bytes_eq name (codes "testPassphrase") then option_map test_passphrase (opening_in rows)
     else (if bytes_eq name (codes "luksCat") then option_map luks_cat (opening_in rows)
     else (if bytes_eq name (codes "afSplit") then option_map af_split (splitting_in rows)
     else (if bytes_eq name (codes "afMerge") then option_map af_merge (merging_in rows)
     else None)))))))
 
--- the input is standard input
-abbrev pub is_standard : Text → Bool
-is_standard input = bytes_eq input (codes "-")
+-- the input is there and is standard input
+abbrev pub is_standard : Option Text → Bool
+is_standard input = option_map_or (λ name. bytes_eq name (codes "-")) input false
 
--- both inputs are standard input, which can be read once
+-- at least two of the three hold
+abbrev pub two_of : Bool → Bool → Bool → Bool
+two_of a b c = (a && b) || ((a && c) || (b && c))
+
+-- at least two of IMAGE, FILE of `--header` and the second input, of those that there are, are standard input, which
+-- can be read once
 abbrev pub reads_standard_twice : Request → Bool
-reads_standard_twice request =
-    is_standard (image_of request) && option_map_or is_standard (secret_of request) false
+reads_standard_twice request = two_of
+    (is_standard (Some (image_of request)))
+    (is_standard (header_file_of request))
+    (is_standard (secret_of request))
 
 abbrev pub with_distinct_inputs : Request → Option Request
 with_distinct_inputs request = if reads_standard_twice request then None else Some request

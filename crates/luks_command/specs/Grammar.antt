@@ -1,7 +1,7 @@
 -- The command line of luksrd as `clap` reads it: one level of subcommands, each with options that
 -- take one text and with one input, and no rule between options.
 use Rattle.std.specs.Prelude.{◌≡◌, ◌∷◌, ◌++◌, [], Bool, true, false, List, Some, codes}
-use Rattle.clap.specs.Words.{App, Rule, Shape, Text, app_of, new_rule}
+use Rattle.clap.specs.Words.{App, Rule, Shape, Text, app_of, new_rule, with_rule}
 use Rattle.clap.specs.Simple.{new_shape}
 use Rattle.clap.specs.declared.builder.Command.{Command}
 use Rattle.clap.specs.declared.builder.Command.TheViews.{out-Command}
@@ -26,26 +26,30 @@ input = record (new_rule (codes "input")) { required = true }
 abbrev pub command : Text → List Rule → Shape
 command name options = record (new_shape name) { rules = options ++ input ∷ [] }
 
--- `isLuks IMAGE`
+-- `--header FILE`, for a header in a file of its own
+abbrev pub header_option : Rule
+header_option = optional (codes "header")
+
+-- `NAME [--header FILE] IMAGE`
+unfoldable pub header_command : Text → Shape
+header_command name = command name (header_option ∷ [])
+
 abbrev pub is_luks : Shape
-is_luks = command (codes "isLuks") []
+is_luks = header_command (codes "isLuks")
 
--- `luksUUID IMAGE`
 abbrev pub luks_uuid : Shape
-luks_uuid = command (codes "luksUUID") []
+luks_uuid = header_command (codes "luksUUID")
 
--- `luksDump IMAGE`
 abbrev pub luks_dump : Shape
-luks_dump = command (codes "luksDump") []
+luks_dump = header_command (codes "luksDump")
 
--- `luksCheck IMAGE`
 abbrev pub luks_check : Shape
-luks_check = command (codes "luksCheck") []
+luks_check = header_command (codes "luksCheck")
 
--- `NAME --key-file FILE [--key-slot N] [--max-iterations N] IMAGE`
+-- `NAME --key-file FILE [--key-slot N] [--max-iterations N] [--header FILE] IMAGE`
 unfoldable pub volume_command : Text → Shape
 volume_command name = command name (required (codes "key-file") ∷ optional (codes "key-slot")
-    ∷ optional (codes "max-iterations") ∷ [])
+    ∷ optional (codes "max-iterations") ∷ header_option ∷ [])
 
 abbrev pub test_passphrase : Shape
 test_passphrase = volume_command (codes "testPassphrase")
@@ -87,3 +91,8 @@ alone shape = record { top = shape; subs = [] }
 pub record Reads (command : Command) (as_read : App) : Type 0 where
   pub app : app_of command ≡ as_read
   pub local : (out-Command command).has_globals ≡ false
+
+-- `made` is `before` with `[--header FILE] IMAGE` behind its options
+pub record TakesImage (before made : Command) : Type 0 where
+  pub app : app_of made ≡ with_rule (with_rule (app_of before) header_option) input
+  pub local : (out-Command made).has_globals ≡ (out-Command before).has_globals

@@ -1,16 +1,22 @@
 -- What luksrd can be asked for: a command with its options, each text by its bytes.
-use Rattle.std.specs.Prelude.{ℕ, Option, Some, None, option_map}
+use Rattle.std.specs.Prelude.{ℕ, Bool, Option, Some, None, is_some, option_map}
 use Rattle.clap.specs.Words.{Text}
 use Rattle.luks_kdf.specs.declared.Hash.{Hash}
 use Rattle.luks_command.specs.declared.command.Command.{Command}
 use Rattle.luks_command.specs.declared.command.Command.TheVariants.{AfMerge, AfSplit, IsLuks, LuksCat}
 use Rattle.luks_command.specs.declared.command.Command.TheVariants.{LuksCheck, LuksDump, LuksUuid, TestPassphrase}
+use Rattle.luks_command.specs.declared.command.Reading.{Reading}
 use Rattle.luks_command.specs.declared.command.Opening.{Opening}
 use Rattle.luks_command.specs.declared.command.Splitting.{Splitting}
 use Rattle.luks_command.specs.declared.command.Merging.{Merging}
 
+pub record ReadingRequest : Type 0 where
+  pub image : Text
+  pub header : Option Text
+
 pub record OpeningRequest : Type 0 where
   pub image : Text
+  pub header : Option Text
   pub key_file : Text
   pub key_slot : Option ℕ
   pub max_iterations : Option ℕ
@@ -28,10 +34,10 @@ pub record MergingRequest : Type 0 where
   pub stripes_file : Text
 
 pub data Request : Type 0 where
-  is_luks : Text → Request
-  luks_uuid : Text → Request
-  luks_dump : Text → Request
-  luks_check : Text → Request
+  is_luks : ReadingRequest → Request
+  luks_uuid : ReadingRequest → Request
+  luks_dump : ReadingRequest → Request
+  luks_check : ReadingRequest → Request
   test_passphrase : OpeningRequest → Request
   luks_cat : OpeningRequest → Request
   af_split : SplittingRequest → Request
@@ -39,14 +45,28 @@ pub data Request : Type 0 where
 
 -- the first input: IMAGE, KEY or STRIPES
 abbrev pub image_of : Request → Text
-image_of (is_luks image) = image
-image_of (luks_uuid image) = image
-image_of (luks_dump image) = image
-image_of (luks_check image) = image
+image_of (is_luks r) = r.image
+image_of (luks_uuid r) = r.image
+image_of (luks_dump r) = r.image
+image_of (luks_check r) = r.image
 image_of (test_passphrase o) = o.image
 image_of (luks_cat o) = o.image
 image_of (af_split s) = s.key
 image_of (af_merge m) = m.stripes_file
+
+-- FILE of `--header`, where it is given: the header stands there, apart from the image
+abbrev pub header_file_of : Request → Option Text
+header_file_of (is_luks r) = r.header
+header_file_of (luks_uuid r) = r.header
+header_file_of (luks_dump r) = r.header
+header_file_of (luks_check r) = r.header
+header_file_of (test_passphrase o) = o.header
+header_file_of (luks_cat o) = o.header
+header_file_of _ = None
+
+-- the header stands apart from the image
+abbrev pub is_detached : Request → Bool
+is_detached request = is_some (header_file_of request)
 
 -- the second input, where there is one: FILE of `--key-file` or `--random`
 abbrev pub secret_of : Request → Option Text
@@ -57,9 +77,13 @@ secret_of _ = None
 
 -- ---- the request that a `Command` is
 
+abbrev pub reading_request : Reading → ReadingRequest
+reading_request r = record { image = r.image.now; header = option_map (λ file. file.now) r.header }
+
 abbrev pub opening_request : Opening → OpeningRequest
 opening_request o = record {
   image = o.image.now;
+  header = option_map (λ file. file.now) o.header;
   key_file = o.key_file.now;
   key_slot = option_map (λ slot. slot.number) o.key_slot;
   max_iterations = option_map (λ limit. limit.iterations) o.max_iterations;
@@ -82,10 +106,10 @@ merging_request m = record {
 }
 
 abbrev pub request_of : Command → Request
-request_of (IsLuks image) = is_luks image.now
-request_of (LuksUuid image) = luks_uuid image.now
-request_of (LuksDump image) = luks_dump image.now
-request_of (LuksCheck image) = luks_check image.now
+request_of (IsLuks r) = is_luks (reading_request r)
+request_of (LuksUuid r) = luks_uuid (reading_request r)
+request_of (LuksDump r) = luks_dump (reading_request r)
+request_of (LuksCheck r) = luks_check (reading_request r)
 request_of (TestPassphrase o) = test_passphrase (opening_request o)
 request_of (LuksCat o) = luks_cat (opening_request o)
 request_of (AfSplit s) = af_split (splitting_request s)

@@ -1,8 +1,9 @@
 //! What luksrd can be asked for.
 
 ghost use Rattle.std.specs.Prelude.{◌≡◌, option_map};
-ghost use Rattle.luks_command.specs.Command.{reads_standard_twice};
-ghost use Rattle.luks_command.specs.Request.{image_of, request_of, secret_of};
+ghost use Rattle.luks_command.specs.Command.{is_standard, reads_standard_twice};
+ghost use Rattle.luks_command.specs.Request.{header_file_of, image_of, is_detached, request_of};
+ghost use Rattle.luks_command.specs.Request.{secret_of};
 
 use crate::number::{IterationLimit, KeyBytes, SlotNumber, StripeCount};
 use luks_kdf::Hash;
@@ -12,13 +13,13 @@ use luks_kdf::Hash;
 #[derive(Clone, Copy, PartialEq, Eq, Debug)]
 pub enum Command<'a> {
     /// `isLuks`: tells whether the image has a LUKS header.
-    IsLuks { image: &'a str },
+    IsLuks(Reading<'a>),
     /// `luksUUID`: prints the UUID of the header.
-    LuksUuid { image: &'a str },
+    LuksUuid(Reading<'a>),
     /// `luksDump`: prints the header.
-    LuksDump { image: &'a str },
+    LuksDump(Reading<'a>),
     /// `luksCheck`: prints what is wrong with the header.
-    LuksCheck { image: &'a str },
+    LuksCheck(Reading<'a>),
     /// `testPassphrase`: prints the key slot that the passphrase opens.
     TestPassphrase(Opening<'a>),
     /// `luksCat`: writes the plain sectors.
@@ -29,11 +30,22 @@ pub enum Command<'a> {
     AfMerge(Merging<'a>),
 }
 
+/// A header to be read.
+#[derive(Clone, Copy, PartialEq, Eq, Debug)]
+pub struct Reading<'a> {
+    /// The name of the input with the volume.
+    pub image: &'a str,
+    /// The name of the file with the header, where it stands apart from the image.
+    pub header: Option<&'a str>,
+}
+
 /// A volume to be opened.
 #[derive(Clone, Copy, PartialEq, Eq, Debug)]
 pub struct Opening<'a> {
     /// The name of the input with the volume.
     pub image: &'a str,
+    /// The name of the file with the header, where it stands apart from the image.
+    pub header: Option<&'a str>,
     /// The name of the input with the passphrase.
     pub key_file: &'a str,
     /// The one key slot to try. Without it all are tried that can be.
@@ -74,15 +86,38 @@ impl<'a> Command<'a> {
         ensures { result.now ≡ image_of (request_of self.now) }
     {
         match self {
-            Command::IsLuks { image } => image,
-            Command::LuksUuid { image } => image,
-            Command::LuksDump { image } => image,
-            Command::LuksCheck { image } => image,
+            Command::IsLuks(reading) => reading.image,
+            Command::LuksUuid(reading) => reading.image,
+            Command::LuksDump(reading) => reading.image,
+            Command::LuksCheck(reading) => reading.image,
             Command::TestPassphrase(opening) => opening.image,
             Command::LuksCat(opening) => opening.image,
             Command::AfSplit(splitting) => splitting.key,
             Command::AfMerge(merging) => merging.stripes_file,
         }
+    }
+
+    /// The name of the file with the header, where it stands apart from the image.
+    pub fn header(&self) -> Option<&'a str>
+        ensures { option_map (λ input. input.now) result ≡ header_file_of (request_of self.now) }
+    {
+        match self {
+            Command::IsLuks(reading) => reading.header,
+            Command::LuksUuid(reading) => reading.header,
+            Command::LuksDump(reading) => reading.header,
+            Command::LuksCheck(reading) => reading.header,
+            Command::TestPassphrase(opening) => opening.header,
+            Command::LuksCat(opening) => opening.header,
+            Command::AfSplit(_) => None,
+            Command::AfMerge(_) => None,
+        }
+    }
+
+    /// Whether the header stands apart from the image, in a file of its own.
+    pub fn is_detached(&self) -> bool
+        ensures { result ≡ is_detached (request_of self.now) }
+    {
+        self.header().is_some()
     }
 
     /// The name of the second input, where there is one: FILE of `--key-file` or `--random`.
@@ -97,10 +132,20 @@ impl<'a> Command<'a> {
         }
     }
 
-    // Whether both inputs are standard input, which can be read once.
+    // Whether two of the inputs that there are would be standard input, which can be read once.
     pub(crate) fn reads_standard_twice(&self) -> bool
         ensures { result ≡ reads_standard_twice (request_of self.now) }
     {
-        self.image() == "-" && self.secret() == Some("-")
+        let image = is_standard(Some(self.image()));
+        let header = is_standard(self.header());
+        let secret = is_standard(self.secret());
+        (image && header) || (image && secret) || (header && secret)
     }
+}
+
+// Whether the input is there and is standard input.
+fn is_standard(input: Option<&str>) -> bool
+    ensures { result ≡ is_standard (option_map (λ name. name.now) input.entry) }
+{
+    input == Some("-")
 }

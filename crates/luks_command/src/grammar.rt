@@ -1,8 +1,9 @@
 //! The commands of luksrd as `clap` reads them.
 
-ghost use Rattle.std.specs.Prelude.{◌≡◌, [], IfOk, false};
+ghost use Rattle.std.specs.Prelude.{◌≡◌, IfOk, false};
 ghost use Rattle.clap.specs.Words.{app_of, rule_of, with_subcommand};
-ghost use Rattle.luks_command.specs.Grammar.{Reads, af_merge, af_split, alone, command, input, is_luks};
+ghost use Rattle.luks_command.specs.Grammar.{Reads, TakesImage, af_merge, af_split, alone};
+ghost use Rattle.luks_command.specs.Grammar.{header_command, input, is_luks};
 ghost use Rattle.luks_command.specs.Grammar.{luks_cat, luks_check, luks_dump, luks_uuid, luksrd};
 ghost use Rattle.luks_command.specs.Grammar.{option, program};
 ghost use Rattle.luks_command.specs.Grammar.{test_passphrase, volume_command};
@@ -71,22 +72,32 @@ fn with_stripe_commands<'a>(alloc: Global, program: Command<'a>) -> Result<Comma
         .subcommand(af_merge(alloc)?)
 }
 
-// `NAME IMAGE`
+// `NAME [--header FILE] IMAGE`
+#[tactic(auto, unfolding(crate::specs::Grammar::header_command))]
 fn header_command<'a>(alloc: Global, name: &'a str) -> Result<Command<'a>, AllocError>
-    ensures { IfOk result (λ made. Reads made (alone (command name.entry.now []))) }
+    ensures { IfOk result (λ made. Reads made (alone (header_command name.entry.now))) }
 {
-    Command::new(alloc, name).arg(input(alloc))
+    with_image(alloc, Command::new(alloc, name))
 }
 
-// `NAME --key-file FILE [--key-slot N] [--max-iterations N] IMAGE`
+// `NAME --key-file FILE [--key-slot N] [--max-iterations N] [--header FILE] IMAGE`
 #[tactic(auto, unfolding(crate::specs::Grammar::volume_command))]
 fn volume_command<'a>(alloc: Global, name: &'a str) -> Result<Command<'a>, AllocError>
     ensures { IfOk result (λ made. Reads made (alone (volume_command name.entry.now))) }
 {
-    Command::new(alloc, name)
+    let command = Command::new(alloc, name)
         .arg(option(alloc, "key-file", true))?
         .arg(option(alloc, "key-slot", false))?
-        .arg(option(alloc, "max-iterations", false))?
+        .arg(option(alloc, "max-iterations", false))?;
+    with_image(alloc, command)
+}
+
+// The command with `[--header FILE] IMAGE` behind its options.
+fn with_image<'a>(alloc: Global, command: Command<'a>) -> Result<Command<'a>, AllocError>
+    ensures { IfOk result (λ made. TakesImage command.entry made) }
+{
+    command
+        .arg(option(alloc, "header", false))?
         .arg(input(alloc))
 }
 

@@ -6,6 +6,4 @@ mod grammar;
 pub mod number;
 mod options;
 pub mod planning;
-#[cfg(test)]
-mod tests;
 pub mod usage;

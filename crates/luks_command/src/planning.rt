@@ -3,10 +3,11 @@
 ghost use Rattle.std.specs.Prelude.{◌≡◌, IfOk, None, Some, map, option_map, option_and_then};
 ghost use Rattle.clap.specs.Words.{found_of, kind_of, rows_of, subcommand_rows_of};
 ghost use Rattle.luks_command.specs.Command.{command_of, fault_for, merging_in, opening_in};
-ghost use Rattle.luks_command.specs.Command.{request_in, splitting_in, subcommand_in};
-ghost use Rattle.luks_command.specs.Request.{merging_request, opening_request, request_of, splitting_request};
+ghost use Rattle.luks_command.specs.Command.{reading_in, request_in, splitting_in, subcommand_in};
+ghost use Rattle.luks_command.specs.Request.{merging_request, opening_request, reading_request};
+ghost use Rattle.luks_command.specs.Request.{request_of, splitting_request};
 
-use crate::command::{Command, Merging, Opening, Splitting};
+use crate::command::{Command, Merging, Opening, Reading, Splitting};
 use crate::grammar::grammar;
 use crate::options::{hash, key_bytes, key_slot, max_iterations, stripes, text};
 use clap::ArgMatches;
@@ -81,17 +82,13 @@ impl<'a> Command<'a> {
     {
         let (name, options) = matches.subcommand()?;
         if name == "isLuks" {
-            let image = text(options, "input")?;
-            Some(Command::IsLuks { image })
+            Some(Command::IsLuks(Reading::read(options)?))
         } else if name == "luksUUID" {
-            let image = text(options, "input")?;
-            Some(Command::LuksUuid { image })
+            Some(Command::LuksUuid(Reading::read(options)?))
         } else if name == "luksDump" {
-            let image = text(options, "input")?;
-            Some(Command::LuksDump { image })
+            Some(Command::LuksDump(Reading::read(options)?))
         } else if name == "luksCheck" {
-            let image = text(options, "input")?;
-            Some(Command::LuksCheck { image })
+            Some(Command::LuksCheck(Reading::read(options)?))
         } else if name == "testPassphrase" {
             Some(Command::TestPassphrase(Opening::read(options)?))
         } else if name == "luksCat" {
@@ -106,6 +103,17 @@ impl<'a> Command<'a> {
     }
 }
 
+impl<'a> Reading<'a> {
+    fn read(options: &ArgMatches<'a>) -> Option<Reading<'a>>
+        ensures { option_map reading_request result ≡ reading_in (rows_of (found_of options.now)) }
+    {
+        Some(Reading {
+            image: text(options, "input")?,
+            header: text(options, "header"),
+        })
+    }
+}
+
 impl<'a> Opening<'a> {
     fn read(options: &ArgMatches<'a>) -> Option<Opening<'a>>
         ensures { option_map opening_request result ≡ opening_in (rows_of (found_of options.now)) }
@@ -113,9 +121,11 @@ impl<'a> Opening<'a> {
         let key_file = text(options, "key-file")?;
         let key_slot = key_slot(options)?;
         let max_iterations = max_iterations(options)?;
+        let header = text(options, "header");
         let image = text(options, "input")?;
         Some(Opening {
             image,
+            header,
             key_file,
             key_slot,
             max_iterations,

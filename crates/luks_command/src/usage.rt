@@ -4,12 +4,13 @@ ghost use Rattle.std.specs.Prelude.{◌≡◌, ◌≤◌, length};
 ghost use Rattle.luks_command.specs.Usage.{usage_text};
 
 const USAGE: &str = "\
-usage: luksrd isLuks IMAGE
-       luksrd luksUUID IMAGE
-       luksrd luksDump IMAGE
-       luksrd luksCheck IMAGE
-       luksrd testPassphrase --key-file FILE [--key-slot N] [--max-iterations N] IMAGE
-       luksrd luksCat --key-file FILE [--key-slot N] [--max-iterations N] IMAGE
+usage: luksrd isLuks [--header FILE] IMAGE
+       luksrd luksUUID [--header FILE] IMAGE
+       luksrd luksDump [--header FILE] IMAGE
+       luksrd luksCheck [--header FILE] IMAGE
+       luksrd testPassphrase --key-file FILE [--key-slot N] [--max-iterations N] \
+       [--header FILE] IMAGE
+       luksrd luksCat --key-file FILE [--key-slot N] [--max-iterations N] [--header FILE] IMAGE
        luksrd afSplit --hash HASH --stripes N --random FILE KEY
        luksrd afMerge --hash HASH --stripes N --key-bytes N STRIPES
 ";

@@ -13,8 +13,6 @@ pub mod digest;
 pub mod header;
 pub mod payload;
 pub mod slot;
-#[cfg(test)]
-mod tests;
 
 pub use luks_area::{area, fault, text};
 pub use luks_verdict::{bytes, refusal, rule, sector_size, segment};

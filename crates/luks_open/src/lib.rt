@@ -13,6 +13,4 @@ mod material;
 pub mod opening;
 pub mod order;
 pub mod skipped;
-#[cfg(test)]
-mod tests;
 pub mod tries;

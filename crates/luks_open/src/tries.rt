@@ -34,7 +34,7 @@ impl Order {
     }
 
     /// The key slots with their numbers and digests.
-    pub(crate) fn entries(&self) -> &[Entry]
+    pub fn entries(&self) -> &[Entry]
         ensures { result.now ≡ self.now.slots }
     {
         self.entries.as_slice()

@@ -5,5 +5,3 @@ pub mod check;
 pub mod dump;
 mod escaping;
 mod field;
-#[cfg(test)]
-mod tests;

@@ -29,8 +29,8 @@ pub enum SkipReason {
     Stripes,
     /// The number of iterations is 0, above 4,294,967,295 or above the limit.
     Iterations,
-    /// The key material starts inside the header, or it ends past the payload's start or past byte
-    /// 33,554,432.
+    /// The key material starts inside the header, or it ends past byte 33,554,432 or past the
+    /// payload's start, which does not bound that of a detached header.
     Area,
     /// LUKS2: no usable digest lists the slot and the segment. Or the digest's iterations are 0 or
     /// above the limit.
@@ -81,7 +81,7 @@ pub enum SegmentFault {
     KeyBytes,
     /// LUKS2: the length of a sector is not 512, 1024, 2048 or 4096 bytes.
     SectorSize,
-    /// The payload starts inside the header, or within a sector of 512 bytes.
+    /// The payload starts within a sector of 512 bytes, or inside an attached header.
     Offset,
     /// LUKS2: the length of the payload is fixed and no multiple of the sectors' length.
     Size,

@@ -9,7 +9,5 @@ mod passing;
 pub mod pump;
 mod sector;
 pub mod state;
-#[cfg(test)]
-mod tests;
 
 pub use luks_seal as seal;

@@ -1,8 +1,0 @@
-//! What no clause says: that the definitions mean what the format does, reason by reason and fault
-//! by fault, and that calls succeed.
-
-mod detached;
-mod digests;
-mod fixture;
-mod segments;
-mod slots;

@@ -1,8 +1,0 @@
-//! What no clause says: that calls succeed, what the definitions give for headers made by another
-//! program, and sources that give few bytes at a time or fail.
-
-mod detached;
-mod fixture;
-mod header;
-mod judging;
-mod second;

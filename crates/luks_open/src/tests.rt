@@ -1,5 +1,0 @@
-//! Small volumes of LUKS1 that are opened.
-
-mod opening;
-mod ordering;
-mod volumes;

@@ -1,5 +1,0 @@
-use Rattle.std.proofs.Common.{◌∙◌, sym}
-use Rattle.luks_volume.proofs.tests.sealed_both.opened.Goals as goal
-
-pub open-requires-clause-segment : goal.open-requires-clause-segment
-open-requires-clause-segment c = (c.in-Ok.payload, sym c.segment.ensures ∙ c.in-Ok.is)
