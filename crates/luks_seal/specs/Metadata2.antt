@@ -1,11 +1,12 @@
 -- The JSON text of a volume of LUKS2 (LUKS2 On-Disk Format Specification 1.1, section 3). Members stand in the order of
 -- their names.
-use Rattle.std.specs.Prelude.{ℕ, zero, suc, ◌-◌, ◌*◌, Bool, true, false, if◌then◌else◌, List, [], ◌∷◌, ◌++◌, length, map, codes, decimal, Option, None, Some}
+use Rattle.std.specs.Prelude.{◌≡◌, ℕ, zero, suc, ◌-◌, ◌*◌, Bool, true, false, List, [], ◌∷◌, ◌++◌, length, codes, decimal, IsUtf8, Some}
 use Rattle.std.specs.Option.{option_map_or}
 use Rattle.base64.specs.Engines.{standard}
 use Rattle.base64.specs.GeneralPurpose.{encode_of}
 use Rattle.serde_json.specs.Data.{Data, Members, array, member, no_members, number, object, put, string, unsigned}
 use Rattle.serde_json.specs.View.{items_of}
+use Rattle.serde_json.specs.Read.{read}
 use Rattle.serde_json.specs.Written.{compact_text}
 use Rattle.luks_cipher.specs.Sector.{name_of}
 use Rattle.luks_cipher.specs.declared.mode.Mode.{Mode}
@@ -138,3 +139,7 @@ json_of p = compact_text (metadata_of p)
 -- the text fits: it holds no zero byte and, with one behind it, is no longer than the JSON area
 abbrev pub FitsJson : Seal2 → Type 0
 FitsJson p = FitsText (p.hdr_size - 4096 - 1) (json_of p)
+
+-- the text is UTF-8, and is read as the metadata
+abbrev pub ReadsBack : Seal2 → Type 0
+ReadsBack p = IsUtf8 (json_of p) × (read (json_of p) ≡ Some (metadata_of p))

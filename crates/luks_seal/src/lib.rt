@@ -15,5 +15,5 @@ pub mod parameters;
 mod pieces;
 mod ranges;
 mod ranges2;
-#[cfg(test)]
-mod tests;
+mod typed;
+mod typed2;

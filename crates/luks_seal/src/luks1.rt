@@ -4,12 +4,15 @@ ghost use Rattle.std.specs.Prelude.{◌≡◌, ◌-◌, ◌*◌, ◌++◌, [], I
 ghost use Rattle.std.specs.Option.{option_map_or};
 ghost use Rattle.luks_seal.specs.Layout1.{area1_of, area_key1_of, areas1_below, image1_of, material1_of, payload1_of, slot1_numbered};
 ghost use Rattle.luks_seal.specs.Ranges.{SealsOrSays};
+ghost use Rattle.luks_seal.specs.Passphrases.{passphrases1_of};
 ghost use Rattle.luks_seal.specs.Ranges1.{AreParameters, FitsSlot};
+ghost use Rattle.luks_seal.specs.Sealed.{Sealed};
 
 use crate::headers1::{header_of, numbered};
 use crate::parameters::{Seal1, SealFault, Slot1};
 use crate::pieces::{cipher_of, encrypted, material_of, padded, push_padded, stripes_of};
 use crate::ranges::{are_parameters, area_of};
+use crate::typed::typed1;
 use luks_kdf::{Work, pbkdf2};
 use luks_verdict::sector_size::SectorSize;
 use std::alloc::{AllocError, Global};
@@ -121,9 +124,12 @@ fn image_of(alloc: Global, seal: &Seal1<'_>) -> Result<Vec<u8>, AllocError>
 pub fn seal1(alloc: Global, seal: &Seal1<'_>) -> Result<Vec<u8>, SealFault>
     ensures answer { SealsOrSays (AreParameters seal.now) result }
     ensures image { IfOk result (λ image. image.items ≡ image1_of seal.now) }
+    ensures sealed { IfOk result (λ image.
+        Sealed image.items (passphrases1_of seal.now) seal.now.key.now seal.now.plain.now) }
 {
     if !are_parameters(seal) {
         return Err(SealFault::Parameters);
     }
+    typed1(seal);
     Ok(image_of(alloc, seal)?)
 }

@@ -3,8 +3,10 @@
 ghost use Rattle.std.specs.Prelude.{◌≡◌, ◌++◌, IfOk, OnOk};
 ghost use Rattle.luks_seal.specs.Layout2.{image2_of, payload_of};
 ghost use Rattle.luks_seal.specs.Metadata2.{FitsJson, json_of};
+ghost use Rattle.luks_seal.specs.Passphrases.{passphrases2_of};
 ghost use Rattle.luks_seal.specs.Ranges.{SealsOrSaysLate};
 ghost use Rattle.luks_seal.specs.Ranges2.{AreParameters2};
+ghost use Rattle.luks_seal.specs.Sealed.{Sealed};
 
 use crate::areas::push_areas;
 use crate::headers::headers_of;
@@ -13,6 +15,7 @@ use crate::parameters::{Seal2, SealFault};
 use crate::pieces::{cipher_of, encrypted, padded};
 use crate::ranges::fits_text;
 use crate::ranges2::are_parameters2;
+use crate::typed2::typed2;
 use std::alloc::{AllocError, Global};
 
 /// The payload.
@@ -59,10 +62,13 @@ fn image_of(alloc: Global, seal: &Seal2<'_>, json: &[u8]) -> Result<Vec<u8>, All
 pub fn seal2(alloc: Global, seal: &Seal2<'_>) -> Result<Vec<u8>, SealFault>
     ensures answer { SealsOrSaysLate (AreParameters2 seal.now) (FitsJson seal.now) result }
     ensures image { IfOk result (λ image. image.items ≡ image2_of seal.now) }
+    ensures sealed { IfOk result (λ image. Sealed image.items (passphrases2_of seal.now)
+        seal.now.key.now seal.now.plain.now) }
 {
     if !are_parameters2(seal) {
         return Err(SealFault::Parameters);
     }
+    typed2(seal);
     let json = json_of(alloc, seal)?;
     if !fits_text((seal.hdr_size - 4097) as usize, &json) {
         return Err(SealFault::Parameters);

@@ -4,7 +4,7 @@ ghost use Rattle.std.specs.Prelude.{◌≡◌, IfOk, length, map};
 ghost use Rattle.base64.specs.Engines.{standard};
 ghost use Rattle.luks_kdf.specs.Hash.{size_of};
 ghost use Rattle.luks_kdf.specs.Pbkdf2.{derived_key};
-ghost use Rattle.luks_seal.specs.Metadata2.{af_object, area_object, base64_text, config_object, decimal_text, digest_object, encryption_text, json_of, kdf_object, keyslot_object, keyslots_below, metadata_of, names_below, segment_object, size_text};
+ghost use Rattle.luks_seal.specs.Metadata2.{ReadsBack, af_object, area_object, base64_text, config_object, decimal_text, digest_object, encryption_text, json_of, kdf_object, keyslot_object, keyslots_below, metadata_of, names_below, segment_object, size_text};
 ghost use Rattle.luks_seal.specs.Ranges2.{AreParameters2, FitsSlot2};
 ghost use Rattle.serde_json.specs.View.{members_view, view};
 
@@ -213,7 +213,8 @@ fn metadata_of(alloc: Global, seal: &Seal2<'_>) -> Result<Value, AllocError>
 #[tactic(auto, unfolding(crate::specs::Metadata2::json_of))]
 pub(crate) fn json_of(alloc: Global, seal: &Seal2<'_>) -> Result<Vec<u8>, AllocError>
     requires { AreParameters2 seal.now }
-    ensures { IfOk result (λ text. text.items ≡ json_of seal.now) }
+    ensures text { IfOk result (λ text. text.items ≡ json_of seal.now) }
+    ensures reads_back { IfOk result (λ _. ReadsBack seal.now) }
 {
     metadata_of(alloc, seal)?.to_vec(alloc)
 }

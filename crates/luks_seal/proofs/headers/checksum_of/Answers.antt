@@ -1,4 +1,4 @@
-use Rattle.std.proofs.Common.{◌≡◌, ◌∙◌, ◌++◌, ap, arith}
+use Rattle.std.proofs.Common.{◌∙◌, ◌++◌, ap, arith}
 use Rattle.luks_kdf.specs.Hash.{hash_of}
 use Rattle.luks_kdf.specs.declared.hash.Hash.TheVariants.{Sha256}
 use Rattle.luks_seal.proofs.PieceLemmas.{written}

@@ -1,4 +1,4 @@
-use Rattle.std.proofs.Common.{◌≡◌, map, ap, ◌∙◌, arith}
+use Rattle.std.proofs.Common.{◌≡◌, ap, ◌∙◌, arith}
 use Rattle.luks_seal.specs.Metadata2.{names_below}
 use Rattle.luks_seal.proofs.metadata.keyslot_names.Goals as goal
 

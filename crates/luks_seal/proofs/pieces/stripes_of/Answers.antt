@@ -1,4 +1,4 @@
-use Rattle.std.proofs.Common.{◌≡◌, ◌∙◌, ◌*◌, length, arith}
+use Rattle.std.proofs.Common.{◌∙◌, arith}
 use Rattle.luks_seal.proofs.PieceLemmas.{split_is, written}
 use Rattle.luks_seal.proofs.pieces.stripes_of.Goals as goal
 

@@ -1,0 +1,147 @@
+-- Key material: the stripes of a key in whole sectors, which are encrypted.
+use Rattle.std.proofs.Common.{◌≡◌, ◌∙◌, ℕ, ◌+◌, ◌-◌, ◌*◌, ◌/◌, ◌<◌, ◌≤◌, List, length, take, refl, sym, ap, arith, length-append, Some}
+use Rattle.std.specs.Int.{div_ceil}
+use Rattle.std.proofs.lemmas.List.{take_all}
+use Rattle.std.proofs.Math.Nat.{mul-le-mul_right}
+use Rattle.luks_aes.specs.Bytes.{IsBytes}
+use Rattle.luks_area.specs.Field.{at}
+use Rattle.luks_cipher.specs.declared.mode.Mode.{Mode}
+use Rattle.luks_kdf.specs.Bytes.{xor}
+use Rattle.luks_kdf.specs.Pbkdf2.{derived_key}
+use Rattle.luks_kdf.specs.Stripes.{chain_of}
+use Rattle.luks_kdf.specs.declared.hash.Hash.{Hash}
+use Rattle.luks_kdf.proofs.BytesLemmas.{length-xor}
+use Rattle.luks_kdf.proofs.StripesLemmas.{length-chain_of}
+use Rattle.luks_verdict.specs.Rule.{need_of}
+use Rattle.luks_verdict.specs.declared.slot.SlotParts.{SlotParts}
+use Rattle.luks_seal.specs.Pieces.{material_of, stripes_of, unit_number, whole_sectors}
+use Rattle.luks_seal.specs.Sealed.{GivesKey, IsMaterial, StandEncrypted}
+use Rattle.luks_seal.proofs.ByteLemmas.{padded_bytes, stripes_bytes}
+use Rattle.luks_seal.proofs.SectorLemmas.{length-sectors_encrypted, sectors_stand, stand_under}
+use Rattle.luks_seal.proofs.SlicingLemmas.{at_padded, length-padded}
+
+-- ---- whole sectors
+
+-- whole sectors of some bytes are as many as they need
+pub length-whole_sectors : (bytes : List ℕ) → length (whole_sectors bytes) ≡ (length bytes + 511) / 512 * 512
+unfolding whole_sectors
+length-whole_sectors bytes =
+    length-padded (div_ceil (length bytes) 512 * 512) bytes (omega arith) ∙ omega arith
+
+-- and begin with them
+whole_sectors_begin : (n : ℕ) (bytes : List ℕ) → n ≡ length bytes → take n (whole_sectors bytes) ≡ bytes
+unfolding whole_sectors
+whole_sectors_begin n bytes is =
+    at_padded 0 n (div_ceil (length bytes) 512 * 512) bytes (omega arith) ∙ take_all n bytes (omega arith)
+
+whole_sectors_bytes : (bytes : List ℕ) → IsBytes bytes → IsBytes (whole_sectors bytes)
+unfolding whole_sectors
+whole_sectors_bytes bytes all = padded_bytes (div_ceil (length bytes) 512 * 512) bytes all
+
+-- as long as the key material is that is encrypted
+pub length-material_of : (mode : Mode) (area_key stripes : List ℕ)
+    → length (material_of (mode, area_key) stripes) ≡ (length stripes + 511) / 512 * 512
+unfolding material_of
+length-material_of mode area_key stripes =
+    let len = length-whole_sectors stripes in
+    length-sectors_encrypted (mode, area_key) 0 1 512 (whole_sectors stripes) refl (omega arith) ∙ len
+
+-- ---- stripes
+
+-- how many random bytes a key with so many stripes takes
+pub record AreDrawn (key : List ℕ) (count : ℕ) (random : List ℕ) : Type 0 where
+  pub some : 1 ≤ count
+  pub few : count ≤ 4000
+  pub key_most : length key ≤ 64
+  pub len : length random ≡ (count - 1) * length key
+
+module _ (af : Hash) (key : List ℕ) (count : ℕ) (random : List ℕ) (drawn : AreDrawn key count random) where
+  -- the stripes are as many bytes as they should
+  pub length-stripes_of : length (stripes_of af key count random) ≡ length key * count
+  unfolding stripes_of
+  length-stripes_of =
+      let chain = chain_of af (length key) random (count - 1) in
+      let last = length-chain_of af (length key) random (count - 1) (omega (arith, drawn.len)) in
+      let one_more : count ≡ count - 1 + 1 = omega (arith, drawn.some) in
+      let all : length key * count ≡ (count - 1) * length key + length key =
+      ap (λ n. length key * n) one_more ∙ omega arith in
+      omega (arith, all, drawn.len, last, length-append random (xor chain key), length-xor chain key last)
+
+  -- they are not many
+  pub few_stripes : length key * count ≤ 256000
+  few_stripes =
+      let few : length key * count ≤ 64 * count = mul-le-mul_right {m = length key} {n = 64} count drawn.key_most in
+      omega (arith, few, drawn.few)
+
+  -- in whole sectors they are key material of the key
+  made_material : (parts : SlotParts) → parts.stripes ≡ count
+      → IsMaterial af parts key (whole_sectors (stripes_of af key count random))
+  unfolding stripes_of need_of
+  made_material parts is = record {
+    random = random;
+    split = (
+      count - 1,
+      drawn.len,
+      whole_sectors_begin (length key * parts.stripes) (stripes_of af key count random)
+          (ap (λ n. length key * n) is ∙ sym length-stripes_of),
+    );
+    len = length-whole_sectors (stripes_of af key count random)
+        ∙ ap (λ n. (n + 511) / 512 * 512) (length-stripes_of ∙ ap (λ n. length key * n) (sym is));
+  }
+
+-- ---- in an image
+
+-- key material that an image has from this place on stands in it
+material_stands : (mode : Mode) (area_key stripes : List ℕ) (place : ℕ) (image : List ℕ) → IsBytes stripes
+    → length stripes ≤ 256000
+    → place + length (whole_sectors stripes) ≤ length image
+    → at place (length (whole_sectors stripes)) image ≡ material_of (mode, area_key) stripes
+    → StandEncrypted (mode, area_key) (λ i. i) 512 place (whole_sectors stripes) image
+unfolding material_of
+material_stands mode area_key stripes place image bytes few there is =
+    let len = length-whole_sectors stripes in
+    let same : (i : ℕ) → i < length (whole_sectors stripes) / 512 → unit_number 0 1 i ≡ i =
+    λ i low. omega (arith, len) in
+    stand_under (mode, area_key) (unit_number 0 1) (λ i. i) 512 place (whole_sectors stripes) image same
+    (sectors_stand (mode, area_key) 0 1 512 (whole_sectors stripes) refl (omega (arith, len)) place image
+    (whole_sectors_bytes stripes bytes) there is)
+
+-- what a key slot with these parts is made of
+pub record IsMade (parts : SlotParts) (kdf af : Hash) (mode : Mode) (key random : List ℕ) : Type 0 where
+  pub is_kdf : parts.kdf_hash ≡ Some kdf
+  pub is_af : parts.af_hash ≡ Some af
+  pub is_mode : parts.area_mode ≡ Some mode
+  pub key_bytes : parts.key_bytes ≡ length key
+  pub drawn : AreDrawn key parts.stripes random
+  pub bytes : IsBytes key
+  pub random_bytes : IsBytes random
+
+-- one whose area has the encrypted stripes of the key gives the key
+pub gives_key : (parts : SlotParts) (kdf af : Hash) (mode : Mode) (passphrase key random image : List ℕ)
+    → IsMade parts kdf af mode key random
+    → parts.area_offset + need_of (length key) parts.stripes ≤ length image
+    → at parts.area_offset (need_of (length key) parts.stripes) image
+    ≡ material_of (mode, derived_key kdf passphrase parts.salt parts.iterations parts.area_key_bytes)
+    (stripes_of af key parts.stripes random)
+    → GivesKey parts passphrase key image
+gives_key parts kdf af mode passphrase key random image made there is =
+    let stripes = stripes_of af key parts.stripes random in
+    let long = length-stripes_of af key parts.stripes random made.drawn in
+    let material = made_material af key parts.stripes random made.drawn parts refl in
+    let area_key = derived_key kdf passphrase parts.salt parts.iterations parts.area_key_bytes in
+    record {
+      kdf = kdf;
+      af = af;
+      mode = mode;
+      is_kdf = made.is_kdf;
+      is_af = made.is_af;
+      is_mode = made.is_mode;
+      key_bytes = made.key_bytes;
+      material = whole_sectors stripes;
+      is_material = material;
+      stands = material_stands mode area_key stripes parts.area_offset image
+          (stripes_bytes af key parts.stripes random made.bytes made.random_bytes)
+          (omega (arith, long, few_stripes af key parts.stripes random made.drawn))
+          (omega (arith, there, material.len))
+          (ap (λ n. at parts.area_offset n image) material.len ∙ is);
+    }

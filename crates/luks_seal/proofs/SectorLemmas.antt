@@ -1,0 +1,110 @@
+-- Sectors that are each encrypted by themselves stand in an image as `Sealed` says it.
+use Rattle.std.proofs.Common.{◌≡◌, ◌∙◌, ℕ, zero, suc, ◌+◌, ◌*◌, ◌/◌, ◌%◌, ◌<◌, ◌≤◌, List, length, inl, inr, refl, sym, ap, arith, length-append}
+use Rattle.std.proofs.lemmas.Bool.{cases_lt}
+use Rattle.std.proofs.Math.Nat.{mul-le-mul_right}
+use Rattle.luks_aes.specs.Aes.{add_round_key, cipher, encrypted}
+use Rattle.luks_aes.specs.Bytes.{IsBytes}
+use Rattle.luks_area.specs.Field.{at}
+use Rattle.luks_cipher.specs.Cbc.{cbc_encrypted, chained}
+use Rattle.luks_cipher.specs.Sector.{Cipher, sector_encrypted}
+use Rattle.luks_cipher.specs.Xts.{block_encrypted, block_sum, joined, xts_encrypted}
+use Rattle.luks_cipher.specs.declared.mode.Mode.TheVariants.{XtsPlain64, XtsPlain, CbcEssivSha256, CbcPlain64}
+use Rattle.luks_cipher.proofs.UnitsUndone.{joined_length}
+use Rattle.luks_seal.specs.Pieces.{encrypted_sector, sector_at, sectors_encrypted, unit_number}
+use Rattle.luks_seal.specs.Sealed.{StandEncrypted}
+use Rattle.luks_seal.proofs.SlicingLemmas.{at_at, at_first, at_second, length-at}
+
+-- a unit of whole blocks is as long as before
+blocks_length : (f : ℕ → List ℕ) (unit : List ℕ) → ((j : ℕ) → length (f j) ≡ 16) → length unit % 16 ≡ 0
+    → length (joined f (length unit / 16)) ≡ length unit
+blocks_length f unit sizes whole = joined_length f (length unit / 16) (λ j low. sizes j) ∙ omega arith
+
+pub length-sector_encrypted : (cipher : Cipher) (number : ℕ) (unit : List ℕ) → length unit % 16 ≡ 0
+    → length (sector_encrypted cipher.0 cipher.1 number unit) ≡ length unit
+unfolding xts_encrypted cbc_encrypted chained block_encrypted block_sum encrypted cipher add_round_key
+length-sector_encrypted (XtsPlain64, key) number unit whole = blocks_length _ unit (λ j. refl) whole
+length-sector_encrypted (XtsPlain, key) number unit whole = blocks_length _ unit (λ j. refl) whole
+length-sector_encrypted (CbcEssivSha256, key) number unit whole = blocks_length _ unit (λ j. refl) whole
+length-sector_encrypted (CbcPlain64, key) number unit whole = blocks_length _ unit (λ j. refl) whole
+
+-- ---- pieces of one length, joined
+
+module _ (f : ℕ → List ℕ) (size : ℕ) where
+  pub pieces_length : (n : ℕ) → ((j : ℕ) → j < n → length (f j) ≡ size) → length (joined f n) ≡ n * size
+  unfolding joined
+  pieces_length zero sizes = omega arith
+  pieces_length (suc n) sizes =
+      let before = pieces_length n (λ j low. sizes j (omega arith)) in
+      omega (arith, length-append (joined f n) (f n), before, sizes n (omega arith))
+
+  pub piece_at : (n j : ℕ) → ((j : ℕ) → j < n → length (f j) ≡ size) → j < n → at (j * size) size (joined f n) ≡ f j
+  unfolding joined
+  piece_at zero j sizes low = absurd (omega arith)
+  piece_at (suc n) j sizes low =
+      let smaller : (k : ℕ) → k < n → length (f k) ≡ size = λ k below. sizes k (omega arith) in
+      let before = pieces_length n smaller in
+      elim (cases_lt j n) [
+        | inl inside ↦
+            let room : (j + 1) * size ≤ n * size = mul-le-mul_right {m = j + 1} {n = n} size (omega arith) in
+            at_first (j * size) size (joined f n) (f n) (omega arith) ∙ piece_at n j smaller inside
+        | inr last ↦
+            let e : j ≡ n = omega arith in
+            rw e (at_second (n * size) size (joined f n) (f n) (sym before) (sizes n (omega arith)))
+      ]
+
+-- ---- encrypted sectors
+
+-- each sector that is there whole ends within the bytes
+sector_within : (len size i : ℕ) → len % size ≡ 0 → i < len / size → i * size + size ≤ len
+sector_within len size i whole low =
+    let room : (i + 1) * size ≤ len / size * size = mul-le-mul_right {m = i + 1} {n = len / size} size (omega arith) in
+    omega (arith, room)
+
+module _ (cipher : Cipher) (first step size : ℕ) (plain : List ℕ) (blocks : size % 16 ≡ 0)
+    (whole : length plain % size ≡ 0) where
+  sector_length : (i : ℕ) → i < length plain / size → length (encrypted_sector cipher first step size plain i) ≡ size
+  unfolding encrypted_sector
+  sector_length i low =
+      let is : length (sector_at size plain i) ≡ size =
+      length-at (i * size) size plain (sector_within (length plain) size i whole low) in
+      length-sector_encrypted cipher (unit_number first step i) (sector_at size plain i) (rw is blocks) ∙ is
+
+  -- whole sectors are as long encrypted as they were
+  pub length-sectors_encrypted : length (sectors_encrypted cipher first step size plain) ≡ length plain
+  unfolding sectors_encrypted
+  length-sectors_encrypted =
+      pieces_length (encrypted_sector cipher first step size plain) size (length plain / size) sector_length
+      ∙ omega arith
+
+  sector_is : (i : ℕ) → i < length plain / size
+      → at (i * size) size (sectors_encrypted cipher first step size plain)
+      ≡ sector_encrypted cipher.0 cipher.1 (unit_number first step i) (at (i * size) size plain)
+  unfolding sectors_encrypted encrypted_sector
+  sector_is i low =
+      piece_at (encrypted_sector cipher first step size plain) size (length plain / size) i sector_length low
+
+  -- where an image has them, they stand in it
+  pub sectors_stand : (place : ℕ) (image : List ℕ) → IsBytes plain → place + length plain ≤ length image
+      → at place (length plain) image ≡ sectors_encrypted cipher first step size plain
+      → StandEncrypted cipher (unit_number first step) size place plain image
+  sectors_stand place image bytes there is = record {
+    bytes = bytes;
+    whole = whole;
+    there = there;
+    units = λ i low.
+        sym (at_at (i * size) size place (length plain) image (sector_within (length plain) size i whole low))
+        ∙ (ap (at (i * size) size) is ∙ sector_is i low);
+  }
+
+-- they stand there under numbers that are the same
+pub stand_under : (cipher : Cipher) (number other : ℕ → ℕ) (size place : ℕ) (plain image : List ℕ)
+    → ((i : ℕ) → i < length plain / size → number i ≡ other i)
+    → StandEncrypted cipher number size place plain image → StandEncrypted cipher other size place plain image
+stand_under cipher number other size place plain image same stand = record {
+  bytes = stand.bytes;
+  whole = stand.whole;
+  there = stand.there;
+  units = λ i low.
+      stand.units i low
+      ∙ ap (λ n. sector_encrypted cipher.0 cipher.1 n (at (i * size) size plain)) (same i low);
+}

@@ -1,0 +1,98 @@
+-- What it means that an image is an honestly sealed volume: of the keys, the passphrases and the plain text that went
+-- into it, in the words of both formats (LUKS1 On-Disk Format Specification 1.2.3, sections 2 to 4; LUKS2 On-Disk
+-- Format Specification 1.1, sections 2 to 4). Nothing is said here of how an image is made, or of how it is opened.
+use Rattle.std.specs.Prelude.{◌≡◌, ℕ, ◌+◌, ◌*◌, ◌/◌, ◌%◌, ◌^◌, ◌<◌, ◌≤◌, All, List, length, take, Option, None, Some, Ok}
+use Rattle.luks_aes.specs.Bytes.{IsBytes}
+use Rattle.luks_cipher.specs.Sector.{Cipher, sector_encrypted}
+use Rattle.luks_cipher.specs.declared.mode.Mode.{Mode}
+use Rattle.luks_kdf.specs.Pbkdf2.{derived_key}
+use Rattle.luks_kdf.specs.Stripes.{IsSplit}
+use Rattle.luks_kdf.specs.declared.hash.Hash.{Hash}
+use Rattle.luks_area.specs.Field.{at}
+use Rattle.luks_verdict.specs.Rule.{need_of}
+use Rattle.luks_verdict.specs.SectorSize.{bytes_of}
+use Rattle.luks_verdict.specs.declared.digest.KeyDigest.{KeyDigest}
+use Rattle.luks_verdict.specs.declared.segment.Segment.{Segment}
+use Rattle.luks_verdict.specs.declared.slot.Slot.{Slot}
+use Rattle.luks_verdict.specs.declared.slot.SlotParts.{SlotParts}
+use Rattle.luks_verdict.specs.declared.slot.Verdict.TheVariants.{Usable}
+use Rattle.luks_header.specs.Digest.{digest_for}
+use Rattle.luks_header.specs.Header.{header_of}
+use Rattle.luks_header.specs.Segment.{segment_of}
+use Rattle.luks_header.specs.Slot.{verdict_at}
+use Rattle.luks_header.specs.declared.header.Header.{Header}
+
+-- these plain bytes, whole units of `size` bytes, stand in the image from `place` on: unit i as its encryption under
+-- the number `number i`
+pub record StandEncrypted (cipher : Cipher) (number : ℕ → ℕ) (size place : ℕ) (plain image : List ℕ) : Type 0 where
+  pub bytes : IsBytes plain
+  pub whole : length plain % size ≡ 0
+  pub there : place + length plain ≤ length image
+  pub units : (i : ℕ) → i < length plain / size
+      → at (place + i * size) size image
+      ≡ sector_encrypted cipher.0 cipher.1 (number i) (at (i * size) size plain)
+
+-- these bytes are the key material of a key slot that has these parts: the stripes of the key, which are made with
+-- some random bytes, and bytes behind them up to whole sectors of 512
+pub record IsMaterial (af : Hash) (parts : SlotParts) (key material : List ℕ) : Type 0 where
+  pub random : List ℕ
+  pub split : IsSplit af random key (take (length key * parts.stripes) material)
+  pub len : length material ≡ need_of (length key) parts.stripes
+
+-- the key slot with these parts gives the key under this passphrase: in its area stands key material of the key, which
+-- is encrypted under what PBKDF2 makes of the passphrase, its sectors numbered from 0
+pub record GivesKey (parts : SlotParts) (passphrase key image : List ℕ) : Type 0 where
+  pub kdf : Hash
+  pub af : Hash
+  pub mode : Mode
+  pub is_kdf : parts.kdf_hash ≡ Some kdf
+  pub is_af : parts.af_hash ≡ Some af
+  pub is_mode : parts.area_mode ≡ Some mode
+  pub key_bytes : parts.key_bytes ≡ length key
+  pub material : List ℕ
+  pub is_material : IsMaterial af parts key material
+  pub stands : StandEncrypted
+      (mode, derived_key kdf passphrase parts.salt parts.iterations parts.area_key_bytes)
+      (λ i. i) 512 parts.area_offset material image
+
+-- the digest is that of the key: PBKDF2 of it
+pub record IsDigestOf (digest : KeyDigest) (key : List ℕ) : Type 0 where
+  pub hash : Hash
+  pub is_hash : digest.hash ≡ Some hash
+  pub value : digest.value ≡ derived_key hash key digest.salt digest.iterations (length digest.value)
+
+-- the key slot of this number can be tried, whatever its iterations, gives the key under this passphrase, and its
+-- digest is that of the key
+pub record SealsKey (header : Header) (image key : List ℕ) (number : ℕ) (passphrase : List ℕ) : Type 0 where
+  pub slot : Slot
+  pub digest : KeyDigest
+  pub usable : verdict_at header None number ≡ Some (Usable slot)
+  pub gives : GivesKey slot.parts passphrase key image
+  pub is_digest : digest_for header number ≡ Some digest
+  pub digest_of_key : IsDigestOf digest key
+
+-- the unit number of sector i: they count in steps of 512 bytes, whatever the sector's length, and wrap at 2^64
+abbrev pub unit_number : Segment → ℕ → ℕ
+unit_number segment i = (segment.iv_tweak + i * (bytes_of segment.sector_size / 512)) % 2 ^ 64
+
+-- the payload ends with the plain bytes, `end` bytes behind the image's start: where its size is not fixed, the image
+-- ends there
+abbrev pub EndsWith : Option ℕ → List ℕ → ℕ → List ℕ → Type 0
+EndsWith None plain end image = length image ≡ end
+EndsWith (Some size) plain end image = size ≡ length plain
+
+-- in the payload stands the plain text, encrypted under the key
+pub record SealsPlain (segment : Segment) (image key plain : List ℕ) : Type 0 where
+  pub stands : StandEncrypted (segment.mode, key) (unit_number segment) (bytes_of segment.sector_size) segment.offset
+      plain image
+  pub ends : EndsWith segment.size plain (segment.offset + length plain) image
+
+-- the image is a volume of this key and plain text, and each of these key slots gives the key under its passphrase
+pub record Sealed (image : List ℕ) (passphrases : List (ℕ × List ℕ)) (key plain : List ℕ) : Type 0 where
+  pub header : Header
+  pub segment : Segment
+  pub is_header : header_of image ≡ Ok header
+  pub is_segment : segment_of header ≡ Ok segment
+  pub key_bytes : IsBytes key
+  pub slots : All (λ slot. SealsKey header image key slot.0 slot.1) passphrases
+  pub payload : SealsPlain segment image key plain

@@ -1,9 +1,0 @@
-//! What no clause says: whole images held against those of another program, and that the ranges are
-//! the stated ones.
-
-mod drawn1;
-mod fixture;
-mod layout1;
-mod layout2;
-mod ranges1;
-mod ranges2;

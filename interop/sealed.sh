@@ -1,0 +1,67 @@
+#!/usr/bin/env bash
+# Shows volumes that the library seals (`crates/sealed_image`, the second argument) to cryptsetup and qemu-img, which open and read them as luksrd does.
+sealer=$(realpath "${2:?the program that writes sealed volumes}")
+# shellcheck source=interop/common.sh
+. "$(dirname "$0")/common.sh"
+
+# decrypted IMAGE: cryptsetup decrypts the payload of a copy, under a header of its own
+decrypted() {
+    local start
+    start=$(start_of2 "$1")
+    rm -f header
+    cryptsetup luksHeaderBackup --header-backup-file header "$1" || exit 1
+    tail -c +$((start + 1)) "$1" >copy
+    python3 - header <<'PYTHON'
+import hashlib, json, sys
+# The same header for a payload that begins with its file: the segment's offset is 0, and checksums are made anew.
+bytes_ = bytearray(open(sys.argv[1], 'rb').read())
+size = int.from_bytes(bytes_[8:16], 'big')
+for place in (0, size):
+    area = bytes_[place + 4096:place + size]
+    tree = json.loads(area[:area.index(0)])
+    tree['segments']['0']['offset'] = '0'
+    text = json.dumps(tree, separators=(',', ':')).encode()
+    bytes_[place + 4096:place + size] = text + bytes(size - 4096 - len(text))
+    bytes_[place + 448:place + 512] = bytes(64)
+    bytes_[place + 448:place + 480] = hashlib.sha256(bytes_[place:place + size]).digest()
+open(sys.argv[1], 'wb').write(bytes_)
+PYTHON
+    cryptsetup -q reencrypt --decrypt --force-offline-reencrypt --header header --key-file one copy >err 2>&1 || { cat err >&2; exit 1; }
+    cat copy
+}
+
+# opens IMAGE: either passphrase opens its slot and gives the plain bytes, as cryptsetup says, and another opens none
+opens() {
+    local key
+    for key in one two; do
+        same "$1, $key: testPassphrase" "$(told testPassphrase --key-file "$key" "$1")" "$(slot_of "$1" "$key")
+0"
+        same "$1, $key: luksCat" "$(sums luksCat --key-file "$key" "$1")" "$(sum_of plain 0)"
+    done
+    same "$1: a wrong passphrase" "$(told luksCat --key-file wrong "$1")" "$no_key"
+    same "$1: luksCheck" "$(told luksCheck "$1")" 'clean
+0'
+}
+
+printf one >one
+printf two >two
+printf three >wrong
+python3 -c 'import sys; sys.stdout.buffer.write(bytes(i % 251 for i in range(32768)))' >plain
+
+for mode in xts-plain64 xts-plain cbc-essiv:sha256 cbc-plain64; do
+    image="luks1 $mode"
+    "$sealer" luks1 "$mode" 512 >"$image" || exit 1
+    opens "$image"
+    for sector in 512 1024 2048 4096; do
+        image="luks2 $mode $sector"
+        "$sealer" luks2 "$mode" "$sector" >"$image" || exit 1
+        opens "$image"
+        same "$image: cryptsetup decrypts the same" "$(decrypted "$image" | sha256sum)" "$(sha256sum <plain)"
+    done
+done
+for mode in xts-plain64 cbc-essiv:sha256 cbc-plain64; do
+    qemu-img convert -O raw --object secret,id=s,file=two --image-opts "driver=luks,key-secret=s,file.driver=file,file.filename=luks1 $mode" theirs
+    same "luks1 $mode: qemu-img reads the same" "$(sha256sum <theirs)" "$(sha256sum <plain)"
+done
+
+finish
