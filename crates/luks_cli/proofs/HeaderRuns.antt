@@ -1,6 +1,6 @@
 -- How the commands on headers end.
 use Rattle.std.specs.Prelude.{◌==◌}
-use Rattle.std.proofs.Common.{◌≡◌, ℕ, ◌<◌, ◌≤◌, Bool, true, false, List, [], Option, Result, Ok, Err, ap, refl, take, length, arith}
+use Rattle.std.proofs.Common.{◌≡◌, ℕ, ◌<◌, ◌≤◌, Bool, true, false, List, Option, Result, Ok, Err, ap, refl, take, length, arith}
 use Rattle.luks_io.specs.Bytes.{Adds, Took}
 use Rattle.luks_io.proofs.Taking.{adds-none}
 use Rattle.luks_header.specs.Header.{BreaksReading, cost_of, header_of}
@@ -12,9 +12,12 @@ use Rattle.luks_report.specs.declared.message.Message.{Message}
 use Rattle.luks_report.specs.declared.message.Message.TheVariants.{Done, OutOfMemory, ReadFailed, WriteFailed}
 use Rattle.luks_cli.specs.Header.{answer_to_is_luks}
 use Rattle.luks_report.specs.Faults.{message_for_header}
-use Rattle.luks_cli.specs.Ending.{Outcome}
+use Rattle.luks_cli.specs.Ending.{Outcome, unwritten}
 use Rattle.luks_cli.specs.MayEnd.{CheckMessage, PageMessage}
-use Rattle.luks_cli.specs.Header.{is_luks_outcome, print_outcome, told_of}
+use Rattle.luks_cli.specs.Header.{is_luks_outcome, print_outcome_by, told_of}
+use Rattle.luks_cli.specs.Standing.{reading_of}
+use Rattle.luks_cli.specs.declared.execute.standing.Standing.{Standing}
+use Rattle.luks_cli.proofs.VolumeLemmas.{reading_fault}
 use Rattle.luks_cli.specs.declared.execute.headers.Page.{Page}
 use Rattle.luks_cli.specs.declared.execute.headers.Page.TheVariants.{Uuid, Dump, Check}
 use Rattle.luks_report.specs.Check.{findings_of, message_for_check}
@@ -77,16 +80,24 @@ told_counts Check header before after same = by (length (findings_of header) == 
   by true is = rw is same
   by false is = rw is same
 
-module _ (text : Header → List ℕ) (told : Header → Message) (image : List ℕ) (i w : Option (List ℕ)) where
+module _ (stand : Standing) (text : Header → List ℕ) (told : Header → Message) (image : List ℕ)
+    (i w : Option (List ℕ)) where
   -- the header was read
-  module _ (header : Header) (found : header_of image ≡ Ok header) (left : Took image i (cost_of image)) where
-    print_found : print_outcome text told image
-        ≡ record { output = text header; message = told header; image_taken = cost_of image; secret_taken = 0 }
-    unfolding print_outcome
+  module _ (header : Header) (found : reading_of stand image ≡ Ok header) (left : Took image i (cost_of image)) where
+    print_found : print_outcome_by (reading_of stand) text told image
+        ≡ record {
+          output = text header;
+          message = told header;
+          image_taken = cost_of image;
+          secret_taken = 0;
+          payload_taken = 0;
+        }
+    unfolding print_outcome_by
     print_found = rw found refl
 
     -- memory was refused for its text
-    pub runs_without_text : Runs at_any_pace (print_outcome text told image) OutOfMemory (Took image i) TookNone
+    pub runs_without_text : Runs at_any_pace (print_outcome_by (reading_of stand) text told image) OutOfMemory
+        (Took image i) TookNone
         (Adds w w)
     runs_without_text =
         rw print_found (early _ image OutOfMemory i w (cost_of image) refl (omega arith) (omega arith)
@@ -95,7 +106,8 @@ module _ (text : Header → List ℕ) (told : Header → Message) (image : List 
     -- the text was written
     pub runs_to_end : (page : List ℕ) (w' : Option (List ℕ)) → page ≡ text header → Adds w w' page
         → breaks_off (told header) ≡ false
-        → Runs at_any_pace (print_outcome text told image) (told header) (Took image i) TookNone (Adds w w')
+        → Runs at_any_pace (print_outcome_by (reading_of stand) text told image) (told header)
+        (Took image i) TookNone (Adds w w')
     runs_to_end page w' is_text a fine =
         rw (
           fine,
@@ -106,7 +118,8 @@ module _ (text : Header → List ℕ) (told : Header → Message) (image : List 
     -- a write failed within it
     pub runs_without_rest : (page : List ℕ) (w' : Option (List ℕ)) (n : ℕ) → page ≡ text header → n < length page
         → Adds w w' (take n page)
-        → Runs at_any_pace (print_outcome text told image) WriteFailed (Took image i) TookNone (Adds w w')
+        → Runs at_any_pace (print_outcome_by (reading_of stand) text told image) WriteFailed (Took image i) TookNone
+        (Adds w w')
     runs_without_rest page w' n is_text within a = rw (print_found, ← is_text) (record {
       image_taken = cost_of image;
       secret_taken = 0;
@@ -121,19 +134,19 @@ module _ (text : Header → List ℕ) (told : Header → Message) (image : List 
       output = a;
     })
 
-  print_cost : (print_outcome text told image).image_taken ≡ cost_of image
-  unfolding print_outcome
+  print_cost : (print_outcome_by (reading_of stand) text told image).image_taken ≡ cost_of image
+  unfolding print_outcome_by
   print_cost = refl
 
   print_none : (fault : HeaderFault) → header_of image ≡ Err fault
-      → print_outcome text told image
-      ≡ record { output = []; message = message_for_header fault; image_taken = cost_of image; secret_taken = 0 }
-  unfolding print_outcome
-  print_none fault found = rw found refl
+      → print_outcome_by (reading_of stand) text told image ≡ unwritten (message_for_header fault) (cost_of image) 0
+  unfolding print_outcome_by
+  print_none fault found = rw (reading_fault stand image fault found) refl
 
   -- there was no header, or reading it failed
   pub runs_without_header : (ends ends' : ℕ) (fault : HeaderFault) → BreaksReading image i ends ends' fault
-      → Runs at_any_pace (print_outcome text told image) (message_for_header fault) (Took image i) TookNone (Adds w w)
+      → Runs at_any_pace (print_outcome_by (reading_of stand) text told image) (message_for_header fault)
+      (Took image i) TookNone (Adds w w)
   runs_without_header ends ends' NoLuks stop =
       rw (print_none NoLuks stop.0) (record
       { as_stated = refl; image = stop.1.0; secret = refl; output = adds-none w })
@@ -157,7 +170,7 @@ module _ (image : List ℕ) (i w : Option (List ℕ)) where
 
   asked : (answer : Result Header HeaderFault) → header_of image ≡ answer
       → is_luks_outcome image
-      ≡ record { output = []; message = answer_to_is_luks answer; image_taken = cost_of image; secret_taken = 0 }
+      ≡ unwritten (answer_to_is_luks answer) (cost_of image) 0
   unfolding is_luks_outcome
   asked answer found = rw found refl
 

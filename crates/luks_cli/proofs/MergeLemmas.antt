@@ -65,13 +65,14 @@ module _ (h : Hash) (count len : ℕ) (bytes : List ℕ) where
         message = Done;
         image_taken = count * len;
         secret_taken = 0;
+        payload_taken = 0;
       }
   unfolding merge_outcome
   stripes_enough enough = let yes : nat_le (count * len) (length bytes) ≡ true = grind (arith, nat_tests) in rw yes refl
 
   stripes_few : length bytes < count * len
       → merge_outcome h count len bytes
-      ≡ record { output = []; message = FewStripes; image_taken = length bytes; secret_taken = 0 }
+      ≡ record { output = []; message = FewStripes; image_taken = length bytes; secret_taken = 0; payload_taken = 0 }
   unfolding merge_outcome
   stripes_few few = let no_more : nat_le (count * len) (length bytes)
       ≡ false = grind (arith, nat_tests) in rw no_more refl

@@ -4,19 +4,24 @@ use Rattle.std.proofs.Math.Nat.{div-eq_of_lt-le, mul-le-mul_right}
 use Rattle.std.specs.Prelude.{MatchBool, if◌then◌else◌}
 use Rattle.luks_cipher.specs.Sector.{Cipher, is_mode_key_length}
 use Rattle.luks_cipher.specs.declared.mode.Mode.{Mode}
+use Rattle.luks_header.specs.Header.{header_of}
 use Rattle.luks_verdict.specs.declared.segment.Segment.{Segment}
 use Rattle.luks_io.proofs.Taking.{adds-none}
 use Rattle.luks_io.specs.Bytes.{Adds, Took, counted, raised}
 use Rattle.luks_open.specs.declared.opening.Opened.{Opened}
 use Rattle.luks_volume.specs.Plain.{sector_len, sector_start, sectors_of}
 use Rattle.luks_cli.proofs.PayloadLemmas.{plain_len}
-use Rattle.luks_cli.proofs.VolumeRuns.{same_segment}
+use Rattle.luks_cli.proofs.PromptLemmas.{same_segment_by}
 use Rattle.luks_cli.specs.Ending.{Outcome}
-use Rattle.luks_cli.specs.Volume.{payload_outcome, slot_outcome, volume_outcome}
+use Rattle.luks_cli.specs.Volume.{payload_outcome, slot_outcome, volume_outcome, volume_outcome_by}
+use Rattle.luks_cli.specs.Standing.{reading_of}
+use Rattle.luks_cli.specs.declared.execute.standing.Standing.{Standing}
+use Rattle.luks_cli.specs.declared.execute.standing.Standing.TheVariants.{Attached}
 use Rattle.luks_cli.specs.VolumeParts.{PassesPayload, cat_promptly}
 use Rattle.luks_command.specs.Request.{OpeningRequest}
 use Rattle.luks_cli.specs.Run.{BreaksOff, Completes, Counts, Failures, Promptness, Runs, at_any_pace, breaks_off, is_failed_read, is_failed_write, message_of}
-use Rattle.luks_cli.specs.VolumeParts.{TakesHeld, Unlocks}
+use Rattle.luks_cli.specs.VolumeParts.{TakesHeld}
+use Rattle.luks_cli.specs.Unlocking.{Unlocks}
 use Rattle.luks_report.specs.Texts.{opened_line}
 use Rattle.luks_report.specs.declared.message.Message.{Message}
 use Rattle.luks_report.specs.declared.message.Message.TheVariants.{Done, OutOfMemory, ReadFailed, WriteFailed}
@@ -53,14 +58,14 @@ runs_at_any_pace is_prompt out message TookImage TookSecret Wrote = either (brea
     }
     either false run = run
 
-module _ (o : OpeningRequest) (image pass : List ℕ) (segment : Segment) (opened : Opened) (held : List ℕ)
-    (i s : Option (List ℕ))
-    (u : Unlocks o image pass segment opened held i s) where
-  -- ---- `testPassphrase`
+-- ---- `testPassphrase`
 
+module _ (stand : Standing) (o : OpeningRequest) (image pass : List ℕ) (segment : Segment) (opened : Opened)
+    (held : List ℕ) (i s : Option (List ℕ)) (u : Unlocks stand o image pass segment opened held i s) where
   -- memory was refused for the line
   pub runs_without_line : (w : Option (List ℕ))
-      → Runs at_any_pace (volume_outcome (slot_outcome pass) o image pass) OutOfMemory (Took image i) (Took pass s)
+      → Runs at_any_pace (volume_outcome_by (reading_of stand) (slot_outcome pass) o image pass) OutOfMemory
+      (Took image i) (Took pass s)
       (Adds w w)
   runs_without_line w = rw (u.outcome (slot_outcome pass)) (record {
     image_taken = length held;
@@ -79,7 +84,8 @@ module _ (o : OpeningRequest) (image pass : List ℕ) (segment : Segment) (opene
   module _ (page : List ℕ) (is : page ≡ opened_line opened.slot) (w w' : Option (List ℕ)) where
     -- the line was written
     pub runs_told : Adds w w' page
-        → Runs at_any_pace (volume_outcome (slot_outcome pass) o image pass) Done (Took image i) (Took pass s)
+        → Runs at_any_pace (volume_outcome_by (reading_of stand) (slot_outcome pass) o image pass) Done
+        (Took image i) (Took pass s)
         (Adds w w')
     runs_told added =
         rw (
@@ -89,7 +95,8 @@ module _ (o : OpeningRequest) (image pass : List ℕ) (segment : Segment) (opene
 
     -- a write failed within it
     pub runs_without_rest : (n : ℕ) → n < length page → Adds w w' (take n page)
-        → Runs at_any_pace (volume_outcome (slot_outcome pass) o image pass) WriteFailed (Took image i) (Took pass s)
+        → Runs at_any_pace (volume_outcome_by (reading_of stand) (slot_outcome pass) o image pass) WriteFailed
+        (Took image i) (Took pass s)
         (Adds w w')
     runs_without_rest n within added = rw (u.outcome (slot_outcome pass), ← is) (record {
       image_taken = length held;
@@ -105,8 +112,26 @@ module _ (o : OpeningRequest) (image pass : List ℕ) (segment : Segment) (opene
       output = added;
     })
 
-  -- ---- `luksCat`
+-- ---- `luksCat`
 
+-- a write failed within a sector of the payload: what was written ends before the plain text does, and in that sector
+pub record StandsWithin (segment : Segment) (image : List ℕ) (count written : ℕ) : Type 0 where
+  pub span : count * sector_len segment + written < sectors_of segment image * sector_len segment
+  pub row : (count * sector_len segment + written) / sector_len segment ≡ count
+
+pub stands_within : (segment : Segment) (image : List ℕ) (count written : ℕ) → count < sectors_of segment image
+    → written < sector_len segment → StandsWithin segment image count written
+stands_within segment image count written few less =
+    let more : (count + 1) * sector_len segment ≡ count * sector_len segment + sector_len segment = omega arith in
+    let span : (count + 1) * sector_len segment
+    ≤ sectors_of segment image * sector_len segment = mul-le-mul_right (sector_len segment) (omega arith) in
+    record {
+      span = omega arith;
+      row = div-eq_of_lt-le (sector_len segment) (omega arith) (omega arith);
+    }
+
+module _ (o : OpeningRequest) (image pass : List ℕ) (segment : Segment) (opened : Opened) (held : List ℕ)
+    (i s : Option (List ℕ)) (u : Unlocks Attached o image pass segment opened held i s) where
   module _ (i' w w' : Option (List ℕ)) where
     -- the payload was passed on, to its end or not
     pub runs_passed : (message : Message) → message ≢ OutOfMemory
@@ -129,7 +154,7 @@ module _ (o : OpeningRequest) (image pass : List ℕ) (segment : Segment) (opene
           output_within = omega (arith, plain_len segment image (segment.mode, opened.key));
           is_silent = tt;
           is_prompt = λ other is past.
-              rw (same_segment image segment other u.has is) (ap (λ n. n * sector_len segment) passed.2);
+              rw (same_segment_by header_of image segment other u.has is) (ap (λ n. n * sector_len segment) passed.2);
           image = passed.5;
           secret = u.secret_taken;
           output = passed.6;
@@ -137,21 +162,17 @@ module _ (o : OpeningRequest) (image pass : List ℕ) (segment : Segment) (opene
     runs_passed WriteFailed never passed =
         let count = passed.0 in
         let written = passed.1 in
-        let below : count + 1 ≤ sectors_of segment image = omega (arith, passed.2) in
-        let more : (count + 1) * sector_len segment ≡ count * sector_len segment + sector_len segment = omega arith in
-        let span : (count + 1) * sector_len segment
-        ≤ sectors_of segment image * sector_len segment = mul-le-mul_right (sector_len segment) below in
-        let row : (count * sector_len segment + written) / sector_len segment
-        ≡ count = div-eq_of_lt-le (sector_len segment) (omega arith) (omega (arith, passed.3)) in
+        let within = stands_within segment image count written passed.2 passed.3 in
         rw (u.outcome (payload_outcome image pass)) (record {
           image_taken = max (length held) (sector_start segment (count + 1));
           secret_taken = length pass;
           output_len = count * sector_len segment + written;
           image_within = omega (arith, passed.4);
           secret_within = omega arith;
-          output_within = omega (arith, plain_len segment image (segment.mode, opened.key), passed.3);
+          output_within = omega (arith, plain_len segment image (segment.mode, opened.key), within.span);
           is_silent = tt;
-          is_prompt = λ other is. rw (same_segment image segment other u.has is, row) (omega (arith, u.early));
+          is_prompt = λ other is. rw (same_segment_by header_of image segment other u.has is, within.row)
+              (omega (arith, u.early refl));
           image = passed.5;
           secret = u.secret_taken;
           output = passed.6;

@@ -31,7 +31,13 @@ module _ (h : Hash) (count : ℕ) (key random : List ℕ) where
   -- a key of another length
   key_refused : (min (length key) 513 ≡ 0) ⊎ (512 < length key)
       → split_outcome h count key random
-      ≡ record { output = []; message = KeyLength; image_taken = min (length key) 513; secret_taken = 0 }
+      ≡ record {
+        output = [];
+        message = KeyLength;
+        image_taken = min (length key) 513;
+        secret_taken = 0;
+        payload_taken = 0;
+      }
   unfolding split_outcome
   key_refused bad = let none : (nat_lt 0 (length key) && nat_le (length key) 512)
       ≡ false = grind (arith, nat_tests) in rw none refl
@@ -48,6 +54,7 @@ module _ (h : Hash) (count : ℕ) (key random : List ℕ) where
         message = Done;
         image_taken = length key;
         secret_taken = (count - 1) * length key;
+        payload_taken = 0;
       }
   unfolding split_key_outcome
   random_enough enough = let yes : nat_le ((count - 1) * length key) (length random)
@@ -60,6 +67,7 @@ module _ (h : Hash) (count : ℕ) (key random : List ℕ) where
         message = FewRandomBytes;
         image_taken = length key;
         secret_taken = length random;
+        payload_taken = 0;
       }
   unfolding split_key_outcome
   random_few few = let no : nat_le ((count - 1) * length key) (length random)

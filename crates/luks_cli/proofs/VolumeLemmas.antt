@@ -17,7 +17,10 @@ use Rattle.luks_report.specs.Faults.{message_for_header}
 use Rattle.luks_command.specs.Request.{OpeningRequest}
 use Rattle.luks_cli.proofs.HeaderTaking.{cost_there}
 use Rattle.luks_cli.specs.VolumeParts.{StopsFinding}
-use Rattle.luks_cli.specs.Volume.{volume_of}
+use Rattle.luks_cli.specs.Standing.{reading_of}
+use Rattle.luks_cli.specs.Volume.{volume_by}
+use Rattle.luks_cli.specs.declared.execute.standing.Standing.{Standing}
+use Rattle.luks_cli.specs.declared.execute.standing.Standing.TheVariants.{Attached, Detached}
 use Rattle.luks_report.specs.Faults.{message_for_opening}
 use Rattle.luks_report.specs.declared.message.Message.TheVariants.{SegmentRefused}
 
@@ -25,47 +28,55 @@ use Rattle.luks_report.specs.declared.message.Message.TheVariants.{SegmentRefuse
 pub cost_held : (image area : List ℕ) → area ≡ take (cost_of image) image → length area ≡ cost_of image
 cost_held image area front = ap length front ∙ length-take-le (cost_of image) image (cost_there image)
 
-module _ (o : OpeningRequest) (image : List ℕ) (left : Option (List ℕ)) where
-  no_header : (fault : HeaderFault) → header_of image ≡ Err fault → volume_of o image ≡ Err (message_for_header fault)
-  unfolding volume_of
-  no_header fault none = rw none refl
+-- where no header is read, none is wherever it stands
+pub reading_fault : (stand : Standing) (image : List ℕ) (fault : HeaderFault) → header_of image ≡ Err fault
+    → reading_of stand image ≡ Err fault
+reading_fault Attached image fault none = none
+reading_fault Detached image fault none = rw none refl
+
+module _ (stand : Standing) (o : OpeningRequest) (image : List ℕ) (left : Option (List ℕ)) where
+  no_header : (fault : HeaderFault) → header_of image ≡ Err fault
+      → volume_by (reading_of stand) o image ≡ Err (message_for_header fault)
+  unfolding volume_by
+  no_header fault none = rw (reading_fault stand image fault none) refl
 
   pub stops_without_header : (ends ends' : ℕ) (fault : HeaderFault) → BreaksReading image left ends ends' fault
-      → StopsFinding o image left (message_for_header fault)
+      → StopsFinding (reading_of stand) o image left (message_for_header fault)
   stops_without_header ends ends' NoLuks stop = (no_header NoLuks stop.0, stop.1.0)
   stops_without_header ends ends' IsCut stop = (no_header IsCut stop.0, stop.1.0)
   stops_without_header ends ends' NoJson stop = (no_header NoJson stop.0, stop.1.0)
   stops_without_header ends ends' LostRead stop = stop.0
   stops_without_header ends ends' NoMemory stop = memory_below image left ends ends' stop
 
-  module _ (header : Header) (found : header_of image ≡ Ok header) where
-    no_segment : (fault : SegmentFault) → segment_of header ≡ Err fault → volume_of o image ≡ Err (SegmentRefused fault)
-    unfolding volume_of
+  module _ (header : Header) (found : reading_of stand image ≡ Ok header) where
+    no_segment : (fault : SegmentFault) → segment_of header ≡ Err fault
+        → volume_by (reading_of stand) o image ≡ Err (SegmentRefused fault)
+    unfolding volume_by
     no_segment fault none = rw (found, none) refl
 
     pub stops_without_segment : Took image left (cost_of image) → (fault : SegmentFault) → segment_of header ≡ Err fault
-        → StopsFinding o image left (SegmentRefused fault)
+        → StopsFinding (reading_of stand) o image left (SegmentRefused fault)
     stops_without_segment rest fault none = (no_segment fault none, rest)
 
-  module _ (header : Header) (found : header_of image ≡ Ok header) (segment : Segment)
+  module _ (header : Header) (found : reading_of stand image ≡ Ok header) (segment : Segment)
       (is : segment_of header ≡ Ok segment) where
     no_order : (fault : OpenFault) → order_of header o.key_slot o.max_iterations ≡ Err fault
-        → volume_of o image ≡ Err (message_for_opening o.key_slot fault)
-    unfolding volume_of
+        → volume_by (reading_of stand) o image ≡ Err (message_for_opening o.key_slot fault)
+    unfolding volume_by
     no_order fault none = rw (found, is, none) refl
 
     pub volume_is : (tries : Tries) → order_of header o.key_slot o.max_iterations ≡ Ok tries
-        → volume_of o image ≡ Ok (record { header = header; segment = segment; tries = tries })
-    unfolding volume_of
+        → volume_by (reading_of stand) o image ≡ Ok (record { header = header; segment = segment; tries = tries })
+    unfolding volume_by
     volume_is tries ordered = rw (found, is, ordered) refl
 
     pub volume_found : (tries : Tries) → order_of header o.key_slot o.max_iterations ≡ Ok tries
-        → is_err (volume_of o image) ≡ false
+        → is_err (volume_by (reading_of stand) o image) ≡ false
     volume_found tries ordered = rw (volume_is tries ordered) refl
 
     pub stops_without_order : Took image left (cost_of image) → (fault : OpenFault)
         → (fault ≡ Memory) ⊎ (order_of header o.key_slot o.max_iterations ≡ Err fault)
-        → StopsFinding o image left (message_for_opening o.key_slot fault)
+        → StopsFinding (reading_of stand) o image left (message_for_opening o.key_slot fault)
     stops_without_order rest Memory why = (cost_of image, omega arith, rest)
     stops_without_order rest NotThere (inr why) = (no_order NotThere why, rest)
     stops_without_order rest Disabled (inr why) = (no_order Disabled why, rest)

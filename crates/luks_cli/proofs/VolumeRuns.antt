@@ -3,29 +3,26 @@ use Rattle.std.proofs.Common.{◌≡◌, ℕ, ◌+◌, ◌-◌, ◌<◌, ◌≤�
 use Rattle.std.proofs.lemmas.Bool.{cases_lt}
 use Rattle.std.proofs.lemmas.Bool.Decides.{nat_tests}
 use Rattle.std.proofs.lemmas.List.{drop-drop}
-use Rattle.std.proofs.Math.Nat.{zero-div}
 use Rattle.std.proofs.Math.Seq.{take-add}
 use Rattle.std.specs.Prelude.{◌≢◌, nat_lt}
 use Rattle.luks_header.specs.Area.{BreaksTaking, TookBehind}
-use Rattle.luks_header.specs.Header.{cost_of, header_of}
+use Rattle.luks_header.specs.Header.{cost_of}
 use Rattle.luks_header.specs.Segment.{segment_of}
 use Rattle.luks_header.specs.declared.header.Header.{Header}
 use Rattle.luks_area.specs.declared.fault.HeaderFault.{HeaderFault}
 use Rattle.luks_area.specs.declared.fault.HeaderFault.TheVariants.{Read as LostRead, Memory as NoMemory}
 use Rattle.luks_verdict.specs.declared.segment.Segment.{Segment}
-use Rattle.luks_header.proofs.KnownLemmas.{is_attached}
-use Rattle.luks_open.proofs.CallerLemmas.{held_before_payload, opening_beginning}
+use Rattle.luks_open.proofs.CallerLemmas.{opening_beginning}
 use Rattle.luks_open.specs.Opening.{opening_of}
 use Rattle.luks_open.specs.Order.{Tries, held_of, order_of}
 use Rattle.luks_open.specs.declared.fault.OpenFault.{OpenFault}
 use Rattle.luks_open.specs.declared.fault.OpenFault.TheVariants.{NoSuchSlot as NotThere, Disabled, NamedSkipped, NothingTried as NoneTried, NoKey as NoneOpens, Memory}
 use Rattle.luks_open.specs.declared.opening.Opened.{Opened}
-use Rattle.luks_volume.specs.Plain.{sector_len}
+use Rattle.luks_cli.proofs.PromptLemmas.{held_early, prompt_before_payload, prompt_in_header, prompt_refused}
 use Rattle.luks_cli.proofs.VolumeLemmas.{cost_held, volume_is}
 use Rattle.luks_report.specs.Faults.{message_for_header}
-use Rattle.luks_cli.specs.Volume.{OnOpened, found_outcome, opened_outcome, outcome_after, volume_outcome}
+use Rattle.luks_cli.specs.Volume.{OnOpened, found_outcome, opened_outcome, outcome_after, volume_outcome_by}
 use Rattle.luks_cli.specs.Ending.{Outcome, unwritten}
-use Rattle.luks_cli.specs.VolumeParts.{cat_promptly}
 use Rattle.luks_command.specs.Request.{OpeningRequest}
 use Rattle.luks_cli.specs.Run.{BreaksOff, IsBeginning, IsSilent, Runs}
 use Rattle.luks_io.proofs.Taking.{adds-none, took-none}
@@ -33,58 +30,26 @@ use Rattle.luks_io.specs.Bytes.{Adds, Took}
 use Rattle.luks_cli.proofs.HeaderTaking.{cost_there, took_header}
 use Rattle.luks_cli.specs.VolumeParts.{NoSecretRead}
 use Rattle.luks_cli.specs.Volume.{longest_key_file}
-use Rattle.luks_cli.specs.VolumeParts.{TakesHeld, Unlocks}
-use Rattle.luks_cli.specs.VolumeParts.{HasSegment, StopsFinding}
-use Rattle.luks_cli.specs.Volume.{Volume, held_for, volume_of}
+use Rattle.luks_cli.specs.VolumeParts.{TakesHeld}
+use Rattle.luks_cli.specs.Unlocking.{Unlocks, opens_promptly}
+use Rattle.luks_cli.specs.VolumeParts.{StopsFinding}
+use Rattle.luks_cli.specs.Volume.{Volume, held_for, volume_by}
+use Rattle.luks_cli.specs.Standing.{reading_of}
+use Rattle.luks_cli.specs.declared.execute.standing.Standing.{Standing}
+use Rattle.luks_cli.specs.declared.execute.standing.Standing.TheVariants.{Attached}
 use Rattle.luks_report.specs.Faults.{message_for_opening}
 use Rattle.luks_report.specs.declared.message.Message.{Message}
 use Rattle.luks_report.specs.declared.message.Message.TheVariants.{Cut, KeyFileLength, OutOfMemory, ReadFailed, WriteFailed}
 
--- ---- how much of the image is taken for what is promised
-
-pub same_segment : (image : List ℕ) (s t : Segment) → HasSegment image s → HasSegment image t → t ≡ s
-same_segment image s t one other =
-    let first : header_of image ≡ Ok one.0 = one.1 in
-    let second : header_of image ≡ Ok other.0 = other.1 in
-    let third : segment_of one.0 ≡ Ok s = one.2 in
-    let fourth : segment_of other.0 ≡ Ok t = other.2 in
-    cc
-
--- nothing past the header was taken
-prompt_in_header : (image : List ℕ) (message : Message) (a b : ℕ) → a ≤ cost_of image → cat_promptly image message a b 0
-prompt_in_header image ReadFailed a b few segment has = λ past. absurd (omega arith)
-prompt_in_header image WriteFailed a b few segment has = omega arith
-prompt_in_header image _ a b few segment has = tt
-
--- nothing past the payload's start was taken
-prompt_to_payload : (image : List ℕ) (message : Message) (a b : ℕ) (segment : Segment) → HasSegment image segment
-    → a ≤ segment.offset → cat_promptly image message a b 0
-prompt_to_payload image ReadFailed a b segment has few other is = λ past.
-    let same = same_segment image segment other has is in
-    let none : a - other.offset ≡ 0 = rw same (omega arith) in
-    rw (none, zero-div (sector_len other)) (omega arith)
-prompt_to_payload image WriteFailed a b segment has few other is =
-    let same = same_segment image segment other has is in
-    let start : a ≤ other.offset = rw same few in
-    omega arith
-prompt_to_payload image _ a b segment has few other is = tt
-
--- nothing past the header and the payload's start was taken
-prompt_before_payload : (image : List ℕ) (message : Message) (a b : ℕ) (segment : Segment) → HasSegment image segment
-    → a ≤ max (cost_of image) segment.offset → cat_promptly image message a b 0
-prompt_before_payload image message a b segment has few = elim (cases_lt (cost_of image) a) [
-  | inl past ↦ prompt_to_payload image message a b segment has (omega arith)
-  | inr within ↦ prompt_in_header image message a b (omega arith)
-]
-
 -- ---- runs without output
 
 -- a run that was broken off before any output
-early : (out : Outcome) (image pass : List ℕ) (message : Message) (i s w : Option (List ℕ)) (a b : ℕ)
-    → IsSilent message 0 → IsBeginning message 0 (length out.output) → cat_promptly image message a b 0
+early : (stand : Standing) (out : Outcome) (image pass : List ℕ) (message : Message) (i s w : Option (List ℕ)) (a b : ℕ)
+    → IsSilent message 0 → IsBeginning message 0 (length out.output)
+    → opens_promptly stand image message a b 0
     → a ≤ out.image_taken → b ≤ out.secret_taken → Took image i a → Took pass s b
-    → BreaksOff (cat_promptly image) out message (Took image i) (Took pass s) (Adds w w)
-early out image pass message i s w a b silent begins prompt few little took_image took_pass = record {
+    → BreaksOff (opens_promptly stand image) out message (Took image i) (Took pass s) (Adds w w)
+early stand out image pass message i s w a b silent begins prompt few little took_image took_pass = record {
   image_taken = a;
   secret_taken = b;
   output_len = 0;
@@ -99,16 +64,17 @@ early out image pass message i s w a b silent begins prompt few little took_imag
 }
 
 -- a run whose outcome has no output, whatever it tells but for a failed write
-ends_unwritten : (image pass : List ℕ) (message : Message) (i s w : Option (List ℕ)) (a b : ℕ) → message ≢ WriteFailed
-    → cat_promptly image message a b 0
+ends_unwritten : (stand : Standing) (image pass : List ℕ) (message : Message) (i s w : Option (List ℕ)) (a b : ℕ)
+    → message ≢ WriteFailed
+    → opens_promptly stand image message a b 0
     → Took image i a → Took pass s b
-    → Runs (cat_promptly image) (unwritten message a b) message (Took image i) (Took pass s) (Adds w w)
-ends_unwritten image pass OutOfMemory i s w a b other prompt ti ts =
-    early _ image pass OutOfMemory i s w a b refl (omega arith) prompt (omega arith) (omega arith) ti ts
-ends_unwritten image pass ReadFailed i s w a b other prompt ti ts =
-    early _ image pass ReadFailed i s w a b tt (omega arith) prompt (omega arith) (omega arith) ti ts
-ends_unwritten image pass WriteFailed i s w a b other prompt ti ts = absurd (other refl)
-ends_unwritten image pass _ i s w a b other prompt ti ts =
+    → Runs (opens_promptly stand image) (unwritten message a b) message (Took image i) (Took pass s) (Adds w w)
+ends_unwritten stand image pass OutOfMemory i s w a b other prompt ti ts =
+    early stand _ image pass OutOfMemory i s w a b refl (omega arith) prompt (omega arith) (omega arith) ti ts
+ends_unwritten stand image pass ReadFailed i s w a b other prompt ti ts =
+    early stand _ image pass ReadFailed i s w a b tt (omega arith) prompt (omega arith) (omega arith) ti ts
+ends_unwritten stand image pass WriteFailed i s w a b other prompt ti ts = absurd (other refl)
+ends_unwritten stand image pass _ i s w a b other prompt ti ts =
     record { as_stated = refl; image = ti; secret = ts; output = adds-none w }
 
 -- of key slots no failed write is told
@@ -136,7 +102,7 @@ module _ (on_opened : OnOpened) (named : Option ℕ) (v : Volume) (image secret 
       let yes : nat_lt (length image) (held_of v.tries.slots) ≡ true = grind (arith, nat_tests) in
       rw (no, yes) refl
 
-  found_whole : length secret ≤ longest_key_file → held_of v.tries.slots ≤ length image
+  pub found_whole : length secret ≤ longest_key_file → held_of v.tries.slots ≤ length image
       → found_outcome on_opened named v image secret
       ≡ opened_outcome on_opened named v image secret (opening_of v.tries image secret)
   unfolding found_outcome
@@ -225,16 +191,16 @@ module _ (image area area' : List ℕ) (i : Option (List ℕ)) (held : ℕ) (fro
 
 -- ---- runs that open no volume
 
-module _ (o : OpeningRequest) (image pass : List ℕ) (i s w : Option (List ℕ)) where
-  outcome_is : (on_opened : OnOpened) (r : Result Volume Message) → volume_of o image ≡ r
-      → volume_outcome on_opened o image pass ≡ outcome_after on_opened o.key_slot image pass r
-  unfolding volume_outcome
+module _ (stand : Standing) (o : OpeningRequest) (image pass : List ℕ) (i s w : Option (List ℕ)) where
+  outcome_is : (on_opened : OnOpened) (r : Result Volume Message) → volume_by (reading_of stand) o image ≡ r
+      → volume_outcome_by (reading_of stand) on_opened o image pass ≡ outcome_after on_opened o.key_slot image pass r
+  unfolding volume_outcome_by
   outcome_is on_opened r is = rw is refl
 
   module _ (on_opened : OnOpened) (takes : TakesHeld pass on_opened) where
-    cost_taken : cost_of image ≤ (volume_outcome on_opened o image pass).image_taken
-    unfolding volume_outcome
-    cost_taken = after (volume_of o image)
+    cost_taken : cost_of image ≤ (volume_outcome_by (reading_of stand) on_opened o image pass).image_taken
+    unfolding volume_outcome_by
+    cost_taken = after (volume_by (reading_of stand) o image)
       where
         after : (r : Result Volume Message)
             → cost_of image ≤ (outcome_after on_opened o.key_slot image pass r).image_taken
@@ -242,66 +208,69 @@ module _ (o : OpeningRequest) (image pass : List ℕ) (i s w : Option (List ℕ)
         after (Err message) = omega arith
 
     -- there was no volume, or its header was not read
-    pub runs_without_volume : (message : Message) → message ≢ WriteFailed → StopsFinding o image i message
+    pub runs_without_volume : (message : Message) → message ≢ WriteFailed
+        → StopsFinding (reading_of stand) o image i message
         → s ≡ Some pass
-        → Runs (cat_promptly image) (volume_outcome on_opened o image pass) message (Took image i) (Took pass s)
+        → Runs (opens_promptly stand image) (volume_outcome_by (reading_of stand) on_opened o image pass) message
+        (Took image i) (Took pass s)
         (Adds w w)
     runs_without_volume OutOfMemory other stop whole =
-        early _ image pass OutOfMemory i s w stop.0 0 refl (omega arith)
-        (prompt_in_header image OutOfMemory stop.0 0 stop.1) (omega (arith, stop.1, cost_taken)) (omega arith)
+        early stand _ image pass OutOfMemory i s w stop.0 0 refl (omega arith)
+        (prompt_in_header stand image OutOfMemory stop.0 0 stop.1) (omega (arith, stop.1, cost_taken)) (omega arith)
         stop.2 (took-none pass s whole)
     runs_without_volume ReadFailed other stop whole =
-        early _ image pass ReadFailed i s w stop.0 0 tt (omega arith)
-        (prompt_in_header image ReadFailed stop.0 0 stop.1) (omega (arith, stop.1, cost_taken)) (omega arith)
+        early stand _ image pass ReadFailed i s w stop.0 0 tt (omega arith)
+        (prompt_in_header stand image ReadFailed stop.0 0 stop.1) (omega (arith, stop.1, cost_taken)) (omega arith)
         stop.2 (took-none pass s whole)
     runs_without_volume WriteFailed other stop whole = absurd (other refl)
     runs_without_volume message other stop whole =
         rw (outcome_is on_opened (Err message) stop.0)
-        (ends_unwritten image pass message i s w (cost_of image) 0 other
-        (prompt_in_header image message (cost_of image) 0 (omega arith)) stop.1 (took-none pass s whole))
+        (ends_unwritten stand image pass message i s w (cost_of image) 0 other
+        (prompt_in_header stand image message (cost_of image) 0 (omega arith)) stop.1 (took-none pass s whole))
 
   -- the header names this segment and these key slots to be tried
-  module _ (header : Header) (segment : Segment) (tries : Tries) (found : header_of image ≡ Ok header)
+  module _ (header : Header) (segment : Segment) (tries : Tries) (found : reading_of stand image ≡ Ok header)
       (is_segment : segment_of header ≡ Ok segment)
       (ordered : order_of header o.key_slot o.max_iterations ≡ Ok tries) where
     volume : Volume
     volume = record { header = header; segment = segment; tries = tries }
 
     outcome_found : (on_opened : OnOpened)
-        → volume_outcome on_opened o image pass ≡ found_outcome on_opened o.key_slot volume image pass
+        → volume_outcome_by (reading_of stand) on_opened o image pass
+        ≡ found_outcome on_opened o.key_slot volume image pass
     unfolding volume
     outcome_found on_opened =
-        outcome_is on_opened (Ok volume) (volume_is o image i header found segment is_segment tries ordered)
+        outcome_is on_opened (Ok volume) (volume_is stand o image i header found segment is_segment tries ordered)
 
-    held_before : held_for image volume ≤ max (cost_of image) segment.offset
+    held_before : stand ≡ Attached → held_for image volume ≤ max (cost_of image) segment.offset
     unfolding volume
-    held_before =
-        omega (
-          arith,
-          held_before_payload header segment o.key_slot o.max_iterations tries (is_attached image header found)
-              is_segment ordered,
-        )
+    held_before attached = omega (
+      arith,
+      held_early stand image header segment o.key_slot o.max_iterations tries found is_segment ordered attached,
+    )
 
     -- the key file was not read
     pub runs_without_secret : (on_opened : OnOpened) (takes : TakesHeld pass on_opened) (message : Message)
         → NoSecretRead pass s message
         → Took image i (cost_of image)
-        → Runs (cat_promptly image) (volume_outcome on_opened o image pass) message (Took image i) (Took pass s)
+        → Runs (opens_promptly stand image) (volume_outcome_by (reading_of stand) on_opened o image pass) message
+        (Took image i) (Took pass s)
         (Adds w w)
     runs_without_secret on_opened takes KeyFileLength stop rest =
         rw (outcome_found on_opened, found_long on_opened o.key_slot volume image pass stop.0)
-        (ends_unwritten image pass KeyFileLength i s w (cost_of image) (longest_key_file + 1) (λ h. cc)
-        (λ segment has. tt) rest stop.1)
+        (ends_unwritten stand image pass KeyFileLength i s w (cost_of image) (longest_key_file + 1) (λ h. cc)
+        (prompt_in_header stand image KeyFileLength (cost_of image) (longest_key_file + 1) (omega arith)) rest stop.1)
     runs_without_secret on_opened takes OutOfMemory stop rest =
         let within = found_within on_opened o.key_slot volume image pass takes in
         rw (outcome_found on_opened)
-        (early _ image pass OutOfMemory i s w (cost_of image) stop.0 refl (omega arith) (λ segment has. tt) within.0
+        (early stand _ image pass OutOfMemory i s w (cost_of image) stop.0 refl (omega arith)
+        (prompt_in_header stand image OutOfMemory (cost_of image) stop.0 (omega arith)) within.0
         (omega (arith, stop.1, within.1)) rest stop.2)
     runs_without_secret on_opened takes ReadFailed stop rest =
         let within = found_within on_opened o.key_slot volume image pass takes in
         rw (outcome_found on_opened)
-        (early _ image pass ReadFailed i s w (cost_of image) stop.0 tt (omega arith)
-        (prompt_in_header image ReadFailed (cost_of image) stop.0 (omega arith)) within.0
+        (early stand _ image pass ReadFailed i s w (cost_of image) stop.0 tt (omega arith)
+        (prompt_in_header stand image ReadFailed (cost_of image) stop.0 (omega arith)) within.0
         (omega (arith, stop.1, within.1)) rest stop.2)
     runs_without_secret on_opened takes _ stop rest = absurd stop
 
@@ -311,7 +280,8 @@ module _ (o : OpeningRequest) (image pass : List ℕ) (i s w : Option (List ℕ)
       -- the key areas were not taken
       pub runs_without_area : (on_opened : OnOpened) (takes : TakesHeld pass on_opened) (fault : HeaderFault)
           → BreaksTaking (held_of tries.slots - length area) area area' (drop (cost_of image) image) i fault
-          → Runs (cat_promptly image) (volume_outcome on_opened o image pass) (message_for_header fault) (Took image i)
+          → Runs (opens_promptly stand image) (volume_outcome_by (reading_of stand) on_opened o image pass)
+          (message_for_header fault) (Took image i)
           (Took pass s) (Adds w w)
       unfolding volume
       runs_without_area on_opened takes LostRead stop =
@@ -321,15 +291,16 @@ module _ (o : OpeningRequest) (image pass : List ℕ) (i s w : Option (List ℕ)
           omega (arith, stop.1, front_len image area area' i (held_of tries.slots) front) in
           let within = area_within on_opened o.key_slot volume image pass takes short in
           rw (outcome_found on_opened)
-          (early _ image pass ReadFailed i s w (cost_of image + stop.0) (length pass) tt (omega arith)
-          (prompt_before_payload image ReadFailed (cost_of image + stop.0) (length pass) segment
-          (header, found, is_segment) (omega (arith, few, held_before)))
+          (early stand _ image pass ReadFailed i s w (cost_of image + stop.0) (length pass) tt (omega arith)
+          (prompt_before_payload stand image ReadFailed (cost_of image + stop.0) (length pass) segment
+          (header, found, is_segment) (λ attached. omega (arith, few, held_before attached)))
           (omega (arith, within.0, more.1.within, few)) within.1 more.1 gone)
       runs_without_area on_opened takes NoMemory stop =
           let within = found_within on_opened o.key_slot volume image pass takes in
           let whole = area_within on_opened o.key_slot volume image pass takes short in
           rw (outcome_found on_opened)
-          (early _ image pass OutOfMemory i s w (cost_of image) (length pass) refl (omega arith) (λ segment has. tt)
+          (early stand _ image pass OutOfMemory i s w (cost_of image) (length pass) refl (omega arith)
+          (prompt_in_header stand image OutOfMemory (cost_of image) (length pass) (omega arith))
           within.0 whole.1 (took_header image i stop.0.left) gone)
       runs_without_area on_opened takes _ stop = absurd stop
 
@@ -337,18 +308,21 @@ module _ (o : OpeningRequest) (image pass : List ℕ) (i s w : Option (List ℕ)
           (min (held_of tries.slots - length area) (length (drop (cost_of image) image)))) where
         -- the image ended within them
         pub runs_cut : (on_opened : OnOpened) → length area' < held_of tries.slots
-            → Runs (cat_promptly image) (volume_outcome on_opened o image pass) Cut (Took image i) (Took pass s)
+            → Runs (opens_promptly stand image) (volume_outcome_by (reading_of stand) on_opened o image pass) Cut
+            (Took image i) (Took pass s)
             (Adds w w)
         unfolding volume
         runs_cut on_opened few =
             let cut = area_cut image area area' i (held_of tries.slots) front grows few in
             rw (outcome_found on_opened, found_cut on_opened o.key_slot volume image pass short cut.0)
-            (ends_unwritten image pass Cut i s w (length image) (length pass) (λ h. cc) (λ segment has. tt) cut.1 gone)
+            (ends_unwritten stand image pass Cut i s w (length image) (length pass) (λ h. cc)
+            (prompt_refused stand image (length image) (length pass)) cut.1 gone)
 
         module _ (enough : held_of tries.slots ≤ length area') (r : Result Opened OpenFault)
             (tried : opening_of tries area' pass ≡ r) where
           outcome_tried : (on_opened : OnOpened)
-              → volume_outcome on_opened o image pass ≡ opened_outcome on_opened o.key_slot volume image pass r
+              → volume_outcome_by (reading_of stand) on_opened o image pass
+              ≡ opened_outcome on_opened o.key_slot volume image pass r
           unfolding volume
           outcome_tried on_opened =
               let held = area_held image area area' i (held_of tries.slots) front grows enough in
@@ -363,15 +337,18 @@ module _ (o : OpeningRequest) (image pass : List ℕ) (i s w : Option (List ℕ)
           (min (held_of tries.slots - length area) (length (drop (cost_of image) image))))
           → (enough : held_of tries.slots ≤ length area') (fault : OpenFault)
           (tried : opening_of tries area' pass ≡ Err fault) (on_opened : OnOpened)
-          → Runs (cat_promptly image) (volume_outcome on_opened o image pass) (message_for_opening o.key_slot fault)
+          → Runs (opens_promptly stand image) (volume_outcome_by (reading_of stand) on_opened o image pass)
+          (message_for_opening o.key_slot fault)
           (Took image i) (Took pass s) (Adds w w)
       unfolding volume
       runs_unopened grows enough fault tried on_opened =
           let held = area_held image area area' i (held_of tries.slots) front grows enough in
           rw (outcome_tried grows enough (Err fault) tried on_opened)
-          (ends_unwritten image pass (message_for_opening o.key_slot fault) i s w (held_for image volume) (length pass)
+          (ends_unwritten stand image pass (message_for_opening o.key_slot fault) i s w (held_for image volume)
+          (length pass)
           (no_write_told o.key_slot fault)
-          (prompt_before_payload image (message_for_opening o.key_slot fault) (held_for image volume) (length pass)
+          (prompt_before_payload stand image (message_for_opening o.key_slot fault) (held_for image volume)
+          (length pass)
           segment (header, found, is_segment) held_before)
           held.3 gone)
 
@@ -380,7 +357,7 @@ module _ (o : OpeningRequest) (image pass : List ℕ) (i s w : Option (List ℕ)
           (min (held_of tries.slots - length area) (length (drop (cost_of image) image))))
           → (enough : held_of tries.slots ≤ length area') (opened : Opened)
           (tried : opening_of tries area' pass ≡ Ok opened)
-          → Unlocks o image pass segment opened area' i s
+          → Unlocks stand o image pass segment opened area' i s
       unfolding volume
       unlocks grows enough opened tried =
           let held = area_held image area area' i (held_of tries.slots) front grows enough in
@@ -389,7 +366,7 @@ module _ (o : OpeningRequest) (image pass : List ℕ) (i s w : Option (List ℕ)
                 ∙ ap (on_opened segment opened) (sym held.1);
             has = (header, found, is_segment);
             cost = omega (arith, held.1);
-            early = omega (arith, held.1, held_before);
+            early = λ attached. omega (arith, held.1, held_before attached);
             front = rw (← held.1) at held.2;
             image_taken = rw (← held.1) at held.3;
             secret_taken = gone;

@@ -10,6 +10,7 @@ use Rattle.luks_report.specs.Faults.{message_for_header}
 use Rattle.luks_report.specs.declared.message.Message.{Message}
 use Rattle.luks_report.specs.declared.message.Message.TheVariants.{Done, No}
 use Rattle.luks_cli.specs.Ending.{Outcome, unwritten}
+use Rattle.luks_cli.specs.Reading.{Reading}
 use Rattle.luks_cli.specs.declared.execute.headers.Page.{Page}
 use Rattle.luks_cli.specs.declared.execute.headers.Page.TheVariants.{Uuid, Dump, Check}
 
@@ -49,11 +50,16 @@ message_printing told (Err fault) = message_for_header fault
 unfoldable pub is_luks_outcome : List ℕ → Outcome
 is_luks_outcome image = unwritten (answer_to_is_luks (header_of image)) (cost_of image) 0
 
--- a command that prints a text of the header
-unfoldable pub print_outcome : (Header → List ℕ) → (Header → Message) → List ℕ → Outcome
-print_outcome text told image = record {
-  output = printed text (header_of image);
-  message = message_printing told (header_of image);
+-- a command that prints a text of a header that is read so
+unfoldable pub print_outcome_by : Reading → (Header → List ℕ) → (Header → Message) → List ℕ → Outcome
+print_outcome_by read text told image = record {
+  output = printed text (read image);
+  message = message_printing told (read image);
   image_taken = cost_of image;
   secret_taken = 0;
+  payload_taken = 0;
 }
+
+-- a command that prints a text of the header
+abbrev pub print_outcome : (Header → List ℕ) → (Header → Message) → List ℕ → Outcome
+print_outcome = print_outcome_by header_of

@@ -75,7 +75,17 @@ Runs is_prompt o message TookImage TookSecret Wrote =
     MatchBool (breaks_off message) (BreaksOff is_prompt o message TookImage TookSecret Wrote)
     (Completes o message TookImage TookSecret Wrote)
 
--- of a second input that a command does not have, nothing is taken
+-- a run whose payload's image is another than the header's: as one over the header, and as many bytes are taken of the
+-- payload's image as is stated, or no more where it is broken off
+pub record RunsApart (is_prompt' : ℕ → Promptness) (o : Outcome) (message : Message)
+    (TookImage TookPayload TookSecret : ℕ → Type 0) (Wrote : List ℕ → Type 0) : Type 0 where
+  pub payload_taken : ℕ
+  pub payload_within : MatchBool (breaks_off message) (payload_taken ≤ o.payload_taken)
+      (payload_taken ≡ o.payload_taken)
+  pub payload : TookPayload payload_taken
+  pub run : Runs (is_prompt' payload_taken) o message TookImage TookSecret Wrote
+
+-- of an input that a command does not have, nothing is taken
 abbrev pub TookNone : ℕ → Type 0
 TookNone count = count ≡ 0
 

@@ -24,12 +24,14 @@ split_key_outcome hash count key random =
       message = Done;
       image_taken = length key;
       secret_taken = needed;
+      payload_taken = 0;
     }
     else record {
       output = take (length random / length key * length key) random;
       message = FewRandomBytes;
       image_taken = length key;
       secret_taken = length random;
+      payload_taken = 0;
     }
 
 -- `afSplit`: the key is the whole image, and the random bytes are the secret
@@ -49,5 +51,6 @@ merge_outcome hash count key_bytes image =
       message = Done;
       image_taken = needed;
       secret_taken = 0;
+      payload_taken = 0;
     }
     else unwritten FewStripes (length image) 0

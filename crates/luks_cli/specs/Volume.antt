@@ -18,6 +18,7 @@ use Rattle.luks_report.specs.Faults.{message_at_end}
 use Rattle.luks_report.specs.Texts.{opened_line}
 use Rattle.luks_report.specs.declared.message.Message.TheVariants.{Done, Cut, KeyFileLength}
 use Rattle.luks_cli.specs.Ending.{Outcome, unwritten}
+use Rattle.luks_cli.specs.Reading.{Reading}
 use Rattle.luks_report.specs.declared.message.Message.{Message}
 use Rattle.luks_report.specs.declared.message.Message.TheVariants.{SegmentRefused}
 
@@ -43,10 +44,14 @@ abbrev pub volume_in_header : OpeningRequest → Result Header HeaderFault → R
 volume_in_header o (Ok header) = volume_in_segment o header (segment_of header)
 volume_in_header o (Err fault) = Err (message_for_header fault)
 
--- the volume of an image, or what is told where there is none: of its header first, then of its segment, then of the
--- order of its key slots
-unfoldable pub volume_of : OpeningRequest → List ℕ → Result Volume Message
-volume_of o image = volume_in_header o (header_of image)
+-- the volume whose header is read so, or what is told where there is none: of its header first, then of its segment,
+-- then of the order of its key slots
+unfoldable pub volume_by : Reading → OpeningRequest → List ℕ → Result Volume Message
+volume_by read o image = volume_in_header o (read image)
+
+-- the volume of an image
+abbrev pub volume_of : OpeningRequest → List ℕ → Result Volume Message
+volume_of = volume_by header_of
 
 -- how many bytes of the image are taken to open the volume: the header and the key areas of the slots that are tried
 abbrev pub held_for : List ℕ → Volume → ℕ
@@ -63,8 +68,13 @@ OnOpened = Segment → Opened → ℕ → Outcome
 
 -- `testPassphrase`: the key slot that opens is told
 abbrev pub slot_outcome : List ℕ → OnOpened
-slot_outcome secret segment opened held =
-    record { output = opened_line opened.slot; message = Done; image_taken = held; secret_taken = length secret }
+slot_outcome secret segment opened held = record {
+  output = opened_line opened.slot;
+  message = Done;
+  image_taken = held;
+  secret_taken = length secret;
+  payload_taken = 0;
+}
 
 -- `luksCat`: the payload is written as plain text
 abbrev pub payload_outcome : List ℕ → List ℕ → OnOpened
@@ -73,6 +83,17 @@ payload_outcome image secret segment opened held = record {
   message = message_at_end (ending_of segment image);
   image_taken = max held (payload_end_of segment image);
   secret_taken = length secret;
+  payload_taken = 0;
+}
+
+-- `luksCat` with a header in a file of its own: the image holds the payload alone
+abbrev pub detached_payload_outcome : List ℕ → List ℕ → OnOpened
+detached_payload_outcome image secret segment opened held = record {
+  output = plain_of segment (segment.mode, opened.key) image;
+  message = message_at_end (ending_of segment image);
+  image_taken = held;
+  secret_taken = length secret;
+  payload_taken = payload_end_of segment image;
 }
 
 -- the key slots were tried
@@ -94,6 +115,11 @@ abbrev pub outcome_after : OnOpened → Option ℕ → List ℕ → List ℕ →
 outcome_after on_opened named image secret (Ok volume) = found_outcome on_opened named volume image secret
 outcome_after on_opened named image secret (Err message) = unwritten message (cost_of image) 0
 
+-- a command that opens a volume whose header is read so
+unfoldable pub volume_outcome_by : Reading → OnOpened → OpeningRequest → List ℕ → List ℕ → Outcome
+volume_outcome_by read on_opened o image secret =
+    outcome_after on_opened o.key_slot image secret (volume_by read o image)
+
 -- a command that opens a volume
-unfoldable pub volume_outcome : OnOpened → OpeningRequest → List ℕ → List ℕ → Outcome
-volume_outcome on_opened o image secret = outcome_after on_opened o.key_slot image secret (volume_of o image)
+abbrev pub volume_outcome : OnOpened → OpeningRequest → List ℕ → List ℕ → Outcome
+volume_outcome = volume_outcome_by header_of

@@ -1,5 +1,5 @@
 -- What the parts of the commands on volumes leave in their devices.
-use Rattle.std.specs.Prelude.{◌≡◌, ℕ, ◌+◌, ◌-◌, ◌*◌, ◌/◌, ◌<◌, ◌≤◌, List, length, max, min, take, Option, Ok, Err}
+use Rattle.std.specs.Prelude.{◌≡◌, ℕ, ◌+◌, ◌-◌, ◌*◌, ◌/◌, ◌^◌, ◌<◌, ◌≤◌, List, length, max, min, take, Option, Ok, Err}
 use Rattle.luks_cipher.specs.Sector.{Cipher}
 use Rattle.luks_io.specs.Bytes.{Adds, Took, TookUpTo}
 use Rattle.luks_header.specs.Header.{cost_of, header_of}
@@ -12,19 +12,24 @@ use Rattle.luks_command.specs.Request.{OpeningRequest}
 use Rattle.luks_report.specs.Faults.{message_at_end}
 use Rattle.luks_report.specs.declared.message.Message.{Message}
 use Rattle.luks_report.specs.declared.message.Message.TheVariants.{KeyFileLength, OutOfMemory, ReadFailed, WriteFailed}
-use Rattle.luks_cli.specs.Volume.{OnOpened, longest_key_file, volume_of, volume_outcome}
+use Rattle.luks_cli.specs.Reading.{Reading, detached_header_of}
+use Rattle.luks_cli.specs.Volume.{OnOpened, longest_key_file, volume_by}
 
 -- ---- the header
 
+-- a header is read, and it has this segment
+abbrev pub HasSegmentBy : Reading → List ℕ → Segment → Type 0
+HasSegmentBy read image segment = (header : Header) × (read image ≡ Ok header) × (segment_of header ≡ Ok segment)
+
 -- the image has a header with this segment
 abbrev pub HasSegment : List ℕ → Segment → Type 0
-HasSegment image segment = (header : Header) × (header_of image ≡ Ok header) × (segment_of header ≡ Ok segment)
+HasSegment = HasSegmentBy header_of
 
--- finding the volume of an image ended without one
-abbrev pub StopsFinding : OpeningRequest → List ℕ → Option (List ℕ) → Message → Type 0
-StopsFinding o image left ReadFailed = TookUpTo image left (cost_of image)
-StopsFinding o image left OutOfMemory = TookUpTo image left (cost_of image)
-StopsFinding o image left message = (volume_of o image ≡ Err message) × Took image left (cost_of image)
+-- finding the volume whose header is read so ended without one
+abbrev pub StopsFinding : Reading → OpeningRequest → List ℕ → Option (List ℕ) → Message → Type 0
+StopsFinding read o image left ReadFailed = TookUpTo image left (cost_of image)
+StopsFinding read o image left OutOfMemory = TookUpTo image left (cost_of image)
+StopsFinding read o image left message = (volume_by read o image ≡ Err message) × Took image left (cost_of image)
 
 -- ---- the key file
 
@@ -43,19 +48,6 @@ pub record TakesHeld (secret : List ℕ) (on_opened : OnOpened) : Type 0 where
   pub whole : (segment : Segment) (opened : Opened) (held : ℕ)
       → (on_opened segment opened held).secret_taken ≡ length secret
 
--- the volume of an image was opened: its segment and its key are these, and these first bytes of the image are held:
--- but for the header, none of the payload's
-pub record Unlocks (o : OpeningRequest) (image secret : List ℕ) (segment : Segment) (opened : Opened) (held : List ℕ)
-    (image' secret' : Option (List ℕ)) : Type 0 where
-  pub outcome : (on_opened : OnOpened)
-      → volume_outcome on_opened o image secret ≡ on_opened segment opened (length held)
-  pub has : HasSegment image segment
-  pub cost : cost_of image ≤ length held
-  pub early : length held ≤ max (cost_of image) segment.offset
-  pub front : held ≡ take (length held) image
-  pub image_taken : Took image image' (length held)
-  pub secret_taken : Took secret secret' (length secret)
-
 -- ---- the payload
 
 -- passing on a payload is broken off: where a write fails, no byte of the image past the sector of the last byte
@@ -71,6 +63,13 @@ passed_promptly s cost _ taken output = Unit {0}
 abbrev pub cat_promptly : List ℕ → Message → ℕ → ℕ → ℕ → Type 0
 cat_promptly image message image_taken secret_taken output =
     (segment : Segment) → HasSegment image segment → passed_promptly segment (cost_of image) message image_taken output
+
+-- `luksCat` is broken off whose header stands in a file of its own: it owes the same of the payload's image, of which
+-- nothing is taken for a header
+abbrev pub detached_cat_promptly : List ℕ → ℕ → Message → ℕ → ℕ → ℕ → Type 0
+detached_cat_promptly file payload_taken message header_taken secret_taken output =
+    (segment : Segment) → HasSegmentBy detached_header_of file segment
+    → passed_promptly segment 0 message payload_taken output
 
 -- passing on the payload of an image, of which so many bytes were taken before, ended with this message: all of it was
 -- written and taken, or it was broken off within a sector
@@ -88,3 +87,10 @@ PassesPayload s cipher image held left before after WriteFailed =
 PassesPayload s cipher image held left before after message =
     (message ≡ message_at_end (ending_of s image)) × Took image left (max held (payload_end_of s image))
     × Adds before after (plain_of s cipher image)
+
+-- the same of every image whose first bytes are these, which are held, and of which the source has the rest
+abbrev pub PassesHeld : Segment → Cipher → List ℕ → Option (List ℕ) → Option (List ℕ) → Option (List ℕ)
+    → Option (List ℕ) → Message → Type 0
+PassesHeld s cipher held rest left before after message =
+    (image : List ℕ) → length image < 2 ^ 64 → held ≡ take (length held) image → Took image rest (length held)
+    → PassesPayload s cipher image (length held) left before after message

@@ -1,29 +1,33 @@
 //! What the commands do.
 
-ghost use Rattle.std.specs.Prelude.{◌≡◌, ◌≢◌, IfErr, None};
+ghost use Rattle.std.specs.Prelude.{◌≡◌, ◌≢◌, IfErr, None, false};
 ghost use Rattle.luks_io.specs.Bytes.{WhereKnown};
 ghost use Rattle.luks_report.specs.Report.{report_of};
-ghost use Rattle.luks_command.specs.Request.{request_of, secret_of};
+ghost use Rattle.luks_command.specs.Request.{is_detached, request_of, secret_of};
 ghost use Rattle.luks_cli.specs.Run.{Counts, failures_of, NeedsNoSecret, ReadsFirst, RunsAsStated, TakesNoMemory, message_of};
+ghost use Rattle.luks_cli.specs.Honest.{WritesPlain};
 ghost use Rattle.luks_cli.specs.MayEnd.{MayTell};
 
+pub use detached::execute_detached;
 use headers::Page;
 use luks_command::command::Command;
 use luks_io::sink::Sink;
 use luks_io::source::Source;
 use luks_report::message::Message;
 use luks_report::report::Report;
+use standing::Standing;
 use std::alloc::Global;
 
+mod detached;
 mod headers;
 mod payload;
 mod secret;
+mod standing;
 mod stripes;
-#[cfg(test)]
-mod tests;
 mod volumes;
 
-/// Runs a command over its first input, its second one and the output.
+/// Runs a command over its first input, its second one and the output. Its header stands in the
+/// first one: where it has a file of its own, [`execute_detached`] is called.
 ///
 /// What is written, told and taken of both inputs is one function of the command and of the bytes
 /// that the inputs give. Where memory is refused or a read or a write fails, what was written is a
@@ -32,6 +36,9 @@ mod volumes;
 /// that has no second input leaves that source as it is, and so does one whose run ends with the
 /// header, the segment, the order of the key slots or the length of a key. But for `luksCat` and
 /// `afSplit`, nothing is written where a read fails.
+///
+/// Of an honestly sealed volume `luksCat` writes the plain text that went into it, where the
+/// passphrase is that of a key slot which is tried.
 ///
 /// `luksCat` writes each sector as it comes: where a write fails, nothing of the image past the
 /// current sector was taken, and where a read fails, all whole sectors that were taken are written.
@@ -43,8 +50,12 @@ pub fn execute<I: Source, K: Source, O: Sink>(
     secret: &mut K,
     out: &mut O,
 ) -> Report
+    requires attached { is_detached (request_of command.now) ≡ false }
     ensures run { RunsAsStated (request_of command.now) result.message
         (I.to_come image.old) (I.to_come image.new) (K.to_come secret.old) (K.to_come secret.new)
+        (O.written out.old) (O.written out.new) }
+    ensures honest { WritesPlain (request_of command.now) result.message
+        (I.to_come image.old) (K.to_come secret.old)
         (O.written out.old) (O.written out.new) }
     ensures only { MayTell (request_of command.now) result.message }
     ensures status { result ≡ report_of result.message }
@@ -87,13 +98,14 @@ fn perform<I: Source, K: Source, O: Sink>(
         (failures_of (I.failures image.old) (K.failures secret.old) (O.failures out.old))
         (failures_of (I.failures image.new) (K.failures secret.new) (O.failures out.new)) }
 {
+    let standing = Standing::Attached;
     match command {
-        Command::IsLuks { .. } => headers::is_luks(alloc, image),
-        Command::LuksUuid { .. } => headers::print(alloc, Page::Uuid, image, out),
-        Command::LuksDump { .. } => headers::print(alloc, Page::Dump, image, out),
-        Command::LuksCheck { .. } => headers::print(alloc, Page::Check, image, out),
+        Command::IsLuks(_) => headers::is_luks(alloc, image),
+        Command::LuksUuid(_) => headers::print(alloc, Page::Uuid, standing, image, out),
+        Command::LuksDump(_) => headers::print(alloc, Page::Dump, standing, image, out),
+        Command::LuksCheck(_) => headers::print(alloc, Page::Check, standing, image, out),
         Command::TestPassphrase(opening) => {
-            volumes::test_passphrase(alloc, opening, image, secret, out)
+            volumes::test_passphrase(alloc, standing, opening, image, secret, out)
         }
         Command::LuksCat(opening) => volumes::cat(alloc, opening, image, secret, out),
         Command::AfSplit(splitting) => stripes::split(splitting, image, secret, out),

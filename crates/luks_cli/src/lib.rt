@@ -11,5 +11,3 @@ pub use luks_report::message::Message;
 pub use luks_report::report::Report;
 
 pub mod execute;
-#[cfg(test)]
-mod tests;

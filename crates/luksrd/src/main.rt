@@ -1,14 +1,14 @@
 //! `luksrd`: reads the words, opens the inputs, runs the command, and tells how it ended.
 //!
-//! Everything that can be said of a run is said by `luks_cli`'s `plan` and `execute`; here are only
-//! the devices.
+//! Everything that can be said of a run is said by `luks_cli`'s `plan`, `execute` and
+//! `execute_detached`; here are only the devices.
 #![tactic(auto)]
 
 mod input;
 mod output;
 
 use input::{Input, OpenFault};
-use luks_cli::execute::execute;
+use luks_cli::execute::{execute, execute_detached};
 use luks_cli::{Command, Message, NOT_OPENED, Report, not_opened_page, plan};
 use luks_io::adapters::{ReadSource, WriteSink};
 use luks_io::sink::put_all;
@@ -31,35 +31,48 @@ fn main(rt: HostRuntime) -> ExitCode {
         return tell(&rt, Message::OutOfMemory);
     };
     match plan(rt.alloc(), words.as_slice()) {
-        Ok(command) => run(&rt, &command),
+        Ok(command) => match run(&rt, &command) {
+            Ok(status) | Err(status) => status,
+        },
         Err(fault) => tell_report(&rt, &Report::of_fault(fault)),
     }
 }
 
-/// Opens the inputs, the image first, and runs the command over them.
-fn run(rt: &HostRuntime, command: &Command<'_>) -> ExitCode {
-    let image = match Input::open(rt, command.image()) {
-        Ok(image) => image,
-        Err(fault) => return tell_fault(rt, fault, command.image()),
-    };
-    let secret = match command.secret() {
-        None => Input::Empty,
-        Some(name) => match Input::open(rt, name) {
-            Ok(secret) => secret,
-            Err(fault) => return tell_fault(rt, fault, name),
-        },
-    };
+/// Opens the inputs, the image first and the file with its header next, and runs the command over
+/// them. Where one does not open, the status that tells so is the error.
+fn run(rt: &HostRuntime, command: &Command<'_>) -> Result<ExitCode, ExitCode> {
+    let mut image = ReadSource::new(open(rt, Some(command.image()))?);
+    let mut header = ReadSource::new(open(rt, command.header())?);
+    let mut secret = ReadSource::new(open(rt, command.secret())?);
     let Ok(writer) = BufWriter::with_capacity(rt.alloc(), BUFFER, Patient::new(rt.stdout())) else {
-        return tell(rt, Message::OutOfMemory);
+        return Err(tell(rt, Message::OutOfMemory));
     };
     let mut out = WriteSink::new(writer);
-    let mut image = ReadSource::new(image);
-    let mut secret = ReadSource::new(secret);
-    let report = execute(rt.alloc(), command, &mut image, &mut secret, &mut out);
+    let alloc = rt.alloc();
+    let report = if command.is_detached() {
+        execute_detached(
+            alloc,
+            command,
+            &mut header,
+            &mut image,
+            &mut secret,
+            &mut out,
+        )
+    } else {
+        execute(alloc, command, &mut image, &mut secret, &mut out)
+    };
     if out.into_inner().flush().is_err() {
-        return tell(rt, Message::WriteFailed);
+        return Err(tell(rt, Message::WriteFailed));
     }
-    tell_report(rt, &report)
+    Ok(tell_report(rt, &report))
+}
+
+/// Opens an input, where there is one of a name.
+fn open(rt: &HostRuntime, name: Option<&str>) -> Result<Input, ExitCode> {
+    let Some(name) = name else {
+        return Ok(Input::Empty);
+    };
+    Input::open(rt, name).map_err(|fault| tell_fault(rt, fault, name))
 }
 
 /// Tells that an input was not opened.

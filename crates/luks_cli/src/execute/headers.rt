@@ -2,10 +2,12 @@
 
 ghost use Rattle.std.specs.Prelude.{◌≡◌, List, ℕ, IfOk, Option, string_bytes};
 ghost use Rattle.luks_io.specs.Bytes.{Adds, Took, WhereKnown};
-ghost use Rattle.luks_cli.specs.Header.{answer_to_is_luks, is_luks_outcome, print_outcome, text_of, told_of};
+ghost use Rattle.luks_cli.specs.Header.{answer_to_is_luks, is_luks_outcome, print_outcome_by, text_of, told_of};
 ghost use Rattle.luks_cli.specs.Run.{Counts, failures_of, Runs, TookNone, at_any_pace, message_of};
 ghost use Rattle.luks_cli.specs.MayEnd.{IsLuksMessage, PageMessage};
+ghost use Rattle.luks_cli.specs.Standing.{reading_of};
 
+use super::standing::{Standing, find_header};
 use luks_header::fault::HeaderFault;
 use luks_header::header::{Header, read_header};
 use luks_io::sink::{Sink, put_all};
@@ -78,12 +80,13 @@ fn ended(message: Message) -> Result<(), Message>
 pub(super) fn print<S: Source, O: Sink>(
     alloc: Global,
     page: Page,
+    standing: Standing,
     image: &mut S,
     out: &mut O,
 ) -> Result<(), Message>
     ensures run { WhereKnown (S.to_come image.old) (λ known.
-        Runs at_any_pace (print_outcome (text_of page) (told_of page) known) (message_of result)
-        (Took known (S.to_come image.new)) TookNone
+        Runs at_any_pace (print_outcome_by (reading_of standing) (text_of page) (told_of page) known)
+        (message_of result) (Took known (S.to_come image.new)) TookNone
         (Adds (O.written out.old) (O.written out.new))) }
     ensures only { PageMessage page (message_of result) }
     ensures reads_first { message_of result ≡ Message.ReadFailed → out.new ≡ out.old }
@@ -91,7 +94,7 @@ pub(super) fn print<S: Source, O: Sink>(
         (failures_of (S.failures image.old) secret (O.failures out.old))
         (failures_of (S.failures image.new) secret (O.failures out.new)) }
 {
-    let (header, _held) = read_header(alloc, image)?;
+    let (header, _held) = find_header(alloc, standing, image)?;
     let (text, message) = page_text(alloc, page, &header)?;
     put_all(out, text.as_bytes())?;
     ended(message)

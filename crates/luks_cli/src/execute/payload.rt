@@ -1,7 +1,7 @@
 //! The payload on its way from the image to the output.
 
 ghost use Rattle.std.specs.Prelude.{◌≡◌, ◌≢◌, ◌<◌, ◌≤◌, ◌⊎◌, ◌^◌, List, [], ℕ, Option, IfErr, true, length, take};
-ghost use Rattle.luks_cli.specs.VolumeParts.{PassesPayload};
+ghost use Rattle.luks_cli.specs.VolumeParts.{PassesHeld};
 ghost use Rattle.luks_cli.specs.MayEnd.{PayloadMessage};
 ghost use Rattle.luks_cli.specs.Run.{is_failed_read, is_failed_write, message_of};
 ghost use Rattle.luks_io.specs.Bytes.{Took, counted};
@@ -45,11 +45,8 @@ pub(super) fn write_payload<I: Source, O: Sink>(
     image: &mut I,
     out: &mut O,
 ) -> Result<(), Message>
-    ensures run { (whole : List ℕ) → length whole < 2 ^ 64
-        → held.now ≡ take (length held.now) whole
-        → Took whole (I.to_come image.old) (length held.now)
-        → PassesPayload segment cipher whole (length held.now)
-        (I.to_come image.new) (O.written out.old) (O.written out.new) (message_of result) }
+    ensures run { PassesHeld segment cipher held.now (I.to_come image.old) (I.to_come image.new)
+        (O.written out.old) (O.written out.new) (message_of result) }
     ensures only { PayloadMessage (message_of result) }
     ensures memory { IfErr result (λ message. message ≢ Message.OutOfMemory) }
     ensures reads { I.failures image.new

@@ -1,7 +1,6 @@
 use Rattle.std.proofs.Common.{◌∙◌, refl, sym}
 use Rattle.std.proofs.lemmas.Result.{err_from_is_err_and}
 use Rattle.luks_cli.specs.Header.{text_of, told_of}
-use Rattle.luks_cli.specs.Run.{message_of}
 use Rattle.luks_cli.proofs.HeaderRuns.{runs_to_end, runs_without_header, runs_without_rest, runs_without_text, told_counts, told_may_end, told_no_read, told_well}
 use Rattle.luks_cli.proofs.execute.headers.print.Goals as goal
 
@@ -9,7 +8,8 @@ pub returns-in_err-header-clause-run : goal.returns-in_err-header-clause-run
 returns-in_err-header-clause-run g c =
     let p = err_from_is_err_and c.from_residual.result c.from_residual.ensures.1 in
     rw (p.1, p.2) (λ known is.
-    runs_without_header (text_of c.args.page) (told_of c.args.page) known _ _ _ _ c.in_err-header.field-0.0
+    runs_without_header c.args.standing (text_of c.args.page)
+    (told_of c.args.page) known _ _ _ _ c.in_err-header.field-0.0
     (c.in_err-header.ensures.broken known is))
 
 pub returns-in_err-text-clause-run : goal.returns-in_err-text-clause-run
@@ -17,7 +17,7 @@ returns-in_err-text-clause-run g c =
     let p = err_from_is_err_and c.from_residual-in_err-text.result c.from_residual-in_err-text.ensures.1 in
     rw (p.1, p.2) (λ known is.
     let read = c.in_ok-header.ensures.taken known is in
-    runs_without_text (text_of c.args.page) (told_of c.args.page) known _ _ _ read.0 read.2)
+    runs_without_text c.args.standing (text_of c.args.page) (told_of c.args.page) known _ _ _ read.0 read.2)
 
 pub returns-in_err-put_all-clause-run : goal.returns-in_err-put_all-clause-run
 returns-in_err-put_all-clause-run g c =
@@ -25,14 +25,16 @@ returns-in_err-put_all-clause-run g c =
     rw (p.1, p.2) (λ known is.
     let read = c.in_ok-header.ensures.taken known is in
     let failed = c.in_err-put_all.ensures.err in
-    runs_without_rest (text_of c.args.page) (told_of c.args.page) known _ _ _ read.0 read.2 c.as_bytes.result.now _ _
+    runs_without_rest c.args.standing (text_of c.args.page)
+    (told_of c.args.page) known _ _ _ read.0 read.2 c.as_bytes.result.now _ _
     (c.as_bytes.ensures.value ∙ c.in_ok-text.ensures.text) failed.0 failed.1)
 
 pub returns-clause-run : goal.returns-clause-run
 returns-clause-run g c known is =
     let read = c.in_ok-header.ensures.taken known is in
     rw (c.ended.ensures, c.in_ok-text.ensures.told)
-    (runs_to_end (text_of c.args.page) (told_of c.args.page) known _ _ _ read.0 read.2 c.as_bytes.result.now _
+    (runs_to_end c.args.standing (text_of c.args.page)
+    (told_of c.args.page) known _ _ _ read.0 read.2 c.as_bytes.result.now _
     (c.as_bytes.ensures.value ∙ c.in_ok-text.ensures.text) c.in_ok-put_all.ensures.ok
     (told_well c.args.page _))
 

@@ -15,19 +15,19 @@ pub returns-in_err-page-clause-run : goal.returns-in_err-page-clause-run
 returns-in_err-page-clause-run g c =
     let p = err_from_is_err_and c.from_residual-in_err-page.result c.from_residual-in_err-page.ensures.1 in
     rw (p.1, p.2) (λ known is pass has.
-    runs_without_line _ known pass _ _ _ _ _ (c.in_ok-unlocked.ensures.ok known is pass has) _)
+    runs_without_line c.args.standing _ known pass _ _ _ _ _ (c.in_ok-unlocked.ensures.ok known is pass has) _)
 
 pub returns-in_err-put_all-clause-run : goal.returns-in_err-put_all-clause-run
 returns-in_err-put_all-clause-run g c =
     let p = err_from_is_err_and c.from_residual-in_err-put_all.result c.from_residual-in_err-put_all.ensures.1 in
     rw (p.1, p.2) (λ known is pass has.
     let failed = c.in_err-put_all.ensures.err in
-    runs_without_rest _ known pass _ _ _ _ _ (c.in_ok-unlocked.ensures.ok known is pass has)
+    runs_without_rest c.args.standing _ known pass _ _ _ _ _ (c.in_ok-unlocked.ensures.ok known is pass has)
     c.as_bytes.result.now (c.as_bytes.ensures.value ∙ c.in_ok-page.ensures) _ _ _ failed.0 failed.1)
 
 pub returns-clause-run : goal.returns-clause-run
 returns-clause-run g c known is pass has =
-    runs_told _ known pass _ _ _ _ _ (c.in_ok-unlocked.ensures.ok known is pass has)
+    runs_told c.args.standing _ known pass _ _ _ _ _ (c.in_ok-unlocked.ensures.ok known is pass has)
     c.as_bytes.result.now (c.as_bytes.ensures.value ∙ c.in_ok-page.ensures) _ _ c.in_ok-put_all.ensures.ok
 
 pub returns-in_err-put_all-clause-counts : goal.returns-in_err-put_all-clause-counts

@@ -1,0 +1,302 @@
+-- How the commands end whose header stands in a file of its own.
+use Rattle.std.proofs.Common.{◌≡◌, ◌≢◌, ℕ, ◌+◌, ◌*◌, ◌≤◌, inl, inr, List, Option, Result, Ok, Err, Bool, true, false, ap, sym, refl, subst, length, max, arith}
+use Rattle.std.proofs.Math.Nat.{mul-le-mul_right}
+use Rattle.luks_cli.proofs.OpenedRuns.{stands_within}
+use Rattle.std.specs.Prelude.{MatchBool, if◌then◌else◌, nat_lt}
+use Rattle.luks_io.specs.Bytes.{Adds, Took, counted, raised}
+use Rattle.luks_header.specs.Header.{cost_of}
+use Rattle.luks_header.specs.declared.header.Header.{Header}
+use Rattle.luks_verdict.specs.declared.segment.Segment.{Segment}
+use Rattle.luks_open.specs.Opening.{opening_of}
+use Rattle.luks_open.specs.Order.{held_of}
+use Rattle.luks_open.specs.declared.fault.OpenFault.{OpenFault}
+use Rattle.luks_open.specs.declared.opening.Opened.{Opened}
+use Rattle.luks_volume.specs.Plain.{ending_of, payload_end_of, sector_len, sector_start, sectors_of}
+use Rattle.luks_volume.specs.declared.fault.VolumeFault.{VolumeFault}
+use Rattle.luks_volume.specs.declared.fault.VolumeFault.TheVariants.{CutBeforePayload as IsCutBefore, Tail as HasTail, Short as IsShort, Read, Write}
+use Rattle.luks_volume.specs.declared.state.Step.{Step}
+use Rattle.luks_command.specs.Request.{OpeningRequest}
+use Rattle.luks_report.specs.Faults.{message_at_end}
+use Rattle.luks_report.specs.declared.message.Message.{Message}
+use Rattle.luks_report.specs.declared.message.Message.TheVariants.{Done, Cut, KeyFileLength, CutBeforePayload, Tail, Short, OutOfMemory, ReadFailed, WriteFailed}
+use Rattle.luks_cli.proofs.PayloadLemmas.{plain_len}
+use Rattle.luks_cli.proofs.PromptLemmas.{same_segment_by}
+use Rattle.luks_cli.specs.Detached.{CountsDetached, EndsWithoutKey}
+use Rattle.luks_cli.specs.Ending.{Outcome, unwritten}
+use Rattle.luks_cli.specs.Header.{is_luks_outcome, print_outcome_by}
+use Rattle.luks_cli.specs.MayEnd.{OpeningMessage, PayloadMessage}
+use Rattle.luks_cli.specs.Reading.{Reading, detached_header_of}
+use Rattle.luks_cli.specs.Run.{BreaksOff, Completes, Counts, Failures, Promptness, Runs, RunsApart, TookNone, breaks_off, failures_of, is_failed_read, is_failed_write}
+use Rattle.luks_cli.specs.Unlocking.{Unlocks, opens_promptly}
+use Rattle.luks_cli.specs.Volume.{OnOpened, Volume, detached_payload_outcome, found_outcome, longest_key_file, opened_outcome, outcome_after, slot_outcome, volume_by, volume_outcome_by}
+use Rattle.luks_cli.specs.VolumeParts.{PassesPayload, TakesHeld, detached_cat_promptly}
+use Rattle.luks_cli.specs.declared.execute.standing.Standing.TheVariants.{Detached}
+
+-- ---- what is taken of the payload's image
+
+-- what holds of each run that ends without a key, and of each with one, holds of all
+module _ (Q : Outcome → Type 0) (on_opened : OnOpened) (named : Option ℕ) (file pass : List ℕ)
+    (none : (message : Message) (a b : ℕ) → Q (unwritten message a b))
+    (some : (segment : Segment) (opened : Opened) (held : ℕ) → Q (on_opened segment opened held)) where
+  either : (b : Bool) (x y : Outcome) → Q x → Q y → Q (if b then x else y)
+  either true x y this that = this
+  either false x y this that = that
+
+  of_opened : (v : Volume) (r : Result Opened OpenFault) → Q (opened_outcome on_opened named v file pass r)
+  of_opened v (Ok opened) = some _ opened _
+  of_opened v (Err fault) = none _ _ _
+
+  of_found : (v : Volume) → Q (found_outcome on_opened named v file pass)
+  unfolding found_outcome
+  of_found v =
+      let tried = opened_outcome on_opened named v file pass (opening_of v.tries file pass) in
+      let cut = unwritten Cut (length file) (length pass) in
+      let is_cut = nat_lt (length file) (held_of v.tries.slots) in
+      either (nat_lt longest_key_file (length pass)) (unwritten KeyFileLength (cost_of file) (longest_key_file + 1))
+      (if is_cut then cut else tried) (none KeyFileLength (cost_of file) (longest_key_file + 1))
+      (either is_cut cut tried (none Cut (length file) (length pass)) (of_opened v (opening_of v.tries file pass)))
+
+  of_volume : (r : Result Volume Message) → Q (outcome_after on_opened named file pass r)
+  of_volume (Ok v) = of_found v
+  of_volume (Err message) = none _ _ _
+
+pub no_payload_for_answer : (file : List ℕ) → (is_luks_outcome file).payload_taken ≡ 0
+unfolding is_luks_outcome
+no_payload_for_answer file = refl
+
+pub no_payload_for_page : (read : Reading) (text : Header → List ℕ) (told : Header → Message) (file : List ℕ)
+    → (print_outcome_by read text told file).payload_taken ≡ 0
+unfolding print_outcome_by
+no_payload_for_page read text told file = refl
+
+pub no_payload_for_slot : (read : Reading) (o : OpeningRequest) (file pass : List ℕ)
+    → (volume_outcome_by read (slot_outcome pass) o file pass).payload_taken ≡ 0
+unfolding volume_outcome_by
+no_payload_for_slot read o file pass =
+    of_volume (λ (out : Outcome). out.payload_taken ≡ 0) (slot_outcome pass) o.key_slot file pass
+    (λ message a b. refl) (λ segment opened held. refl) (volume_by read o file)
+
+-- at the end of a payload nothing is told that opening may end with
+at_end : (e : Result Step VolumeFault) → OpeningMessage (message_at_end e) → breaks_off (message_at_end e) ≡ false → ⊥
+at_end (Ok step) opening well = opening
+at_end (Err IsCutBefore) opening well = opening
+at_end (Err (HasTail n)) opening well = opening
+at_end (Err (IsShort n)) opening well = opening
+at_end (Err Read) opening well = cc
+at_end (Err Write) opening well = opening
+
+-- where opening ends the run, nothing is taken of the payload's image
+no_payload_without_key : (o : OpeningRequest) (file image pass : List ℕ) (message : Message) → OpeningMessage message
+    → breaks_off message ≡ false
+    → message ≡ (volume_outcome_by detached_header_of (detached_payload_outcome image pass) o file pass).message
+    → (volume_outcome_by detached_header_of (detached_payload_outcome image pass) o file pass).payload_taken ≡ 0
+unfolding volume_outcome_by
+no_payload_without_key o file image pass message opening well =
+    of_volume (λ (out : Outcome). message ≡ out.message → out.payload_taken ≡ 0) (detached_payload_outcome image pass)
+    o.key_slot file pass (λ message a b same. refl)
+    (λ segment opened held same. absurd (at_end (ending_of segment image) (rw same at opening) (rw same at well)))
+    (volume_by detached_header_of o file)
+
+-- what is done with a volume that is opened takes no less than is held, and the whole key file
+pub takes_detached_payload : (image pass : List ℕ) → TakesHeld pass (detached_payload_outcome image pass)
+takes_detached_payload image pass =
+    record { held = λ segment opened held. omega arith; whole = λ segment opened held. refl }
+
+-- ---- runs that take nothing of it
+
+pub runs_apart : (is_prompt : Promptness) (out : Outcome) (message : Message) (TookHeader TookSecret : ℕ → Type 0)
+    (Wrote : List ℕ → Type 0) → out.payload_taken ≡ 0 → Runs is_prompt out message TookHeader TookSecret Wrote
+    → RunsApart (λ _. is_prompt) out message TookHeader TookNone TookSecret Wrote
+runs_apart is_prompt out message TookHeader TookSecret Wrote none run =
+    record { payload_taken = 0; payload_within = by (breaks_off message); payload = refl; run = run }
+  where
+    by : (b : Bool) → MatchBool b (0 ≤ out.payload_taken) (0 ≡ out.payload_taken)
+    by true = omega arith
+    by false = sym none
+
+-- before anything is written or taken, a run is prompt
+prompt_at_first : (file : List ℕ) (message : Message) (a b : ℕ) → detached_cat_promptly file 0 message a b 0
+prompt_at_first file ReadFailed a b segment has = λ past. absurd (omega arith)
+prompt_at_first file WriteFailed a b segment has = omega arith
+prompt_at_first file _ a b segment has = tt
+
+-- a run that ended without a key, of whose outcome nothing is taken of the payload's image
+unopened : (file : List ℕ) (out : Outcome) (message : Message) (TookHeader TookPayload TookSecret : ℕ → Type 0)
+    (Wrote : List ℕ → Type 0) → (breaks_off message ≡ false → message ≡ out.message → out.payload_taken ≡ 0)
+    → TookPayload 0 → Runs (opens_promptly Detached file) out message TookHeader TookSecret Wrote
+    → RunsApart (detached_cat_promptly file) out message TookHeader TookPayload TookSecret Wrote
+unopened file out message TookHeader TookPayload TookSecret Wrote none took run = by (breaks_off message) refl
+  where
+    by : (b : Bool) → breaks_off message ≡ b
+        → RunsApart (detached_cat_promptly file) out message TookHeader TookPayload TookSecret Wrote
+    by true is =
+        let broken : BreaksOff (opens_promptly Detached file) out message TookHeader TookSecret Wrote = rw is at run in
+        record {
+          payload_taken = 0;
+          payload_within = rw is (omega arith);
+          payload = took;
+          run = rw is (record {
+            image_taken = broken.image_taken;
+            secret_taken = broken.secret_taken;
+            output_len = broken.output_len;
+            image_within = broken.image_within;
+            secret_within = broken.secret_within;
+            output_within = broken.output_within;
+            is_silent = broken.is_silent;
+            is_prompt = subst (detached_cat_promptly file 0 message broken.image_taken broken.secret_taken)
+                (sym broken.is_prompt) (prompt_at_first file message broken.image_taken broken.secret_taken);
+            image = broken.image;
+            secret = broken.secret;
+            output = broken.output;
+          });
+        }
+    by false is =
+        let whole : Completes out message TookHeader TookSecret Wrote = rw is at run in
+        record {
+          payload_taken = 0;
+          payload_within = rw is (sym (none is whole.as_stated));
+          payload = took;
+          run = rw is (record {
+            as_stated = whole.as_stated;
+            image = whole.image;
+            secret = whole.secret;
+            output = whole.output;
+          });
+        }
+
+-- opening ended the run
+pub runs_unopened_apart : (o : OpeningRequest) (file image pass : List ℕ) (message : Message)
+    (TookHeader TookPayload TookSecret : ℕ → Type 0) (Wrote : List ℕ → Type 0) → OpeningMessage message → TookPayload 0
+    → Runs (opens_promptly Detached file)
+    (volume_outcome_by detached_header_of (detached_payload_outcome image pass) o file pass) message TookHeader
+    TookSecret Wrote
+    → RunsApart (detached_cat_promptly file)
+    (volume_outcome_by detached_header_of (detached_payload_outcome image pass) o file pass) message TookHeader
+    TookPayload TookSecret Wrote
+runs_unopened_apart o file image pass message TookHeader TookPayload TookSecret Wrote opening took run =
+    unopened file _ message TookHeader TookPayload TookSecret Wrote
+    (no_payload_without_key o file image pass message opening) took run
+
+-- ---- the payload
+
+module _ (o : OpeningRequest) (file image pass : List ℕ) (segment : Segment) (opened : Opened) (held : List ℕ)
+    (h s : Option (List ℕ)) (u : Unlocks Detached o file pass segment opened held h s) (i' w w' : Option (List ℕ)) where
+  stated : volume_outcome_by detached_header_of (detached_payload_outcome image pass) o file pass
+      ≡ detached_payload_outcome image pass segment opened (length held)
+  stated = u.outcome (detached_payload_outcome image pass)
+
+  -- the payload was passed on, to its end or not
+  pub runs_passed_apart : (message : Message) → message ≢ OutOfMemory
+      → PassesPayload segment (segment.mode, opened.key) image 0 i' w w' message
+      → RunsApart (detached_cat_promptly file)
+      (volume_outcome_by detached_header_of (detached_payload_outcome image pass) o file pass) message (Took file h)
+      (Took image i') (Took pass s) (Adds w w')
+  runs_passed_apart OutOfMemory never passed = absurd (never refl)
+  runs_passed_apart ReadFailed never passed =
+      let place = passed.0 in
+      let count = passed.1 in
+      let span : count * sector_len segment
+      ≤ sectors_of segment image * sector_len segment = mul-le-mul_right (sector_len segment) passed.3 in
+      rw stated (record {
+        payload_taken = place;
+        payload_within = omega (arith, passed.4);
+        payload = passed.5;
+        run = record {
+          image_taken = length held;
+          secret_taken = length pass;
+          output_len = count * sector_len segment;
+          image_within = omega arith;
+          secret_within = omega arith;
+          output_within = omega (arith, plain_len segment image (segment.mode, opened.key));
+          is_silent = tt;
+          is_prompt = λ other is past.
+              rw (same_segment_by detached_header_of file segment other u.has is)
+              (ap (λ n. n * sector_len segment) passed.2);
+          image = u.image_taken;
+          secret = u.secret_taken;
+          output = passed.6;
+        };
+      })
+  runs_passed_apart WriteFailed never passed =
+      let count = passed.0 in
+      let written = passed.1 in
+      let within = stands_within segment image count written passed.2 passed.3 in
+      rw stated (record {
+        payload_taken = max 0 (sector_start segment (count + 1));
+        payload_within = omega (arith, passed.4);
+        payload = passed.5;
+        run = record {
+          image_taken = length held;
+          secret_taken = length pass;
+          output_len = count * sector_len segment + written;
+          image_within = omega arith;
+          secret_within = omega arith;
+          output_within = omega (arith, plain_len segment image (segment.mode, opened.key), within.span);
+          is_silent = tt;
+          is_prompt = λ other is. rw (same_segment_by detached_header_of file segment other u.has is, within.row)
+              (omega arith);
+          image = u.image_taken;
+          secret = u.secret_taken;
+          output = passed.6;
+        };
+      })
+  runs_passed_apart message never passed =
+      let all : max 0 (payload_end_of segment image) ≡ payload_end_of segment image = omega arith in
+      rw stated (record {
+        payload_taken = payload_end_of segment image;
+        payload_within = refl;
+        payload = subst (Took image i') all passed.1;
+        run = record {
+          as_stated = passed.0;
+          image = u.image_taken;
+          secret = u.secret_taken;
+          output = passed.2;
+        };
+      })
+
+-- a payload that is passed on ends with no message that tells of opening
+pub with_key : (message : Message) → PayloadMessage message → EndsWithoutKey message → ⊥
+with_key Done passed without = absurd without
+with_key CutBeforePayload passed without = absurd without
+with_key (Tail n) passed without = absurd without
+with_key (Short n) passed without = absurd without
+with_key ReadFailed passed without = absurd without
+with_key WriteFailed passed without = absurd without
+with_key _ passed without = absurd passed
+
+-- ---- counts of failures
+
+-- of a run that asked nothing of the payload's image
+pub counts_apart : (message : Message) (header header' image secret secret' written written' : ℕ)
+    → Counts message (failures_of header secret written) (failures_of header' secret' written')
+    → CountsDetached message header header' (failures_of image secret written) (failures_of image secret' written')
+counts_apart ReadFailed header header' image secret secret' written written' (inl same) = inl (
+  ap (λ (f : Failures). f.image) same,
+  ap (λ (f : Failures). record f { image = image }) same,
+)
+counts_apart ReadFailed header header' image secret secret' written written' (inr same) = inr (
+  ap (λ (f : Failures). f.image) same,
+  inr (ap (λ (f : Failures). record f { image = image }) same),
+)
+counts_apart _ header header' image secret secret' written written' same = (
+  ap (λ (f : Failures). f.image) same,
+  ap (λ (f : Failures). record f { image = image }) same,
+)
+
+-- of a run that passed on a payload, where nothing had failed before
+pub counts_passed_apart : (message : Message) (header header' image image' secret secret' written written' : ℕ)
+    → ((count : ℕ) → Counts Done (failures_of header secret count) (failures_of header' secret' count))
+    → image' ≡ counted (is_failed_read message) image → written' ≡ counted (is_failed_write message) written
+    → CountsDetached message header header' (failures_of image secret written) (failures_of image' secret' written')
+counts_passed_apart ReadFailed header header' image image' secret secret' written written' same reads writes = inr (
+  ap (λ (f : Failures). f.image) (same 0),
+  inl (rw (reads, writes) (ap (λ (f : Failures). record f { image = raised image }) (same written))),
+)
+counts_passed_apart WriteFailed header header' image image' secret secret' written written' same reads writes = (
+  ap (λ (f : Failures). f.image) (same 0),
+  rw (reads, writes) (ap (λ (f : Failures). record f { image = image }) (same (raised written))),
+)
+counts_passed_apart _ header header' image image' secret secret' written written' same reads writes = (
+  ap (λ (f : Failures). f.image) (same 0),
+  rw (reads, writes) (ap (λ (f : Failures). record f { image = image }) (same written)),
+)

@@ -1,0 +1,78 @@
+-- How much of the image is taken for what is promised of a run on a volume that is broken off.
+use Rattle.std.proofs.Common.{◌≡◌, ℕ, ◌-◌, ◌≤◌, inl, inr, List, Option, Ok, refl, arith, max}
+use Rattle.std.proofs.lemmas.Bool.{cases_lt}
+use Rattle.std.proofs.Math.Nat.{zero-div}
+use Rattle.luks_header.specs.Header.{cost_of, header_of}
+use Rattle.luks_header.specs.Segment.{segment_of}
+use Rattle.luks_header.specs.declared.header.Header.{Header}
+use Rattle.luks_header.proofs.KnownLemmas.{is_attached}
+use Rattle.luks_verdict.specs.declared.segment.Segment.{Segment}
+use Rattle.luks_open.proofs.CallerLemmas.{held_before_payload}
+use Rattle.luks_open.specs.Order.{Tries, held_of, order_of}
+use Rattle.luks_volume.specs.Plain.{sector_len}
+use Rattle.luks_report.specs.declared.message.Message.{Message}
+use Rattle.luks_report.specs.declared.message.Message.TheVariants.{Cut, ReadFailed, WriteFailed}
+use Rattle.luks_cli.specs.Reading.{Reading}
+use Rattle.luks_cli.specs.Standing.{reading_of}
+use Rattle.luks_cli.specs.Unlocking.{opens_promptly}
+use Rattle.luks_cli.specs.VolumeParts.{HasSegment, HasSegmentBy, cat_promptly}
+use Rattle.luks_cli.specs.declared.execute.standing.Standing.{Standing}
+use Rattle.luks_cli.specs.declared.execute.standing.Standing.TheVariants.{Attached, Detached}
+
+pub same_segment_by : (read : Reading) (image : List ℕ) (s t : Segment) → HasSegmentBy read image s
+    → HasSegmentBy read image t → t ≡ s
+same_segment_by read image s t one other =
+    let first : read image ≡ Ok one.0 = one.1 in
+    let second : read image ≡ Ok other.0 = other.1 in
+    let third : segment_of one.0 ≡ Ok s = one.2 in
+    let fourth : segment_of other.0 ≡ Ok t = other.2 in
+    cc
+
+-- nothing past the header was taken
+cat_in_header : (image : List ℕ) (message : Message) (a b : ℕ) → a ≤ cost_of image → cat_promptly image message a b 0
+cat_in_header image ReadFailed a b few segment has = λ past. absurd (omega arith)
+cat_in_header image WriteFailed a b few segment has = omega arith
+cat_in_header image _ a b few segment has = tt
+
+pub prompt_in_header : (stand : Standing) (image : List ℕ) (message : Message) (a b : ℕ) → a ≤ cost_of image
+    → opens_promptly stand image message a b 0
+prompt_in_header Attached image message a b few = cat_in_header image message a b few
+prompt_in_header Detached image message a b few = refl
+
+-- neither a read nor a write failed
+pub prompt_refused : (stand : Standing) (image : List ℕ) (a b : ℕ) → opens_promptly stand image Cut a b 0
+prompt_refused Attached image a b = λ segment has. tt
+prompt_refused Detached image a b = refl
+
+-- nothing past the payload's start was taken
+prompt_to_payload : (image : List ℕ) (message : Message) (a b : ℕ) (segment : Segment) → HasSegment image segment
+    → a ≤ segment.offset → cat_promptly image message a b 0
+prompt_to_payload image ReadFailed a b segment has few other is = λ past.
+    let same = same_segment_by header_of image segment other has is in
+    let none : a - other.offset ≡ 0 = rw same (omega arith) in
+    rw (none, zero-div (sector_len other)) (omega arith)
+prompt_to_payload image WriteFailed a b segment has few other is =
+    let same = same_segment_by header_of image segment other has is in
+    let start : a ≤ other.offset = rw same few in
+    omega arith
+prompt_to_payload image _ a b segment has few other is = tt
+
+-- nothing past the header and the payload's start was taken
+pub prompt_before_payload : (stand : Standing) (image : List ℕ) (message : Message) (a b : ℕ) (segment : Segment)
+    → HasSegmentBy (reading_of stand) image segment
+    → (stand ≡ Attached → a ≤ max (cost_of image) segment.offset) → opens_promptly stand image message a b 0
+prompt_before_payload Attached image message a b segment has early =
+    let few = early refl in
+    elim (cases_lt (cost_of image) a) [
+      | inl past ↦ prompt_to_payload image message a b segment has (omega arith)
+      | inr within ↦ cat_in_header image message a b (omega arith)
+    ]
+prompt_before_payload Detached image message a b segment has early = refl
+
+-- of a header in the payload's image no key material that is tried stands in the payload
+pub held_early : (stand : Standing) (image : List ℕ) (header : Header) (segment : Segment) (named limit : Option ℕ)
+    (tries : Tries) → reading_of stand image ≡ Ok header → segment_of header ≡ Ok segment
+    → order_of header named limit ≡ Ok tries → stand ≡ Attached → held_of tries.slots ≤ segment.offset
+held_early Attached image header segment named limit tries found is_segment ordered attached =
+    held_before_payload header segment named limit tries (is_attached image header found) is_segment ordered
+held_early Detached image header segment named limit tries found is_segment ordered attached = cc

@@ -1,0 +1,50 @@
+use Rattle.luks_cli.specs.Header.{text_of, told_of}
+use Rattle.luks_cli.specs.Reading.{detached_header_of}
+use Rattle.luks_cli.specs.Run.{at_any_pace}
+use Rattle.luks_cli.specs.declared.execute.headers.Page.TheVariants.{Uuid, Dump, Check}
+use Rattle.luks_cli.proofs.DetachedRuns.{counts_apart, no_payload_for_answer, no_payload_for_page, no_payload_for_slot, runs_apart}
+use Rattle.luks_cli.proofs.execute.detached.perform_detached.Goals as goal
+
+pub returns-in-IsLuks-clause-run : goal.returns-in-IsLuks-clause-run
+returns-in-IsLuks-clause-run g c = rw c.in-IsLuks.is (λ file there known payload pass secret counted.
+    runs_apart at_any_pace _ _ _ _ _ (no_payload_for_answer file) (c.is_luks.ensures.run _ file there))
+
+pub returns-in-LuksUuid-clause-run : goal.returns-in-LuksUuid-clause-run
+returns-in-LuksUuid-clause-run g c = rw c.in-LuksUuid.is (λ file there known payload pass secret counted.
+    runs_apart at_any_pace _ _ _ _ _ (no_payload_for_page detached_header_of (text_of Uuid) (told_of Uuid) file)
+    (c.print.ensures.run file there))
+
+pub returns-in-LuksDump-clause-run : goal.returns-in-LuksDump-clause-run
+returns-in-LuksDump-clause-run g c = rw c.in-LuksDump.is (λ file there known payload pass secret counted.
+    runs_apart at_any_pace _ _ _ _ _ (no_payload_for_page detached_header_of (text_of Dump) (told_of Dump) file)
+    (c.print-in-LuksDump.ensures.run file there))
+
+pub returns-in-LuksCheck-clause-run : goal.returns-in-LuksCheck-clause-run
+returns-in-LuksCheck-clause-run g c = rw c.in-LuksCheck.is (λ file there known payload pass secret counted.
+    runs_apart at_any_pace _ _ _ _ _ (no_payload_for_page detached_header_of (text_of Check) (told_of Check) file)
+    (c.print-in-LuksCheck.ensures.run file there))
+
+pub returns-in-TestPassphrase-clause-run : goal.returns-in-TestPassphrase-clause-run
+returns-in-TestPassphrase-clause-run g c =
+    rw c.in-TestPassphrase.is (λ file there known payload pass secret counted.
+    runs_apart at_any_pace _ _ _ _ _ (no_payload_for_slot detached_header_of _ file pass)
+    (c.test_passphrase.ensures.run file there pass secret))
+
+pub returns-in-LuksCat-clause-run : goal.returns-in-LuksCat-clause-run
+returns-in-LuksCat-clause-run g c = rw c.in-LuksCat.is (λ file there known payload pass secret counted.
+    c.cat_detached.ensures.run file there known payload pass secret counted)
+
+pub returns-in-IsLuks-clause-counts : goal.returns-in-IsLuks-clause-counts
+returns-in-IsLuks-clause-counts g c = counts_apart _ _ _ _ _ _ _ _ (c.is_luks.ensures.counts _ _)
+
+pub returns-in-LuksUuid-clause-counts : goal.returns-in-LuksUuid-clause-counts
+returns-in-LuksUuid-clause-counts g c = counts_apart _ _ _ _ _ _ _ _ (c.print.ensures.counts _)
+
+pub returns-in-LuksDump-clause-counts : goal.returns-in-LuksDump-clause-counts
+returns-in-LuksDump-clause-counts g c = counts_apart _ _ _ _ _ _ _ _ (c.print-in-LuksDump.ensures.counts _)
+
+pub returns-in-LuksCheck-clause-counts : goal.returns-in-LuksCheck-clause-counts
+returns-in-LuksCheck-clause-counts g c = counts_apart _ _ _ _ _ _ _ _ (c.print-in-LuksCheck.ensures.counts _)
+
+pub returns-in-TestPassphrase-clause-counts : goal.returns-in-TestPassphrase-clause-counts
+returns-in-TestPassphrase-clause-counts g c = counts_apart _ _ _ _ _ _ _ _ c.test_passphrase.ensures.counts

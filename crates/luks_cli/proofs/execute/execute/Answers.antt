@@ -1,0 +1,20 @@
+use Rattle.luks_command.specs.Request.{request_of}
+use Rattle.luks_report.specs.declared.message.Message.TheVariants.{Done}
+use Rattle.luks_cli.proofs.HonestVolumes.{writes_plain}
+use Rattle.luks_cli.proofs.execute.execute.Goals as goal
+
+pub returns-in-Ok-clause-honest : goal.returns-in-Ok-clause-honest
+returns-in-Ok-clause-honest g c =
+    rw c.of.ensures
+    (writes_plain (request_of c.args.command.now) Done (g.I.Source.to_come c.args.image.now)
+    (g.I.Source.to_come c.perform.new.image) (g.K.Source.to_come c.args.secret.now)
+    (g.K.Source.to_come c.perform.new.secret) (g.O.Sink.written c.args.out.now) (g.O.Sink.written c.perform.new.out)
+    c.in-Ok.ensures.run)
+
+pub returns-in-Err-clause-honest : goal.returns-in-Err-clause-honest
+returns-in-Err-clause-honest g c =
+    rw c.of-in-Err.ensures
+    (writes_plain (request_of c.args.command.now) c.in-Err.message (g.I.Source.to_come c.args.image.now)
+    (g.I.Source.to_come c.perform.new.image) (g.K.Source.to_come c.args.secret.now)
+    (g.K.Source.to_come c.perform.new.secret) (g.O.Sink.written c.args.out.now) (g.O.Sink.written c.perform.new.out)
+    c.in-Err.ensures.run)

@@ -1,0 +1,38 @@
+use Rattle.std.proofs.lemmas.Result.{err_from_is_err_and}
+use Rattle.std.proofs.Common.{refl}
+use Rattle.luks_io.proofs.Taking.{took-none}
+use Rattle.luks_command.specs.Request.{opening_request}
+use Rattle.luks_cli.specs.Run.{message_of}
+use Rattle.luks_cli.specs.Volume.{detached_payload_outcome}
+use Rattle.luks_cli.proofs.DetachedRuns.{counts_passed_apart, counts_apart, runs_passed_apart, runs_unopened_apart, takes_detached_payload, with_key}
+use Rattle.luks_cli.proofs.OpenedRuns.{never_memory}
+use Rattle.luks_cli.proofs.execute.volumes.cat_detached.Goals as goal
+
+pub returns-in_err-unlocked-clause-run : goal.returns-in_err-unlocked-clause-run
+returns-in_err-unlocked-clause-run g c =
+    let p = err_from_is_err_and c.from_residual.result c.from_residual.ensures.1 in
+    let stop = c.in_err-unlocked.ensures in
+    rw (p.1, p.2) (λ file there known is pass has counted.
+    runs_unopened_apart (opening_request c.args.opening.now) file known pass _ _ _ _ _ stop.only
+    (took-none known _ is) (stop.err _ file there pass has (detached_payload_outcome known pass)
+    (takes_detached_payload known pass)))
+
+pub returns-clause-run : goal.returns-clause-run
+returns-clause-run g c file there known is pass has counted =
+    let u = c.in_ok-unlocked.ensures.ok file there pass has in
+    runs_passed_apart _ file known pass _ _ _ _ _ u _ _ _ (message_of c.write_plain.result)
+    (never_memory c.write_plain.result c.write_plain.ensures.memory)
+    (c.write_plain.ensures.run known counted refl (took-none known _ is))
+
+pub returns-clause-before_key : goal.returns-clause-before_key
+returns-clause-before_key g c without = absurd (with_key _ c.write_plain.ensures.only without)
+
+pub returns-in_err-unlocked-clause-counts : goal.returns-in_err-unlocked-clause-counts
+returns-in_err-unlocked-clause-counts g c =
+    let p = err_from_is_err_and c.from_residual.result c.from_residual.ensures.1 in
+    rw (p.1, p.2) (counts_apart _ _ _ _ _ _ _ _ (c.in_err-unlocked.ensures.counts _))
+
+pub returns-clause-counts : goal.returns-clause-counts
+returns-clause-counts g c =
+    counts_passed_apart (message_of c.write_plain.result) _ _ _ _ _ _ _ _ c.in_ok-unlocked.ensures.counts
+    c.write_plain.ensures.reads c.write_plain.ensures.writes

@@ -1,0 +1,91 @@
+-- The headline for a header in a file of its own: header and key areas come from that file, and the payload from the
+-- image, at the segment's own place.
+use Rattle.std.specs.Prelude.{◌≡◌, ◌⊎◌, ℕ, List, Option, Some, is_err, true}
+use Rattle.luks_io.specs.Bytes.{Adds, Took, WhereKnown, raised}
+use Rattle.luks_command.specs.Request.{Request, is_luks, luks_uuid, luks_dump, luks_check, test_passphrase, luks_cat}
+use Rattle.luks_report.specs.Check.{check_of, message_for_check}
+use Rattle.luks_report.specs.Dump.{dump_of, uuid_of}
+use Rattle.luks_report.specs.declared.message.Message.{Message}
+use Rattle.luks_report.specs.declared.message.Message.TheVariants.{NotLuks, Cut, Json, OutOfMemory, ReadFailed}
+use Rattle.luks_report.specs.declared.message.Message.TheVariants.{SegmentRefused, NoSuchSlot, SlotDisabled, SlotSkipped, NothingTried}
+use Rattle.luks_report.specs.declared.message.Message.TheVariants.{KeyFileLength, NoKey}
+use Rattle.luks_cli.specs.Ending.{Outcome}
+use Rattle.luks_cli.specs.Header.{is_luks_outcome, print_outcome_by, well}
+use Rattle.luks_cli.specs.Outcome.{outcome_of}
+use Rattle.luks_cli.specs.Reading.{detached_header_of}
+use Rattle.luks_cli.specs.Run.{Counts, Failures, IsCounted, KnowsSecret, Promptness, RunsApart, TookNone, TookSecret, at_any_pace}
+use Rattle.luks_cli.specs.Volume.{detached_payload_outcome, slot_outcome, volume_by, volume_outcome_by}
+use Rattle.luks_cli.specs.VolumeParts.{detached_cat_promptly}
+
+-- what a command does with the bytes of the file with the header, of the image and of the second input
+abbrev pub detached_outcome_of : Request → List ℕ → List ℕ → List ℕ → Outcome
+detached_outcome_of (is_luks _) file image secret = is_luks_outcome file
+detached_outcome_of (luks_uuid _) file image secret = print_outcome_by detached_header_of uuid_of well file
+detached_outcome_of (luks_dump _) file image secret = print_outcome_by detached_header_of dump_of well file
+detached_outcome_of (luks_check _) file image secret =
+    print_outcome_by detached_header_of check_of message_for_check file
+detached_outcome_of (test_passphrase o) file image secret =
+    volume_outcome_by detached_header_of (slot_outcome secret) o file secret
+detached_outcome_of (luks_cat o) file image secret =
+    volume_outcome_by detached_header_of (detached_payload_outcome image secret) o file secret
+-- the commands on stripes have no header
+detached_outcome_of request file image secret = outcome_of request image secret
+
+-- how prompt a command is that took so many bytes of the image
+abbrev pub detached_promptness_of : Request → List ℕ → ℕ → Promptness
+detached_promptness_of (luks_cat o) file payload_taken = detached_cat_promptly file payload_taken
+detached_promptness_of request file payload_taken = at_any_pace
+
+-- the image knows its bytes, where the command reads any of it
+abbrev pub KnowsPayload : Request → Option (List ℕ) → List ℕ → Type 0
+KnowsPayload (luks_cat o) device image = device ≡ Some image
+KnowsPayload request device image = Unit {0}
+
+-- what was taken of it
+abbrev pub TookPayload : Request → List ℕ → Option (List ℕ) → ℕ → Type 0
+TookPayload (luks_cat o) image left = Took image left
+TookPayload request image left = TookNone
+
+-- where the inputs of a command know their bytes, its run has the outcome that is stated for these
+abbrev pub RunsDetached : Request → Message → Option (List ℕ) → Option (List ℕ) → Option (List ℕ) → Option (List ℕ)
+    → Option (List ℕ) → Option (List ℕ) → Option (List ℕ) → Option (List ℕ) → Type 0
+RunsDetached request message header header' image image' secret secret' written written' =
+    WhereKnown header
+    (λ file. (known : List ℕ) → KnowsPayload request image known → (known_secret : List ℕ)
+    → KnowsSecret request secret known_secret → IsCounted request known
+    → RunsApart (detached_promptness_of request file) (detached_outcome_of request file known known_secret) message
+    (Took file header') (TookPayload request known image') (TookSecret request known_secret secret')
+    (Adds written written'))
+
+-- the header, the segment or the order of the key slots ends the run: no second input is needed
+abbrev pub NeedsNoSecretDetached : Request → List ℕ → Type 0
+NeedsNoSecretDetached (test_passphrase o) file = is_err (volume_by detached_header_of o file) ≡ true
+NeedsNoSecretDetached (luks_cat o) file = is_err (volume_by detached_header_of o file) ≡ true
+NeedsNoSecretDetached request file = Unit {0}
+
+-- a command that reads nothing of the image
+abbrev pub NeedsNoPayload : Request → Type 0
+NeedsNoPayload (luks_cat o) = ⊥
+NeedsNoPayload request = Unit {0}
+
+-- the run ended before a key was found
+abbrev pub EndsWithoutKey : Message → Type 0
+EndsWithoutKey NotLuks = Unit {0}
+EndsWithoutKey Cut = Unit {0}
+EndsWithoutKey Json = Unit {0}
+EndsWithoutKey (SegmentRefused _) = Unit {0}
+EndsWithoutKey (NoSuchSlot _) = Unit {0}
+EndsWithoutKey (SlotDisabled _) = Unit {0}
+EndsWithoutKey (SlotSkipped _ _) = Unit {0}
+EndsWithoutKey (NothingTried _) = Unit {0}
+EndsWithoutKey KeyFileLength = Unit {0}
+EndsWithoutKey (NoKey _) = Unit {0}
+EndsWithoutKey OutOfMemory = Unit {0}
+EndsWithoutKey _ = ⊥
+
+-- the counts of failures after a run with this message, of the file with the header and of the other devices: one of
+-- them rose by one where a read or a write failed, and else none did
+abbrev pub CountsDetached : Message → ℕ → ℕ → Failures → Failures → Type 0
+CountsDetached ReadFailed header header' before after =
+    ((header' ≡ raised header) × (after ≡ before)) ⊎ ((header' ≡ header) × Counts ReadFailed before after)
+CountsDetached message header header' before after = (header' ≡ header) × Counts message before after

@@ -1,0 +1,18 @@
+-- How a header is read: at the front of the payload's image, or from a file of its own.
+use Rattle.std.specs.Prelude.{ℕ, List, Result, Ok, Err}
+use Rattle.luks_header.specs.Header.{detached_of, header_of}
+use Rattle.luks_header.specs.declared.header.Header.{Header}
+use Rattle.luks_area.specs.declared.fault.HeaderFault.{HeaderFault}
+
+-- what is read of the bytes at whose front a header stands
+abbrev pub Reading : Type 0
+Reading = List ℕ → Result Header HeaderFault
+
+-- a header that was read stands apart from the payload's image
+abbrev pub as_detached : Result Header HeaderFault → Result Header HeaderFault
+as_detached (Ok header) = Ok (detached_of header)
+as_detached (Err fault) = Err fault
+
+-- the header of a file of its own
+abbrev pub detached_header_of : Reading
+detached_header_of file = as_detached (header_of file)

@@ -1,0 +1,32 @@
+-- What opening a volume leaves in its devices, wherever its header stands.
+use Rattle.std.specs.Prelude.{◌≡◌, ℕ, ◌≤◌, List, length, max, take, Option}
+use Rattle.luks_io.specs.Bytes.{Took}
+use Rattle.luks_header.specs.Header.{cost_of}
+use Rattle.luks_verdict.specs.declared.segment.Segment.{Segment}
+use Rattle.luks_open.specs.declared.opening.Opened.{Opened}
+use Rattle.luks_command.specs.Request.{OpeningRequest}
+use Rattle.luks_report.specs.declared.message.Message.{Message}
+use Rattle.luks_cli.specs.Standing.{reading_of}
+use Rattle.luks_cli.specs.Volume.{OnOpened, volume_outcome_by}
+use Rattle.luks_cli.specs.VolumeParts.{HasSegmentBy, cat_promptly}
+use Rattle.luks_cli.specs.declared.execute.standing.Standing.{Standing}
+use Rattle.luks_cli.specs.declared.execute.standing.Standing.TheVariants.{Attached, Detached}
+
+-- opening is broken off: with a header in the payload's image it owes what `luksCat` owes, and else it writes nothing
+abbrev pub opens_promptly : Standing → List ℕ → Message → ℕ → ℕ → ℕ → Type 0
+opens_promptly Attached image message image_taken secret_taken output =
+    cat_promptly image message image_taken secret_taken output
+opens_promptly Detached image message image_taken secret_taken output = output ≡ 0
+
+-- the volume was opened: its segment and its key are these, and these first bytes are held of the image, or of the file
+-- with the header: of an image, but for the header, none of the payload's
+pub record Unlocks (standing : Standing) (o : OpeningRequest) (image secret : List ℕ) (segment : Segment)
+    (opened : Opened) (held : List ℕ) (image' secret' : Option (List ℕ)) : Type 0 where
+  pub outcome : (on_opened : OnOpened)
+      → volume_outcome_by (reading_of standing) on_opened o image secret ≡ on_opened segment opened (length held)
+  pub has : HasSegmentBy (reading_of standing) image segment
+  pub cost : cost_of image ≤ length held
+  pub early : standing ≡ Attached → length held ≤ max (cost_of image) segment.offset
+  pub front : held ≡ take (length held) image
+  pub image_taken : Took image image' (length held)
+  pub secret_taken : Took secret secret' (length secret)

@@ -1,0 +1,99 @@
+//! What the commands do over a header in a file of its own.
+
+ghost use Rattle.std.specs.Prelude.{◌≡◌, None, true};
+ghost use Rattle.luks_io.specs.Bytes.{WhereKnown};
+ghost use Rattle.luks_report.specs.Report.{report_of};
+ghost use Rattle.luks_command.specs.Request.{is_detached, request_of, secret_of};
+ghost use Rattle.luks_cli.specs.Detached.{CountsDetached, EndsWithoutKey, NeedsNoPayload, NeedsNoSecretDetached, RunsDetached};
+ghost use Rattle.luks_cli.specs.Run.{ReadsFirst, failures_of, message_of};
+ghost use Rattle.luks_cli.specs.MayEnd.{MayTell};
+
+use super::headers::{self, Page};
+use super::standing::Standing;
+use super::volumes;
+use luks_command::command::Command;
+use luks_io::sink::Sink;
+use luks_io::source::Source;
+use luks_report::message::Message;
+use luks_report::report::Report;
+use std::alloc::Global;
+
+/// Runs a command whose header stands in a file of its own, over that file, the image with the
+/// payload, the second input and the output.
+///
+/// As [`execute`](super::execute), but that the header and the key areas come from the file, and
+/// the payload from the image, at the segment's own place. The image is read by `luksCat` alone,
+/// once a key was found: where a write fails, no byte of it past the current sector was taken, and
+/// where a read of it fails, all its whole sectors that were taken are written.
+pub fn execute_detached<H: Source, I: Source, K: Source, O: Sink>(
+    alloc: Global,
+    command: &Command<'_>,
+    header: &mut H,
+    image: &mut I,
+    secret: &mut K,
+    out: &mut O,
+) -> Report
+    requires detached { is_detached (request_of command.now) ≡ true }
+    ensures run { RunsDetached (request_of command.now) result.message
+        (H.to_come header.old) (H.to_come header.new) (I.to_come image.old) (I.to_come image.new)
+        (K.to_come secret.old) (K.to_come secret.new) (O.written out.old) (O.written out.new) }
+    ensures only { MayTell (request_of command.now) result.message }
+    ensures status { result ≡ report_of result.message }
+    ensures unread { secret_of (request_of command.now) ≡ None → secret.new ≡ secret.old }
+    ensures unneeded { WhereKnown (H.to_come header.old) (λ file.
+        NeedsNoSecretDetached (request_of command.now) file → secret.new ≡ secret.old) }
+    ensures untouched { NeedsNoPayload (request_of command.now) → image.new ≡ image.old }
+    ensures before_key { EndsWithoutKey result.message → image.new ≡ image.old }
+    ensures reads_first { ReadsFirst (request_of command.now) → result.message ≡ Message.ReadFailed
+        → out.new ≡ out.old }
+    ensures counts { CountsDetached result.message (H.failures header.old) (H.failures header.new)
+        (failures_of (I.failures image.old) (K.failures secret.old) (O.failures out.old))
+        (failures_of (I.failures image.new) (K.failures secret.new) (O.failures out.new)) }
+{
+    match perform_detached(alloc, command, header, image, secret, out) {
+        Ok(()) => Report::of(Message::Done),
+        Err(message) => Report::of(message),
+    }
+}
+
+/// Does what a command asks for. What is told of a run that does not end well is its error.
+fn perform_detached<H: Source, I: Source, K: Source, O: Sink>(
+    alloc: Global,
+    command: &Command<'_>,
+    header: &mut H,
+    image: &mut I,
+    secret: &mut K,
+    out: &mut O,
+) -> Result<(), Message>
+    requires detached { is_detached (request_of command.now) ≡ true }
+    ensures run { RunsDetached (request_of command.now) (message_of result)
+        (H.to_come header.old) (H.to_come header.new) (I.to_come image.old) (I.to_come image.new)
+        (K.to_come secret.old) (K.to_come secret.new) (O.written out.old) (O.written out.new) }
+    ensures only { MayTell (request_of command.now) (message_of result) }
+    ensures unread { secret_of (request_of command.now) ≡ None → secret.new ≡ secret.old }
+    ensures unneeded { WhereKnown (H.to_come header.old) (λ file.
+        NeedsNoSecretDetached (request_of command.now) file → secret.new ≡ secret.old) }
+    ensures untouched { NeedsNoPayload (request_of command.now) → image.new ≡ image.old }
+    ensures before_key { EndsWithoutKey (message_of result) → image.new ≡ image.old }
+    ensures reads_first { ReadsFirst (request_of command.now)
+        → message_of result ≡ Message.ReadFailed → out.new ≡ out.old }
+    ensures counts { CountsDetached (message_of result) (H.failures header.old)
+        (H.failures header.new)
+        (failures_of (I.failures image.old) (K.failures secret.old) (O.failures out.old))
+        (failures_of (I.failures image.new) (K.failures secret.new) (O.failures out.new)) }
+{
+    let standing = Standing::Detached;
+    match command {
+        Command::IsLuks(_) => headers::is_luks(alloc, header),
+        Command::LuksUuid(_) => headers::print(alloc, Page::Uuid, standing, header, out),
+        Command::LuksDump(_) => headers::print(alloc, Page::Dump, standing, header, out),
+        Command::LuksCheck(_) => headers::print(alloc, Page::Check, standing, header, out),
+        Command::TestPassphrase(opening) => {
+            volumes::test_passphrase(alloc, standing, opening, header, secret, out)
+        }
+        Command::LuksCat(opening) => {
+            volumes::cat_detached(alloc, opening, header, image, secret, out)
+        }
+        Command::AfSplit(_) | Command::AfMerge(_) => unreachable!(),
+    }
+}
