@@ -1,11 +1,12 @@
-//! What the tests of several crates share: devices of which one call fails, and memory that is
-//! taken away.
+//! What the tests of several crates share: comparisons, devices of which one call fails, and memory
+//! that is taken away.
 //!
 //! Nothing but tests uses it.
 #![tactic(auto)]
 
 pub mod devices;
 pub mod header2;
+pub mod same;
 pub mod scarce;
 #[cfg(test)]
 mod tests;

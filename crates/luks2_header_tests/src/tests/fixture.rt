@@ -1,0 +1,125 @@
+//! Images with headers of LUKS2, and what is read of them.
+
+use luks_area::area::HeaderArea;
+use luks_area::fault::HeaderFault;
+use luks_io::memory::MemSource;
+use luks_io::source::Source;
+use luks_kdf::{Hash, digest};
+use luks2_header::header::Header2;
+use luks2_header::reading::read_header2;
+use std::alloc::{AllocError, Global};
+
+/// The JSON text of every header.
+pub const JSON: &[u8] =
+    b"{\"keyslots\":{},\"tokens\":{},\"segments\":{},\"digests\":{},\"config\":{}}";
+
+/// A header to be written.
+#[derive(Clone, Copy)]
+pub struct Sketch<'a> {
+    pub place: usize,
+    pub size: usize,
+    pub sequence: u64,
+    pub hash: Hash,
+    pub name: &'a str,
+}
+
+/// A header of 16,384 bytes with SHA-256 and the sequence number 7.
+pub fn usual<'a>(place: usize) -> Sketch<'a> {
+    Sketch {
+        place,
+        size: 16_384,
+        sequence: 7,
+        hash: Hash::Sha256,
+        name: "sha256",
+    }
+}
+
+/// Puts bytes into others, from a place on.
+pub fn put(bytes: &mut [u8], place: usize, with: &[u8]) {
+    for (i, byte) in with.iter().enumerate() {
+        let at = place.saturating_add(i);
+        if at < bytes.len() {
+            bytes[at] = *byte;
+        }
+    }
+}
+
+/// Changes one byte.
+pub fn flip(bytes: &mut [u8], place: usize) {
+    if place < bytes.len() {
+        bytes[place] ^= 1;
+    }
+}
+
+/// So many zero bytes.
+pub fn zeros(alloc: Global, len: usize) -> Result<Vec<u8>, AllocError> {
+    vec![in alloc; 0; len]
+}
+
+/// So many bytes from a place on, or as many as there are.
+pub fn range_mut(bytes: &mut [u8], place: usize, len: usize) -> &mut [u8] {
+    let start = place.min(bytes.len());
+    let rest = &mut bytes[start..];
+    let len = len.min(rest.len());
+    &mut rest[..len]
+}
+
+/// The first bytes, or as many as there are.
+pub fn front(bytes: &[u8], len: usize) -> &[u8] {
+    &bytes[..len.min(bytes.len())]
+}
+
+/// Writes a header into an image, its checksum last.
+pub fn write_header(image: &mut [u8], sketch: Sketch<'_>) {
+    let header = range_mut(image, sketch.place, sketch.size);
+    let magic = if sketch.place == 0 { b"LUKS" } else { b"SKUL" };
+    put(header, 0, magic);
+    put(header, 4, &[0xba, 0xbe, 0, 2]);
+    put(header, 8, &(sketch.size as u64).to_be_bytes());
+    put(header, 16, &sketch.sequence.to_be_bytes());
+    put(header, 24, b"label");
+    put(header, 72, sketch.name.as_bytes());
+    for i in 0..64 {
+        put(header, 104 + i as usize, &[i]);
+    }
+    put(header, 168, b"11111111-2222-3333-4444-555555555555");
+    put(header, 208, b"sub");
+    put(header, 256, &(sketch.place as u64).to_be_bytes());
+    put(header, 4096, JSON);
+    seal(header, sketch.hash);
+}
+
+/// Writes the checksum of a header whose checksum's field is zero.
+pub fn seal(header: &mut [u8], hash: Hash) {
+    let mut sum = [0; 64];
+    let sum = &mut sum[..hash.size()];
+    digest(hash, header, b"", b"", sum);
+    put(header, 448, sum);
+}
+
+/// An image of this length with these headers.
+pub fn image_of(alloc: Global, len: usize, headers: &[Sketch<'_>]) -> Result<Vec<u8>, AllocError> {
+    let mut image = zeros(alloc, len)?;
+    for header in headers {
+        write_header(image.as_mut_slice(), *header);
+    }
+    Ok(image)
+}
+
+/// What is read of a source whose first 592 bytes are held before.
+pub fn read_from<S: Source>(
+    alloc: Global,
+    source: &mut S,
+) -> Result<(Header2, HeaderArea), HeaderFault> {
+    let mut area = HeaderArea::new(alloc);
+    area.extend_to(source, 592)?;
+    let header = read_header2(&mut area, source)?;
+    Ok((header, area))
+}
+
+/// What is read of an image, and how many bytes that takes.
+pub fn read(alloc: Global, image: &[u8]) -> (Result<(Header2, HeaderArea), HeaderFault>, usize) {
+    let mut source = MemSource::new(image);
+    let answer = read_from(alloc, &mut source);
+    (answer, image.len().saturating_sub(source.left().len()))
+}

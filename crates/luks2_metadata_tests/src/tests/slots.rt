@@ -1,0 +1,343 @@
+//! The reasons to skip a slot, each bound from both sides.
+
+use super::fixture::{ATTACHED, joined, metadata};
+use luks_cipher::Mode;
+use luks_kdf::Hash;
+use luks_testing::same::{assert_same, assert_same_in};
+use luks_verdict::refusal::SkipReason;
+use luks_verdict::slot::{Judgement, SlotParts};
+use luks2_members::tree::Metadata;
+use luks2_metadata::slot::{judge, slot};
+use std::process::Abort;
+use std::test::Fail;
+
+// Slot 2 of the text, up to the end of its area: what has to be changed stands there once.
+pub(super) const AREA: &str = "\"offset\":\"32768\",\"size\":\"258048\"";
+
+pub(super) fn word(judgement: Option<Judgement>) -> &'static str {
+    match judgement {
+        Some(Judgement::Usable(0)) => "usable 0",
+        Some(Judgement::Usable(1)) => "usable 1",
+        Some(Judgement::Usable(2)) => "usable 2",
+        Some(Judgement::Usable(_)) => "usable",
+        Some(Judgement::Disabled) => "disabled",
+        Some(Judgement::Skipped(reason)) => reason.text(),
+        None => "not there",
+    }
+}
+
+// Slot 2 is judged so, and where it is skipped for another reason than a limit, there is nothing
+// to open.
+pub(super) fn check_metadata(
+    rt: &(impl Abort + AllocGlobal),
+    metadata: &Metadata,
+    want: &str,
+    why: &str,
+) -> Result<(), Fail> {
+    let judgement = judge(metadata, ATTACHED, None, 2);
+    assert_same_in(rt, &why, word(judgement), want);
+    let usable = slot(rt.alloc(), metadata, ATTACHED, 2)?;
+    assert_same_in(
+        rt,
+        &why,
+        usable.is_some(),
+        matches!(judgement, Some(Judgement::Usable(_))),
+    );
+    Ok(())
+}
+
+pub(super) fn check(
+    rt: &(impl Abort + AllocGlobal),
+    part: &str,
+    other: &str,
+    want: &str,
+) -> Result<(), Fail> {
+    check_metadata(rt, &metadata(rt, &[(part, other)])?, want, other)
+}
+
+// The numbers of slot 2.
+fn check_parts(rt: &impl Abort, parts: &SlotParts) {
+    assert_same(rt, parts.priority, 1);
+    assert_same(rt, parts.kdf_hash, Some(Hash::Sha256));
+    assert_same(rt, parts.iterations, 1000);
+    assert!(rt; parts.salt.as_slice() == [1u8; 32].as_slice());
+    assert_same(rt, parts.af_hash, Some(Hash::Sha512));
+    assert_same(rt, parts.stripes, 4000);
+    assert_same(rt, parts.key_bytes, 64);
+    assert_same(rt, parts.area_key_bytes, 64);
+    assert_same(rt, parts.area_offset, 32_768);
+    assert_same(rt, parts.area_size, 258_048);
+    assert_same(rt, parts.area_mode, Some(Mode::XtsPlain64));
+}
+
+#[test]
+fn the_slots_as_they_are(rt: HostRuntime) -> Result<(), Fail> {
+    let metadata = metadata(&rt, &[])?;
+    for (number, want) in [
+        (0, "argon2id"),
+        (1, "not there"),
+        (2, "usable 1"),
+        (32, "not there"),
+    ] {
+        assert_same_in(
+            &rt,
+            &number,
+            word(judge(&metadata, ATTACHED, None, number)),
+            want,
+        );
+    }
+    let Some(slot) = slot(rt.alloc(), &metadata, ATTACHED, 2)? else {
+        return Err(Fail::new("no slot"));
+    };
+    check_parts(&rt, &slot.parts);
+    assert_same(&rt, slot.need(), 256_000);
+    Ok(())
+}
+
+#[test]
+fn kinds_of_slots(rt: HostRuntime) -> Result<(), Fail> {
+    for (other, want) in [
+        ("\"2\":{\"type\":\"luks2\",\"x\"", "member"),
+        ("\"2\":{\"type\":\"luks1\",\"key_size\"", "type"),
+        ("\"2\":{\"type\":null,\"key_size\"", "type"),
+        ("\"2\":{\"kind\":\"luks2\",\"key_size\"", "type"),
+        ("\"2\":null,\"3\":{\"type\":\"luks2\",\"key_size\"", "type"),
+        (
+            "\"2\":\"luks2\",\"3\":{\"type\":\"luks2\",\"key_size\"",
+            "type",
+        ),
+        ("\"02\":{\"type\":\"luks2\",\"key_size\"", "not there"),
+        ("\"\\u0032\":{\"type\":\"luks2\",\"key_size\"", "usable 1"),
+    ] {
+        check(&rt, "\"2\":{\"type\":\"luks2\",\"key_size\"", other, want)?;
+    }
+    Ok(())
+}
+
+#[test]
+fn priorities(rt: HostRuntime) -> Result<(), Fail> {
+    let place = "\"2\":{\"type\":\"luks2\",";
+    for (priority, want) in [
+        ("0", "usable 0"),
+        ("1", "usable 1"),
+        ("2", "usable 2"),
+        ("3", "member"),
+        ("-0", "member"),
+        ("1.0", "member"),
+        ("\"1\"", "member"),
+        ("null", "member"),
+        ("18446744073709551616", "member"),
+    ] {
+        let other = joined(rt.alloc(), &[place, "\"priority\":", priority, ","])?;
+        check(&rt, place, other.as_str(), want)?;
+    }
+    Ok(())
+}
+
+static AF_MEMBERS: [(&str, &str); 18] = [
+    (
+        "\"af\":{\"type\":\"luks1\",\"stripes\":4000,\"hash\":\"SHA1\"}",
+        "usable 1",
+    ),
+    (
+        "\"af\":{\"type\":\"luks1\",\"stripes\":1,\"hash\":\"sha512\"}",
+        "usable 1",
+    ),
+    (
+        "\"af\":{\"type\":\"luks1\",\"stripes\":0,\"hash\":\"sha512\"}",
+        "stripes",
+    ),
+    (
+        "\"af\":{\"type\":\"luks1\",\"stripes\":4001,\"hash\":\"sha512\"}",
+        "stripes",
+    ),
+    (
+        "\"af\":{\"type\":\"luks1\",\"stripes\":18446744073709551615,\"hash\":\"sha1\"}",
+        "stripes",
+    ),
+    (
+        "\"af\":{\"type\":\"luks1\",\"stripes\":4294967297,\"hash\":\"sha512\"}",
+        "stripes",
+    ),
+    (
+        "\"af\":{\"type\":\"luks1\",\"stripes\":4000,\"hash\":\"ripemd160\"}",
+        "hash",
+    ),
+    (
+        "\"af\":{\"type\":\"luks1\",\"stripes\":4000,\"hash\":\"\"}",
+        "hash",
+    ),
+    (
+        "\"af\":{\"type\":\"luks2\",\"stripes\":4000,\"hash\":\"sha512\"}",
+        "member",
+    ),
+    ("\"af\":{\"stripes\":4000,\"hash\":\"sha512\"}", "member"),
+    ("\"af\":{\"type\":\"luks1\",\"hash\":\"sha512\"}", "member"),
+    (
+        "\"af\":{\"type\":\"luks1\",\"stripes\":\"4000\",\"hash\":\"sha512\"}",
+        "member",
+    ),
+    (
+        "\"af\":{\"type\":\"luks1\",\"stripes\":4e3,\"hash\":\"sha512\"}",
+        "member",
+    ),
+    ("\"af\":{\"type\":\"luks1\",\"stripes\":4000}", "member"),
+    (
+        "\"af\":{\"type\":\"luks1\",\"stripes\":4000,\"hash\":null}",
+        "member",
+    ),
+    ("\"af\":null", "member"),
+    ("\"af\":[]", "member"),
+    ("\"x\":1", "member"),
+];
+
+#[test]
+fn members_of_af(rt: HostRuntime) -> Result<(), Fail> {
+    let place = "\"af\":{\"type\":\"luks1\",\"stripes\":4000,\"hash\":\"sha512\"}";
+    for (other, want) in AF_MEMBERS {
+        check(&rt, place, other, want)?;
+    }
+    Ok(())
+}
+
+static KDF_MEMBERS: [(&str, &str); 19] = [
+    ("\"kdf\":{\"type\":\"argon2i\",\"x\":\"", "argon2i"),
+    ("\"kdf\":{\"type\":\"argon2id\",\"x\":\"", "argon2id"),
+    ("\"kdf\":{\"type\":\"argon2d\",\"x\":\"", "kdf"),
+    ("\"kdf\":{\"type\":\"PBKDF2\",\"x\":\"", "kdf"),
+    ("\"kdf\":{\"type\":2,\"x\":\"", "member"),
+    ("\"kdf\":{\"type\":null,\"x\":\"", "member"),
+    ("\"kdf\":{\"x\":\"", "member"),
+    ("\"kdf\":null,\"x\":{\"y\":\"", "member"),
+    (
+        "\"kdf\":{\"type\":\"pbkdf2\",\"iterations\":1000,\"salt\":\"AQEB",
+        "member",
+    ),
+    (
+        "\"kdf\":{\"type\":\"pbkdf2\",\"hash\":1,\"iterations\":1000,\"salt\":\"AQEB",
+        "member",
+    ),
+    (
+        "\"kdf\":{\"type\":\"pbkdf2\",\"hash\":\"md5\",\"iterations\":1000,\"salt\":\"AQEB",
+        "hash",
+    ),
+    (
+        "\"kdf\":{\"type\":\"pbkdf2\",\"hash\":\"SHA256\",\"iterations\":1,\"salt\":\"AQEB",
+        "usable 1",
+    ),
+    (
+        "\"kdf\":{\"type\":\"pbkdf2\",\"hash\":\"sha1\",\"salt\":\"AQEB",
+        "member",
+    ),
+    (
+        "\"kdf\":{\"type\":\"pbkdf2\",\"hash\":\"sha1\",\"iterations\":\"5\",\"salt\":\"AQEB",
+        "member",
+    ),
+    (
+        "\"kdf\":{\"type\":\"pbkdf2\",\"hash\":\"sha1\",\"iterations\":0,\"salt\":\"AQEB",
+        "iterations",
+    ),
+    (
+        "\"kdf\":{\"type\":\"pbkdf2\",\"hash\":\"sha1\",\
+            \"iterations\":4294967295,\"salt\":\"AQEB",
+        "usable 1",
+    ),
+    (
+        "\"kdf\":{\"type\":\"pbkdf2\",\"hash\":\"sha1\",\
+            \"iterations\":4294967296,\"salt\":\"AQEB",
+        "iterations",
+    ),
+    (
+        "\"kdf\":{\"type\":\"pbkdf2\",\"hash\":\"sha1\",\"iterations\":9,\"x\":\"AQEB",
+        "member",
+    ),
+    (
+        "\"kdf\":{\"type\":\"pbkdf2\",\"hash\":\"sha1\",\"iterations\":9,\"salt\":\"AQE",
+        "member",
+    ),
+];
+
+#[test]
+fn members_of_kdf(rt: HostRuntime) -> Result<(), Fail> {
+    let place =
+        "\"kdf\":{\"type\":\"pbkdf2\",\"hash\":\"sha256\",\"iterations\":1000,\"salt\":\"AQEB";
+    for (other, want) in KDF_MEMBERS {
+        check(&rt, place, other, want)?;
+    }
+    Ok(())
+}
+
+static CHANGES: [(&str, &str); 11] = [
+    ("\"segments\":[\"0\"]", "\"segments\":[]"),
+    (AREA, "\"offset\":\"1\",\"size\":\"258048\""),
+    (
+        "\"hash\":\"sha256\",\"iterations\":1000,\
+            \"salt\":\"AQEBAQEBAQEBAQEBAQEBAQEBAQEBAQEBAQEBAQEBAQE=\"}}},",
+        "\"hash\":\"sha256\",\"iterations\":0,\"salt\":\"\"}}},",
+    ),
+    ("\"stripes\":4000", "\"stripes\":0"),
+    (
+        "\"2\":{\"type\":\"luks2\",\"key_size\":64",
+        "\"2\":{\"type\":\"luks2\",\"key_size\":0",
+    ),
+    ("aes-xts-plain64\",\"key_size\"", "x\",\"key_size\""),
+    ("\"hash\":\"sha512\"", "\"hash\":\"x\""),
+    (
+        "\"kdf\":{\"type\":\"pbkdf2\"",
+        "\"kdf\":{\"type\":\"scrypt\"",
+    ),
+    (
+        "\"kdf\":{\"type\":\"scrypt\"",
+        "\"kdf\":{\"type\":\"argon2i\"",
+    ),
+    (
+        "\"2\":{\"type\":\"luks2\",\"key_size\":0",
+        "\"2\":{\"type\":\"luks2\",\"x\":0",
+    ),
+    ("\"2\":{\"type\":\"luks2\"", "\"2\":{\"type\":\"x\""),
+];
+
+static REASONS: [&str; 11] = [
+    "digest",
+    "area",
+    "iterations",
+    "stripes",
+    "key size",
+    "encryption",
+    "hash",
+    "kdf",
+    "argon2i",
+    "member",
+    "type",
+];
+
+// Of several reasons the first in the table counts: each change adds one that comes before.
+#[test]
+fn the_first_reason(rt: HostRuntime) -> Result<(), Fail> {
+    for i in 0..11 {
+        let changed = metadata(&rt, &CHANGES[..=i])?;
+        check_metadata(&rt, &changed, REASONS[i], REASONS[i])?;
+    }
+    Ok(())
+}
+
+#[test]
+fn limits(rt: HostRuntime) -> Result<(), Fail> {
+    let metadata = metadata(&rt, &[])?;
+    for (limit, want) in [
+        (None, "usable 1"),
+        (Some(4_294_967_295), "usable 1"),
+        (Some(1000), "usable 1"),
+        (Some(999), "iterations"),
+        (Some(0), "iterations"),
+    ] {
+        let judgement = judge(&metadata, ATTACHED, limit, 2);
+        assert_same_in(&rt, &limit, word(judgement), want);
+    }
+    assert_same(
+        &rt,
+        judge(&metadata, ATTACHED, Some(1), 0),
+        Some(Judgement::Skipped(SkipReason::Argon2id)),
+    );
+    Ok(())
+}

@@ -1,0 +1,119 @@
+//! Runs in which one call of one device fails.
+
+ghost use Rattle.std.specs.Prelude.{◌≡◌, false};
+ghost use Rattle.luks_command.specs.Request.{is_detached, request_of};
+
+use super::attached;
+use luks_cli::execute::execute;
+use luks_command::command::Command;
+use luks_report::message::Message;
+use luks_report::report::Report;
+use luks_testing::devices::{Flaky, Leaky};
+use luks_testing::same::assert_in;
+use std::process::Abort;
+use std::test::Fail;
+
+/// A call that fails: which device's (the image is 0, the second input 1, the output 2), and which
+/// one of its calls.
+#[derive(Clone, Copy, Debug)]
+struct Failing {
+    device: u32,
+    call: u64,
+}
+
+impl Failing {
+    // Which call of this device fails.
+    fn call_of(self, device: u32) -> u64 {
+        if device == self.device {
+            self.call
+        } else {
+            u64::MAX
+        }
+    }
+
+    // What is told of it.
+    fn told(self) -> Message {
+        if self.device == 2 {
+            Message::WriteFailed
+        } else {
+            Message::ReadFailed
+        }
+    }
+}
+
+// What was written is a beginning of the whole, and all of it where no call failed.
+fn check_ending(
+    rt: &impl Abort,
+    failing: Failing,
+    report: &Report,
+    failed: bool,
+    written: &[u8],
+    whole: &[u8],
+) {
+    assert_in(rt, &failing, whole.starts_with(written));
+    let message = if failed {
+        failing.told()
+    } else {
+        Message::Done
+    };
+    assert_in(rt, &failing, *report == Report::of(message));
+    assert_in(rt, &failing, failed || written == whole);
+}
+
+// One run; whether the call was made and failed. The image comes in a hundred pieces or so, of 5
+// bytes at least.
+fn run_failing(
+    rt: &(impl Abort + AllocGlobal),
+    command: &Command<'_>,
+    failing: Failing,
+    inputs: [&[u8]; 2],
+    whole: &[u8],
+) -> Result<bool, Fail>
+    requires attached { is_detached (request_of command.now) ≡ false }
+{
+    let alloc = rt.alloc();
+    let piece = (inputs[0].len() / 100).max(5);
+    let mut image = Flaky::new(inputs[0], piece, failing.call_of(0));
+    let mut secret = Flaky::new(inputs[1], 5, failing.call_of(1));
+    let mut out = Leaky::new(alloc, 4096, 3, failing.call_of(2))?;
+    let report = execute(alloc, command, &mut image, &mut secret, &mut out);
+    let failed = image.failures != 0 || secret.failures != 0 || out.failures() != 0;
+    check_ending(rt, failing, &report, failed, out.as_slice(), whole);
+    Ok(failed)
+}
+
+// Runs with one failing call of this device each, counted upwards until a run meets none.
+fn check_device(
+    rt: &(impl Abort + AllocGlobal),
+    command: &Command<'_>,
+    device: u32,
+    inputs: [&[u8]; 2],
+    whole: &[u8],
+) -> Result<(), Fail>
+    requires attached { is_detached (request_of command.now) ≡ false }
+{
+    for call in 0..600 {
+        if !run_failing(rt, command, Failing { device, call }, inputs, whole)? {
+            return Ok(());
+        }
+    }
+    Err("a run without a failure".into())
+}
+
+/// Runs with one failing call each, of each device in turn. Each is told as what failed, and what it
+/// wrote is a beginning of the whole.
+pub(super) fn check_failures(
+    rt: &(impl Abort + AllocGlobal),
+    line: &str,
+    image: &[u8],
+    secret: &[u8],
+    whole: &[u8],
+) -> Result<(), Fail> {
+    let alloc = rt.alloc();
+    let words: Vec<&str> = line.split(' ').collect(alloc)?;
+    let command = attached(alloc, words.as_slice())?;
+    for device in 0..3 {
+        check_device(rt, &command, device, [image, secret], whole)?;
+    }
+    Ok(())
+}

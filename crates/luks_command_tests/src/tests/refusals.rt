@@ -1,0 +1,237 @@
+//! Lines that are no command line of luksrd.
+
+use super::words_of;
+use luks_command::planning::{PlanFault, plan};
+use luks_testing::same::{assert_in, assert_same};
+use std::alloc::{AllocError, Global};
+use std::process::Abort;
+use std::test::Fail;
+
+#[test]
+fn refuses_no_words(rt: HostRuntime) {
+    let words: [&str; 0] = [];
+    assert_same(
+        &rt,
+        plan(rt.alloc(), words.as_slice()),
+        Err(PlanFault::Usage),
+    );
+}
+
+// Lines that are no command line of luksrd.
+static FAULTS: [&str; 120] = [
+    // no command, or another one
+    "",
+    "-",
+    "--",
+    "afmerge --hash sha256 --stripes 1 --key-bytes 32 s",
+    "afMerg --hash sha256 --stripes 1 --key-bytes 32 s",
+    "afMerges --hash sha256 --stripes 1 --key-bytes 32 s",
+    "--hash sha256 afMerge --stripes 1 --key-bytes 32 s",
+    "-- afMerge --hash sha256 --stripes 1 --key-bytes 32 s",
+    "luksd i",
+    "isluks i",
+    "luksUuid i",
+    "luksDum i",
+    "lukscat --key-file f i",
+    // help and version are no commands and no options
+    "-h",
+    "-V",
+    "--help",
+    "--version",
+    "help",
+    "help afMerge",
+    "afMerge -h",
+    "afMerge --help",
+    "afMerge --version",
+    "afMerge --hash sha256 --stripes 1 --key-bytes 32 s --help",
+    // each option and the input missing
+    "luksCat",
+    "luksCat i",
+    "luksCat --key-file f",
+    "testPassphrase i",
+    "testPassphrase --key-file f",
+    "testPassphrase --key-slot 1 --max-iterations 1 i",
+    "isLuks",
+    "luksUUID",
+    "luksDump",
+    "luksCheck",
+    "afMerge",
+    "afMerge --stripes 1 --key-bytes 32 s",
+    "afMerge --hash sha256 --key-bytes 32 s",
+    "afMerge --hash sha256 --stripes 1 s",
+    "afMerge --hash sha256 --stripes 1 --key-bytes 32",
+    "afSplit --stripes 2 --random r k",
+    "afSplit --hash sha256 --random r k",
+    "afSplit --hash sha256 --stripes 2 k",
+    "afSplit --hash sha256 --stripes 2 --random r",
+    // an option without its text
+    "isLuks --header",
+    "isLuks --header i",
+    "isLuks i --header",
+    "luksUUID --header -- i",
+    "luksDump --header --header i",
+    "luksCheck --header -x i",
+    "testPassphrase --header --key-file f i",
+    "luksCat --key-file f i --header",
+    "luksCat --key-file f i --key-slot",
+    "luksCat --key-file f --max-iterations --key-slot 1 i",
+    "afSplit --hash sha256 --stripes 2 k --random",
+    "afSplit --hash --stripes 2 --random r k",
+    // each option and the input given twice
+    "isLuks --header h --header h i",
+    "luksUUID --header h --header=g i",
+    "luksDump --header=h i --header h",
+    "luksCheck --header h i i",
+    "testPassphrase --key-file f --header h --header h i",
+    "luksCat --header=h --key-file f --header=h i",
+    "afMerge --hash sha256 --hash sha256 --stripes 1 --key-bytes 32 s",
+    "afMerge --hash sha256 --stripes 1 --stripes 1 --key-bytes 32 s",
+    "afMerge --hash sha256 --stripes 1 --key-bytes 32 --key-bytes=32 s",
+    "afMerge --hash sha256 --stripes 1 --key-bytes 32 s s",
+    "afSplit --hash sha256 --hash=sha256 --stripes 2 --random r k",
+    "afSplit --hash sha256 --stripes 2 --stripes 2 --random r k",
+    "afSplit --hash sha256 --stripes 2 --random r --random r k",
+    "afSplit --hash sha256 --stripes 2 --random r k k",
+    "isLuks i i",
+    "luksCat --key-file f --key-file f i",
+    "luksCat --key-file f --key-slot 1 --key-slot 1 i",
+    "luksCat --key-file f --max-iterations 9 --max-iterations=9 i",
+    "testPassphrase --key-file f --key-slot 1 --key-slot=2 i",
+    "testPassphrase --key-file f i i",
+    // options of others, short ones and prefixes
+    "isLuks --header h --key-file f i",
+    "luksUUID --head h i",
+    "luksDump --headers h i",
+    "luksCheck -h h i",
+    "luksCat --key-file f --heade=h i",
+    "afSplit --hash sha256 --stripes 2 --random r --header h k",
+    "afSplit --header=h --hash sha256 --stripes 2 --random r k",
+    "afMerge --hash sha256 --stripes 1 --key-bytes 32 --header h s",
+    "afMerge --hash sha256 --stripes 1 --key-bytes 32 s --header=h",
+    "luksDump --key-slot 1 i",
+    "luksCat --key-file f --hash sha256 i",
+    "luksCat --key f i",
+    "luksCat -d f i",
+    "luksDump --hash sha256 i",
+    "luksCheck --max-iterations 1 i",
+    "afSplit --hash sha256 --stripes 2 --random r --key-bytes 32 k",
+    "afMerge --hash sha256 --stripes 1 --key-bytes 32 --random r s",
+    "afMerge --hash sha256 --stripe 1 --key-bytes 32 s",
+    "afMerge -h sha256 --stripes 1 --key-bytes 32 s",
+    // hash functions that have no name here
+    "afMerge --hash sha --stripes 1 --key-bytes 32 s",
+    "afMerge --hash sha-256 --stripes 1 --key-bytes 32 s",
+    "afMerge --hash ripemd160 --stripes 1 --key-bytes 32 s",
+    "afMerge --hash= --stripes 1 --key-bytes 32 s",
+    "afMerge --hash sha256 --stripes 1 --key-bytes 32 -s",
+    // standard input twice, or three times
+    "isLuks --header - -",
+    "isLuks --header=- -",
+    "luksUUID - --header -",
+    "luksDump --header - -- -",
+    "luksCheck --header=- -",
+    "testPassphrase --key-file f --header - -",
+    "testPassphrase --key-file - --header - i",
+    "testPassphrase --key-file - --header h -",
+    "testPassphrase --key-file - --header - -",
+    "luksCat --header=- --key-file f -- -",
+    "luksCat --header=- --key-file=- i",
+    "luksCat --header=h --key-file=- -",
+    "luksCat - --header - --key-file -",
+    "luksCat --key-file - -",
+    "luksCat --key-file=- -",
+    "testPassphrase --key-file - -- -",
+    "testPassphrase - --key-slot 1 --key-file -",
+    "afSplit --hash sha256 --stripes 2 --random - -",
+    "afSplit --hash sha256 --stripes 2 --random=- -",
+    "afSplit --hash sha256 --stripes 2 --random - -- -",
+    "afSplit - --hash sha256 --stripes 2 --random=-",
+    "afSplit --hash sha256 --stripes 2 --random - - x",
+];
+
+// The line is no command line of luksrd.
+fn is_refused(alloc: Global, line: &str) -> Result<bool, AllocError> {
+    let words = words_of(alloc, line)?;
+    Ok(plan(alloc, words.as_slice()) == Err(PlanFault::Usage))
+}
+
+#[test]
+fn refuses_other_lines(rt: HostRuntime) -> Result<(), Fail> {
+    for line in &FAULTS {
+        assert_in(&rt, &line, is_refused(rt.alloc(), line)?);
+    }
+    Ok(())
+}
+
+// Texts that are no number of stripes and no number of key bytes.
+static NO_NUMBERS: [&str; 18] = [
+    "",
+    "0",
+    "4001",
+    "9999999999",
+    "00000000001",
+    "+1",
+    "-1",
+    "-0",
+    "1.0",
+    "1e1",
+    "0x10",
+    "1,000",
+    "1_0",
+    "one",
+    "1k",
+    "１",
+    "18446744073709551617",
+    "4294967297",
+];
+
+// The line of these three parts is none.
+fn check_refused(rt: &(impl Abort + AllocGlobal), parts: [&str; 3]) -> Result<(), Fail> {
+    let line = format!(in rt.alloc(); "{}{}{}", parts[0], parts[1], parts[2])?;
+    assert_in(rt, &line, is_refused(rt.alloc(), line.as_str())?);
+    Ok(())
+}
+
+#[test]
+fn refuses_other_numbers(rt: HostRuntime) -> Result<(), Fail> {
+    for number in &NO_NUMBERS {
+        check_refused(
+            &rt,
+            ["afSplit --hash sha1 --stripes=", *number, " --random r k"],
+        )?;
+        check_refused(
+            &rt,
+            [
+                "afMerge --hash sha1 --stripes=",
+                *number,
+                " --key-bytes 1 s",
+            ],
+        )?;
+        check_refused(
+            &rt,
+            [
+                "afMerge --hash sha1 --stripes 1 --key-bytes=",
+                *number,
+                " s",
+            ],
+        )?;
+    }
+    for line in [
+        "afMerge --hash sha1 --stripes 1 --key-bytes 513 s",
+        "luksCat --key-file f --key-slot 32 i",
+        "luksCat --key-file f --key-slot= i",
+        "luksCat --key-file f --key-slot +1 i",
+        "luksCat --key-file f --key-slot=-1 i",
+        "luksCat --key-file f --key-slot 0x10 i",
+        "luksCat --key-file f --key-slot 00000000001 i",
+        "testPassphrase --key-file f --max-iterations 0 i",
+        "testPassphrase --key-file f --max-iterations= i",
+        "testPassphrase --key-file f --max-iterations +1 i",
+        "testPassphrase --key-file f --max-iterations 4294967296 i",
+        "testPassphrase --key-file f --max-iterations 9999999999 i",
+        "testPassphrase --key-file f --max-iterations 00000000001 i",
+    ] {
+        assert_in(&rt, &line, is_refused(rt.alloc(), line)?);
+    }
+    Ok(())
+}

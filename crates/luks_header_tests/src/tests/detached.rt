@@ -1,0 +1,165 @@
+//! Headers of both formats, read and then marked as detached.
+
+use super::fixture::{patch, volume_header};
+use luks_header::header::{Header, read_header};
+use luks_header::payload::segment;
+use luks_header::slot::{Judgement, judge, slot};
+use luks_io::memory::MemSource;
+use luks_testing::header2::image_of;
+use luks_testing::same::assert_same;
+use std::alloc::Global;
+use std::process::Abort;
+use std::test::Fail;
+
+const PAYLOAD_OFFSET: usize = 104;
+
+const SLOT_OFFSET: usize = 248;
+
+// A salt of 8 bytes 01, and a digest of 20 bytes 02, by Python's base64.b64encode.
+const KEYSLOTS: &str = "{\"keyslots\":{\"0\":{\"type\":\"luks2\",\"key_size\":64,\
+    \"af\":{\"type\":\"luks1\",\"stripes\":4000,\"hash\":\"sha256\"},\
+    \"area\":{\"type\":\"raw\",\"offset\":\"32768\",\"size\":\"258048\",\
+    \"encryption\":\"aes-xts-plain64\",\"key_size\":64},\
+    \"kdf\":{\"type\":\"pbkdf2\",\"hash\":\"sha256\",\"iterations\":1000,\
+    \"salt\":\"AQEBAQEBAQE=\"}}},";
+
+const DIGESTS: &str = "\"digests\":{\"0\":{\"type\":\"pbkdf2\",\"keyslots\":[\"0\"],\
+    \"segments\":[\"0\"],\"hash\":\"sha256\",\"iterations\":1000,\
+    \"salt\":\"AQEBAQEBAQE=\",\"digest\":\"AgICAgICAgICAgICAgICAgICAgI=\"}},";
+
+const SEGMENT: &str = "\"segments\":{\"0\":{\"type\":\"crypt\",\"size\":\"dynamic\",\
+    \"iv_tweak\":\"0\",\"encryption\":\"aes-xts-plain64\",\"sector_size\":512,\
+    \"offset\":\"";
+
+fn parse(alloc: Global, image: &[u8]) -> Result<Header, Fail> {
+    let (header, _area) = read_header(alloc, &mut MemSource::new(image))?;
+    Ok(header)
+}
+
+// The volume of LUKS1 with these numbers at these places.
+fn first(alloc: Global, changes: &[(usize, u32)]) -> Result<Header, Fail> {
+    let mut bytes = volume_header();
+    for (place, number) in changes {
+        patch(&mut bytes, *place, &number.to_be_bytes());
+    }
+    parse(alloc, &bytes)
+}
+
+// A volume of LUKS2 whose payload starts where the text says.
+fn second(alloc: Global, offset: &str) -> Result<Header, Fail> {
+    let mut json = String::new(alloc);
+    for part in [KEYSLOTS, DIGESTS, SEGMENT, offset, "\"}}}"] {
+        json.push_str(part)?;
+    }
+    let image = image_of(alloc, 1, 1, json.as_str())?;
+    parse(alloc, image.as_slice())
+}
+
+// What becomes of the segment.
+fn payload_word(header: &Header) -> &'static str {
+    match segment(header) {
+        Ok(_) => "fine",
+        Err(fault) => fault.text(),
+    }
+}
+
+// What becomes of key slot 0.
+fn slot_word(header: &Header) -> &'static str {
+    match judge(header, None, 0) {
+        Some(Judgement::Usable(_)) => "usable",
+        Some(Judgement::Disabled) => "disabled",
+        Some(Judgement::Skipped(reason)) => reason.text(),
+        None => "not there",
+    }
+}
+
+fn check_words(rt: &impl Abort, header: &Header, want: [&str; 2]) {
+    assert_same(rt, payload_word(header), want[0]);
+    assert_same(rt, slot_word(header), want[1]);
+}
+
+fn check(
+    rt: &(impl Abort + AllocGlobal),
+    header: Header,
+    attached: [&str; 2],
+    detached: [&str; 2],
+) -> Result<(), Fail> {
+    check_words(rt, &header, attached);
+    let apart = header.detach();
+    check_words(rt, &apart, detached);
+    let there = slot(rt.alloc(), &apart, 0)?.is_some();
+    assert!(rt; there || detached[1] == "area");
+    Ok(())
+}
+
+// The key material ends with sector 508.
+#[test]
+fn a_header_of_luks1(rt: HostRuntime) -> Result<(), Fail> {
+    let good = ["fine", "usable"];
+    for (sector, attached) in [
+        (0, ["offset", "area"]),
+        (1, ["offset", "area"]),
+        (2, ["fine", "area"]),
+        (507, ["fine", "area"]),
+        (508, good),
+        (0xffff_ffff, good),
+    ] {
+        let header = first(rt.alloc(), &[(PAYLOAD_OFFSET, sector)])?;
+        check(&rt, header, attached, good)?;
+    }
+    Ok(())
+}
+
+// Of a detached header too, key material starts behind the header and ends within 32 MiB.
+#[test]
+fn key_areas_of_luks1(rt: HostRuntime) -> Result<(), Fail> {
+    for (sector, slot) in [
+        (1, "area"),
+        (2, "usable"),
+        (65036, "usable"),
+        (65037, "area"),
+    ] {
+        let header = first(rt.alloc(), &[(PAYLOAD_OFFSET, 0), (SLOT_OFFSET, sector)])?;
+        check(&rt, header, ["offset", "area"], ["fine", slot])?;
+    }
+    Ok(())
+}
+
+// Both headers end with byte 32,768, and the key material with byte 288,768. Where the payload's
+// start is refused, key areas are judged without it.
+#[test]
+fn a_header_of_luks2(rt: HostRuntime) -> Result<(), Fail> {
+    let good = ["fine", "usable"];
+    let wrong = ["offset", "usable"];
+    for (offset, attached, detached) in [
+        ("0", wrong, good),
+        ("511", wrong, wrong),
+        ("32256", wrong, good),
+        ("32768", ["fine", "area"], good),
+        ("32769", wrong, wrong),
+        ("288256", ["fine", "area"], good),
+        ("288768", good, good),
+    ] {
+        check(&rt, second(rt.alloc(), offset)?, attached, detached)?;
+    }
+    Ok(())
+}
+
+fn is_detached(header: &Header) -> bool {
+    match header {
+        Header::V1(first) => first.detached,
+        Header::V2(second, _) => second.detached,
+    }
+}
+
+fn check_detached(rt: &impl Abort, header: Header) {
+    assert!(rt; !is_detached(&header));
+    assert!(rt; is_detached(&header.detach()));
+}
+
+#[test]
+fn no_header_is_read_as_detached(rt: HostRuntime) -> Result<(), Fail> {
+    check_detached(&rt, first(rt.alloc(), &[])?);
+    check_detached(&rt, second(rt.alloc(), "0")?);
+    Ok(())
+}

@@ -1,0 +1,102 @@
+//! Headers of drawn numbers: what is told of their slots.
+
+use super::fixture::{patch, volume_header};
+use super::judging::{
+    DIGEST_ITERATIONS, ITERATIONS, KEY_BYTES, PAYLOAD_OFFSET, SLOT_OFFSET, STATE, STRIPES, parse,
+};
+use luks_header::digest::digest_for;
+use luks_header::header::Header;
+use luks_header::slot::{Verdict, slot, slots};
+use luks_testing::same::{assert_in, assert_same_in};
+use std::process::Abort;
+use std::test::Fail;
+
+// The next of some numbers that look drawn: a linear congruence of 64 bits, of which the upper half
+// counts.
+fn next(state: &mut u64) -> u32 {
+    *state = state
+        .wrapping_mul(6_364_136_223_846_793_005)
+        .wrapping_add(1_442_695_040_888_963_407);
+    (*state >> 32) as u32
+}
+
+// One of four numbers that a field may well have, or any.
+fn draw(state: &mut u64, usual: [u32; 4]) -> u32 {
+    match next(state) % 5 {
+        0 => usual[0],
+        1 => usual[1],
+        2 => usual[2],
+        3 => usual[3],
+        _ => next(state),
+    }
+}
+
+fn drawn_header(state: &mut u64) -> [u8; 592] {
+    let mut bytes = volume_header();
+    let numbers = [
+        (KEY_BYTES, draw(state, [32, 64, 0, 1])),
+        (PAYLOAD_OFFSET, draw(state, [4096, 65536, 2, 0])),
+        (DIGEST_ITERATIONS, draw(state, [1000, 1, 0, 2000])),
+    ];
+    for (place, number) in numbers {
+        patch(&mut bytes, place, &number.to_be_bytes());
+    }
+    for slot in 0..8 {
+        let numbers = [
+            (STATE, draw(state, [0x00ac_71f3, 0x00ac_71f3, 0xdead, 1])),
+            (ITERATIONS, draw(state, [1000, 1, 0, 1001])),
+            (SLOT_OFFSET, draw(state, [8, 2, 1, 65036])),
+            (STRIPES, draw(state, [4000, 1, 0, 4001])),
+        ];
+        for (place, number) in numbers {
+            patch(&mut bytes, place + 48 * slot, &number.to_be_bytes());
+        }
+    }
+    bytes
+}
+
+// How many slots of the header are usable. Of each of them digest and numbers are told.
+fn usable_slots(
+    rt: &(impl Abort + AllocGlobal),
+    header: &Header,
+    limit: Option<u32>,
+    run: u32,
+) -> Result<u32, Fail> {
+    let verdicts = slots(rt.alloc(), header, limit)?;
+    assert_same_in(rt, &run, verdicts.len(), 8);
+    let mut usable = 0u32;
+    for (number, verdict) in verdicts.iter() {
+        if matches!(verdict, Verdict::Usable(_)) {
+            usable = usable.saturating_add(1);
+            check_told(rt, header, *number, run)?;
+        }
+    }
+    Ok(usable)
+}
+
+fn check_told(
+    rt: &(impl Abort + AllocGlobal),
+    header: &Header,
+    number: u8,
+    run: u32,
+) -> Result<(), Fail> {
+    assert_in(rt, &run, digest_for(rt.alloc(), header, number)?.is_some());
+    assert_in(rt, &run, slot(rt.alloc(), header, number)?.is_some());
+    Ok(())
+}
+
+// With ample memory want of it is never told: an error ends the test.
+#[test]
+fn slots_and_digests_are_told_of_any_header(rt: HostRuntime) -> Result<(), Fail> {
+    let mut state = 1;
+    let mut usable = 0u32;
+    for run in 0..2000u32 {
+        let header = parse(rt.alloc(), &drawn_header(&mut state))?;
+        let limit = if run % 2 == 0 { None } else { Some(1000) };
+        usable = usable.saturating_add(usable_slots(&rt, &header, limit, run)?);
+    }
+    // There are some of either kind.
+    assert!(rt; usable > 100);
+    assert!(rt; usable < 15_900);
+    Ok(())
+}

@@ -1,0 +1,104 @@
+//! A header of LUKS1 and devices to read it from.
+
+use std::io::{self, ErrorKind, Read};
+
+// Written by Python's struct module: struct.pack('>6sH32s32s32sII20s32sI40s', ..) and eight times
+// struct.pack('>II32sII', ..), with the values that the tests name.
+const ROWS: [&str; 37] = [
+    "4c554b53babe00016165730000000000",
+    "00000000000000000000000000000000",
+    "00000000000000007874732d706c6169",
+    "6e363400000000000000000000000000",
+    "00000000000000007368613235360061",
+    "66746572000000000000000000000000",
+    "00000000000000000001200300000040",
+    "000102030405060708090a0b0c0d0e0f",
+    "10111213202122232425262728292a2b",
+    "2c2d2e2f303132333435363738393a3b",
+    "3c3d3e3f010203043031323334353637",
+    "38396162636465666768696a6b6c6d6e",
+    "6f707172737475767778797a41424344",
+    "00ac71f3000f42414041424344454647",
+    "48494a4b4c4d4e4f5051525354555657",
+    "58595a5b5c5d5e5f0000000800000fa0",
+    "0000dead000000000000000000000000",
+    "00000000000000000000000000000000",
+    "00000000000000000000020000000fa0",
+    "00000001000000020101010101010101",
+    "01010101010101010101010101010101",
+    "01010101010101010000000300000004",
+    "00ac71f2000000000000000000000000",
+    "00000000000000000000000000000000",
+    "00000000000000000000000000000000",
+    "0000adde000000000000000000000000",
+    "00000000000000000000000000000000",
+    "00000000000000000000000000000000",
+    "f371ac00000000000000000000000000",
+    "00000000000000000000000000000000",
+    "00000000000000000000000000000000",
+    "00000000000000000000000000000000",
+    "00000000000000000000000000000000",
+    "00000000000000000000000000000000",
+    "00ac71f37fffffff8081828384858687",
+    "88898a8b8c8d8e8f9091929394959697",
+    "98999a9b9c9d9e9ffffffffeffffffff",
+];
+
+/// The header.
+pub fn header_bytes() -> [u8; 592] {
+    let mut bytes = [0; 592];
+    for (i, row) in ROWS.iter().enumerate() {
+        write_row(row, &mut bytes[16 * i..16 * i + 16]);
+    }
+    bytes
+}
+
+// Writes the bytes of which a row has the digits.
+fn write_row(row: &str, bytes: &mut [u8]) {
+    let _ = hex::decode_to_slice(row, bytes);
+}
+
+/// Puts bytes into a header, from a place on.
+pub fn patch(bytes: &mut [u8; 592], place: usize, with: &[u8]) {
+    for (i, byte) in with.iter().enumerate() {
+        let at = place.saturating_add(i);
+        if at < 592 {
+            bytes[at] = *byte;
+        }
+    }
+}
+
+/// A header whose slot 0 alone is in use: 1000 iterations, 4000 stripes of 64 bytes from sector 8
+/// on, a digest with 1000 iterations, the payload from sector 4096 on.
+pub fn volume_header() -> [u8; 592] {
+    let mut bytes = header_bytes();
+    patch(&mut bytes, 104, &4096u32.to_be_bytes());
+    patch(&mut bytes, 164, &1000u32.to_be_bytes());
+    patch(&mut bytes, 212, &1000u32.to_be_bytes());
+    for slot in 1..8 {
+        patch(&mut bytes, 208 + 48 * slot, &[0, 0, 0xde, 0xad]);
+    }
+    bytes
+}
+
+/// A reader that gives at most `piece` bytes a call, and fails once `calls` of them were made.
+#[derive(Drop)]
+pub struct Device<'a> {
+    pub left: &'a [u8],
+    pub piece: usize,
+    pub calls: u32,
+}
+
+impl<'a> Read for Device<'a> {
+    fn read(&mut self, buf: &mut [u8]) -> io::Result<usize> {
+        if self.calls == 0 {
+            return Err(io::Error::from(ErrorKind::Other));
+        }
+        self.calls -= 1;
+        let count = self.piece.min(buf.len()).min(self.left.len());
+        let (now, later) = self.left.split_at(count);
+        buf[..count].copy_from_slice(now);
+        self.left = later;
+        Ok(count)
+    }
+}

@@ -1,0 +1,371 @@
+//! Which slots can be tried and where the payload lies, each bound from both sides.
+
+use super::fixture::{patch, volume_header};
+use luks_cipher::Mode;
+use luks_header::digest::digest_for;
+use luks_header::header::{Header, read_header};
+use luks_header::payload::segment;
+use luks_header::refusal::{SegmentFault, SkipReason};
+use luks_header::sector_size::SectorSize;
+use luks_header::slot::{Judgement, Slot, Verdict, judge, slot, slots};
+use luks_io::memory::MemSource;
+use luks_kdf::Hash;
+use luks_testing::same::{assert_same, assert_same_in};
+use std::alloc::Global;
+use std::process::Abort;
+use std::test::Fail;
+
+pub(super) const STATE: usize = 208;
+
+pub(super) const ITERATIONS: usize = 212;
+
+pub(super) const SLOT_OFFSET: usize = 248;
+
+pub(super) const STRIPES: usize = 252;
+
+pub(super) const PAYLOAD_OFFSET: usize = 104;
+
+pub(super) const KEY_BYTES: usize = 108;
+
+pub(super) const DIGEST_ITERATIONS: usize = 164;
+
+pub(super) fn parse(alloc: Global, bytes: &[u8; 592]) -> Result<Header, Fail> {
+    let (header, _area) = read_header(alloc, &mut MemSource::new(bytes))?;
+    Ok(header)
+}
+
+// The volume with these numbers at these places.
+fn changed(changes: &[(usize, u32)]) -> [u8; 592] {
+    let mut bytes = volume_header();
+    for (place, number) in changes {
+        patch(&mut bytes, *place, &number.to_be_bytes());
+    }
+    bytes
+}
+
+fn word(verdict: &Verdict) -> &'static str {
+    match verdict {
+        Verdict::Usable(_) => "usable",
+        Verdict::Disabled => "disabled",
+        Verdict::Skipped(reason) => reason.text(),
+    }
+}
+
+// What becomes of slot 0.
+fn first_word(verdicts: &[(u8, Verdict)]) -> &'static str {
+    match verdicts.first() {
+        Some((0, verdict)) => word(verdict),
+        _ => "not there",
+    }
+}
+
+fn first(alloc: Global, bytes: &[u8; 592], limit: Option<u32>) -> Result<&'static str, Fail> {
+    let verdicts = slots(alloc, &parse(alloc, bytes)?, limit)?;
+    Ok(first_word(&verdicts))
+}
+
+fn check_first(
+    rt: &(impl Abort + AllocGlobal),
+    changes: &[(usize, u32)],
+    limit: Option<u32>,
+    want: &str,
+) -> Result<(), Fail> {
+    let bytes = changed(changes);
+    assert_same_in(rt, &changes, first(rt.alloc(), &bytes, limit)?, want);
+    Ok(())
+}
+
+#[test]
+fn each_bound_of_a_slot(rt: HostRuntime) -> Result<(), Fail> {
+    let rows: [(usize, u32, &str); 12] = [
+        (STATE, 1, "state"),
+        (STATE, 0xdead, "disabled"),
+        (STRIPES, 0, "stripes"),
+        (STRIPES, 1, "usable"),
+        (STRIPES, 4000, "usable"),
+        (STRIPES, 4001, "stripes"),
+        (STRIPES, 0xffff_ffff, "stripes"),
+        (ITERATIONS, 0, "iterations"),
+        (ITERATIONS, 1, "usable"),
+        (ITERATIONS, 0xffff_ffff, "usable"),
+        (DIGEST_ITERATIONS, 0, "digest"),
+        (DIGEST_ITERATIONS, 1, "usable"),
+    ];
+    check_first(&rt, &[], None, "usable")?;
+    for (place, number, want) in rows {
+        check_first(&rt, &[(place, number)], None, want)?;
+    }
+    Ok(())
+}
+
+#[test]
+fn a_limit_bounds_slot_and_digest(rt: HostRuntime) -> Result<(), Fail> {
+    check_first(&rt, &[], Some(1000), "usable")?;
+    check_first(&rt, &[], Some(999), "iterations")?;
+    check_first(&rt, &[(ITERATIONS, 1001)], Some(1000), "iterations")?;
+    check_first(&rt, &[(ITERATIONS, 999)], Some(999), "digest")?;
+    check_first(&rt, &[(DIGEST_ITERATIONS, 1001)], Some(1000), "digest")?;
+    check_first(&rt, &[(DIGEST_ITERATIONS, 0)], Some(1000), "digest")?;
+    Ok(())
+}
+
+#[test]
+fn each_bound_of_an_area(rt: HostRuntime) -> Result<(), Fail> {
+    let rows: [(usize, u32, &str); 10] = [
+        (SLOT_OFFSET, 1, "area"),
+        (SLOT_OFFSET, 2, "usable"),
+        (SLOT_OFFSET, 3596, "usable"),
+        (SLOT_OFFSET, 3597, "area"),
+        (SLOT_OFFSET, 0xffff_ffff, "area"),
+        (PAYLOAD_OFFSET, 1, "area"),
+        (PAYLOAD_OFFSET, 2, "area"),
+        (PAYLOAD_OFFSET, 507, "area"),
+        (PAYLOAD_OFFSET, 508, "usable"),
+        (KEY_BYTES, 0xffff_ffff, "area"),
+    ];
+    for (place, number, want) in rows {
+        check_first(&rt, &[(place, number)], None, want)?;
+    }
+    let far = (PAYLOAD_OFFSET, 100_000);
+    check_first(&rt, &[far, (SLOT_OFFSET, 65036)], None, "usable")?;
+    check_first(&rt, &[far, (SLOT_OFFSET, 65037)], None, "area")?;
+    Ok(())
+}
+
+#[test]
+fn the_first_reason_is_told(rt: HostRuntime) -> Result<(), Fail> {
+    let digest = (DIGEST_ITERATIONS, 0);
+    let area = (SLOT_OFFSET, 1);
+    let iterations = (ITERATIONS, 0);
+    let stripes = (STRIPES, 0);
+    check_first(&rt, &[digest, area], None, "area")?;
+    check_first(&rt, &[digest, area, iterations], None, "iterations")?;
+    check_first(&rt, &[digest, area, iterations, stripes], None, "stripes")?;
+    check_first(
+        &rt,
+        &[digest, area, iterations, stripes, (STATE, 2)],
+        None,
+        "state",
+    )?;
+    check_first(
+        &rt,
+        &[digest, area, iterations, stripes, (STATE, 0xdead)],
+        None,
+        "disabled",
+    )?;
+    Ok(())
+}
+
+// The parts of slot 0, but for its salt.
+fn check_parts(rt: &impl Abort, slot: &Slot) {
+    let parts = &slot.parts;
+    assert_same(rt, parts.priority, 1);
+    assert_same(rt, parts.kdf_hash, Some(Hash::Sha256));
+    assert_same(rt, parts.af_hash, Some(Hash::Sha256));
+    assert_same(rt, parts.iterations, 1000);
+    assert_same(rt, parts.stripes, 4000);
+    assert_same(rt, parts.key_bytes, 64);
+    assert_same(rt, parts.area_key_bytes, 64);
+    assert_same(rt, parts.area_offset, 4096);
+    assert_same(rt, parts.area_mode, Some(Mode::XtsPlain64));
+}
+
+fn check_bytes(rt: &impl Abort, bytes: &[u8], len: usize, first: u8) {
+    assert_same(rt, bytes.len(), len);
+    assert_same(rt, bytes.first().copied(), Some(first));
+}
+
+// The area of slot 0, where it is usable.
+fn check_area(rt: &impl Abort, verdicts: &[(u8, Verdict)]) {
+    assert_same(rt, first_word(verdicts), "usable");
+    if let Some((_, Verdict::Usable(slot))) = verdicts.first() {
+        assert_same(rt, slot.need(), 256_000);
+        assert_same(rt, slot.parts.area_size, 256_000);
+    }
+}
+
+#[test]
+fn a_usable_slot_has_its_numbers(rt: HostRuntime) -> Result<(), Fail> {
+    let verdicts = slots(rt.alloc(), &parse(rt.alloc(), &volume_header())?, None)?;
+    check_area(&rt, &verdicts);
+    if let Some((_, Verdict::Usable(slot))) = verdicts.first() {
+        check_parts(&rt, slot);
+        check_bytes(&rt, slot.parts.salt.as_slice(), 32, 0x40);
+    }
+    // 3999 stripes of 64 bytes are 499 sectors and seven eighths of one.
+    let fewer = changed(&[(STRIPES, 3999)]);
+    let verdicts = slots(rt.alloc(), &parse(rt.alloc(), &fewer)?, None)?;
+    check_area(&rt, &verdicts);
+    Ok(())
+}
+
+#[test]
+fn each_slot_has_its_verdict(rt: HostRuntime) -> Result<(), Fail> {
+    let verdicts = slots(rt.alloc(), &parse(rt.alloc(), &volume_header())?, None)?;
+    assert_same(&rt, verdicts.len(), 8);
+    for (i, (number, verdict)) in verdicts.iter().enumerate() {
+        assert_same_in(&rt, &i, usize::from(*number), i);
+        let want = if i == 0 { "usable" } else { "disabled" };
+        assert_same_in(&rt, &i, word(verdict), want);
+    }
+    Ok(())
+}
+
+const NAME: usize = 8;
+
+const MODE: usize = 40;
+
+const HASH: usize = 72;
+
+// The fault of a header's segment.
+fn fault(alloc: Global, bytes: &[u8; 592]) -> Result<&'static str, Fail> {
+    Ok(match segment(&parse(alloc, bytes)?) {
+        Ok(_) => "none",
+        Err(fault) => fault.text(),
+    })
+}
+
+fn check_text(
+    rt: &(impl Abort + AllocGlobal),
+    place: usize,
+    text: &[u8],
+    want: &str,
+) -> Result<(), Fail> {
+    let mut bytes = volume_header();
+    patch(&mut bytes, place, text);
+    assert_same_in(rt, &text, fault(rt.alloc(), &bytes)?, want);
+    Ok(())
+}
+
+#[test]
+fn each_text_of_a_segment(rt: HostRuntime) -> Result<(), Fail> {
+    let rows: [(usize, &[u8], &str); 10] = [
+        (HASH, b"SHA512\0", "none"),
+        (NAME, b"AES\0", "encryption"),
+        (MODE, b"xts-plain\0", "none"),
+        (MODE, b"cbc-plain64\0", "key bytes"),
+        (MODE, b"cbc-plain\0", "encryption"),
+        (MODE, b"xts-plain64\xff\0", "encryption"),
+        (MODE, b"xts-plain64x\0", "encryption"),
+        (HASH, b"ripemd160\0", "hash"),
+        (HASH, b"sha256\xff\0", "hash"),
+        (HASH, b"\0", "hash"),
+    ];
+    for (place, text, want) in rows {
+        check_text(&rt, place, text, want)?;
+    }
+    let mut both = volume_header();
+    patch(&mut both, NAME, b"serpent\0");
+    patch(&mut both, HASH, b"ripemd160\0");
+    assert_same(&rt, fault(rt.alloc(), &both)?, "encryption");
+    Ok(())
+}
+
+fn check_number(
+    rt: &(impl Abort + AllocGlobal),
+    changes: &[(usize, u32)],
+    want: &str,
+) -> Result<(), Fail> {
+    let bytes = changed(changes);
+    assert_same_in(rt, &changes, fault(rt.alloc(), &bytes)?, want);
+    Ok(())
+}
+
+#[test]
+fn each_number_of_a_segment(rt: HostRuntime) -> Result<(), Fail> {
+    let numbers = [
+        (KEY_BYTES, 32, "none"),
+        (KEY_BYTES, 48, "key bytes"),
+        (KEY_BYTES, 0, "key bytes"),
+        (KEY_BYTES, 0x4000_0000, "key bytes"),
+        (PAYLOAD_OFFSET, 0, "offset"),
+        (PAYLOAD_OFFSET, 1, "offset"),
+        (PAYLOAD_OFFSET, 2, "none"),
+    ];
+    for (place, number, want) in numbers {
+        check_number(&rt, &[(place, number)], want)?;
+    }
+    let wrong = [(KEY_BYTES, 48), (PAYLOAD_OFFSET, 1)];
+    check_number(&rt, &wrong, "key bytes")?;
+    let mut both = changed(&wrong);
+    patch(&mut both, HASH, b"md5\0");
+    assert_same(&rt, fault(rt.alloc(), &both)?, "hash");
+    Ok(())
+}
+
+#[test]
+fn a_segment_goes_to_the_images_end(rt: HostRuntime) -> Result<(), Fail> {
+    let far = changed(&[(PAYLOAD_OFFSET, 0xffff_ffff)]);
+    for (bytes, offset) in [(volume_header(), 2_097_152), (far, 2_199_023_255_040)] {
+        assert_same(&rt, fault(rt.alloc(), &bytes)?, "none");
+        if let Ok(segment) = segment(&parse(rt.alloc(), &bytes)?) {
+            assert_same(&rt, segment.offset, offset);
+            assert_same(&rt, segment.size, None);
+            assert_same(&rt, segment.iv_tweak, 0);
+            assert_same(&rt, segment.sector_size, SectorSize::B512);
+            assert_same(&rt, segment.mode, Mode::XtsPlain64);
+        }
+    }
+    Ok(())
+}
+
+#[test]
+fn a_slot_without_a_known_hash_is_judged_all_the_same(rt: HostRuntime) -> Result<(), Fail> {
+    let mut bytes = volume_header();
+    patch(&mut bytes, 72, b"whirlpool\0");
+    let verdicts = slots(rt.alloc(), &parse(rt.alloc(), &bytes)?, None)?;
+    check_area(&rt, &verdicts);
+    if let Some((_, Verdict::Usable(slot))) = verdicts.first() {
+        assert_same(&rt, slot.parts.kdf_hash, None);
+        assert_same(&rt, slot.parts.af_hash, None);
+    }
+    Ok(())
+}
+
+#[test]
+fn refusals_have_their_texts(rt: HostRuntime) {
+    assert_same(&rt, SkipReason::Kind.text(), "type");
+    assert_same(&rt, SkipReason::KeySize.text(), "key size");
+    assert_same(&rt, SegmentFault::Kind.text(), "type");
+    assert_same(&rt, SegmentFault::SectorSize.text(), "sector size");
+}
+
+fn check_judgement(
+    rt: &impl Abort,
+    header: &Header,
+    limit: Option<u32>,
+    number: u8,
+    want: Option<Judgement>,
+) {
+    assert_same_in(rt, &number, judge(header, limit, number), want);
+}
+
+#[test]
+fn a_slot_is_judged_by_its_number(rt: HostRuntime) -> Result<(), Fail> {
+    let header = parse(rt.alloc(), &volume_header())?;
+    let skipped = Judgement::Skipped(SkipReason::Iterations);
+    check_judgement(&rt, &header, None, 0, Some(Judgement::Usable(1)));
+    check_judgement(&rt, &header, Some(999), 0, Some(skipped));
+    check_judgement(&rt, &header, None, 7, Some(Judgement::Disabled));
+    for number in [8, 31, 32, 255] {
+        check_judgement(&rt, &header, None, number, None);
+        assert!(rt; slot(rt.alloc(), &header, number)?.is_none());
+    }
+    Ok(())
+}
+
+#[test]
+fn a_digest_has_its_numbers(rt: HostRuntime) -> Result<(), Fail> {
+    let header = parse(rt.alloc(), &volume_header())?;
+    let Some(digest) = digest_for(rt.alloc(), &header, 0)? else {
+        return Err("no digest".into());
+    };
+    assert_same(&rt, digest.hash, Some(Hash::Sha256));
+    assert_same(&rt, digest.iterations, 1000);
+    check_bytes(&rt, digest.salt.as_slice(), 32, 0x20);
+    assert_same(&rt, digest.value.as_slice().len(), 20);
+    assert_same(&rt, digest.value.as_slice().last(), Some(&0x13));
+    let none = parse(rt.alloc(), &changed(&[(DIGEST_ITERATIONS, 0)]))?;
+    assert!(rt; digest_for(rt.alloc(), &none, 0)?.is_none());
+    Ok(())
+}

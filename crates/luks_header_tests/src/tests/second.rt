@@ -1,0 +1,135 @@
+//! Images of LUKS2, read whole: the binary header and its JSON text.
+
+ghost use Rattle.std.specs.Prelude.{◌≡◌, length};
+
+use luks_header::digest::digest_for;
+use luks_header::fault::HeaderFault;
+use luks_header::header::{Finding, Header, Header2, Place, read_header};
+use luks_header::payload::segment;
+use luks_header::refusal::SegmentFault;
+use luks_header::slot::{judge, slots};
+use luks_io::memory::MemSource;
+use luks_io::source::Source;
+use luks_kdf::{Hash, digest};
+use luks_testing::same::assert_same;
+use std::alloc::{AllocError, Global};
+use std::process::Abort;
+use std::test::Fail;
+
+/// The length of a header and its JSON area.
+const SIZE: usize = 16384;
+
+// Bytes at a place of an image.
+fn put(image: &mut [u8], place: usize, bytes: &[u8]) {
+    let place = place.min(image.len());
+    let rest = &mut image[place..];
+    let len = bytes.len().min(rest.len());
+    rest[..len].copy_from_slice(&bytes[..len]);
+}
+
+// The checksum of a header, whose own field is as if it were zeros.
+fn checksum(header: &[u8]) -> [u8; 32] {
+    let mut sum = [0; 32];
+    let (before, rest) = header.split_at(448.min(header.len()));
+    let (_, behind) = rest.split_at(64.min(rest.len()));
+    hash(before, behind, &mut sum);
+    sum
+}
+
+// SHA-256 of two parts with 64 zeros between them.
+fn hash(before: &[u8], behind: &[u8], sum: &mut [u8])
+    requires { length sum.old ≡ 32 }
+{
+    digest(Hash::Sha256, before, &[0; 64], behind, sum);
+}
+
+// A header of this text.
+fn header_of(alloc: Global, json: &str) -> Result<Vec<u8>, AllocError> {
+    let mut header = vec![in alloc; 0; SIZE]?;
+    put(&mut header, 0, b"LUKS\xba\xbe\x00\x02");
+    put(&mut header, 8, &(SIZE as u64).to_be_bytes());
+    put(&mut header, 16, &7u64.to_be_bytes());
+    put(&mut header, 72, b"sha256");
+    put(&mut header, 168, b"a-uuid");
+    put(&mut header, 4096, json.as_bytes());
+    let sum = checksum(&header);
+    put(&mut header, 448, &sum);
+    Ok(header)
+}
+
+// An image with a primary header of this text alone: where the secondary one should be are zeros.
+fn image_of(alloc: Global, json: &str) -> Result<Vec<u8>, AllocError> {
+    let mut image = header_of(alloc, json)?;
+    for _ in 0..SIZE + 100 {
+        image.push(0)?;
+    }
+    Ok(image)
+}
+
+// How many key slots there are, and whether there is a digest for the first.
+fn counts(alloc: Global, header: &Header) -> Result<(usize, bool), AllocError> {
+    let count = slots(alloc, header, None)?.len();
+    Ok((count, digest_for(alloc, header, 0)?.is_some()))
+}
+
+fn check_answers(rt: &impl Abort, header: &Header) {
+    assert_same(rt, segment(header).err(), Some(SegmentFault::Segments));
+    assert_same(rt, judge(header, None, 0), None);
+}
+
+fn check_fields(rt: &impl Abort, second: &Header2) {
+    assert_same(rt, second.place, Place::Primary);
+    assert_same(rt, second.sequence, 7);
+    assert_same(rt, second.uuid.as_bytes(), b"a-uuid".as_slice());
+    assert_same(rt, second.finding, Some(Finding::SecondaryNotValid));
+}
+
+fn check_reading<S: Source>(
+    rt: &impl Abort,
+    alloc: Global,
+    source: &mut S,
+) -> Result<(), HeaderFault> {
+    let (header, area) = read_header(alloc, source)?;
+    assert_same(rt, area.as_slice().len(), 2 * SIZE);
+    check_answers(rt, &header);
+    assert_same(rt, counts(alloc, &header)?, (0, false));
+    let Header::V2(second, _metadata) = header else {
+        return Err(HeaderFault::Json);
+    };
+    check_fields(rt, &second);
+    Ok(())
+}
+
+#[test]
+fn a_header_of_luks2_is_read(rt: HostRuntime) -> Result<(), Fail> {
+    let image = image_of(rt.alloc(), r#"{"keyslots":{},"segments":{},"digests":{}}"#)?;
+    let mut source = MemSource::new(&image);
+    let fault = check_reading(&rt, rt.alloc(), &mut source).err();
+    assert_same(&rt, fault, None);
+    // Both headers are read, and no more.
+    assert_same(&rt, source.left().len(), 100);
+    Ok(())
+}
+
+fn check_fault(rt: &(impl Abort + AllocGlobal), image: &[u8], stated: HeaderFault, left: usize) {
+    let mut source = MemSource::new(image);
+    assert_same(rt, read_header(rt.alloc(), &mut source).err(), Some(stated));
+    assert_same(rt, source.left().len(), left);
+}
+
+#[test]
+fn a_text_that_cannot_be_read_is_told(rt: HostRuntime) -> Result<(), Fail> {
+    for json in ["{", "[]", "", r#"{"keyslots":{},"segments":{}}"#] {
+        let image = image_of(rt.alloc(), json)?;
+        check_fault(&rt, &image, HeaderFault::Json, 100);
+    }
+    Ok(())
+}
+
+#[test]
+fn a_damaged_header_is_none(rt: HostRuntime) -> Result<(), Fail> {
+    let mut image = image_of(rt.alloc(), r#"{"keyslots":{},"segments":{},"digests":{}}"#)?;
+    put(&mut image, 5000, b"x");
+    check_fault(&rt, &image, HeaderFault::NotLuks, 0);
+    Ok(())
+}

@@ -1,0 +1,42 @@
+//! Published vectors, and values that Python's `hashlib` and `hmac` gave.
+
+use luks_kdf::Hash;
+use luks_testing::same::assert_same_in;
+use std::process::Abort;
+
+mod derive;
+mod hash;
+mod mac;
+mod stripes;
+
+const HASHES: [Hash; 5] = [
+    Hash::Sha1,
+    Hash::Sha224,
+    Hash::Sha256,
+    Hash::Sha384,
+    Hash::Sha512,
+];
+
+// Both hexadecimal digits of a byte.
+fn digits(byte: u8) -> [u8; 2] {
+    let digits = b"0123456789abcdef";
+    [digits[(byte / 16) as usize], digits[(byte % 16) as usize]]
+}
+
+// Asserts that the bytes are those that the hexadecimal digits spell.
+fn assert_hex(rt: &impl Abort, bytes: &[u8], hex: &[u8]) {
+    assert!(rt; hex.len() / 2 == bytes.len());
+    assert!(rt; hex.len() % 2 == 0);
+    for i in 0..bytes.len() {
+        assert_same_in(rt, &i, [hex[2 * i], hex[2 * i + 1]], digits(bytes[i]));
+    }
+}
+
+// Fills the bytes with `start`, `start` + 7, `start` + 14 and so on, modulo 256.
+fn number(bytes: &mut [u8], start: u8) {
+    let mut next = start;
+    for byte in bytes.iter_mut() {
+        *byte = next;
+        next = next.wrapping_add(7);
+    }
+}

@@ -1,0 +1,88 @@
+//! Volumes sealed of drawn parameters that are all in their ranges: where memory is ample, none is
+//! refused.
+
+use super::fixture::slot1 as slot;
+use luks_cipher::Mode;
+use luks_kdf::Hash;
+use luks_seal::luks1::seal1;
+use luks_seal::parameters::{Seal1, Slot1};
+use luks_testing::same::assert_in;
+use std::test::Fail;
+
+/// How many are drawn.
+const DRAWN: u32 = 200;
+
+const HASHES: [Hash; 5] = [
+    Hash::Sha1,
+    Hash::Sha224,
+    Hash::Sha256,
+    Hash::Sha384,
+    Hash::Sha512,
+];
+
+const MODES: [Mode; 4] = [
+    Mode::XtsPlain64,
+    Mode::XtsPlain,
+    Mode::CbcEssivSha256,
+    Mode::CbcPlain64,
+];
+
+/// Bytes that lengths are cut from.
+const BYTES: &[u8] = &[0x6b; 1024];
+
+// The next of some numbers that look drawn: a linear congruence of 64 bits, of which the upper half
+// counts.
+fn next(state: &mut u64) -> u32 {
+    *state = state
+        .wrapping_mul(6_364_136_223_846_793_005)
+        .wrapping_add(1_442_695_040_888_963_407);
+    (*state >> 32) as u32
+}
+
+// A key slot with the random stripe that 32 bytes of key and two stripes need.
+fn drawn_slot(state: &mut u64, number: u32) -> Slot1<'static> {
+    let [byte, _, _, _] = next(state).to_be_bytes();
+    Slot1 {
+        number,
+        iterations: 1 + next(state) % 3,
+        random: &BYTES[..32],
+        ..slot(number, [byte; 32], b"a passphrase")
+    }
+}
+
+// The plain text: none, one sector or two.
+fn drawn_plain(state: &mut u64) -> &'static [u8] {
+    match next(state) % 3 {
+        0 => &[],
+        1 => &BYTES[..512],
+        _ => BYTES,
+    }
+}
+
+#[test]
+fn seals_whatever_is_in_range(rt: HostRuntime) -> Result<(), Fail> {
+    let mut state = 1;
+    for run in 0..DRAWN {
+        let first = next(&mut state) % 4;
+        let second = 4 + next(&mut state) % 4;
+        let slots = [
+            drawn_slot(&mut state, first),
+            drawn_slot(&mut state, second),
+        ];
+        let uuid = next(&mut state) as usize % 41;
+        let seal = Seal1 {
+            hash: HASHES[run as usize % 5],
+            mode: MODES[run as usize % 4],
+            key: &BYTES[..32],
+            stripes: 2,
+            payload_sectors: 72 + next(&mut state) % 100,
+            uuid: &BYTES[..uuid],
+            digest_salt: [0x5a; 32],
+            digest_iterations: 1 + next(&mut state) % 3,
+            slots: &slots,
+            plain: drawn_plain(&mut state),
+        };
+        assert_in(&rt, &run, seal1(rt.alloc(), &seal).is_ok());
+    }
+    Ok(())
+}

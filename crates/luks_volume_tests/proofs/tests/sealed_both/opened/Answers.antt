@@ -1,0 +1,5 @@
+use Rattle.std.proofs.Common.{◌∙◌, sym}
+use Rattle.luks_volume_tests.proofs.tests.sealed_both.opened.Goals as goal
+
+pub open-requires-clause-segment : goal.open-requires-clause-segment
+open-requires-clause-segment c = (c.in-Ok.payload, sym c.segment.ensures ∙ c.in-Ok.is)

@@ -1,0 +1,147 @@
+//! Images of payloads, and runs over them.
+
+ghost use Rattle.std.specs.Prelude.{◌≡◌, ◌%◌, ◌≤◌};
+ghost use Rattle.std.specs.Option.{ForSome};
+ghost use Rattle.luks_header.specs.SectorSize.{bytes_of};
+
+use luks_cipher::{Mode, SectorCipher};
+use luks_header::sector_size::SectorSize;
+use luks_header::segment::Segment;
+use luks_io::sink::Sink;
+use luks_io::source::Source;
+use luks_testing::devices::{Flaky, Leaky};
+use luks_volume::fault::VolumeFault;
+use luks_volume::pump::Pump;
+use luks_volume::state::Step;
+use std::alloc::Global;
+use std::test::Fail;
+
+/// An image, and the plain bytes of its sectors.
+#[derive(Drop)]
+pub struct Volume {
+    pub image: Vec<u8>,
+    pub plain: Vec<u8>,
+}
+
+/// The key of all payloads here.
+pub fn key() -> Result<SectorCipher, Fail> {
+    match SectorCipher::new(Mode::XtsPlain64, b"a key of XTS-AES-128 has 32 byte") {
+        Some(key) => Ok(key),
+        None => Err("no key".into()),
+    }
+}
+
+// The plain bytes of a sector, which no other sector has.
+fn push_plain(bytes: &mut Vec<u8>, sector: u64, size: usize) -> Result<(), Fail> {
+    for i in 0..size as u64 {
+        bytes.push(((sector % 256 * 89 + i % 256 * 7 + i / 256) % 256) as u8)?;
+    }
+    Ok(())
+}
+
+/// An image whose payload begins at `offset`, with one sector of this size for each unit number.
+pub fn make_volume(
+    alloc: Global,
+    offset: usize,
+    size: SectorSize,
+    units: &[u64],
+) -> Result<Volume, Fail> {
+    let key = key()?;
+    let size = size.bytes();
+    let mut image = vec![in alloc; 0xee; offset]?;
+    let mut plain = Vec::new(alloc);
+    for unit in units {
+        let mut sector = Vec::new(alloc);
+        push_plain(&mut sector, *unit, size)?;
+        plain.extend_from_slice(&sector)?;
+        if sector.len() != 512 && sector.len() != 4096 {
+            return Err("no sector".into());
+        }
+        key.encrypt_unit(*unit, &mut sector);
+        image.extend_from_slice(&sector)?;
+    }
+    Ok(Volume { image, plain })
+}
+
+/// So many bytes, each one more than the one before, and zero behind 250.
+pub fn counted(alloc: Global, len: usize) -> Result<Vec<u8>, Fail> {
+    let mut bytes = Vec::new(alloc);
+    for i in 0..len {
+        bytes.push((i % 251) as u8)?;
+    }
+    Ok(bytes)
+}
+
+/// A segment without a fixed size.
+pub fn dynamic(offset: u64, sector_size: SectorSize, iv_tweak: u64) -> Segment
+    ensures { result.offset ≡ offset }
+{
+    Segment {
+        offset,
+        size: None,
+        iv_tweak,
+        sector_size,
+        mode: Mode::XtsPlain64,
+    }
+}
+
+/// A segment of so many bytes, which are whole sectors.
+pub fn fixed(offset: u64, sector_size: SectorSize, iv_tweak: u64, size: u64) -> Segment
+    requires { size % bytes_of sector_size ≡ 0 }
+    ensures { result.offset ≡ offset }
+{
+    Segment {
+        offset,
+        size: Some(size),
+        iv_tweak,
+        sector_size,
+        mode: Mode::XtsPlain64,
+    }
+}
+
+/// How a run went: the sectors that steps answered, and the answer that ended it.
+#[derive(Clone, Copy, PartialEq, Eq, Debug)]
+pub struct Run {
+    pub sectors: u32,
+    pub last: Result<Step, VolumeFault>,
+}
+
+/// Steps until one answers no sector.
+pub fn run_pump<S: Source, O: Sink>(pump: &mut Pump, source: &mut S, sink: &mut O) -> Run {
+    for sectors in 0..100 {
+        let last = pump.step(source, sink);
+        if last != Ok(Step::Sector) {
+            return Run { sectors, last };
+        }
+    }
+    Run {
+        sectors: 100,
+        last: Ok(Step::Sector),
+    }
+}
+
+/// A sink with room for so many bytes, which takes `piece` at a time and fails at call `bad`.
+pub fn taker(alloc: Global, room: usize, piece: usize, bad: u64) -> Result<Leaky, Fail> {
+    Ok(Leaky::new(alloc, room, piece, bad)?)
+}
+
+/// No call fails.
+pub const NEVER: u64 = u64::MAX;
+
+/// A run from the image's first byte, with source and sink in pieces of these sizes: what it gave,
+/// what it wrote, and how many bytes it took.
+pub fn whole_run(
+    alloc: Global,
+    segment: Segment,
+    image: &[u8],
+    pieces: (usize, usize),
+) -> Result<(Run, Vec<u8>, usize), Fail> {
+    let mut pump = Pump::new(segment, key()?, 0);
+    let mut source = Flaky::new(image, pieces.0, NEVER);
+    let mut sink = taker(alloc, 65536, pieces.1, NEVER)?;
+    let run = run_pump(&mut pump, &mut source, &mut sink);
+    let mut written = Vec::new(alloc);
+    written.extend_from_slice(sink.as_slice())?;
+    let left = source.left();
+    Ok((run, written, image.len().saturating_sub(left)))
+}

@@ -1,0 +1,208 @@
+//! Sealed volumes, read by the places of the LUKS1 On-Disk Format Specification.
+
+ghost use Rattle.std.specs.Prelude.{◌≡◌, length};
+
+use super::fixture::{NEVER, Run, counted, dynamic, run_pump, taker};
+use luks_cipher::{Mode, SectorCipher};
+use luks_header::sector_size::SectorSize;
+use luks_kdf::{Hash, Work, af_merge, pbkdf2};
+use luks_testing::devices::Flaky;
+use luks_testing::same::assert_same;
+use luks_volume::pump::Pump;
+use luks_volume::seal::luks1::seal1;
+use luks_volume::seal::parameters::{Seal1, Slot1};
+use luks_volume::state::Step;
+use std::alloc::Global;
+use std::process::Abort;
+use std::test::Fail;
+
+const KEY: &[u8] = b"a volume key has thirty-two byte";
+
+/// PBKDF2 of the key with SHA-256, 32 bytes 5a as salt and 3 iterations: Python's
+/// hashlib.pbkdf2_hmac.
+const DIGEST: &[u8] = &[
+    0xad, 0xb4, 0xdc, 0x9a, 0xfc, 0x19, 0x7c, 0xd7, 0xd4, 0xb5, 0x85, 0x3d, 0x2c, 0x1a, 0xd4, 0x54,
+    0x5a, 0xf1, 0x34, 0xdb,
+];
+
+const SALT: [u8; 32] = [0x5a; 32];
+
+const FIRST_SALT: [u8; 32] = [0x11; 32];
+
+const SIXTH_SALT: [u8; 32] = [0x66; 32];
+
+/// Three random stripes.
+const RANDOM: &[u8] =
+    b"ninety-six bytes that nobody drew: they are only written down, once, and serve as random stripes";
+
+fn slot(number: u32, salt: [u8; 32], passphrase: &'static [u8]) -> Slot1<'static> {
+    Slot1 {
+        number,
+        iterations: 2,
+        salt,
+        passphrase,
+        random: RANDOM,
+    }
+}
+
+fn parameters<'a>(slots: &'a [Slot1<'a>], plain: &'a [u8]) -> Seal1<'a> {
+    Seal1 {
+        hash: Hash::Sha256,
+        mode: Mode::XtsPlain64,
+        key: KEY,
+        stripes: 4,
+        payload_sectors: 72,
+        uuid: b"a-uuid",
+        digest_salt: SALT,
+        digest_iterations: 3,
+        slots,
+        plain,
+    }
+}
+
+// So many bytes from this place on.
+fn at(image: &[u8], place: usize, len: usize) -> &[u8] {
+    let place = place.min(image.len());
+    let rest = &image[place..];
+    &rest[..len.min(rest.len())]
+}
+
+// The key of four stripes.
+fn merge(stripes: &[u8], key: &mut [u8])
+    requires stripes { length stripes.now ≡ 128 }
+    requires key { length key.old ≡ 32 }
+{
+    af_merge(Hash::Sha256, stripes, key);
+}
+
+// Decrypts an area of one sector.
+fn decrypt(area_key: &[u8], area: &mut [u8])
+    requires { length area.old ≡ 512 }
+{
+    if let Some(cipher) = SectorCipher::new(Mode::XtsPlain64, area_key) {
+        cipher.decrypt_unit(0, area);
+    }
+}
+
+// The key of the stripes in an area of one sector.
+fn open_area(area_key: &[u8], area: &mut [u8], key: &mut [u8])
+    requires area { length area.old ≡ 512 }
+    requires key { length key.old ≡ 32 }
+{
+    decrypt(area_key, area);
+    merge(&area[..128], key);
+}
+
+// The key that the stripes at this place hold for a passphrase, after two iterations.
+fn opened(
+    alloc: Global,
+    image: &[u8],
+    place: usize,
+    salt: &[u8],
+    pass: &[u8],
+) -> Result<Vec<u8>, Fail> {
+    let mut area_key = vec![in alloc; 0; 32]?;
+    pbkdf2(
+        Hash::Sha256,
+        pass,
+        salt,
+        2,
+        &mut area_key,
+        &mut Work::new(0),
+    );
+    let mut area = Vec::new(alloc);
+    area.extend_from_slice(at(image, place, 512))?;
+    if area.len() != 512 {
+        return Err("no area".into());
+    }
+    let mut key = vec![in alloc; 0; 32]?;
+    open_area(&area_key, &mut area, &mut key);
+    Ok(key)
+}
+
+fn check_header(rt: &(impl Abort + AllocGlobal), image: &[u8]) {
+    assert_same(rt, at(image, 0, 11), b"LUKS\xba\xbe\x00\x01aes".as_slice());
+    assert_same(rt, at(image, 40, 12), b"xts-plain64\x00".as_slice());
+    assert_same(rt, at(image, 72, 7), b"sha256\x00".as_slice());
+    assert_same(
+        rt,
+        at(image, 104, 8),
+        b"\x00\x00\x00\x48\x00\x00\x00\x20".as_slice(),
+    );
+    assert_same(rt, at(image, 112, 20), DIGEST);
+    assert_same(rt, at(image, 132, 32), SALT.as_slice());
+    assert_same(rt, at(image, 164, 4), b"\x00\x00\x00\x03".as_slice());
+    assert_same(rt, at(image, 168, 7), b"a-uuid\x00".as_slice());
+    // The slots: state and iterations, then salt, place and stripes.
+    assert_same(
+        rt,
+        at(image, 208, 8),
+        b"\x00\xac\x71\xf3\x00\x00\x00\x02".as_slice(),
+    );
+    assert_same(rt, at(image, 216, 32), FIRST_SALT.as_slice());
+    assert_same(
+        rt,
+        at(image, 248, 8),
+        b"\x00\x00\x00\x08\x00\x00\x00\x04".as_slice(),
+    );
+    assert_same(
+        rt,
+        at(image, 256, 8),
+        b"\x00\x00\xde\xad\x00\x00\x00\x00".as_slice(),
+    );
+    assert_same(
+        rt,
+        at(image, 296, 8),
+        b"\x00\x00\x00\x10\x00\x00\x00\x04".as_slice(),
+    );
+    assert_same(
+        rt,
+        at(image, 448, 8),
+        b"\x00\xac\x71\xf3\x00\x00\x00\x02".as_slice(),
+    );
+    assert_same(
+        rt,
+        at(image, 488, 8),
+        b"\x00\x00\x00\x30\x00\x00\x00\x04".as_slice(),
+    );
+    assert_same(
+        rt,
+        at(image, 584, 12),
+        b"\x00\x00\x00\x40\x00\x00\x00\x04\x00\x00\x00\x00".as_slice(),
+    );
+}
+
+fn check_sealed(rt: &(impl Abort + AllocGlobal)) -> Result<(), Fail> {
+    let alloc = rt.alloc();
+    let plain = counted(alloc, 1024)?;
+    let slots = [slot(5, SIXTH_SALT, b"sixth"), slot(0, FIRST_SALT, b"first")];
+    let Ok(image) = seal1(alloc, &parameters(&slots, &plain)) else {
+        return Err("not sealed".into());
+    };
+    assert_same(rt, image.len(), 37_888);
+    check_header(rt, &image);
+    let first = opened(alloc, &image, 4096, &FIRST_SALT, b"first")?;
+    assert_same(rt, first.as_slice(), KEY);
+    let sixth = opened(alloc, &image, 24_576, &SIXTH_SALT, b"sixth")?;
+    assert_same(rt, sixth.as_slice(), KEY);
+    let wrong = opened(alloc, &image, 4096, &FIRST_SALT, b"sixth")?;
+    assert!(rt; wrong.as_slice() != KEY);
+    let Some(key) = SectorCipher::new(Mode::XtsPlain64, KEY) else {
+        return Err("no key".into());
+    };
+    let mut pump = Pump::new(dynamic(36_864, SectorSize::B512, 0), key, 0);
+    let mut source = Flaky::new(&image, 5000, NEVER);
+    let mut sink = taker(alloc, 4096, 5000, NEVER)?;
+    let ended = Run {
+        sectors: 2,
+        last: Ok(Step::End),
+    };
+    assert_same(rt, run_pump(&mut pump, &mut source, &mut sink), ended);
+    assert_same(rt, sink.as_slice(), plain.as_slice());
+    Ok(())
+}
+
+#[test]
+fn a_sealed_volume_opens(rt: HostRuntime) -> Result<(), Fail> {
+    check_sealed(&rt)
+}
