@@ -1,37 +1,7 @@
 #!/usr/bin/env bash
 # Compares what luksrd says of LUKS2 headers with what cryptsetup says of them, and with the JSON text that it prints.
-# shellcheck source=tests/common.sh
-. "$(dirname "$0")/../tests/common.sh"
-
-# theirs IMAGE PLACE SIZE: the dump of a header as luksrd words it, made of what cryptsetup prints
-theirs() {
-    cryptsetup luksDump "$1" >fields || exit 1
-    cryptsetup luksDump --dump-json-metadata "$1" >metadata || exit 1
-    python3 - "$2" "$3" <<'PYTHON'
-import base64, json, re, sys
-place, size = sys.argv[1:]
-fields = dict(re.findall(r'^([A-Z][a-z A-Z]*):\s+(.*)$', open('fields').read(), re.M))
-tree = json.load(open('metadata'))
-print('Version: 2'); print('Header:', place); print('Sequence:', fields['Epoch']); print('Header size:', size)
-print('UUID:', fields['UUID'])
-print('Label: ' + fields['Label'].replace('(no label)', ''))
-print('Subsystem: ' + fields['Subsystem'].replace('(no subsystem)', ''))
-print('Checksum: sha256')
-for n in sorted(tree['keyslots'], key=int):
-    slot = tree['keyslots'][n]; kdf = slot['kdf']; area = slot['area']
-    if kdf['type'] == 'pbkdf2':
-        print(f"Slot {n}: USABLE priority={slot.get('priority', 1)} kdf=pbkdf2 hash={kdf['hash']} iterations={kdf['iterations']}"
-              f" offset={area['offset']} size={area['size']}")
-    else:
-        print(f"Slot {n}: SKIPPED {kdf['type']}")
-s = tree['segments']['0']
-print(f"Segment 0: offset={s['offset']} size={s['size']} iv={s['iv_tweak']} encryption={s['encryption']} sector={s['sector_size']}")
-for n in sorted(tree['digests'], key=int):
-    d = tree['digests'][n]
-    print(f"Digest {n}: USABLE hash={d['hash']} iterations={d['iterations']} bytes={len(base64.b64decode(d['digest']))}"
-          f" keyslots={','.join(d['keyslots'])} segments={','.join(d['segments'])}")
-PYTHON
-}
+# shellcheck source=interop/common.sh
+. "$(dirname "$0")/common.sh"
 
 # format IMAGE OPTION..: a volume with the passphrase in pass (slot 0)
 format() {
@@ -46,9 +16,9 @@ agree() {
     same "$1: isLuks" "$(told isLuks "$1")" 0
     same "$1: luksUUID" "$(told luksUUID "$1")" "$(cryptsetup luksUUID "$1")
 0"
-    same "$1: luksDump" "$(told luksDump "$1")" "$(theirs "$1" "$2" "$3")
+    same "$1: luksDump" "$(told luksDump "$1")" "$(theirs2 "$2" "$3" "$1")
 0"
-    same "$1: luksDump of a pipe" "$(dd if="$1" bs=777 status=none | "$program" luksDump -)" "$(theirs "$1" "$2" "$3")"
+    same "$1: luksDump of a pipe" "$(dd if="$1" bs=777 status=none | "$program" luksDump -)" "$(theirs2 "$2" "$3" "$1")"
 }
 
 # clean IMAGE: there is nothing amiss
@@ -98,20 +68,20 @@ agree several primary 16384
 
 # what lies in a header backup is a header too
 cryptsetup -q luksHeaderBackup --header-backup-file backup several || exit 1
-same 'a header backup: luksDump' "$(told luksDump backup)" "$(theirs several primary 16384)
+same 'a header backup: luksDump' "$(told luksDump backup)" "$(theirs2 primary 16384 several)
 0"
 
 # Damaged headers. cryptsetup mends what it reads, so it gets copies; what it says of the undamaged one is what is left.
 cp several damaged
 dd if=/dev/zero of=damaged bs=512 count=1 conv=notrunc status=none
-same 'a damaged primary header: luksDump' "$(told luksDump damaged)" "$(theirs several secondary 16384)
+same 'a damaged primary header: luksDump' "$(told luksDump damaged)" "$(theirs2 secondary 16384 several)
 0"
 same 'a damaged primary header: luksCheck' "$(told luksCheck damaged)" 'primary header: not valid
 luksrd: the header has findings
 1'
 cp several damaged
 printf x | dd of=damaged bs=1 seek=20000 conv=notrunc status=none
-same 'a damaged secondary header: luksDump' "$(told luksDump damaged)" "$(theirs several primary 16384)
+same 'a damaged secondary header: luksDump' "$(told luksDump damaged)" "$(theirs2 primary 16384 several)
 0"
 same 'a damaged secondary header: luksCheck' "$(told luksCheck damaged)" 'secondary header: not valid
 luksrd: the header has findings

@@ -1,22 +1,7 @@
 #!/usr/bin/env bash
 # Compares what luksrd reads of LUKS2 volumes with the plain bytes that cryptsetup encrypted into them, and with what cryptsetup says of their key slots.
-# shellcheck source=tests/common.sh
-. "$(dirname "$0")/../tests/common.sh"
-
-no_key='luksrd: no key opens the volume
-2'
-
-# seal IMAGE CIPHER KEY_BITS OPTION..: cryptsetup encrypts plain; the passphrase in pass opens slot 0, the one in pass2 slot 1
-seal() {
-    local image=$1 cipher=$2 bits=$3
-    shift 3
-    cp plain "$image"
-    truncate -s +4M "$image"
-    cryptsetup -q reencrypt --encrypt --type luks2 --reduce-device-size 4M --force-offline-reencrypt --luks2-metadata-size 16k \
-        --luks2-keyslots-size 1m --cipher "$cipher" --key-size "$bits" --pbkdf pbkdf2 --pbkdf-force-iterations 1000 --key-file pass "$@" \
-        "$image" 2>err || { cat err; exit 1; }
-    cryptsetup -q luksAddKey --pbkdf pbkdf2 --pbkdf-force-iterations 1200 --hash sha512 --key-file pass "$image" pass2 2>err || { cat err; exit 1; }
-}
+# shellcheck source=interop/common.sh
+. "$(dirname "$0")/common.sh"
 
 # gives IMAGE SOURCE KEY: the payload of the image, read from a file or as a pipe (-), begins with the plain bytes, and ends well
 gives() {
@@ -28,13 +13,7 @@ gives() {
     same "$1, $3, $2: status" $? 0
     same "$1, $3, $2: message" "$(cat message)" ''
     same "$1, $3, $2: plain bytes" "$(head -c "$(stat -c %s plain)" payload | sha256sum)" "$(sha256sum <plain)"
-    same "$1, $3, $2: length" "$(stat -c %s payload)" "$(($(stat -c %s "$1") - $(start_of "$1")))"
-}
-
-# start_of IMAGE: where its payload starts, as cryptsetup says of a copy, since it mends a damaged header that it reads
-start_of() {
-    cp "$1" copy
-    cryptsetup luksDump copy | awk '/offset: .*bytes/ { print $2; exit }'
+    same "$1, $3, $2: length" "$(stat -c %s payload)" "$(($(stat -c %s "$1") - $(start_of2 "$1")))"
 }
 
 # opens IMAGE: both passphrases do, and others do not
@@ -118,7 +97,7 @@ gives past file pass
 gives past - pass2
 
 # images that end early
-start=$(start_of second)
+start=$(start_of2 second)
 in_area='luksrd: image ends inside the header or a key area'
 cut second 16383 'luksrd: not a LUKS image'
 cut second 16384 "$in_area"

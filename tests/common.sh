@@ -44,9 +44,9 @@ told() {
     echo $?
 }
 
-# slot_of IMAGE KEY_FILE: the key slot that cryptsetup opens, in our words
+# slot_of IMAGE KEY_FILE OPTION..: the key slot that cryptsetup opens, in our words
 slot_of() {
-    cryptsetup open --test-passphrase --verbose --key-file "$2" "$1" 2>&1 | sed -n 's/^Key slot \([0-9]*\) unlocked\.$/Key slot \1 opens the volume./p'
+    cryptsetup open --test-passphrase --verbose --key-file "$2" "${@:3}" "$1" 2>&1 | sed -n 's/^Key slot \([0-9]*\) unlocked\.$/Key slot \1 opens the volume./p'
 }
 
 # sealed_by_qemu OPTIONS IMAGE: qemu-img makes a LUKS volume of 1 MiB. It times its own key derivation by the processor's clock, and gives up
@@ -66,12 +66,12 @@ run() {
 }
 
 usage=$(sed -n '/^usage:/,/STRIPES$/p' <<'TEXT'
-usage: luksrd isLuks IMAGE
-       luksrd luksUUID IMAGE
-       luksrd luksDump IMAGE
-       luksrd luksCheck IMAGE
-       luksrd testPassphrase --key-file FILE [--key-slot N] [--max-iterations N] IMAGE
-       luksrd luksCat --key-file FILE [--key-slot N] [--max-iterations N] IMAGE
+usage: luksrd isLuks [--header FILE] IMAGE
+       luksrd luksUUID [--header FILE] IMAGE
+       luksrd luksDump [--header FILE] IMAGE
+       luksrd luksCheck [--header FILE] IMAGE
+       luksrd testPassphrase --key-file FILE [--key-slot N] [--max-iterations N] [--header FILE] IMAGE
+       luksrd luksCat --key-file FILE [--key-slot N] [--max-iterations N] [--header FILE] IMAGE
        luksrd afSplit --hash HASH --stripes N --random FILE KEY
        luksrd afMerge --hash HASH --stripes N --key-bytes N STRIPES
 TEXT

@@ -11,6 +11,8 @@ cp "$sample/passphrase" pass
 plain=$(hex "$sample/plain.txt")
 opens=$(printf 'Key slot 0 opens the volume.\n' >line; hex line)
 held=$((8 * 512 + 64 * 4000))
+head -c $held volume >header
+printf 'another one' >wrong
 : >in
 
 # onto NAME MESSAGE FILE WORD..: a run that appends to a file, and one that writes into it, end with this message and leave the file as it is
@@ -32,8 +34,12 @@ onto 'an image onto itself' 'luksrd: cannot open volume' volume luksCat --key-fi
 onto 'a key file' 'luksrd: cannot open pass' pass luksCat --key-file pass volume
 ln volume link
 onto 'another name of the image' 'luksrd: cannot open link' volume luksCat --key-file pass link
+onto 'a header' 'luksrd: cannot open header' header luksCat --key-file pass --header header volume
+onto 'a header that is dumped' 'luksrd: cannot open header' header luksDump --header header volume
+onto 'an image with a header of its own' 'luksrd: cannot open volume' volume luksCat --key-file pass --header header volume
 cp volume in
 onto 'standard input' 'luksrd: cannot open -' in luksCat --key-file pass -
+onto 'a header from standard input' 'luksrd: cannot open -' in luksCat --key-file pass --header - volume
 : >in
 "$program" isLuks /dev/null >/dev/null 2>err
 echo $? >status
@@ -45,15 +51,28 @@ run luksCat --key-file pass .
 expect 'a folder' 4 '' 'luksrd: cannot open .'
 run luksCat --key-file . volume
 expect 'a folder for a key file' 4 '' 'luksrd: cannot open .'
+run luksCat --key-file pass --header . volume
+expect 'a folder for a header' 4 '' 'luksrd: cannot open .'
+run luksCat --key-file . --header header volume
+expect 'a folder for a key file beside a header' 4 '' 'luksrd: cannot open .'
 
 # descriptors that are closed: no input comes in their place
 : >out
 "$program" luksCat --key-file - volume <&- >out 2>err
 echo $? >status
 expect 'no standard input' 2 '' 'luksrd: no key opens the volume'
+"$program" luksCat --key-file pass --header - volume <&- >out 2>err
+echo $? >status
+expect 'no standard input for a header' 4 '' 'luksrd: not a LUKS image'
+"$program" isLuks --header - volume <&- >out 2>err
+echo $? >status
+expect 'no standard input for a header that is looked for' 1 '' ''
 "$program" luksCat --key-file pass volume <&- >out 2>err
 echo $? >status
 expect 'no standard input, and none needed' 0 "$plain" ''
+"$program" luksCat --key-file pass --header header volume <&- >out 2>err
+echo $? >status
+expect 'no standard input, and none needed beside a header' 0 "$plain" ''
 "$program" testPassphrase --key-file pass volume >&- 2>err
 echo $? >status
 : >out
@@ -66,17 +85,46 @@ same 'none at all' "$("$program" luksCat --key-file pass volume <&- >&- 2>&-; ec
 
 # what is not needed of a pipe stays in it
 mkfifo pipe
-exec 3<>pipe
-(cat volume; printf 'the rest') >pipe &
-writer=$!
-run testPassphrase --key-file pass pipe
+# taken BYTES WORD..: a run over a named pipe, into which the volume and more are written, takes so many bytes of it
+taken() {
+    local count=$1 writer
+    shift
+    exec 3<>pipe
+    (cat volume; printf 'the rest') >pipe &
+    writer=$!
+    run "$@"
+    timeout 60 head -c $(($(stat -c %s volume) + 8 - count)) <&3 >rest
+    wait $writer
+    exec 3>&-
+    same "$*: the rest of the pipe" "$(sha256sum <rest)" "$( (tail -c +$((count + 1)) volume; printf 'the rest') | sha256sum)"
+}
+taken $held testPassphrase --key-file pass pipe
 expect 'a named pipe' 0 "$opens" ''
-timeout 60 head -c $(($(stat -c %s volume) + 8 - held)) <&3 >rest
-wait $writer
-exec 3>&-
-same 'the rest of it' "$(sha256sum <rest)" "$( (tail -c +$((held + 1)) volume; printf 'the rest') | sha256sum)"
+taken $held testPassphrase --key-file pass --header pipe volume
+expect 'a header in a named pipe' 0 "$opens" ''
+taken $held luksCat --key-file pass --header pipe volume
+expect 'a header in a named pipe, and the payload in a file' 0 "$plain" ''
+taken 592 isLuks --header pipe volume
+expect 'a header in a named pipe, which is looked for' 0 '' ''
+
+# nothing of the image is read before a key was found, nor by a command that needs the header alone
+taken 0 luksCat --key-file wrong --header header pipe
+expect 'a wrong passphrase beside a header' 2 '' 'luksrd: no key opens the volume'
+taken 0 luksCat --key-file pass --header pass pipe
+expect 'no header' 4 '' 'luksrd: not a LUKS image'
+taken 0 testPassphrase --key-file pass --header header pipe
+expect 'a passphrase beside a header' 0 "$opens" ''
+taken 0 isLuks --header header pipe
+expect 'a header that is looked for' 0 '' ''
+for command in luksUUID luksDump luksCheck; do
+    "$program" $command header >wanted
+    taken 0 $command --header header pipe
+    expect "$command beside a header" 0 "$(hex wanted)" ''
+done
 run luksCat --key-file <(cat pass) <(cat volume)
 expect 'pipes of the shell' 0 "$plain" ''
+run luksCat --key-file <(cat pass) --header <(cat header) <(cat volume)
+expect 'pipes of the shell, with a header' 0 "$plain" ''
 
 # a long derivation ends at once where it is told to
 cp volume long
@@ -88,7 +136,17 @@ expect 'a derivation that is ended' 124 '' ''
 # installing into a folder with a space in its name
 mkdir 'a folder'
 make -s -C "$sources" install DESTDIR="$work/a folder" PREFIX=/usr PROGRAM="$program"
-same 'what is installed' "$(cd 'a folder' && find . -type f | sort | tr '\n' ' ')" './usr/bin/luksrd ./usr/share/man/man1/luksrd.1 '
+find 'a folder' -type f -printf '%m %P\n' | sort >files
+same 'what is installed, and its modes' "$(cat files)" \
+    '644 usr/share/bash-completion/completions/luksrd
+644 usr/share/man/man1/luksrd.1
+644 usr/share/zsh/site-functions/_luksrd
+755 usr/bin/luksrd'
+for file in bin/luksrd:"$program" share/man/man1/luksrd.1:"$sources/docs/luksrd.1" \
+    share/bash-completion/completions/luksrd:"$sources/completions/luksrd.bash" \
+    share/zsh/site-functions/_luksrd:"$sources/completions/_luksrd"; do
+    same "what is installed as ${file%%:*}" "$(cmp "a folder/usr/${file%%:*}" "${file#*:}" 2>&1)" ''
+done
 make -s -C "$sources" uninstall DESTDIR="$work/a folder" PREFIX=/usr PROGRAM="$program"
 same 'what is left of it' "$(find 'a folder' -type f)" ''
 
@@ -125,6 +183,12 @@ for file in volume pass; do
     traced read "$work/$file" error=EIO:when=1 luksCat --key-file pass volume
     expect "a read of $file that fails" 6 '' "$read_failed"
 done
+for file in header volume pass; do
+    traced read "$work/$file" error=EINTR:when=1..100 luksCat --key-file pass --header header volume
+    expect "a hundred reads of $file beside a header interrupted" 0 "$plain" ''
+    traced read "$work/$file" error=EIO:when=1 luksCat --key-file pass --header header volume
+    expect "a read of $file beside a header that fails" 6 '' "$read_failed"
+done
 for call in $(seq 2 40); do
     traced read "$work/volume" "error=EIO:when=$call" luksCat --key-file pass volume
     grep -q INJECTED trace || break
@@ -138,5 +202,7 @@ done
 expect 'no read that fails' 0 "$plain" ''
 traced openat "$work/volume" error=EACCES luksCat --key-file pass "$work/volume"
 expect 'an image that may not be read' 4 '' "luksrd: cannot open $work/volume"
+traced openat "$work/header" error=EACCES luksCat --key-file missing --header "$work/header" volume
+expect 'a header that may not be read' 4 '' "luksrd: cannot open $work/header"
 
 finish

@@ -1,5 +1,5 @@
 #!/usr/bin/env bash
-# Runs the built program over drawn headers of both versions: fields at their extremes, bytes changed with the checksum made anew, JSON of any shape.
+# Runs the built program over drawn headers of both versions, in their image or in a file of their own: fields at their extremes, bytes changed with the checksum made anew, JSON of any shape.
 # Each run has to end by itself with a known status, and to print nothing but visible ASCII and lines. The seed is printed; it can be given as
 # SEED, and the number of headers as HEADERS.
 # shellcheck source=tests/common.sh
@@ -86,11 +86,12 @@ COMMANDS = ['isLuks', 'luksUUID', 'luksDump', 'luksCheck', 'testPassphrase', 'lu
 statuses, wrong = {}, 0
 for run in range(count):
     image = first() if draw.random() < 0.4 else second()
-    if draw.random() < 0.2:
+    if image and draw.random() < 0.2:
         image = bytearray(image)
         for _ in range(draw.randrange(1, 4)): image[draw.randrange(len(image))] = draw.getrandbits(8)
     command = draw.choice(COMMANDS)
-    words = [program, command] + (['--key-file', '/dev/null', '--max-iterations', '100'] if command in COMMANDS[4:] else []) + ['-']
+    words = [program, command] + (['--key-file', '/dev/null', '--max-iterations', '100'] if command in COMMANDS[4:] else [])
+    words += ['--header', '-', '/dev/null'] if draw.random() < 0.3 else ['-']
     done = subprocess.run(words, input=bytes(image), capture_output=True, timeout=60)
     printed = done.stdout + done.stderr
     statuses[command, done.returncode] = statuses.get((command, done.returncode), 0) + 1

@@ -1,0 +1,44 @@
+#!/usr/bin/env bash
+# Runs the built program in rising address space, from none to more than enough, a page more at a time: each run that the C library's loader lets
+# begin ends with the stated output and status, or with status 3, `out of memory` and no output; and once a command has ended well it does so with more.
+sample=$(realpath "$(dirname "$0")/../sample")
+# shellcheck source=tests/common.sh
+. "$(dirname "$0")/../tests/common.sh"
+gzip -dc "$sample/volume.img.gz" >volume
+cp "$sample/passphrase" passphrase
+
+python3 - "$program" <<'PYTHON'
+import resource, subprocess, sys
+program = sys.argv[1]
+PAGE, REFUSED = 4096, (3, b'', b'luksrd: out of memory\n')
+key = ['--key-file', 'passphrase']
+commands = [['isLuks', 'volume'], ['luksUUID', 'volume'], ['luksDump', 'volume'], ['luksCheck', 'volume'], ['testPassphrase', *key, 'volume'],
+            ['luksCat', *key, 'volume'], ['luksCat', *key, '--header', 'volume', 'volume']]
+
+def run(words, space):
+    """How a run ends in so much address space, or without a limit."""
+    limit = (lambda: resource.setrlimit(resource.RLIMIT_AS, (space, space))) if space is not None else None
+    ran = subprocess.run([program, *words], stdin=subprocess.DEVNULL, capture_output=True, preexec_fn=limit, timeout=60)
+    return ran.returncode, ran.stdout, ran.stderr
+
+wanted = [run(words, None) for words in commands]
+# (below that the loader ends the run, or the kernel does)
+least = next(n for n in range(0, 100_000_000, PAGE) if run(['isLuks', 'volume'], n)[0] not in (127, -11))
+runs = refused = bad = 0
+for words, whole in zip(commands, wanted):
+    well = False
+    for space in range(least, least + 160 * PAGE * 2, PAGE * 2):
+        ended, runs = run(words, space), runs + 1
+        if ended == REFUSED and not well:
+            refused += 1
+        elif ended == whole:
+            well = True
+        else:
+            bad += 1
+            print('FAILED', words, 'in', space, 'bytes:', ended[0], ended[1][:40], ended[2][:80])
+    if not well:
+        bad += 1
+        print('FAILED', words, 'never ended well')
+print(runs, 'runs,', refused, 'of them refused memory,', bad, 'failed')
+sys.exit(bad > 0 or refused == 0)
+PYTHON
