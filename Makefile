@@ -1,17 +1,25 @@
-# make            builds the program, crates/luksrd/out/luksrd, which proves it and all that it stands on
-# make demo       builds it and reads the sample volume, from a pipe
+# make            builds the program, crates/luksrd/out/luksrd, which proves all it stands on
+# make demo       builds it and reads both sample volumes, from pipes
 # make check      runs the built program on files and pipes, and beside cryptsetup and qemu-img: all of `make test` but the gate
 # make test       what CI runs: the gate, which proves everything from nothing, and beside it the same scripts on the program that it builds
 # make bench      measures key derivation, decryption and whole volumes beside other implementations
-# make install    puts the program and its man page below PREFIX (/usr/local where it is not given), in DESTDIR where that is given
+# make install    puts the program, its man page and its completions below PREFIX (/usr/local where
+#                 it is not given), in DESTDIR where that is given
 # make uninstall  takes them away again
+# make deb        makes a Debian package of the program as it is built, in DEB
 
 PROGRAM := crates/luksrd/out/luksrd
+SEALER := crates/sealed_image/out/sealed_image
+VERSION := 1.0.0
+DEB ?= out/luksrd_$(VERSION)_amd64.deb
 PREFIX ?= /usr/local
+ZSH_FUNCTIONS ?= $(PREFIX)/share/zsh/site-functions
 BINARIES = $(DESTDIR)$(PREFIX)/bin
 PAGES = $(DESTDIR)$(PREFIX)/share/man/man1
+BASH_WORDS = $(DESTDIR)$(PREFIX)/share/bash-completion/completions
+ZSH_WORDS = $(DESTDIR)$(ZSH_FUNCTIONS)
 
-.PHONY: all demo check scripts test bench install uninstall
+.PHONY: all demo check scripts test bench install uninstall deb
 
 all: $(PROGRAM)
 
@@ -22,23 +30,34 @@ $(PROGRAM): FORCE
 .PHONY: FORCE
 FORCE:
 
+# It writes volumes that the library seals, for interop/sealed.sh; with no arguments it does nothing.
+$(SEALER): FORCE
+	cd crates/sealed_image && rt run >/dev/null
+
 demo: all
 	gzip -dc sample/volume.img.gz | $(PROGRAM) testPassphrase --key-file sample/passphrase -
 	gzip -dc sample/volume.img.gz | $(PROGRAM) luksCat --key-file sample/passphrase -
+	gzip -dc sample/volume2.img.gz | $(PROGRAM) luksDump -
+	gzip -dc sample/volume2.img.gz | $(PROGRAM) luksCat --key-file sample/passphrase -
 
-check: all scripts
+check: all $(SEALER) scripts
 
-# The program is taken as it is.
+# The programs are taken as they are.
 scripts:
 	tests/packages
 	tests/stripes.sh $(PROGRAM)
 	tests/volumes.sh $(PROGRAM)
 	tests/devices.sh $(PROGRAM)
+	tests/memory.sh $(PROGRAM)
 	tests/hostile.sh $(PROGRAM)
+	tests/completions.sh $(PROGRAM)
+	tests/package.sh $(PROGRAM)
 	interop/headers.sh $(PROGRAM)
 	interop/headers2.sh $(PROGRAM)
 	interop/volumes.sh $(PROGRAM)
 	interop/volumes2.sh $(PROGRAM)
+	interop/detached.sh $(PROGRAM)
+	interop/sealed.sh $(PROGRAM) $(SEALER)
 
 test:
 	tests/gate
@@ -51,9 +70,16 @@ bench: all
 # What is built already is installed as it is, so that this needs no toolchain.
 install:
 	test -x "$(PROGRAM)"
-	install -d "$(BINARIES)" "$(PAGES)"
+	install -d "$(BINARIES)" "$(PAGES)" "$(BASH_WORDS)" "$(ZSH_WORDS)"
 	install -m 755 "$(PROGRAM)" "$(BINARIES)/luksrd"
 	install -m 644 docs/luksrd.1 "$(PAGES)/luksrd.1"
+	install -m 644 completions/luksrd.bash "$(BASH_WORDS)/luksrd"
+	install -m 644 completions/_luksrd "$(ZSH_WORDS)/_luksrd"
 
 uninstall:
-	rm -f "$(BINARIES)/luksrd" "$(PAGES)/luksrd.1"
+	rm -f "$(BINARIES)/luksrd" "$(PAGES)/luksrd.1" "$(BASH_WORDS)/luksrd" "$(ZSH_WORDS)/_luksrd"
+
+# This too takes the program as it is.
+deb:
+	packaging/deb "$(PROGRAM)" "$(VERSION)" "$(DEB)"
+	@echo "$(DEB)"
