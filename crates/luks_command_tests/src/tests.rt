@@ -3,7 +3,7 @@ use luks_command::number::{IterationLimit, KeyBytes, SlotNumber, StripeCount};
 use luks_command::planning::{PlanFault, plan};
 use luks_command::usage::usage;
 use luks_kdf::Hash;
-use luks_testing::same::{assert_in, assert_same, assert_same_in};
+use luks_testing::same::{holds_in, same, same_in};
 use std::alloc::{AllocError, Global};
 use std::process::Abort;
 use std::test::Fail;
@@ -33,7 +33,7 @@ fn check_plan(
 ) -> Result<(), Fail> {
     let words = words_of(rt.alloc(), line)?;
     let planned = plan(rt.alloc(), words.as_slice());
-    assert_in(rt, &(line, planned), planned == Ok(command));
+    holds_in(&(line, planned), planned == Ok(command)).expect(rt, "so");
     Ok(())
 }
 
@@ -42,10 +42,10 @@ const NONE: &str = "none at all";
 
 // The command names these inputs: the image, what is secret, and the header that stands apart.
 fn check_inputs(rt: &impl Abort, command: Command<'_>, image: &str, secret: &str, header: &str) {
-    assert_same_in(rt, &command, command.image(), image);
-    assert_same_in(rt, &command, command.secret().unwrap_or(NONE), secret);
-    assert_same_in(rt, &command, command.header().unwrap_or(NONE), header);
-    assert_same_in(rt, &command, command.is_detached(), header != NONE);
+    same_in(&command, command.image(), image).expect(rt, "the same");
+    same_in(&command, command.secret().unwrap_or(NONE), secret).expect(rt, "the same");
+    same_in(&command, command.header().unwrap_or(NONE), header).expect(rt, "the same");
+    same_in(&command, command.is_detached(), header != NONE).expect(rt, "the same");
 }
 
 #[test]
@@ -90,10 +90,10 @@ fn check_options(
     let Ok(Command::TestPassphrase(opening)) = plan(rt.alloc(), words.as_slice()) else {
         return Err(Fail::from("a passphrase to be tested"));
     };
-    assert_same_in(rt, &line, numbers_of(&opening), (slot, limit));
-    assert_same_in(rt, &line, opening.image, "i");
-    assert_same_in(rt, &line, opening.key_file, "f");
-    assert_in(rt, &line, opening.header.is_none());
+    same_in(&line, numbers_of(&opening), (slot, limit)).expect(rt, "the same");
+    same_in(&line, opening.image, "i").expect(rt, "the same");
+    same_in(&line, opening.key_file, "f").expect(rt, "the same");
+    holds_in(&line, opening.header.is_none()).expect(rt, "so");
     let line = format!(in rt.alloc(); "luksCat {options}")?;
     let command = Command::LuksCat(opening);
     check_plan(rt, line.as_str(), command)?;
@@ -238,23 +238,23 @@ fn takes_words_as_strings(rt: HostRuntime) -> Result<(), Fail> {
         stripes_file: "s",
     };
     let command = Command::AfMerge(merging);
-    assert_same(&rt, plan(rt.alloc(), words.as_slice()), Ok(command));
+    same(plan(rt.alloc(), words.as_slice()), Ok(command)).expect(&rt, "the same");
     Ok(())
 }
 
 #[test]
 fn other_numbers_are_refused(rt: HostRuntime) {
     for number in [0, 4001, 1 << 32] {
-        assert_same_in(&rt, &number, StripeCount::new(number), None);
+        same_in(&number, StripeCount::new(number), None).expect(&rt, "the same");
     }
     for number in [0, 513, 1 << 32] {
-        assert_same_in(&rt, &number, KeyBytes::new(number), None);
+        same_in(&number, KeyBytes::new(number), None).expect(&rt, "the same");
     }
     for number in [32, 256, 1 << 32] {
-        assert_same_in(&rt, &number, SlotNumber::new(number), None);
+        same_in(&number, SlotNumber::new(number), None).expect(&rt, "the same");
     }
     for number in [0, 1 << 32] {
-        assert_same_in(&rt, &number, IterationLimit::new(number), None);
+        same_in(&number, IterationLimit::new(number), None).expect(&rt, "the same");
     }
 }
 
@@ -262,19 +262,19 @@ fn other_numbers_are_refused(rt: HostRuntime) {
 fn numbers_have_ranges(rt: HostRuntime) -> Result<(), Fail> {
     for number in [1, 4000] {
         let stripes = StripeCount::new(number).ok_or("a number of stripes")?;
-        assert_same(&rt, stripes.get() as u64, number);
+        same(stripes.get() as u64, number).expect(&rt, "the same");
     }
     for number in [1, 512] {
         let key_bytes = KeyBytes::new(number).ok_or("a length")?;
-        assert_same(&rt, key_bytes.get() as u64, number);
+        same(key_bytes.get() as u64, number).expect(&rt, "the same");
     }
     for number in [0, 31] {
         let slot = SlotNumber::new(number).ok_or("a slot")?;
-        assert_same(&rt, slot.get() as u64, number);
+        same(slot.get() as u64, number).expect(&rt, "the same");
     }
     for number in [1, 4294967295] {
         let limit = IterationLimit::new(number).ok_or("a limit")?;
-        assert_same(&rt, limit.get() as u64, number);
+        same(limit.get() as u64, number).expect(&rt, "the same");
     }
     Ok(())
 }
@@ -290,9 +290,9 @@ fn usage_has_a_line_a_command(rt: HostRuntime) {
         "       luksrd testPassphrase --key-file FILE [--key-slot N] [--max-iterations N] \
          [--header FILE] IMAGE",
     ] {
-        assert_same(&rt, lines.next(), Some(line));
+        same(lines.next(), Some(line)).expect(&rt, "the same");
     }
-    assert_same(&rt, usage().lines().count(), 8);
+    same(usage().lines().count(), 8).expect(&rt, "the same");
     assert!(rt; usage().len() <= 1000);
     assert!(rt; usage().ends_with(" --key-bytes N STRIPES\n"));
 }

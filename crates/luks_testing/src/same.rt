@@ -1,25 +1,49 @@
-//! Comparisons of tests. A failed one names the line of the test that makes it, and tells both
-//! values.
+//! Comparisons of tests. What differs is told with both values, and with the case where a table
+//! has several; a test ends there by `expect`.
 
 use std::fmt::Debug;
-use std::process::Abort;
 
-/// Asserts that both values are the same.
-pub fn assert_same<T: PartialEq + Debug + Drop>(rt: &impl Abort, left: T, right: T) {
-    assert_eq!(rt; left, right);
+/// How two values differ.
+#[derive(Debug, Drop)]
+pub struct Difference<T> {
+    left: T,
+    right: T,
 }
 
-/// Asserts that both values are the same, in this case of a table.
-pub fn assert_same_in<C: Debug, T: PartialEq + Debug + Drop>(
-    rt: &impl Abort,
+/// What is wrong in a case of a table.
+#[derive(Debug, Drop)]
+pub struct InCase<'a, C, W> {
+    case: &'a C,
+    wrong: W,
+}
+
+/// What does not hold.
+#[derive(Debug, Drop)]
+pub struct NotSo;
+
+/// Whether both values are the same.
+pub fn same<T: PartialEq + Drop>(left: T, right: T) -> Result<(), Difference<T>> {
+    if left == right {
+        Ok(())
+    } else {
+        Err(Difference { left, right })
+    }
+}
+
+/// Whether both values are the same, in this case of a table.
+pub fn same_in<C, T: PartialEq + Drop>(
     case: &C,
     left: T,
     right: T,
-) {
-    assert_eq!(rt; left, right, "{case:?}");
+) -> Result<(), InCase<C, Difference<T>>> {
+    same(left, right).map_err(|wrong| InCase { case, wrong })
 }
 
-/// Asserts what holds in this case of a table.
-pub fn assert_in<C: Debug>(rt: &impl Abort, case: &C, holds: bool) {
-    assert!(rt; holds, "{case:?}");
+/// Whether this holds in this case of a table.
+pub fn holds_in<C>(case: &C, holds: bool) -> Result<(), InCase<C, NotSo>> {
+    if holds {
+        Ok(())
+    } else {
+        Err(InCase { case, wrong: NotSo })
+    }
 }

@@ -5,7 +5,7 @@ use super::fixture::{
 };
 use luks_area::fault::HeaderFault;
 use luks_kdf::Hash;
-use luks_testing::same::{assert_same, assert_same_in};
+use luks_testing::same::{same, same_in};
 use luks2_header::header::{Finding, Header2, Place};
 use std::alloc::{AllocError, Global};
 use std::process::Abort;
@@ -30,7 +30,7 @@ fn check(
     want: Result<Summary, HeaderFault>,
     taken: usize,
 ) {
-    assert_same(rt, answer(rt.alloc(), image), (want, taken));
+    same(answer(rt.alloc(), image), (want, taken)).expect(rt, "the same");
 }
 
 fn with_both(alloc: Global, len: usize, second: u64) -> Result<Vec<u8>, AllocError> {
@@ -42,20 +42,16 @@ fn with_both(alloc: Global, len: usize, second: u64) -> Result<Vec<u8>, AllocErr
 }
 
 fn check_fields(rt: &impl Abort, header: &Header2) {
-    assert_same(rt, header.place, Place::Primary);
-    assert_same(rt, header.size, 16_384);
-    assert_same(rt, header.sequence, 7);
-    assert_same(rt, header.label.as_bytes(), b"label".as_slice());
-    assert_same(rt, header.hash, Hash::Sha256);
-    assert_same(rt, header.salt[0], 0);
-    assert_same(rt, header.salt[63], 63);
-    assert_same(
-        rt,
-        header.uuid.as_bytes(),
-        b"11111111-2222-3333-4444-555555555555".as_slice(),
-    );
-    assert_same(rt, header.subsystem.as_bytes(), b"sub".as_slice());
-    assert_same(rt, header.finding, None);
+    same(header.place, Place::Primary).expect(rt, "the same");
+    same(header.size, 16_384).expect(rt, "the same");
+    same(header.sequence, 7).expect(rt, "the same");
+    same(header.label.as_bytes(), b"label".as_slice()).expect(rt, "the same");
+    same(header.hash, Hash::Sha256).expect(rt, "the same");
+    same(header.salt[0], 0).expect(rt, "the same");
+    same(header.salt[63], 63).expect(rt, "the same");
+    same(header.uuid.as_bytes(), b"11111111-2222-3333-4444-555555555555".as_slice()).expect(rt, "the same");
+    same(header.subsystem.as_bytes(), b"sub".as_slice()).expect(rt, "the same");
+    same(header.finding, None).expect(rt, "the same");
 }
 
 #[test]
@@ -64,9 +60,9 @@ fn the_primary_of_two_equal_ones_is_chosen(rt: HostRuntime) -> Result<(), Fail> 
     let (answer, taken) = read(rt.alloc(), image.as_slice());
     let (header, area) = answer?;
     check_fields(&rt, &header);
-    assert_same(&rt, taken, 32_768);
-    assert_same(&rt, area.as_slice().len(), 32_768);
-    assert_same(&rt, header.json_text(area.as_slice()), JSON);
+    same(taken, 32_768).expect(&rt, "the same");
+    same(area.as_slice().len(), 32_768).expect(&rt, "the same");
+    same(header.json_text(area.as_slice()), JSON).expect(&rt, "the same");
     Ok(())
 }
 
@@ -119,7 +115,7 @@ fn check_flipped(
         flip(image.as_mut_slice(), *place);
     }
     let answer = answer(rt.alloc(), image.as_slice());
-    assert_same_in(rt, &places, answer, (want, 32_768));
+    same_in(&places, answer, (want, 32_768)).expect(rt, "the same");
     Ok(())
 }
 

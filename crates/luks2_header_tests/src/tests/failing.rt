@@ -6,7 +6,7 @@ use super::fixture::{
 use luks_area::fault::HeaderFault;
 use luks_kdf::Hash;
 use luks_testing::devices::{Broken, Flaky};
-use luks_testing::same::{assert_in, assert_same, assert_same_in};
+use luks_testing::same::{holds_in, same, same_in};
 use luks_testing::scarce::Scarcity;
 use luks2_header::header::{Finding, Place};
 use std::alloc::{AllocError, Global};
@@ -65,8 +65,8 @@ fn check_sum(
     put(image.as_mut_slice(), 448, sum.as_slice());
     let (answer, taken) = read(rt.alloc(), image.as_slice());
     let (header, _) = answer?;
-    assert_same(rt, header.hash, hash);
-    assert_same_in(rt, &name, taken, 16_384);
+    same(header.hash, hash).expect(rt, "the same");
+    same_in(&name, taken, 16_384).expect(rt, "the same");
     Ok(())
 }
 
@@ -84,10 +84,10 @@ fn check_extent(rt: &(impl Abort + AllocGlobal), hash: Hash, name: &str) -> Resu
     if size < 64 {
         put(image.as_mut_slice(), 448 + size, b"x");
         put(image.as_mut_slice(), 511, b"y");
-        assert_in(rt, &name, read(rt.alloc(), image.as_slice()).0.is_ok());
+        holds_in(&name, read(rt.alloc(), image.as_slice()).0.is_ok()).expect(rt, "so");
     }
     flip(image.as_mut_slice(), 447 + size);
-    assert_in(rt, &name, read(rt.alloc(), image.as_slice()).0.is_err());
+    holds_in(&name, read(rt.alloc(), image.as_slice()).0.is_err()).expect(rt, "so");
     Ok(())
 }
 
@@ -108,12 +108,7 @@ fn the_name_of_a_hash_is_folded(rt: HostRuntime) -> Result<(), Fail> {
         ("", false),
     ] {
         let image = image_of(rt.alloc(), 16_384, &[primary_of(Hash::Sha256, name)])?;
-        assert_same_in(
-            &rt,
-            &name,
-            read(rt.alloc(), image.as_slice()).0.is_ok(),
-            known,
-        );
+        same_in(&name, read(rt.alloc(), image.as_slice()).0.is_ok(), known).expect(&rt, "the same");
     }
     Ok(())
 }
@@ -136,10 +131,10 @@ fn a_json_area_without_a_zero_byte_is_text_to_its_end(rt: HostRuntime) -> Result
     let (answer, _) = read(rt.alloc(), image.as_slice());
     let (header, area) = answer?;
     let text = header.json_text(area.as_slice());
-    assert_same(&rt, text.len(), 12_288);
-    assert_same(&rt, text.first().copied(), Some(b'j'));
+    same(text.len(), 12_288).expect(&rt, "the same");
+    same(text.first().copied(), Some(b'j')).expect(&rt, "the same");
     let short = header.json_text(front(area.as_slice(), 16_384));
-    assert_same(&rt, short.len(), 0);
+    same(short.len(), 0).expect(&rt, "the same");
     Ok(())
 }
 
@@ -151,9 +146,9 @@ fn check_pieces(
 ) -> Result<(), Fail> {
     let mut source = Flaky::new(image, piece, u64::MAX);
     let (header, area) = read_from(rt.alloc(), &mut source)?;
-    assert_same_in(rt, &piece, (header.place, header.finding), want);
-    assert_same_in(rt, &piece, header.json_text(area.as_slice()), JSON);
-    assert_same_in(rt, &piece, source.left(), 1);
+    same_in(&piece, (header.place, header.finding), want).expect(rt, "the same");
+    same_in(&piece, header.json_text(area.as_slice()), JSON).expect(rt, "the same");
+    same_in(&piece, source.left(), 1).expect(rt, "the same");
     Ok(())
 }
 
@@ -173,15 +168,15 @@ fn pieces_of_any_length_serve(rt: HostRuntime) -> Result<(), Fail> {
 fn check_failed(rt: &(impl Abort + AllocGlobal), bytes: &[u8], given: usize) {
     let mut source = Broken::new(bytes, given);
     let answer = read_from(rt.alloc(), &mut source);
-    assert_same_in(rt, &given, answer.err(), Some(HeaderFault::Read));
-    assert_same_in(rt, &given, source.failures, 1);
-    assert_same_in(rt, &given, source.left(), 40_000usize.saturating_sub(given));
+    same_in(&given, answer.err(), Some(HeaderFault::Read)).expect(rt, "the same");
+    same_in(&given, source.failures, 1).expect(rt, "the same");
+    same_in(&given, source.left(), 40_000usize.saturating_sub(given)).expect(rt, "the same");
 }
 
 fn check_whole(rt: &(impl Abort + AllocGlobal), bytes: &[u8]) {
     let mut source = Broken::new(bytes, 32_768);
     assert!(rt; read_from(rt.alloc(), &mut source).is_ok());
-    assert_same(rt, source.failures, 0);
+    same(source.failures, 0).expect(rt, "the same");
 }
 
 #[test]
@@ -216,6 +211,6 @@ fn want_of_memory_is_told(rt: HostRuntime) -> Result<(), Fail> {
     let runs = refused_runs(rt.alloc(), image.as_slice(), &mut scarcity, 41);
     drop(scarcity);
     // Another fault than want of memory, too little given back, or no refusal at all.
-    assert_in(&rt, &runs, runs.unwrap_or(0) > 0);
+    holds_in(&runs, runs.unwrap_or(0) > 0).expect(&rt, "so");
     Ok(())
 }

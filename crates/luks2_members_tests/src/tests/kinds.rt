@@ -2,7 +2,7 @@
 
 use super::with_member;
 use luks_cipher::Mode;
-use luks_testing::same::{assert_in, assert_same, assert_same_in};
+use luks_testing::same::{holds_in, same, same_in};
 use luks2_members::encryption::{is_length_for, mode_of};
 use luks2_members::list::has_texts;
 use luks2_members::member::{
@@ -17,7 +17,7 @@ fn check_whole_number(
     want: Option<u64>,
 ) -> Result<(), Fail> {
     let metadata = with_member(rt.alloc(), value)?;
-    assert_same_in(rt, &value, whole_number(metadata.tree(), "x"), want);
+    same_in(&value, whole_number(metadata.tree(), "x"), want).expect(rt, "the same");
     Ok(())
 }
 
@@ -50,7 +50,7 @@ fn check_decimal_text(
     want: Option<u64>,
 ) -> Result<(), Fail> {
     let metadata = with_member(rt.alloc(), value)?;
-    assert_same_in(rt, &value, decimal_text(metadata.tree(), "x"), want);
+    same_in(&value, decimal_text(metadata.tree(), "x"), want).expect(rt, "the same");
     Ok(())
 }
 
@@ -85,7 +85,7 @@ fn decimal_texts(rt: HostRuntime) -> Result<(), Fail> {
 #[test]
 fn texts(rt: HostRuntime) -> Result<(), Fail> {
     let metadata = with_member(rt.alloc(), "\"raw\"")?;
-    assert_same(&rt, text(metadata.tree(), "x").unwrap_or(""), "raw");
+    same(text(metadata.tree(), "x").unwrap_or(""), "raw").expect(&rt, "the same");
     assert!(rt; text(metadata.tree(), "y").is_none());
     assert!(rt; is_named(metadata.tree(), "x", "raw"));
     assert!(rt; !is_named(metadata.tree(), "x", "Raw"));
@@ -104,11 +104,11 @@ fn check_base64(
     let metadata = with_member(rt.alloc(), value)?;
     let len = base64_len(metadata.tree(), "x");
     let bytes = base64_text(rt.alloc(), metadata.tree(), "x")?;
-    assert_in(rt, &value, bytes.is_some() == want.is_some());
-    assert_in(rt, &value, len.is_some() == want.is_some());
+    holds_in(&value, bytes.is_some() == want.is_some()).expect(rt, "so");
+    holds_in(&value, len.is_some() == want.is_some()).expect(rt, "so");
     if let (Some(bytes), Some(want)) = (bytes, want) {
-        assert_same_in(rt, &value, bytes.as_slice(), want.as_bytes());
-        assert_same_in(rt, &value, len, Some(want.len()));
+        same_in(&value, bytes.as_slice(), want.as_bytes()).expect(rt, "the same");
+        same_in(&value, len, Some(want.len())).expect(rt, "the same");
     }
     Ok(())
 }
@@ -151,7 +151,7 @@ fn base64_texts(rt: HostRuntime) -> Result<(), Fail> {
 
 fn check_has_texts(rt: &(impl Abort + AllocGlobal), value: &str, want: bool) -> Result<(), Fail> {
     let metadata = with_member(rt.alloc(), value)?;
-    assert_same_in(rt, &value, has_texts(metadata.tree(), "x"), want);
+    same_in(&value, has_texts(metadata.tree(), "x"), want).expect(rt, "the same");
     assert!(rt; !has_texts(metadata.tree(), "y"));
     Ok(())
 }
@@ -191,7 +191,7 @@ fn encryptions(rt: HostRuntime) -> Result<(), Fail> {
         ("serpent-xts-plain64", None),
         ("cipher_null-ecb", None),
     ] {
-        assert_same_in(&rt, &name, mode_of(name), want);
+        same_in(&name, mode_of(name), want).expect(&rt, "the same");
     }
     Ok(())
 }
@@ -206,7 +206,7 @@ fn key_lengths(rt: HostRuntime) -> Result<(), Fail> {
             is_length_for(Some(Mode::CbcPlain64), bytes),
             is_length_for(None, bytes),
         ];
-        assert_same_in(&rt, &bytes, lengths, [xts, cbc, xts || cbc]);
+        same_in(&bytes, lengths, [xts, cbc, xts || cbc]).expect(&rt, "the same");
     }
     Ok(())
 }

@@ -1,7 +1,7 @@
 //! Which texts are read.
 
 use super::{ending, joined, with_member};
-use luks_testing::same::{assert_in, assert_same, assert_same_in};
+use luks_testing::same::{holds_in, same, same_in};
 use luks2_members::list::{lists, texts_at};
 use luks2_members::member::{text, whole_number};
 use luks2_members::numbered::{numbered, passes_over};
@@ -28,7 +28,7 @@ fn nests_up_to_127(rt: HostRuntime) -> Result<(), Fail> {
     for (depth, want) in [(125, "read"), (126, "read"), (127, "json"), (500, "json")] {
         let value = nested(rt.alloc(), depth)?;
         let read = with_member(rt.alloc(), value.as_str());
-        assert_same_in(&rt, &depth, ending(read), want);
+        same_in(&depth, ending(read), want).expect(&rt, "the same");
     }
     Ok(())
 }
@@ -56,7 +56,7 @@ fn values_that_nothing_looks_at(rt: HostRuntime) -> Result<(), Fail> {
         ("", "json"),
     ] {
         let read = with_member(rt.alloc(), value);
-        assert_same_in(&rt, &value, ending(read), want);
+        same_in(&value, ending(read), want).expect(&rt, "the same");
     }
     Ok(())
 }
@@ -83,7 +83,7 @@ fn the_three_objects_are_there(rt: HostRuntime) -> Result<(), Fail> {
         ("", "json"),
     ] {
         let read = Metadata::read(rt.alloc(), text.as_bytes());
-        assert_same_in(&rt, &text, ending(read), want);
+        same_in(&text, ending(read), want).expect(&rt, "the same");
     }
     Ok(())
 }
@@ -96,7 +96,7 @@ fn text_that_is_not_utf8(rt: HostRuntime) -> Result<(), Fail> {
         text.push(byte)?;
         text.extend_from_slice(b"\"}")?;
         let read = Metadata::read(rt.alloc(), text.as_slice());
-        assert_same_in(&rt, &byte, ending(read), want);
+        same_in(&byte, ending(read), want).expect(&rt, "the same");
     }
     Ok(())
 }
@@ -110,7 +110,7 @@ fn check_member(
     let Some(object) = metadata.tree().get("x") else {
         return Err(Fail::new("no object"));
     };
-    assert_same_in(rt, &members, whole_number(object, "a"), want);
+    same_in(&members, whole_number(object, "a"), want).expect(rt, "the same");
     Ok(())
 }
 
@@ -139,10 +139,10 @@ fn with_slot(alloc: Global, name: &str) -> Result<Metadata, Fail> {
 
 fn check_name(rt: &(impl Abort + AllocGlobal), name: &str, number: Option<u8>) -> Result<(), Fail> {
     let metadata = with_slot(rt.alloc(), name)?;
-    assert_same_in(rt, &name, passes_over(&metadata), number.is_none());
+    same_in(&name, passes_over(&metadata), number.is_none()).expect(rt, "the same");
     for i in 0..=255 {
         let found = numbered(metadata.tree(), "keyslots", i).is_some();
-        assert_same_in(rt, &(name, i), found, number == Some(i));
+        same_in(&(name, i), found, number == Some(i)).expect(rt, "the same");
     }
     Ok(())
 }
@@ -180,10 +180,10 @@ fn check_texts(
     wants: &[&str],
 ) -> Result<(), Fail> {
     let texts = texts_at(rt.alloc(), metadata.tree(), name)?;
-    assert_same_in(rt, &name, texts.as_slice().len(), wants.len());
+    same_in(&name, texts.as_slice().len(), wants.len()).expect(rt, "the same");
     for (i, text) in texts.as_slice().iter().enumerate() {
-        assert_same_in(rt, &i, wants.get(i).copied(), Some(text.as_str()));
-        assert_in(rt, &text, lists(metadata.tree(), name, text));
+        same_in(&i, wants.get(i).copied(), Some(text.as_str())).expect(rt, "the same");
+        holds_in(&text, lists(metadata.tree(), name, text)).expect(rt, "so");
     }
     Ok(())
 }
@@ -195,6 +195,6 @@ fn lists_of_texts(rt: HostRuntime) -> Result<(), Fail> {
     check_texts(&rt, &metadata, "y", &[])?;
     assert!(rt; !lists(metadata.tree(), "x", "7"));
     assert!(rt; !lists(metadata.tree(), "y", "0"));
-    assert_same(&rt, text(metadata.tree(), "x"), None);
+    same(text(metadata.tree(), "x"), None).expect(&rt, "the same");
     Ok(())
 }

@@ -2,7 +2,7 @@
 
 use super::fixture::{ATTACHED, DETACHED, metadata};
 use super::{segments, slots};
-use luks_testing::same::{assert_same, assert_same_in};
+use luks_testing::same::{same, same_in};
 use luks2_members::tree::Metadata;
 use luks2_metadata::bounds::Bounds;
 use luks2_metadata::payload::segment;
@@ -12,7 +12,7 @@ use std::test::Fail;
 
 fn check_segment(rt: &impl Abort, case: &str, metadata: &Metadata, bounds: Bounds, want: &str) {
     let word = segments::word(segment(metadata, bounds));
-    assert_same_in(rt, &(case, bounds.detached), word, want);
+    same_in(&(case, bounds.detached), word, want).expect(rt, "the same");
 }
 
 // Whether slot 2 can be opened.
@@ -24,7 +24,7 @@ fn check_usable(
     want: bool,
 ) -> Result<(), Fail> {
     let usable = slot(rt.alloc(), metadata, bounds, 2)?.is_some();
-    assert_same_in(rt, &(case, bounds.detached), usable, want);
+    same_in(&(case, bounds.detached), usable, want).expect(rt, "the same");
     Ok(())
 }
 
@@ -37,7 +37,7 @@ fn check_slot(
     want: &str,
 ) -> Result<(), Fail> {
     let word = slots::word(judge(metadata, bounds, None, 2));
-    assert_same_in(rt, &(case, bounds.detached), word, want);
+    same_in(&(case, bounds.detached), word, want).expect(rt, "the same");
     check_usable(rt, case, metadata, bounds, want == "usable 1")
 }
 
@@ -123,8 +123,8 @@ fn the_volume_key(rt: HostRuntime) -> Result<(), Fail> {
     ];
     let metadata = metadata(&rt, &changes)?;
     let one = slots::word(judge(&metadata, ATTACHED, None, 2));
-    assert_same(&rt, one, "usable 1");
+    same(one, "usable 1").expect(&rt, "the same");
     let apart = slots::word(judge(&metadata, DETACHED, None, 2));
-    assert_same(&rt, apart, "key size");
+    same(apart, "key size").expect(&rt, "the same");
     Ok(())
 }

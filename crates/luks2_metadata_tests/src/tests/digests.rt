@@ -2,7 +2,7 @@
 
 use super::fixture::{ATTACHED, joined, metadata};
 use luks_kdf::Hash;
-use luks_testing::same::{assert_same, assert_same_in};
+use luks_testing::same::{same, same_in};
 use luks_verdict::digest::KeyDigest;
 use luks_verdict::refusal::SkipReason;
 use luks_verdict::slot::Judgement;
@@ -18,10 +18,10 @@ const DIGEST: &str = "\"digest\":\"AgICAgICAgICAgICAgICAgICAgICAgICAgICAgICAgI=\
 fn check(rt: &(impl Abort + AllocGlobal), part: &str, other: &str, want: bool) -> Result<(), Fail> {
     let metadata = metadata(rt, &[(part, other)])?;
     let found = digest_for(rt.alloc(), &metadata, 2)?;
-    assert_same_in(rt, &other, found.is_some(), want);
+    same_in(&other, found.is_some(), want).expect(rt, "the same");
     let judgement = judge(&metadata, ATTACHED, None, 2);
     let skipped = Some(Judgement::Skipped(SkipReason::Digest));
-    assert_same_in(rt, &other, judgement == skipped, !want);
+    same_in(&other, judgement == skipped, !want).expect(rt, "the same");
     check_first(rt, &metadata, other, want)
 }
 
@@ -36,20 +36,20 @@ fn check_first(
     let Some((_, listed)) = all.first() else {
         return Err(Fail::new(other));
     };
-    assert_same_in(rt, &other, listed.is_some(), want);
+    same_in(&other, listed.is_some(), want).expect(rt, "the same");
     Ok(())
 }
 
 fn check_names(rt: &impl Abort, names: &[String], want: &[&str]) {
-    assert_same(rt, names.len(), want.len());
+    same(names.len(), want.len()).expect(rt, "the same");
     for (i, name) in names.iter().enumerate() {
-        assert_same_in(rt, &i, want.get(i).copied(), Some(name.as_str()));
+        same_in(&i, want.get(i).copied(), Some(name.as_str())).expect(rt, "the same");
     }
 }
 
 fn check_key(rt: &impl Abort, key: &KeyDigest) {
-    assert_same(rt, key.hash, Some(Hash::Sha256));
-    assert_same(rt, key.iterations, 1000);
+    same(key.hash, Some(Hash::Sha256)).expect(rt, "the same");
+    same(key.iterations, 1000).expect(rt, "the same");
     assert!(rt; key.salt.as_slice() == [1u8; 32].as_slice());
     assert!(rt; key.value.as_slice() == [2u8; 32].as_slice());
 }
@@ -61,8 +61,8 @@ fn the_digest_as_it_is(rt: HostRuntime) -> Result<(), Fail> {
         return Err(Fail::new("no digest"));
     };
     check_key(&rt, &key);
-    assert_same(&rt, iterations(&rt, &metadata, 0)?, Some(1000));
-    assert_same(&rt, iterations(&rt, &metadata, 1)?, None);
+    same(iterations(&rt, &metadata, 0)?, Some(1000)).expect(&rt, "the same");
+    same(iterations(&rt, &metadata, 1)?, None).expect(&rt, "the same");
     Ok(())
 }
 
@@ -70,11 +70,11 @@ fn the_digest_as_it_is(rt: HostRuntime) -> Result<(), Fail> {
 fn the_digests_as_they_are(rt: HostRuntime) -> Result<(), Fail> {
     let metadata = metadata(&rt, &[])?;
     let all = digests(rt.alloc(), &metadata)?;
-    assert_same(&rt, all.len(), 1);
+    same(all.len(), 1).expect(&rt, "the same");
     let Some((0, Some(digest))) = all.first() else {
         return Err(Fail::new("no digest 0"));
     };
-    assert_same(&rt, digest.key.iterations, 1000);
+    same(digest.key.iterations, 1000).expect(&rt, "the same");
     check_names(&rt, digest.keyslots.as_slice(), &["0", "2"]);
     check_names(&rt, digest.segments.as_slice(), &["0"]);
     Ok(())
@@ -198,7 +198,7 @@ fn check_which(rt: &(impl Abort + AllocGlobal), names: [&str; 2], want: u32) -> 
         \"hash\":\"sha1\",\"salt\":\"\",\"digest\":\"AgICAgICAgICAgICAgICAgICAgI=\",";
     let text = joined(rt.alloc(), &[names[0], other, names[1]])?;
     let metadata = metadata(rt, &[("\"digests\":{\"0\":{", text.as_str())])?;
-    assert_same_in(rt, &names, iterations(rt, &metadata, 2)?, Some(want));
+    same_in(&names, iterations(rt, &metadata, 2)?, Some(want)).expect(rt, "the same");
     Ok(())
 }
 
@@ -238,10 +238,10 @@ fn check_listed(
     want: Option<u32>,
 ) -> Result<(), Fail> {
     let metadata = metadata(rt, &[(part, other)])?;
-    assert_same_in(rt, &other, iterations(rt, &metadata, 2)?, want);
+    same_in(&other, iterations(rt, &metadata, 2)?, want).expect(rt, "the same");
     let judgement = judge(&metadata, ATTACHED, None, 2);
     let usable = matches!(judgement, Some(Judgement::Usable(_)));
-    assert_same_in(rt, &other, usable, want.is_some());
+    same_in(&other, usable, want.is_some()).expect(rt, "the same");
     Ok(())
 }
 
@@ -281,12 +281,7 @@ fn limits(rt: HostRuntime) -> Result<(), Fail> {
         (1999, Judgement::Skipped(SkipReason::Digest)),
         (2000, Judgement::Usable(1)),
     ] {
-        assert_same_in(
-            &rt,
-            &limit,
-            judge(&metadata, ATTACHED, Some(limit), 2),
-            Some(want),
-        );
+        same_in(&limit, judge(&metadata, ATTACHED, Some(limit), 2), Some(want)).expect(&rt, "the same");
     }
     Ok(())
 }

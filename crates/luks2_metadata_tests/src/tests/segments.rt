@@ -2,7 +2,7 @@
 
 use super::fixture::{ATTACHED, joined, metadata};
 use luks_cipher::Mode;
-use luks_testing::same::{assert_same, assert_same_in};
+use luks_testing::same::{same, same_in};
 use luks_verdict::refusal::SegmentFault;
 use luks_verdict::sector_size::SectorSize;
 use luks_verdict::segment::Segment;
@@ -23,7 +23,7 @@ fn check_changed(
     want: &str,
 ) -> Result<(), Fail> {
     let metadata = metadata(rt, changes)?;
-    assert_same_in(rt, &changes, word(segment(&metadata, ATTACHED)), want);
+    same_in(&changes, word(segment(&metadata, ATTACHED)), want).expect(rt, "the same");
     Ok(())
 }
 
@@ -34,11 +34,11 @@ fn check(rt: &(impl Abort + AllocGlobal), part: &str, other: &str, want: &str) -
 #[test]
 fn the_segment_as_it_is(rt: HostRuntime) -> Result<(), Fail> {
     let segment = segment(&metadata(&rt, &[])?, ATTACHED)?;
-    assert_same(&rt, segment.offset, 16_777_216);
-    assert_same(&rt, segment.size, None);
-    assert_same(&rt, segment.iv_tweak, 0);
-    assert_same(&rt, segment.sector_size, SectorSize::B512);
-    assert_same(&rt, segment.mode, Mode::XtsPlain64);
+    same(segment.offset, 16_777_216).expect(&rt, "the same");
+    same(segment.size, None).expect(&rt, "the same");
+    same(segment.iv_tweak, 0).expect(&rt, "the same");
+    same(segment.sector_size, SectorSize::B512).expect(&rt, "the same");
+    same(segment.mode, Mode::XtsPlain64).expect(&rt, "the same");
     Ok(())
 }
 
@@ -60,11 +60,11 @@ fn other_values(rt: HostRuntime) -> Result<(), Fail> {
         ],
     )?;
     let segment = segment(&metadata, ATTACHED)?;
-    assert_same(&rt, segment.offset, 32_768);
-    assert_same(&rt, segment.size, Some(8192));
-    assert_same(&rt, segment.iv_tweak, 18_446_744_073_709_551_615);
-    assert_same(&rt, segment.sector_size, SectorSize::B4096);
-    assert_same(&rt, segment.mode, Mode::CbcEssivSha256);
+    same(segment.offset, 32_768).expect(&rt, "the same");
+    same(segment.size, Some(8192)).expect(&rt, "the same");
+    same(segment.iv_tweak, 18_446_744_073_709_551_615).expect(&rt, "the same");
+    same(segment.sector_size, SectorSize::B4096).expect(&rt, "the same");
+    same(segment.mode, Mode::CbcEssivSha256).expect(&rt, "the same");
     Ok(())
 }
 

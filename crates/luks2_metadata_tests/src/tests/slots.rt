@@ -3,7 +3,7 @@
 use super::fixture::{ATTACHED, joined, metadata};
 use luks_cipher::Mode;
 use luks_kdf::Hash;
-use luks_testing::same::{assert_same, assert_same_in};
+use luks_testing::same::{same, same_in};
 use luks_verdict::refusal::SkipReason;
 use luks_verdict::slot::{Judgement, SlotParts};
 use luks2_members::tree::Metadata;
@@ -35,14 +35,9 @@ pub(super) fn check_metadata(
     why: &str,
 ) -> Result<(), Fail> {
     let judgement = judge(metadata, ATTACHED, None, 2);
-    assert_same_in(rt, &why, word(judgement), want);
+    same_in(&why, word(judgement), want).expect(rt, "the same");
     let usable = slot(rt.alloc(), metadata, ATTACHED, 2)?;
-    assert_same_in(
-        rt,
-        &why,
-        usable.is_some(),
-        matches!(judgement, Some(Judgement::Usable(_))),
-    );
+    same_in(&why, usable.is_some(), matches!(judgement, Some(Judgement::Usable(_)))).expect(rt, "the same");
     Ok(())
 }
 
@@ -57,17 +52,17 @@ pub(super) fn check(
 
 // The numbers of slot 2.
 fn check_parts(rt: &impl Abort, parts: &SlotParts) {
-    assert_same(rt, parts.priority, 1);
-    assert_same(rt, parts.kdf_hash, Some(Hash::Sha256));
-    assert_same(rt, parts.iterations, 1000);
+    same(parts.priority, 1).expect(rt, "the same");
+    same(parts.kdf_hash, Some(Hash::Sha256)).expect(rt, "the same");
+    same(parts.iterations, 1000).expect(rt, "the same");
     assert!(rt; parts.salt.as_slice() == [1u8; 32].as_slice());
-    assert_same(rt, parts.af_hash, Some(Hash::Sha512));
-    assert_same(rt, parts.stripes, 4000);
-    assert_same(rt, parts.key_bytes, 64);
-    assert_same(rt, parts.area_key_bytes, 64);
-    assert_same(rt, parts.area_offset, 32_768);
-    assert_same(rt, parts.area_size, 258_048);
-    assert_same(rt, parts.area_mode, Some(Mode::XtsPlain64));
+    same(parts.af_hash, Some(Hash::Sha512)).expect(rt, "the same");
+    same(parts.stripes, 4000).expect(rt, "the same");
+    same(parts.key_bytes, 64).expect(rt, "the same");
+    same(parts.area_key_bytes, 64).expect(rt, "the same");
+    same(parts.area_offset, 32_768).expect(rt, "the same");
+    same(parts.area_size, 258_048).expect(rt, "the same");
+    same(parts.area_mode, Some(Mode::XtsPlain64)).expect(rt, "the same");
 }
 
 #[test]
@@ -79,18 +74,13 @@ fn the_slots_as_they_are(rt: HostRuntime) -> Result<(), Fail> {
         (2, "usable 1"),
         (32, "not there"),
     ] {
-        assert_same_in(
-            &rt,
-            &number,
-            word(judge(&metadata, ATTACHED, None, number)),
-            want,
-        );
+        same_in(&number, word(judge(&metadata, ATTACHED, None, number)), want).expect(&rt, "the same");
     }
     let Some(slot) = slot(rt.alloc(), &metadata, ATTACHED, 2)? else {
         return Err(Fail::new("no slot"));
     };
     check_parts(&rt, &slot.parts);
-    assert_same(&rt, slot.need(), 256_000);
+    same(slot.need(), 256_000).expect(&rt, "the same");
     Ok(())
 }
 
@@ -332,12 +322,8 @@ fn limits(rt: HostRuntime) -> Result<(), Fail> {
         (Some(0), "iterations"),
     ] {
         let judgement = judge(&metadata, ATTACHED, limit, 2);
-        assert_same_in(&rt, &limit, word(judgement), want);
+        same_in(&limit, word(judgement), want).expect(&rt, "the same");
     }
-    assert_same(
-        &rt,
-        judge(&metadata, ATTACHED, Some(1), 0),
-        Some(Judgement::Skipped(SkipReason::Argon2id)),
-    );
+    same(judge(&metadata, ATTACHED, Some(1), 0), Some(Judgement::Skipped(SkipReason::Argon2id))).expect(&rt, "the same");
     Ok(())
 }

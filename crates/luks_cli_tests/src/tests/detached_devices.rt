@@ -10,7 +10,7 @@ use luks_io::memory::{MemSink, MemSource};
 use luks_report::message::Message;
 use luks_report::report::Report;
 use luks_testing::devices::{Flaky, Leaky};
-use luks_testing::same::{assert_in, assert_same_in};
+use luks_testing::same::{holds_in, same_in};
 use luks_testing::scarce::Scarcity;
 use std::process::Abort;
 use std::test::Fail;
@@ -45,9 +45,9 @@ fn check_failures(
                 &mut secret,
                 &mut out,
             );
-            assert_in(rt, &name, whole.starts_with(out.as_slice()));
+            holds_in(&name, whole.starts_with(out.as_slice())).expect(rt, "so");
             if report.status == 0 {
-                assert_same_in(rt, &name, out.as_slice(), whole);
+                same_in(&name, out.as_slice(), whole).expect(rt, "the same");
                 break;
             }
             let told = if device == 3 {
@@ -55,13 +55,13 @@ fn check_failures(
             } else {
                 Message::ReadFailed
             };
-            assert_same_in(rt, &(name, device, call), report, Report::of(told));
+            same_in(&(name, device, call), report, Report::of(told)).expect(rt, "the same");
             let taken = image.len() - payload.left().min(image.len());
             let written = out.as_slice().len();
             match device {
-                1 => assert_same_in(rt, &(name, call), written, taken / 512 * 512),
-                3 => assert_in(rt, &(name, call), taken <= (written / 512 + 1) * 512),
-                _ => assert_same_in(rt, &(name, device, call), (written, taken), (0, 0)),
+                1 => same_in(&(name, call), written, taken / 512 * 512).expect(rt, "the same"),
+                3 => holds_in(&(name, call), taken <= (written / 512 + 1) * 512).expect(rt, "so"),
+                _ => same_in(&(name, device, call), (written, taken), (0, 0)).expect(rt, "the same"),
             }
             assert!(rt; call < 899);
         }
@@ -106,7 +106,7 @@ fn check_refusals(
         &mut secret,
         &mut out,
     );
-    assert_same_in(rt, &name, first, Report::of(Message::Done));
+    same_in(&name, first, Report::of(Message::Done)).expect(rt, "the same");
     let mut out = MemSink::new(alloc, 4096)?;
     let mut scarcity = Scarcity::new(alloc, 400, piece)?;
     for _ in 0..400 {
@@ -130,12 +130,12 @@ fn check_refusals(
     }
     drop(scarcity);
     let last = reports.pop().ok_or("a run")?;
-    assert_same_in(rt, &name, last.0, Report::of(Message::Done));
-    assert_same_in(rt, &name, out.as_slice(), whole);
-    assert_in(rt, &name, 10 < reports.len());
+    same_in(&name, last.0, Report::of(Message::Done)).expect(rt, "the same");
+    same_in(&name, out.as_slice(), whole).expect(rt, "the same");
+    holds_in(&name, 10 < reports.len()).expect(rt, "so");
     for (report, written, left) in reports.iter() {
-        assert_same_in(rt, &name, *report, Report::of(Message::OutOfMemory));
-        assert_same_in(rt, &name, (*written, *left), (0, image.len()));
+        same_in(&name, *report, Report::of(Message::OutOfMemory)).expect(rt, "the same");
+        same_in(&name, (*written, *left), (0, image.len())).expect(rt, "the same");
     }
     Ok(())
 }

@@ -10,7 +10,7 @@ use luks_io::memory::{MemSink, MemSource};
 use luks_kdf::Hash;
 use luks_report::message::Message;
 use luks_report::report::Report;
-use luks_testing::same::{assert_in, assert_same_in};
+use luks_testing::same::{holds_in, same_in};
 use luks_verdict::sector_size::SectorSize;
 use luks_volume::seal::luks1::seal1;
 use luks_volume::seal::luks2::seal2;
@@ -113,8 +113,8 @@ fn check_written(
         let mut secret = MemSource::new(passphrase);
         let mut out = MemSink::new(alloc, 8192)?;
         let report = execute(alloc, &command, &mut source, &mut secret, &mut out);
-        assert_in(rt, &mode, report == Report::of(Message::Done));
-        assert_same_in(rt, &mode, out.as_slice(), plain);
+        holds_in(&mode, report == Report::of(Message::Done)).expect(rt, "so");
+        same_in(&mode, out.as_slice(), plain).expect(rt, "the same");
     }
     Ok(())
 }

@@ -3,7 +3,7 @@
 use super::words_of;
 use luks_command::command::Command;
 use luks_command::planning::{PlanFault, plan};
-use luks_testing::same::{assert_in, assert_same_in};
+use luks_testing::same::{holds_in, same_in};
 use luks_testing::scarce::Scarcity;
 use std::alloc::{AllocError, Global};
 use std::process::Abort;
@@ -57,10 +57,10 @@ fn scarce_answer<'a>(
 fn check_scarce(rt: &(impl Abort + AllocGlobal), line: &str) -> Result<(), Fail> {
     let words = words_of(rt.alloc(), line)?;
     let stated = plan(rt.alloc(), words.as_slice());
-    assert_in(rt, &line, stated.is_ok());
+    holds_in(&line, stated.is_ok()).expect(rt, "so");
     let (answer, refusals) = scarce_answer(rt.alloc(), words.as_slice(), &stated)?;
-    assert_same_in(rt, &line, answer, Answer::AsStated);
-    assert_in(rt, &(line, refusals), 20 < refusals);
+    same_in(&line, answer, Answer::AsStated).expect(rt, "the same");
+    holds_in(&(line, refusals), 20 < refusals).expect(rt, "so");
     Ok(())
 }
 

@@ -2,7 +2,7 @@
 
 use super::words_of;
 use luks_command::planning::{PlanFault, plan};
-use luks_testing::same::{assert_in, assert_same};
+use luks_testing::same::{holds_in, same};
 use std::alloc::{AllocError, Global};
 use std::process::Abort;
 use std::test::Fail;
@@ -10,11 +10,7 @@ use std::test::Fail;
 #[test]
 fn refuses_no_words(rt: HostRuntime) {
     let words: [&str; 0] = [];
-    assert_same(
-        &rt,
-        plan(rt.alloc(), words.as_slice()),
-        Err(PlanFault::Usage),
-    );
+    same(plan(rt.alloc(), words.as_slice()), Err(PlanFault::Usage)).expect(&rt, "the same");
 }
 
 // Lines that are no command line of luksrd.
@@ -158,7 +154,7 @@ fn is_refused(alloc: Global, line: &str) -> Result<bool, AllocError> {
 #[test]
 fn refuses_other_lines(rt: HostRuntime) -> Result<(), Fail> {
     for line in &FAULTS {
-        assert_in(&rt, &line, is_refused(rt.alloc(), line)?);
+        holds_in(&line, is_refused(rt.alloc(), line)?).expect(&rt, "so");
     }
     Ok(())
 }
@@ -188,7 +184,7 @@ static NO_NUMBERS: [&str; 18] = [
 // The line of these three parts is none.
 fn check_refused(rt: &(impl Abort + AllocGlobal), parts: [&str; 3]) -> Result<(), Fail> {
     let line = format!(in rt.alloc(); "{}{}{}", parts[0], parts[1], parts[2])?;
-    assert_in(rt, &line, is_refused(rt.alloc(), line.as_str())?);
+    holds_in(&line, is_refused(rt.alloc(), line.as_str())?).expect(rt, "so");
     Ok(())
 }
 
@@ -231,7 +227,7 @@ fn refuses_other_numbers(rt: HostRuntime) -> Result<(), Fail> {
         "testPassphrase --key-file f --max-iterations 9999999999 i",
         "testPassphrase --key-file f --max-iterations 00000000001 i",
     ] {
-        assert_in(&rt, &line, is_refused(rt.alloc(), line)?);
+        holds_in(&line, is_refused(rt.alloc(), line)?).expect(&rt, "so");
     }
     Ok(())
 }

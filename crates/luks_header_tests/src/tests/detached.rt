@@ -6,7 +6,7 @@ use luks_header::payload::segment;
 use luks_header::slot::{Judgement, judge, slot};
 use luks_io::memory::MemSource;
 use luks_testing::header2::image_of;
-use luks_testing::same::assert_same;
+use luks_testing::same::same;
 use std::alloc::Global;
 use std::process::Abort;
 use std::test::Fail;
@@ -74,8 +74,8 @@ fn slot_word(header: &Header) -> &'static str {
 }
 
 fn check_words(rt: &impl Abort, header: &Header, want: [&str; 2]) {
-    assert_same(rt, payload_word(header), want[0]);
-    assert_same(rt, slot_word(header), want[1]);
+    same(payload_word(header), want[0]).expect(rt, "the same");
+    same(slot_word(header), want[1]).expect(rt, "the same");
 }
 
 fn check(

@@ -7,7 +7,7 @@ use super::judging::{
 use luks_header::digest::digest_for;
 use luks_header::header::Header;
 use luks_header::slot::{Verdict, slot, slots};
-use luks_testing::same::{assert_in, assert_same_in};
+use luks_testing::same::{holds_in, same_in};
 use std::process::Abort;
 use std::test::Fail;
 
@@ -63,7 +63,7 @@ fn usable_slots(
     run: u32,
 ) -> Result<u32, Fail> {
     let verdicts = slots(rt.alloc(), header, limit)?;
-    assert_same_in(rt, &run, verdicts.len(), 8);
+    same_in(&run, verdicts.len(), 8).expect(rt, "the same");
     let mut usable = 0u32;
     for (number, verdict) in verdicts.iter() {
         if matches!(verdict, Verdict::Usable(_)) {
@@ -80,8 +80,8 @@ fn check_told(
     number: u8,
     run: u32,
 ) -> Result<(), Fail> {
-    assert_in(rt, &run, digest_for(rt.alloc(), header, number)?.is_some());
-    assert_in(rt, &run, slot(rt.alloc(), header, number)?.is_some());
+    holds_in(&run, digest_for(rt.alloc(), header, number)?.is_some()).expect(rt, "so");
+    holds_in(&run, slot(rt.alloc(), header, number)?.is_some()).expect(rt, "so");
     Ok(())
 }
 

@@ -7,36 +7,32 @@ use luks_header::header::{Header, Header1, KeySlot, SlotState, read_header};
 use luks_io::adapters::ReadSource;
 use luks_io::memory::MemSource;
 use luks_io::source::Source;
-use luks_testing::same::{assert_same, assert_same_in};
+use luks_testing::same::{same, same_in};
 use std::alloc::Global;
 use std::process::Abort;
 use std::test::Fail;
 
 fn check_fields(rt: &impl Abort, header: &Header1) {
-    assert_same(rt, header.cipher_name.as_bytes(), b"aes".as_slice());
-    assert_same(rt, header.cipher_mode.as_bytes(), b"xts-plain64".as_slice());
-    assert_same(rt, header.hash_spec.as_bytes(), b"sha256".as_slice());
-    assert_same(rt, header.payload_offset, 0x0001_2003);
-    assert_same(rt, header.key_bytes, 64);
-    assert_same(rt, header.digest[0], 0);
-    assert_same(rt, header.digest[19], 19);
-    assert_same(rt, header.digest_salt[0], 0x20);
-    assert_same(rt, header.digest_salt[31], 0x3f);
-    assert_same(rt, header.digest_iterations, 0x0102_0304);
-    assert_same(
-        rt,
-        header.uuid.as_bytes(),
-        b"0123456789abcdefghijklmnopqrstuvwxyzABCD".as_slice(),
-    );
+    same(header.cipher_name.as_bytes(), b"aes".as_slice()).expect(rt, "the same");
+    same(header.cipher_mode.as_bytes(), b"xts-plain64".as_slice()).expect(rt, "the same");
+    same(header.hash_spec.as_bytes(), b"sha256".as_slice()).expect(rt, "the same");
+    same(header.payload_offset, 0x0001_2003).expect(rt, "the same");
+    same(header.key_bytes, 64).expect(rt, "the same");
+    same(header.digest[0], 0).expect(rt, "the same");
+    same(header.digest[19], 19).expect(rt, "the same");
+    same(header.digest_salt[0], 0x20).expect(rt, "the same");
+    same(header.digest_salt[31], 0x3f).expect(rt, "the same");
+    same(header.digest_iterations, 0x0102_0304).expect(rt, "the same");
+    same(header.uuid.as_bytes(), b"0123456789abcdefghijklmnopqrstuvwxyzABCD".as_slice()).expect(rt, "the same");
 }
 
 fn check_slots(rt: &impl Abort, slots: &[KeySlot; 8]) {
-    assert_same(rt, slots[0].state, SlotState::Enabled);
-    assert_same(rt, slots[0].iterations, 1_000_001);
-    assert_same(rt, slots[0].salt[0], 0x40);
-    assert_same(rt, slots[0].salt[31], 0x5f);
-    assert_same(rt, slots[0].offset, 8);
-    assert_same(rt, slots[0].stripes, 4000);
+    same(slots[0].state, SlotState::Enabled).expect(rt, "the same");
+    same(slots[0].iterations, 1_000_001).expect(rt, "the same");
+    same(slots[0].salt[0], 0x40).expect(rt, "the same");
+    same(slots[0].salt[31], 0x5f).expect(rt, "the same");
+    same(slots[0].offset, 8).expect(rt, "the same");
+    same(slots[0].stripes, 4000).expect(rt, "the same");
     let second = KeySlot {
         state: SlotState::Disabled,
         iterations: 0,
@@ -44,7 +40,7 @@ fn check_slots(rt: &impl Abort, slots: &[KeySlot; 8]) {
         offset: 512,
         stripes: 4000,
     };
-    assert_same(rt, slots[1], second);
+    same(slots[1], second).expect(rt, "the same");
     let third = KeySlot {
         state: SlotState::Damaged(1),
         iterations: 2,
@@ -52,16 +48,16 @@ fn check_slots(rt: &impl Abort, slots: &[KeySlot; 8]) {
         offset: 3,
         stripes: 4,
     };
-    assert_same(rt, slots[2], third);
-    assert_same(rt, slots[3].state, SlotState::Damaged(0x00ac_71f2));
-    assert_same(rt, slots[4].state, SlotState::Damaged(0xadde));
-    assert_same(rt, slots[5].state, SlotState::Damaged(0xf371_ac00));
-    assert_same(rt, slots[6].state, SlotState::Damaged(0));
-    assert_same(rt, slots[7].state, SlotState::Enabled);
-    assert_same(rt, slots[7].iterations, 0x7fff_ffff);
-    assert_same(rt, slots[7].salt[31], 0x9f);
-    assert_same(rt, slots[7].offset, 0xffff_fffe);
-    assert_same(rt, slots[7].stripes, 0xffff_ffff);
+    same(slots[2], third).expect(rt, "the same");
+    same(slots[3].state, SlotState::Damaged(0x00ac_71f2)).expect(rt, "the same");
+    same(slots[4].state, SlotState::Damaged(0xadde)).expect(rt, "the same");
+    same(slots[5].state, SlotState::Damaged(0xf371_ac00)).expect(rt, "the same");
+    same(slots[6].state, SlotState::Damaged(0)).expect(rt, "the same");
+    same(slots[7].state, SlotState::Enabled).expect(rt, "the same");
+    same(slots[7].iterations, 0x7fff_ffff).expect(rt, "the same");
+    same(slots[7].salt[31], 0x9f).expect(rt, "the same");
+    same(slots[7].offset, 0xffff_fffe).expect(rt, "the same");
+    same(slots[7].stripes, 0xffff_ffff).expect(rt, "the same");
 }
 
 fn check_reading<S: Source>(
@@ -75,7 +71,7 @@ fn check_reading<S: Source>(
     };
     check_fields(rt, &header);
     check_slots(rt, &header.slots);
-    assert_same(rt, area.as_slice(), header_bytes().as_slice());
+    same(area.as_slice(), header_bytes().as_slice()).expect(rt, "the same");
     Ok(())
 }
 
@@ -86,7 +82,7 @@ fn a_header_is_read_to_its_end(rt: HostRuntime) -> Result<(), Fail> {
     longer.push(7)?;
     let mut source = MemSource::new(longer.as_slice());
     check_reading(&rt, rt.alloc(), &mut source)?;
-    assert_same(&rt, source.left(), [7].as_slice());
+    same(source.left(), [7].as_slice()).expect(&rt, "the same");
     let mut alone = MemSource::new(&bytes);
     check_reading(&rt, rt.alloc(), &mut alone)?;
     Ok(())
@@ -122,8 +118,8 @@ fn short_images_are_cut_or_no_luks(rt: HostRuntime) {
     ];
     for (len, fault) in cases {
         let mut source = MemSource::new(&bytes[..len]);
-        assert_same_in(&rt, &len, fault_of(rt.alloc(), &mut source), Some(fault));
-        assert_same(&rt, source.left().len(), 0);
+        same_in(&len, fault_of(rt.alloc(), &mut source), Some(fault)).expect(&rt, "the same");
+        same(source.left().len(), 0).expect(&rt, "the same");
     }
 }
 
@@ -137,22 +133,14 @@ fn other_images_are_no_luks(rt: HostRuntime) {
     secondary[0] = 0x53;
     for image in [version_two, version_257, secondary, [0; 592]] {
         let mut source = MemSource::new(&image);
-        assert_same(
-            &rt,
-            fault_of(rt.alloc(), &mut source),
-            Some(HeaderFault::NotLuks),
-        );
-        assert_same(&rt, source.left().len(), 0);
+        same(fault_of(rt.alloc(), &mut source), Some(HeaderFault::NotLuks)).expect(&rt, "the same");
+        same(source.left().len(), 0).expect(&rt, "the same");
     }
     // All of a short image is read to learn that it has no header.
     let zeros = [0; 600];
     let mut source = MemSource::new(&zeros);
-    assert_same(
-        &rt,
-        fault_of(rt.alloc(), &mut source),
-        Some(HeaderFault::NotLuks),
-    );
-    assert_same(&rt, source.left().len(), 0);
+    same(fault_of(rt.alloc(), &mut source), Some(HeaderFault::NotLuks)).expect(&rt, "the same");
+    same(source.left().len(), 0).expect(&rt, "the same");
 }
 
 #[test]
@@ -164,11 +152,7 @@ fn a_failed_read_is_told(rt: HostRuntime) {
             piece: 1,
             calls,
         };
-        assert_same(
-            &rt,
-            fault_of(rt.alloc(), &mut ReadSource::new(device)),
-            Some(HeaderFault::Read),
-        );
+        same(fault_of(rt.alloc(), &mut ReadSource::new(device)), Some(HeaderFault::Read)).expect(&rt, "the same");
     }
 }
 
@@ -179,11 +163,7 @@ fn the_end_is_no_failed_read(rt: HostRuntime) {
         piece: 100,
         calls: 2,
     };
-    assert_same(
-        &rt,
-        fault_of(rt.alloc(), &mut ReadSource::new(device)),
-        Some(HeaderFault::Cut),
-    );
+    same(fault_of(rt.alloc(), &mut ReadSource::new(device)), Some(HeaderFault::Cut)).expect(&rt, "the same");
 }
 
 #[test]
@@ -191,7 +171,7 @@ fn an_area_takes_what_it_lacks(rt: HostRuntime) -> Result<(), Fail> {
     let bytes = b"0123456789";
     let mut source = MemSource::new(bytes);
     let mut area = HeaderArea::new(rt.alloc());
-    assert_same(&rt, area.as_slice().len(), 0);
+    same(area.as_slice().len(), 0).expect(&rt, "the same");
     // How many bytes are asked for, whether they are there, and how many are held then. Twice it is
     // asked for fewer than are held, or for as many.
     for (end, there, held) in [
@@ -204,10 +184,10 @@ fn an_area_takes_what_it_lacks(rt: HostRuntime) -> Result<(), Fail> {
         (11, false, 10),
         (HeaderArea::LONGEST, false, 10),
     ] {
-        assert_same_in(&rt, &end, area.extend_to(&mut source, end)?, there);
+        same_in(&end, area.extend_to(&mut source, end)?, there).expect(&rt, "the same");
         let (front, rest) = bytes.split_at(held.min(10));
-        assert_same_in(&rt, &end, area.as_slice(), front);
-        assert_same_in(&rt, &end, source.left(), rest);
+        same_in(&end, area.as_slice(), front).expect(&rt, "the same");
+        same_in(&end, source.left(), rest).expect(&rt, "the same");
     }
     Ok(())
 }
@@ -222,7 +202,7 @@ fn an_area_keeps_what_came_before_a_failed_read(rt: HostRuntime) -> Result<(), F
     let mut source = ReadSource::new(device);
     let mut area = HeaderArea::new(rt.alloc());
     assert!(rt; area.extend_to(&mut source, 3)?);
-    assert_same(&rt, area.extend_to(&mut source, 10), Err(HeaderFault::Read));
-    assert_same(&rt, area.as_slice(), b"01234".as_slice());
+    same(area.extend_to(&mut source, 10), Err(HeaderFault::Read)).expect(&rt, "the same");
+    same(area.as_slice(), b"01234".as_slice()).expect(&rt, "the same");
     Ok(())
 }

@@ -10,7 +10,7 @@ use luks_header::sector_size::SectorSize;
 use luks_header::slot::{Judgement, Slot, Verdict, judge, slot, slots};
 use luks_io::memory::MemSource;
 use luks_kdf::Hash;
-use luks_testing::same::{assert_same, assert_same_in};
+use luks_testing::same::{same, same_in};
 use std::alloc::Global;
 use std::process::Abort;
 use std::test::Fail;
@@ -71,7 +71,7 @@ fn check_first(
     want: &str,
 ) -> Result<(), Fail> {
     let bytes = changed(changes);
-    assert_same_in(rt, &changes, first(rt.alloc(), &bytes, limit)?, want);
+    same_in(&changes, first(rt.alloc(), &bytes, limit)?, want).expect(rt, "the same");
     Ok(())
 }
 
@@ -159,28 +159,28 @@ fn the_first_reason_is_told(rt: HostRuntime) -> Result<(), Fail> {
 // The parts of slot 0, but for its salt.
 fn check_parts(rt: &impl Abort, slot: &Slot) {
     let parts = &slot.parts;
-    assert_same(rt, parts.priority, 1);
-    assert_same(rt, parts.kdf_hash, Some(Hash::Sha256));
-    assert_same(rt, parts.af_hash, Some(Hash::Sha256));
-    assert_same(rt, parts.iterations, 1000);
-    assert_same(rt, parts.stripes, 4000);
-    assert_same(rt, parts.key_bytes, 64);
-    assert_same(rt, parts.area_key_bytes, 64);
-    assert_same(rt, parts.area_offset, 4096);
-    assert_same(rt, parts.area_mode, Some(Mode::XtsPlain64));
+    same(parts.priority, 1).expect(rt, "the same");
+    same(parts.kdf_hash, Some(Hash::Sha256)).expect(rt, "the same");
+    same(parts.af_hash, Some(Hash::Sha256)).expect(rt, "the same");
+    same(parts.iterations, 1000).expect(rt, "the same");
+    same(parts.stripes, 4000).expect(rt, "the same");
+    same(parts.key_bytes, 64).expect(rt, "the same");
+    same(parts.area_key_bytes, 64).expect(rt, "the same");
+    same(parts.area_offset, 4096).expect(rt, "the same");
+    same(parts.area_mode, Some(Mode::XtsPlain64)).expect(rt, "the same");
 }
 
 fn check_bytes(rt: &impl Abort, bytes: &[u8], len: usize, first: u8) {
-    assert_same(rt, bytes.len(), len);
-    assert_same(rt, bytes.first().copied(), Some(first));
+    same(bytes.len(), len).expect(rt, "the same");
+    same(bytes.first().copied(), Some(first)).expect(rt, "the same");
 }
 
 // The area of slot 0, where it is usable.
 fn check_area(rt: &impl Abort, verdicts: &[(u8, Verdict)]) {
-    assert_same(rt, first_word(verdicts), "usable");
+    same(first_word(verdicts), "usable").expect(rt, "the same");
     if let Some((_, Verdict::Usable(slot))) = verdicts.first() {
-        assert_same(rt, slot.need(), 256_000);
-        assert_same(rt, slot.parts.area_size, 256_000);
+        same(slot.need(), 256_000).expect(rt, "the same");
+        same(slot.parts.area_size, 256_000).expect(rt, "the same");
     }
 }
 
@@ -202,11 +202,11 @@ fn a_usable_slot_has_its_numbers(rt: HostRuntime) -> Result<(), Fail> {
 #[test]
 fn each_slot_has_its_verdict(rt: HostRuntime) -> Result<(), Fail> {
     let verdicts = slots(rt.alloc(), &parse(rt.alloc(), &volume_header())?, None)?;
-    assert_same(&rt, verdicts.len(), 8);
+    same(verdicts.len(), 8).expect(&rt, "the same");
     for (i, (number, verdict)) in verdicts.iter().enumerate() {
-        assert_same_in(&rt, &i, usize::from(*number), i);
+        same_in(&i, usize::from(*number), i).expect(&rt, "the same");
         let want = if i == 0 { "usable" } else { "disabled" };
-        assert_same_in(&rt, &i, word(verdict), want);
+        same_in(&i, word(verdict), want).expect(&rt, "the same");
     }
     Ok(())
 }
@@ -233,7 +233,7 @@ fn check_text(
 ) -> Result<(), Fail> {
     let mut bytes = volume_header();
     patch(&mut bytes, place, text);
-    assert_same_in(rt, &text, fault(rt.alloc(), &bytes)?, want);
+    same_in(&text, fault(rt.alloc(), &bytes)?, want).expect(rt, "the same");
     Ok(())
 }
 
@@ -257,7 +257,7 @@ fn each_text_of_a_segment(rt: HostRuntime) -> Result<(), Fail> {
     let mut both = volume_header();
     patch(&mut both, NAME, b"serpent\0");
     patch(&mut both, HASH, b"ripemd160\0");
-    assert_same(&rt, fault(rt.alloc(), &both)?, "encryption");
+    same(fault(rt.alloc(), &both)?, "encryption").expect(&rt, "the same");
     Ok(())
 }
 
@@ -267,7 +267,7 @@ fn check_number(
     want: &str,
 ) -> Result<(), Fail> {
     let bytes = changed(changes);
-    assert_same_in(rt, &changes, fault(rt.alloc(), &bytes)?, want);
+    same_in(&changes, fault(rt.alloc(), &bytes)?, want).expect(rt, "the same");
     Ok(())
 }
 
@@ -289,7 +289,7 @@ fn each_number_of_a_segment(rt: HostRuntime) -> Result<(), Fail> {
     check_number(&rt, &wrong, "key bytes")?;
     let mut both = changed(&wrong);
     patch(&mut both, HASH, b"md5\0");
-    assert_same(&rt, fault(rt.alloc(), &both)?, "hash");
+    same(fault(rt.alloc(), &both)?, "hash").expect(&rt, "the same");
     Ok(())
 }
 
@@ -297,13 +297,13 @@ fn each_number_of_a_segment(rt: HostRuntime) -> Result<(), Fail> {
 fn a_segment_goes_to_the_images_end(rt: HostRuntime) -> Result<(), Fail> {
     let far = changed(&[(PAYLOAD_OFFSET, 0xffff_ffff)]);
     for (bytes, offset) in [(volume_header(), 2_097_152), (far, 2_199_023_255_040)] {
-        assert_same(&rt, fault(rt.alloc(), &bytes)?, "none");
+        same(fault(rt.alloc(), &bytes)?, "none").expect(&rt, "the same");
         if let Ok(segment) = segment(&parse(rt.alloc(), &bytes)?) {
-            assert_same(&rt, segment.offset, offset);
-            assert_same(&rt, segment.size, None);
-            assert_same(&rt, segment.iv_tweak, 0);
-            assert_same(&rt, segment.sector_size, SectorSize::B512);
-            assert_same(&rt, segment.mode, Mode::XtsPlain64);
+            same(segment.offset, offset).expect(&rt, "the same");
+            same(segment.size, None).expect(&rt, "the same");
+            same(segment.iv_tweak, 0).expect(&rt, "the same");
+            same(segment.sector_size, SectorSize::B512).expect(&rt, "the same");
+            same(segment.mode, Mode::XtsPlain64).expect(&rt, "the same");
         }
     }
     Ok(())
@@ -316,18 +316,18 @@ fn a_slot_without_a_known_hash_is_judged_all_the_same(rt: HostRuntime) -> Result
     let verdicts = slots(rt.alloc(), &parse(rt.alloc(), &bytes)?, None)?;
     check_area(&rt, &verdicts);
     if let Some((_, Verdict::Usable(slot))) = verdicts.first() {
-        assert_same(&rt, slot.parts.kdf_hash, None);
-        assert_same(&rt, slot.parts.af_hash, None);
+        same(slot.parts.kdf_hash, None).expect(&rt, "the same");
+        same(slot.parts.af_hash, None).expect(&rt, "the same");
     }
     Ok(())
 }
 
 #[test]
 fn refusals_have_their_texts(rt: HostRuntime) {
-    assert_same(&rt, SkipReason::Kind.text(), "type");
-    assert_same(&rt, SkipReason::KeySize.text(), "key size");
-    assert_same(&rt, SegmentFault::Kind.text(), "type");
-    assert_same(&rt, SegmentFault::SectorSize.text(), "sector size");
+    same(SkipReason::Kind.text(), "type").expect(&rt, "the same");
+    same(SkipReason::KeySize.text(), "key size").expect(&rt, "the same");
+    same(SegmentFault::Kind.text(), "type").expect(&rt, "the same");
+    same(SegmentFault::SectorSize.text(), "sector size").expect(&rt, "the same");
 }
 
 fn check_judgement(
@@ -337,7 +337,7 @@ fn check_judgement(
     number: u8,
     want: Option<Judgement>,
 ) {
-    assert_same_in(rt, &number, judge(header, limit, number), want);
+    same_in(&number, judge(header, limit, number), want).expect(rt, "the same");
 }
 
 #[test]
@@ -360,11 +360,11 @@ fn a_digest_has_its_numbers(rt: HostRuntime) -> Result<(), Fail> {
     let Some(digest) = digest_for(rt.alloc(), &header, 0)? else {
         return Err("no digest".into());
     };
-    assert_same(&rt, digest.hash, Some(Hash::Sha256));
-    assert_same(&rt, digest.iterations, 1000);
+    same(digest.hash, Some(Hash::Sha256)).expect(&rt, "the same");
+    same(digest.iterations, 1000).expect(&rt, "the same");
     check_bytes(&rt, digest.salt.as_slice(), 32, 0x20);
-    assert_same(&rt, digest.value.as_slice().len(), 20);
-    assert_same(&rt, digest.value.as_slice().last(), Some(&0x13));
+    same(digest.value.as_slice().len(), 20).expect(&rt, "the same");
+    same(digest.value.as_slice().last(), Some(&0x13)).expect(&rt, "the same");
     let none = parse(rt.alloc(), &changed(&[(DIGEST_ITERATIONS, 0)]))?;
     assert!(rt; digest_for(rt.alloc(), &none, 0)?.is_none());
     Ok(())

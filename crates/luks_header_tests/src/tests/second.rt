@@ -11,7 +11,7 @@ use luks_header::slot::{judge, slots};
 use luks_io::memory::MemSource;
 use luks_io::source::Source;
 use luks_kdf::{Hash, digest};
-use luks_testing::same::assert_same;
+use luks_testing::same::same;
 use std::alloc::{AllocError, Global};
 use std::process::Abort;
 use std::test::Fail;
@@ -73,15 +73,15 @@ fn counts(alloc: Global, header: &Header) -> Result<(usize, bool), AllocError> {
 }
 
 fn check_answers(rt: &impl Abort, header: &Header) {
-    assert_same(rt, segment(header).err(), Some(SegmentFault::Segments));
-    assert_same(rt, judge(header, None, 0), None);
+    same(segment(header).err(), Some(SegmentFault::Segments)).expect(rt, "the same");
+    same(judge(header, None, 0), None).expect(rt, "the same");
 }
 
 fn check_fields(rt: &impl Abort, second: &Header2) {
-    assert_same(rt, second.place, Place::Primary);
-    assert_same(rt, second.sequence, 7);
-    assert_same(rt, second.uuid.as_bytes(), b"a-uuid".as_slice());
-    assert_same(rt, second.finding, Some(Finding::SecondaryNotValid));
+    same(second.place, Place::Primary).expect(rt, "the same");
+    same(second.sequence, 7).expect(rt, "the same");
+    same(second.uuid.as_bytes(), b"a-uuid".as_slice()).expect(rt, "the same");
+    same(second.finding, Some(Finding::SecondaryNotValid)).expect(rt, "the same");
 }
 
 fn check_reading<S: Source>(
@@ -90,9 +90,9 @@ fn check_reading<S: Source>(
     source: &mut S,
 ) -> Result<(), HeaderFault> {
     let (header, area) = read_header(alloc, source)?;
-    assert_same(rt, area.as_slice().len(), 2 * SIZE);
+    same(area.as_slice().len(), 2 * SIZE).expect(rt, "the same");
     check_answers(rt, &header);
-    assert_same(rt, counts(alloc, &header)?, (0, false));
+    same(counts(alloc, &header)?, (0, false)).expect(rt, "the same");
     let Header::V2(second, _metadata) = header else {
         return Err(HeaderFault::Json);
     };
@@ -105,16 +105,16 @@ fn a_header_of_luks2_is_read(rt: HostRuntime) -> Result<(), Fail> {
     let image = image_of(rt.alloc(), r#"{"keyslots":{},"segments":{},"digests":{}}"#)?;
     let mut source = MemSource::new(&image);
     let fault = check_reading(&rt, rt.alloc(), &mut source).err();
-    assert_same(&rt, fault, None);
+    same(fault, None).expect(&rt, "the same");
     // Both headers are read, and no more.
-    assert_same(&rt, source.left().len(), 100);
+    same(source.left().len(), 100).expect(&rt, "the same");
     Ok(())
 }
 
 fn check_fault(rt: &(impl Abort + AllocGlobal), image: &[u8], stated: HeaderFault, left: usize) {
     let mut source = MemSource::new(image);
-    assert_same(rt, read_header(rt.alloc(), &mut source).err(), Some(stated));
-    assert_same(rt, source.left().len(), left);
+    same(read_header(rt.alloc(), &mut source).err(), Some(stated)).expect(rt, "the same");
+    same(source.left().len(), left).expect(rt, "the same");
 }
 
 #[test]

@@ -1,6 +1,6 @@
 use super::{HASHES, assert_hex};
 use luks_kdf::{Hash, Work, digest, pbkdf2};
-use luks_testing::same::assert_same;
+use luks_testing::same::same;
 use std::process::Abort;
 
 // Asserts what is derived, as many bytes as the digits spell, and how far the work goes.
@@ -21,7 +21,7 @@ fn check(
     let mut counted = Work::new(0);
     pbkdf2(hash, pass, salt, iterations, &mut out[..len], &mut counted);
     assert_hex(rt, &out[..len], want);
-    assert_same(rt, counted.count(), work);
+    same(counted.count(), work).expect(rt, "the same");
 }
 
 // RFC 6070, but for the case of 16,777,216 iterations.
@@ -133,7 +133,7 @@ fn check_longest(rt: &impl Abort, hash: Hash, want: &[u8], work: u128) {
     let mut key = [0; 512];
     let mut counted = Work::new(0);
     pbkdf2(hash, b"password", b"salt", 2, &mut key, &mut counted);
-    assert_same(rt, counted.count(), work);
+    same(counted.count(), work).expect(rt, "the same");
     let mut out = [0; 32];
     digest(Hash::Sha256, &key, b"", b"", &mut out);
     assert_hex(rt, &out, want);
@@ -175,14 +175,14 @@ fn check_count(rt: &impl Abort, iterations: u32, work: &mut Work, count: u128) -
     let mut key = [0; 20];
     assert!(rt; iterations >= 1);
     pbkdf2(Hash::Sha1, b"password", b"salt", iterations, &mut key, work);
-    assert_same(rt, work.count(), count);
+    same(work.count(), count).expect(rt, "the same");
     key
 }
 
 #[test]
 fn work_goes_on_and_stops(rt: HostRuntime) {
     let mut work = Work::new(7);
-    assert_same(&rt, work.count(), 7);
+    same(work.count(), 7).expect(&rt, "the same");
     check_count(&rt, 2, &mut work, 9);
     check_count(&rt, 3, &mut work, 12);
     let mut full = Work::new(u128::MAX - 1);

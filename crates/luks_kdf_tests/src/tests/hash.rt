@@ -1,14 +1,14 @@
 use super::HASHES;
 use luks_kdf::Hash;
-use luks_testing::same::{assert_same, assert_same_in};
+use luks_testing::same::{same, same_in};
 
 #[test]
 fn names_in_either_case(rt: HostRuntime) {
     let names = ["sha1", "SHA224", "Sha256", "sHa384", "shA512"];
     for i in 0..5 {
         let hash = HASHES[i];
-        assert_same(&rt, Hash::from_name(hash.name()), Some(hash));
-        assert_same(&rt, Hash::from_name(names[i]), Some(hash));
+        same(Hash::from_name(hash.name()), Some(hash)).expect(&rt, "the same");
+        same(Hash::from_name(names[i]), Some(hash)).expect(&rt, "the same");
     }
 }
 
@@ -33,7 +33,7 @@ fn other_names(rt: HostRuntime) {
         "\u{17f}ha1",
     ];
     for name in names {
-        assert_same_in(&rt, &name, Hash::from_name(name), None);
+        same_in(&name, Hash::from_name(name), None).expect(&rt, "the same");
     }
 }
 
@@ -50,8 +50,8 @@ fn sizes(rt: HostRuntime) {
     for i in 0..5 {
         let hash = HASHES[i];
         let (name, size, block) = rows[i];
-        assert_same(&rt, hash.name(), name);
-        assert_same(&rt, hash.size(), size);
-        assert_same(&rt, hash.block(), block);
+        same(hash.name(), name).expect(&rt, "the same");
+        same(hash.size(), size).expect(&rt, "the same");
+        same(hash.block(), block).expect(&rt, "the same");
     }
 }

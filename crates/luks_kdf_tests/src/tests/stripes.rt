@@ -3,17 +3,17 @@ ghost use Rattle.std.specs.Prelude.{◌≡◌, length};
 use super::mac::check_digest;
 use super::{HASHES, assert_hex, number};
 use luks_kdf::{AfSplitter, Hash, af_merge, af_split, digest};
-use luks_testing::same::assert_same;
+use luks_testing::same::same;
 use std::process::Abort;
 
 // Splits the key, and asserts that the stripes begin with the random ones and merge to the key.
 fn split(rt: &impl Abort, hash: Hash, key: &[u8], random: &[u8], stripes: &mut [u8]) {
     split_alone(rt, hash, key, random, stripes);
-    assert_same(rt, &stripes[..stripes.len().min(random.len())], random);
+    same(&stripes[..stripes.len().min(random.len())], random).expect(rt, "the same");
     let mut merged = [0xEE; 512];
     let merged = &mut merged[..key.len().min(512)];
     merge(rt, hash, stripes, merged);
-    assert_same(rt, &*merged, key);
+    same(&*merged, key).expect(rt, "the same");
 }
 
 fn split_alone(rt: &impl Abort, hash: Hash, key: &[u8], random: &[u8], stripes: &mut [u8]) {
@@ -41,7 +41,7 @@ fn one_stripe_is_the_key(rt: HostRuntime) {
     number(&mut key, 1);
     let mut stripes = [0xEE; 32];
     split(&rt, Hash::Sha256, &key, &[], &mut stripes);
-    assert_same(&rt, stripes, key);
+    same(stripes, key).expect(&rt, "the same");
 }
 
 #[test]
@@ -64,7 +64,7 @@ fn three_stripes_of_zeros(rt: HostRuntime) {
     random[28..].copy_from_slice(&DIFFUSED_ZEROS);
     let mut stripes = [0xEE; 84];
     split(&rt, Hash::Sha256, &[0; 28], &random, &mut stripes);
-    assert_same(&rt, &stripes[56..], DIFFUSED_ZEROS.as_slice());
+    same(&stripes[56..], DIFFUSED_ZEROS.as_slice()).expect(&rt, "the same");
 }
 
 // Here and below the values are those of a Python script over `hashlib` alone:
@@ -129,7 +129,7 @@ fn three_stripes_of_one_byte(rt: HostRuntime) {
     for i in 0..5 {
         let mut stripes = [0xEE; 3];
         split(&rt, HASHES[i], &[1], &[3, 10], &mut stripes);
-        assert_same(&rt, stripes, [3, 10, wants[i]]);
+        same(stripes, [3, 10, wants[i]]).expect(&rt, "the same");
     }
 }
 
@@ -167,5 +167,5 @@ fn one_stripe_at_a_time(rt: HostRuntime) {
 
     let mut merged = [0xEE; 33];
     splitter_after(&rt, &random).last(&last, &mut merged);
-    assert_same(&rt, merged, key);
+    same(merged, key).expect(&rt, "the same");
 }

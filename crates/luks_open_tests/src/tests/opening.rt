@@ -4,7 +4,7 @@ use super::volumes::{LONG_KEY, Question, SHORT_KEY, Volume, answer, any};
 use luks_header::refusal::SkipReason;
 use luks_kdf::Work;
 use luks_open::fault::OpenFault;
-use luks_testing::same::{assert_same, assert_same_in};
+use luks_testing::same::{same, same_in};
 use std::alloc::Global;
 use std::process::Abort;
 use std::test::Fail;
@@ -32,14 +32,9 @@ fn check_opens(
     let Ok(opened) = answer(rt.alloc(), &image, question, &mut work)? else {
         return Err("nothing opens".into());
     };
-    assert_same_in(rt, &question, opened.slot, slot);
-    assert_same_in(
-        rt,
-        &question,
-        opened.key.as_slice(),
-        volume.key(rt.alloc())?.as_slice(),
-    );
-    assert_same_in(rt, &question, work.count(), evaluations);
+    same_in(&question, opened.slot, slot).expect(rt, "the same");
+    same_in(&question, opened.key.as_slice(), volume.key(rt.alloc())?.as_slice()).expect(rt, "the same");
+    same_in(&question, work.count(), evaluations).expect(rt, "the same");
     Ok(())
 }
 
@@ -58,8 +53,8 @@ fn check_no_key(
     let OpenFault::NoKey(slots) = fault else {
         return Err("another fault".into());
     };
-    assert_same_in(rt, &question, slots.as_slice(), skipped);
-    assert_same_in(rt, &question, work.count(), evaluations);
+    same_in(&question, slots.as_slice(), skipped).expect(rt, "the same");
+    same_in(&question, work.count(), evaluations).expect(rt, "the same");
     Ok(())
 }
 
@@ -160,9 +155,9 @@ fn a_full_count_of_work_stays(rt: HostRuntime) -> Result<(), Fail> {
     let image = SHORT_KEY.image(rt.alloc())?;
     let mut work = Work::new(u128::MAX - 20);
     assert!(rt; answer(rt.alloc(), &image, any(b"third"), &mut work)?.is_ok());
-    assert_same(&rt, work.count(), u128::MAX);
+    same(work.count(), u128::MAX).expect(&rt, "the same");
     assert!(rt; answer(rt.alloc(), &image, any(b"fourth"), &mut work)?.is_err());
-    assert_same(&rt, work.count(), u128::MAX);
+    same(work.count(), u128::MAX).expect(&rt, "the same");
     Ok(())
 }
 

@@ -7,7 +7,7 @@ use luks_io::memory::MemSource;
 use luks_open::fault::OpenFault;
 use luks_open::order::order;
 use luks_open::tries::{Order, held_end};
-use luks_testing::same::{assert_in, assert_same, assert_same_in};
+use luks_testing::same::{holds_in, same, same_in};
 use luks_testing::scarce::Scarcity;
 use std::alloc::{AllocError, Global};
 use std::process::Abort;
@@ -35,8 +35,8 @@ fn check_order(
     slots: &[u8],
     end: usize,
 ) -> Result<(), Fail> {
-    assert_same_in(rt, &case, numbers(rt.alloc(), order)?.as_slice(), slots);
-    assert_same_in(rt, &case, held_end(order), end);
+    same_in(&case, numbers(rt.alloc(), order)?.as_slice(), slots).expect(rt, "the same");
+    same_in(&case, held_end(order), end).expect(rt, "the same");
     Ok(())
 }
 
@@ -79,7 +79,7 @@ fn a_named_slot_may_be_refused(rt: HostRuntime) -> Result<(), Fail> {
         let Err(answer) = order(alloc, &header, Some(named), limit) else {
             return Err("an order".into());
         };
-        assert_same_in(&rt, &(named, limit), answer, fault);
+        same_in(&(named, limit), answer, fault).expect(&rt, "the same");
     }
     Ok(())
 }
@@ -101,7 +101,7 @@ fn nothing_may_be_left_to_try(rt: HostRuntime) -> Result<(), Fail> {
         (5, SkipReason::Digest),
         (6, SkipReason::Area),
     ];
-    assert_same(&rt, skipped.as_slice(), want.as_slice());
+    same(skipped.as_slice(), want.as_slice()).expect(&rt, "the same");
     Ok(())
 }
 
@@ -134,10 +134,10 @@ fn answers_memory_where_it_is_refused(rt: HostRuntime) -> Result<(), Fail> {
     for (named, slots) in [(None, 3), (Some(5), 1)] {
         let mut faults = Vec::with_capacity(alloc, 400)?;
         let tried = scarce_order(alloc, &header, named, &mut faults)?;
-        assert_same_in(&rt, &named, tried, slots);
-        assert_in(&rt, &named, !faults.is_empty());
+        same_in(&named, tried, slots).expect(&rt, "the same");
+        holds_in(&named, !faults.is_empty()).expect(&rt, "so");
         for fault in faults.iter() {
-            assert_same_in(&rt, &named, *fault, OpenFault::Memory);
+            same_in(&named, *fault, OpenFault::Memory).expect(&rt, "the same");
         }
     }
     Ok(())

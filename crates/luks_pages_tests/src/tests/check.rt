@@ -2,7 +2,7 @@
 
 use super::fixture::{enable, header_bytes, header_from, patch, patch_number, place_of};
 use luks_pages::check::findings;
-use luks_testing::same::assert_same;
+use luks_testing::same::same;
 use std::process::Abort;
 use std::test::Fail;
 
@@ -14,7 +14,7 @@ fn expect_findings(
 ) -> Result<(), Fail> {
     let header = header_from(rt.alloc(), bytes)?;
     let found = findings(rt.alloc(), &header)?;
-    assert_same(rt, found.as_str(), page);
+    same(found.as_str(), page).expect(rt, "the same");
     Ok(())
 }
 

@@ -4,7 +4,7 @@ use super::fixture2::read;
 use luks_pages::check::findings;
 use luks_pages::dump::{dump_page, uuid_page};
 use luks_testing::header2::{SIZE, empty_image, image_of, write_header};
-use luks_testing::same::assert_same;
+use luks_testing::same::same;
 use std::process::Abort;
 use std::test::Fail;
 
@@ -62,9 +62,9 @@ fn a_header_is_printed_whole(rt: HostRuntime) -> Result<(), Fail> {
     let header = read(alloc, image.as_slice())?;
     let page = dump_page(alloc, &header)?;
     let expected = format!(in alloc; "{HEADER_LINES}{SLOT_LINES}{OTHER_LINES}")?;
-    assert_same(&rt, page.as_str(), expected.as_str());
+    same(page.as_str(), expected.as_str()).expect(&rt, "the same");
     let uuid = uuid_page(alloc, &header)?;
-    assert_same(&rt, uuid.as_str(), "11111111-2222-3333-4444-555555555555\n");
+    same(uuid.as_str(), "11111111-2222-3333-4444-555555555555\n").expect(&rt, "the same");
     Ok(())
 }
 
@@ -83,7 +83,7 @@ fn expect_segment(rt: &(impl Abort + AllocGlobal), segments: &str, line: &str) -
     let image = image_of(alloc, 0, 1, json.as_str())?;
     let header = read(alloc, image.as_slice())?;
     let page = dump_page(alloc, &header)?;
-    assert_same(rt, rest_of(page.as_str()), line);
+    same(rest_of(page.as_str()), line).expect(rt, "the same");
     Ok(())
 }
 
@@ -127,7 +127,7 @@ fn expect_findings(
     let alloc = rt.alloc();
     let page = findings(alloc, &read(alloc, image)?)?;
     let expected = format!(in alloc; "{first}segment: segments\n{slots}")?;
-    assert_same(rt, page.as_str(), expected.as_str());
+    same(page.as_str(), expected.as_str()).expect(rt, "the same");
     Ok(())
 }
 

@@ -3,7 +3,7 @@
 use luks_cipher::Mode;
 use luks_kdf::{Hash, digest};
 use luks_seal::parameters::{Seal1, Seal2, SealFault, Slot1, Slot2};
-use luks_testing::same::assert_same;
+use luks_testing::same::same;
 use luks_verdict::sector_size::SectorSize;
 use std::alloc::{AllocError, Global};
 use std::process::Abort;
@@ -129,7 +129,7 @@ pub fn check_fits(rt: &impl Abort, answer: Result<Vec<u8>, SealFault>, fits: boo
     } else {
         Some(SealFault::Parameters)
     };
-    assert_same(rt, fault, stated);
+    same(fault, stated).expect(rt, "the same");
 }
 
 /// The image has this length and this hash.
@@ -142,9 +142,9 @@ pub fn check_image(
     let Ok(image) = image else {
         return Err("not sealed".into());
     };
-    assert_same(rt, image.len(), len);
+    same(image.len(), len).expect(rt, "the same");
     let mut found = [0; 32];
     digest(Hash::Sha256, &image, b"", b"", &mut found);
-    assert_same(rt, found, hash);
+    same(found, hash).expect(rt, "the same");
     Ok(())
 }

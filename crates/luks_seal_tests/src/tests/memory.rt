@@ -5,7 +5,7 @@ use super::fixture::{counted, parameters1, parameters2, slot1, slot2};
 use luks_seal::luks1::seal1;
 use luks_seal::luks2::seal2;
 use luks_seal::parameters::SealFault;
-use luks_testing::same::assert_same;
+use luks_testing::same::same;
 use luks_testing::scarce::Scarcity;
 use std::process::Abort;
 use std::test::Fail;
@@ -20,7 +20,7 @@ fn check(rt: &impl Abort, is_well: bool, faults: &[SealFault]) {
     assert!(rt; is_well);
     assert!(rt; 10 < faults.len());
     for fault in faults {
-        assert_same(rt, *fault, SealFault::Memory);
+        same(*fault, SealFault::Memory).expect(rt, "the same");
     }
 }
 

@@ -4,7 +4,7 @@ use super::fixture::{NEVER, Run, dynamic, fixed, key, make_volume, run_pump, tak
 use luks_header::sector_size::SectorSize;
 use luks_header::segment::Segment;
 use luks_testing::devices::Flaky;
-use luks_testing::same::assert_same;
+use luks_testing::same::same;
 use luks_volume::fault::VolumeFault;
 use luks_volume::pump::Pump;
 use luks_volume::state::Step;
@@ -37,13 +37,13 @@ fn check_front(
     let mut sink = taker(alloc, 65536, 700, NEVER)?;
     let mut pump = Pump::with_front(segment, key()?, front);
     let run = run_pump(&mut pump, &mut source, &mut sink);
-    assert_same(rt, run, Run { sectors, last });
+    same(run, Run { sectors, last }).expect(rt, "the same");
     let size = segment.sector_size.bytes();
     let plain = (sectors as usize)
         .saturating_mul(size)
         .min(volume.plain.len());
-    assert_same(rt, sink.as_slice(), &volume.plain[..plain]);
-    assert_same(rt, image.len().saturating_sub(source.left()), end.max(held));
+    same(sink.as_slice(), &volume.plain[..plain]).expect(rt, "the same");
+    same(image.len().saturating_sub(source.left()), end.max(held)).expect(rt, "the same");
     Ok(())
 }
 
@@ -96,19 +96,11 @@ fn a_failed_read_behind_what_is_held_is_told(rt: HostRuntime) -> Result<(), Fail
     let mut sink = taker(alloc, 65536, 700, NEVER)?;
     let mut pump = Pump::with_front(small, key()?, &first[first.len().min(1000)..]);
     let run = run_pump(&mut pump, &mut source, &mut sink);
-    assert_same(
-        &rt,
-        run,
-        Run {
+    same(run, Run {
             sectors: 1,
             last: Err(VolumeFault::Read),
-        },
-    );
-    assert_same(
-        &rt,
-        sink.as_slice(),
-        &volume.plain[..volume.plain.len().min(512)],
-    );
-    assert_same(&rt, source.left(), rest.len());
+        }).expect(&rt, "the same");
+    same(sink.as_slice(), &volume.plain[..volume.plain.len().min(512)]).expect(&rt, "the same");
+    same(source.left(), rest.len()).expect(&rt, "the same");
     Ok(())
 }

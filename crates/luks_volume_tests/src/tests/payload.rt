@@ -5,7 +5,7 @@ use luks_header::sector_size::SectorSize;
 use luks_header::segment::Segment;
 use luks_io::memory::{MemSink, MemSource};
 use luks_testing::devices::Flaky;
-use luks_testing::same::assert_same;
+use luks_testing::same::same;
 use luks_volume::fault::VolumeFault;
 use luks_volume::pump::Pump;
 use luks_volume::state::Step;
@@ -37,12 +37,12 @@ fn check_run(
     let volume = make_volume(alloc, 1000, segment.sector_size, units)?;
     let len = len.min(volume.image.len());
     let (run, written, took) = whole_run(alloc, segment, &volume.image[..len], pieces)?;
-    assert_same(rt, run, Run { sectors, last });
-    assert_same(rt, took, taken);
+    same(run, Run { sectors, last }).expect(rt, "the same");
+    same(took, taken).expect(rt, "the same");
     let plain = (sectors as usize)
         .saturating_mul(size)
         .min(volume.plain.len());
-    assert_same(rt, written.as_slice(), &volume.plain[..plain]);
+    same(written.as_slice(), &volume.plain[..plain]).expect(rt, "the same");
     Ok(())
 }
 
@@ -168,20 +168,20 @@ fn check_skip(rt: &(impl Abort + AllocGlobal)) -> Result<(), Fail> {
     let mut sink = MemSink::new(alloc, 4096)?;
     let mut pump = Pump::new(dynamic(1000, SectorSize::B512, 5), key()?, 592);
     for _ in 0..2 {
-        assert_same(rt, pump.skip(&mut source), Ok(()));
-        assert_same(rt, source.left().len(), 1536);
+        same(pump.skip(&mut source), Ok(())).expect(rt, "the same");
+        same(source.left().len(), 1536).expect(rt, "the same");
     }
     let ended = Run {
         sectors: 3,
         last: Ok(Step::End),
     };
-    assert_same(rt, run_pump(&mut pump, &mut source, &mut sink), ended);
-    assert_same(rt, sink.as_slice(), volume.plain.as_slice());
+    same(run_pump(&mut pump, &mut source, &mut sink), ended).expect(rt, "the same");
+    same(sink.as_slice(), volume.plain.as_slice()).expect(rt, "the same");
     let mut more = MemSource::new(&volume.image);
-    assert_same(rt, pump.step(&mut more, &mut sink), Ok(Step::End));
-    assert_same(rt, pump.skip(&mut more), Ok(()));
-    assert_same(rt, more.left().len(), 2536);
-    assert_same(rt, sink.as_slice().len(), 1536);
+    same(pump.step(&mut more, &mut sink), Ok(Step::End)).expect(rt, "the same");
+    same(pump.skip(&mut more), Ok(())).expect(rt, "the same");
+    same(more.left().len(), 2536).expect(rt, "the same");
+    same(sink.as_slice().len(), 1536).expect(rt, "the same");
     Ok(())
 }
 
@@ -231,11 +231,11 @@ fn check_failures(rt: &(impl Abort + AllocGlobal)) -> Result<(), Fail> {
     ] {
         let mut written = Vec::new(alloc);
         let (run, took, same) = broken_run(alloc, &volume.image, (bad, NEVER), &mut written)?;
-        assert_same(rt, run, Run { sectors, last });
-        assert_same(rt, took, taken);
+        same(run, Run { sectors, last }).expect(rt, "the same");
+        same(took, taken).expect(rt, "the same");
         assert!(rt; same);
         let plain = (sectors as usize * 512).min(volume.plain.len());
-        assert_same(rt, written.as_slice(), &volume.plain[..plain]);
+        same(written.as_slice(), &volume.plain[..plain]).expect(rt, "the same");
     }
     // So are writes.
     for (bad, sectors, last, taken, plain) in [
@@ -247,11 +247,11 @@ fn check_failures(rt: &(impl Abort + AllocGlobal)) -> Result<(), Fail> {
     ] {
         let mut written = Vec::new(alloc);
         let (run, took, same) = broken_run(alloc, &volume.image, (NEVER, bad), &mut written)?;
-        assert_same(rt, run, Run { sectors, last });
-        assert_same(rt, took, taken);
+        same(run, Run { sectors, last }).expect(rt, "the same");
+        same(took, taken).expect(rt, "the same");
         assert!(rt; same);
         let plain = volume.plain.len().min(plain);
-        assert_same(rt, written.as_slice(), &volume.plain[..plain]);
+        same(written.as_slice(), &volume.plain[..plain]).expect(rt, "the same");
     }
     Ok(())
 }

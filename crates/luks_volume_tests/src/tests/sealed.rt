@@ -7,7 +7,7 @@ use luks_cipher::{Mode, SectorCipher};
 use luks_header::sector_size::SectorSize;
 use luks_kdf::{Hash, Work, af_merge, pbkdf2};
 use luks_testing::devices::Flaky;
-use luks_testing::same::assert_same;
+use luks_testing::same::same;
 use luks_volume::pump::Pump;
 use luks_volume::seal::luks1::seal1;
 use luks_volume::seal::parameters::{Seal1, Slot1};
@@ -121,55 +121,23 @@ fn opened(
 }
 
 fn check_header(rt: &(impl Abort + AllocGlobal), image: &[u8]) {
-    assert_same(rt, at(image, 0, 11), b"LUKS\xba\xbe\x00\x01aes".as_slice());
-    assert_same(rt, at(image, 40, 12), b"xts-plain64\x00".as_slice());
-    assert_same(rt, at(image, 72, 7), b"sha256\x00".as_slice());
-    assert_same(
-        rt,
-        at(image, 104, 8),
-        b"\x00\x00\x00\x48\x00\x00\x00\x20".as_slice(),
-    );
-    assert_same(rt, at(image, 112, 20), DIGEST);
-    assert_same(rt, at(image, 132, 32), SALT.as_slice());
-    assert_same(rt, at(image, 164, 4), b"\x00\x00\x00\x03".as_slice());
-    assert_same(rt, at(image, 168, 7), b"a-uuid\x00".as_slice());
+    same(at(image, 0, 11), b"LUKS\xba\xbe\x00\x01aes".as_slice()).expect(rt, "the same");
+    same(at(image, 40, 12), b"xts-plain64\x00".as_slice()).expect(rt, "the same");
+    same(at(image, 72, 7), b"sha256\x00".as_slice()).expect(rt, "the same");
+    same(at(image, 104, 8), b"\x00\x00\x00\x48\x00\x00\x00\x20".as_slice()).expect(rt, "the same");
+    same(at(image, 112, 20), DIGEST).expect(rt, "the same");
+    same(at(image, 132, 32), SALT.as_slice()).expect(rt, "the same");
+    same(at(image, 164, 4), b"\x00\x00\x00\x03".as_slice()).expect(rt, "the same");
+    same(at(image, 168, 7), b"a-uuid\x00".as_slice()).expect(rt, "the same");
     // The slots: state and iterations, then salt, place and stripes.
-    assert_same(
-        rt,
-        at(image, 208, 8),
-        b"\x00\xac\x71\xf3\x00\x00\x00\x02".as_slice(),
-    );
-    assert_same(rt, at(image, 216, 32), FIRST_SALT.as_slice());
-    assert_same(
-        rt,
-        at(image, 248, 8),
-        b"\x00\x00\x00\x08\x00\x00\x00\x04".as_slice(),
-    );
-    assert_same(
-        rt,
-        at(image, 256, 8),
-        b"\x00\x00\xde\xad\x00\x00\x00\x00".as_slice(),
-    );
-    assert_same(
-        rt,
-        at(image, 296, 8),
-        b"\x00\x00\x00\x10\x00\x00\x00\x04".as_slice(),
-    );
-    assert_same(
-        rt,
-        at(image, 448, 8),
-        b"\x00\xac\x71\xf3\x00\x00\x00\x02".as_slice(),
-    );
-    assert_same(
-        rt,
-        at(image, 488, 8),
-        b"\x00\x00\x00\x30\x00\x00\x00\x04".as_slice(),
-    );
-    assert_same(
-        rt,
-        at(image, 584, 12),
-        b"\x00\x00\x00\x40\x00\x00\x00\x04\x00\x00\x00\x00".as_slice(),
-    );
+    same(at(image, 208, 8), b"\x00\xac\x71\xf3\x00\x00\x00\x02".as_slice()).expect(rt, "the same");
+    same(at(image, 216, 32), FIRST_SALT.as_slice()).expect(rt, "the same");
+    same(at(image, 248, 8), b"\x00\x00\x00\x08\x00\x00\x00\x04".as_slice()).expect(rt, "the same");
+    same(at(image, 256, 8), b"\x00\x00\xde\xad\x00\x00\x00\x00".as_slice()).expect(rt, "the same");
+    same(at(image, 296, 8), b"\x00\x00\x00\x10\x00\x00\x00\x04".as_slice()).expect(rt, "the same");
+    same(at(image, 448, 8), b"\x00\xac\x71\xf3\x00\x00\x00\x02".as_slice()).expect(rt, "the same");
+    same(at(image, 488, 8), b"\x00\x00\x00\x30\x00\x00\x00\x04".as_slice()).expect(rt, "the same");
+    same(at(image, 584, 12), b"\x00\x00\x00\x40\x00\x00\x00\x04\x00\x00\x00\x00".as_slice()).expect(rt, "the same");
 }
 
 fn check_sealed(rt: &(impl Abort + AllocGlobal)) -> Result<(), Fail> {
@@ -179,12 +147,12 @@ fn check_sealed(rt: &(impl Abort + AllocGlobal)) -> Result<(), Fail> {
     let Ok(image) = seal1(alloc, &parameters(&slots, &plain)) else {
         return Err("not sealed".into());
     };
-    assert_same(rt, image.len(), 37_888);
+    same(image.len(), 37_888).expect(rt, "the same");
     check_header(rt, &image);
     let first = opened(alloc, &image, 4096, &FIRST_SALT, b"first")?;
-    assert_same(rt, first.as_slice(), KEY);
+    same(first.as_slice(), KEY).expect(rt, "the same");
     let sixth = opened(alloc, &image, 24_576, &SIXTH_SALT, b"sixth")?;
-    assert_same(rt, sixth.as_slice(), KEY);
+    same(sixth.as_slice(), KEY).expect(rt, "the same");
     let wrong = opened(alloc, &image, 4096, &FIRST_SALT, b"sixth")?;
     assert!(rt; wrong.as_slice() != KEY);
     let Some(key) = SectorCipher::new(Mode::XtsPlain64, KEY) else {
@@ -197,8 +165,8 @@ fn check_sealed(rt: &(impl Abort + AllocGlobal)) -> Result<(), Fail> {
         sectors: 2,
         last: Ok(Step::End),
     };
-    assert_same(rt, run_pump(&mut pump, &mut source, &mut sink), ended);
-    assert_same(rt, sink.as_slice(), plain.as_slice());
+    same(run_pump(&mut pump, &mut source, &mut sink), ended).expect(rt, "the same");
+    same(sink.as_slice(), plain.as_slice()).expect(rt, "the same");
     Ok(())
 }
 

@@ -12,7 +12,7 @@ use luks_open::opening::{Opened, open};
 use luks_open::order::order;
 use luks_open::tries::held_end;
 use luks_testing::devices::Flaky;
-use luks_testing::same::assert_same;
+use luks_testing::same::same;
 use luks_volume::pump::Pump;
 use luks_volume::seal::luks1::seal1;
 use luks_volume::seal::luks2::seal2;
@@ -92,12 +92,12 @@ fn check_opens(
     let Some((mut pump, opened)) = opened(alloc, image, named, pass)? else {
         return Err("nothing opens".into());
     };
-    assert_same(rt, opened.slot, slot);
+    same(opened.slot, slot).expect(rt, "the same");
     let mut source = Flaky::new(image, 0, NEVER);
     let mut sink = taker(alloc, 65_536, 65_536, NEVER)?;
     let run = run_pump(&mut pump, &mut source, &mut sink);
-    assert_same(rt, run.last, Ok(Step::End));
-    assert_same(rt, sink.as_slice(), plain);
+    same(run.last, Ok(Step::End)).expect(rt, "the same");
+    same(sink.as_slice(), plain).expect(rt, "the same");
     Ok(())
 }
 

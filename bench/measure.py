@@ -1,0 +1,53 @@
+"""What the measurements of whole runs share: the program, and what a run takes."""
+
+import os
+import pathlib
+import subprocess
+import sys
+
+TOP = pathlib.Path(__file__).resolve().parents[1]
+LUKSRD = TOP / "crates" / "luksrd" / "out" / "luksrd"
+MIB = 1 << 20
+
+
+def build():
+    subprocess.run(["make", "all"], cwd=TOP, check=True, stdout=subprocess.DEVNULL)
+
+
+def measured(folder, command, environment=None):
+    """Processor time in seconds and peak memory in KiB of a command and what it starts, as GNU time tells them."""
+    usage = folder / "usage"
+    words = ["/usr/bin/time", "-f", "%U %S %M", "-o", usage, *command]
+    done = subprocess.run([str(word) for word in words], stdout=subprocess.DEVNULL, env={**os.environ, **(environment or {})})
+    if done.returncode:
+        sys.exit(f"{command[0]} ended with {done.returncode}")
+    user, system, peak = usage.read_text().split()
+    return float(user) + float(system), int(peak)
+
+
+def seconds_of(command, status=0, piped=None):
+    """Processor time of one process, in seconds, whose standard input is a pipe with the bytes of a file, if that is given."""
+    source = subprocess.Popen(["cat", piped], stdout=subprocess.PIPE) if piped else None
+    started = subprocess.Popen(command, stdin=source.stdout if source else subprocess.DEVNULL, stdout=subprocess.DEVNULL, stderr=subprocess.DEVNULL)
+    if source:
+        source.stdout.close()
+    _, ended, used = os.wait4(started.pid, 0)
+    started.returncode = os.waitstatus_to_exitcode(ended)
+    if source:
+        source.wait()
+    if started.returncode != status:
+        sys.exit(f"{command} ended with {started.returncode}")
+    return used.ru_utime + used.ru_stime
+
+
+def format_volume(folder, name, *options):
+    """A file of 16 MiB that cryptsetup formats with these options; the passphrase is in the file pass."""
+    image = folder / name
+    with open(image, "wb") as file:
+        file.truncate(16 * MIB)
+    run_cryptsetup(folder, "luksFormat", *options, image)
+    return image
+
+
+def run_cryptsetup(folder, command, *words):
+    subprocess.run(["cryptsetup", "-q", command, "--key-file", folder / "pass", *words], check=True, stdout=subprocess.DEVNULL)
