@@ -19,18 +19,21 @@ use Rattle.luks_command.specs.Request.{OpeningRequest}
 use Rattle.luks_report.specs.Faults.{message_at_end}
 use Rattle.luks_report.specs.declared.message.Message.{Message}
 use Rattle.luks_report.specs.declared.message.Message.TheVariants.{Done, Cut, KeyFileLength, CutBeforePayload, Tail, Short, OutOfMemory, ReadFailed, WriteFailed}
-use Rattle.luks_cli.proofs.PayloadLemmas.{plain_len}
+use Rattle.luks_runs.proofs.PayloadLemmas.{plain_len}
 use Rattle.luks_cli.proofs.PromptLemmas.{same_segment_by}
 use Rattle.luks_cli.specs.Detached.{CountsDetached, EndsWithoutKey}
-use Rattle.luks_cli.specs.Ending.{Outcome, unwritten}
-use Rattle.luks_cli.specs.Header.{is_luks_outcome, print_outcome_by}
-use Rattle.luks_cli.specs.MayEnd.{OpeningMessage, PayloadMessage}
-use Rattle.luks_cli.specs.Reading.{Reading, detached_header_of}
-use Rattle.luks_cli.specs.Run.{BreaksOff, Completes, Counts, Failures, Promptness, Runs, RunsApart, TookNone, breaks_off, failures_of, is_failed_read, is_failed_write}
+use Rattle.luks_runs.specs.Ending.{Outcome, unwritten}
+use Rattle.luks_runs.specs.Header.{is_luks_outcome, print_outcome_by}
+use Rattle.luks_cli.specs.MayEnd.{OpeningMessage}
+use Rattle.luks_runs.specs.MayEnd.{PayloadMessage}
+use Rattle.luks_runs.specs.Reading.{Reading, detached_header_of}
+use Rattle.luks_runs.specs.Run.{BreaksOff, Completes, Counts, Failures, Promptness, Runs, RunsApart, TookNone, breaks_off, failures_of, is_failed_read, is_failed_write}
 use Rattle.luks_cli.specs.Unlocking.{Unlocks, opens_promptly}
-use Rattle.luks_cli.specs.Volume.{OnOpened, Volume, detached_payload_outcome, found_outcome, longest_key_file, opened_outcome, outcome_after, slot_outcome, volume_by, volume_outcome_by}
-use Rattle.luks_cli.specs.VolumeParts.{PassesPayload, TakesHeld, detached_cat_promptly}
-use Rattle.luks_cli.specs.declared.execute.standing.Standing.TheVariants.{Detached}
+use Rattle.luks_cli.specs.Volume.{OnOpened, Volume, detached_payload_outcome, found_outcome, opened_outcome, outcome_after, slot_outcome, volume_by, volume_outcome_by}
+use Rattle.luks_runs.specs.Secret.{longest_key_file}
+use Rattle.luks_runs.specs.Payload.{PassesPayload}
+use Rattle.luks_cli.specs.VolumeParts.{TakesHeld, detached_cat_promptly}
+use Rattle.luks_runs.specs.declared.standing.Standing.TheVariants.{Detached}
 
 -- ---- what is taken of the payload's image
 

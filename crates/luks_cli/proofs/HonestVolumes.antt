@@ -15,11 +15,12 @@ use Rattle.luks_command.specs.Request.{OpeningRequest, Request, luks_cat}
 use Rattle.luks_report.specs.Faults.{message_at_end}
 use Rattle.luks_report.specs.declared.message.Message.{Message}
 use Rattle.luks_report.specs.declared.message.Message.TheVariants.{Done}
-use Rattle.luks_cli.specs.Ending.{Outcome}
+use Rattle.luks_runs.specs.Ending.{Outcome}
 use Rattle.luks_cli.specs.Honest.{GivesNoOther, IsHonest, WritesPlain}
 use Rattle.luks_cli.specs.Outcome.{outcome_of}
 use Rattle.luks_cli.specs.Run.{RunsAsStated}
-use Rattle.luks_cli.specs.Volume.{Volume, found_outcome, held_for, longest_key_file, opened_outcome, payload_outcome, volume_by, volume_outcome, volume_outcome_by}
+use Rattle.luks_cli.specs.Volume.{Volume, found_outcome, held_for, opened_outcome, payload_outcome, volume_by, volume_outcome, volume_outcome_by}
+use Rattle.luks_runs.specs.Secret.{longest_key_file}
 use Rattle.luks_cli.proofs.HonestPayload.{ending_again, plain_again}
 use Rattle.luks_cli.proofs.HonestSlots.{first_again, key_again}
 use Rattle.luks_cli.proofs.VolumeRuns.{found_whole}

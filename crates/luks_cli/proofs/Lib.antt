@@ -1,17 +1,10 @@
 pub mod DetachedRuns
-pub mod HeaderRuns
-pub mod HeaderTaking
 pub mod HonestPayload
 pub mod HonestSlots
 pub mod HonestVolumes
-pub mod MergeLemmas
 pub mod OpenedRuns
-pub mod PayloadLemmas
 pub mod PromptLemmas
 pub mod SealedUnits
-pub mod SecretLemmas
 pub mod SectorsUndone
-pub mod SplitLemmas
-pub mod StripeLemmas
 pub mod VolumeLemmas
 pub mod VolumeRuns

@@ -10,16 +10,17 @@ use Rattle.luks_io.proofs.Taking.{adds-none}
 use Rattle.luks_io.specs.Bytes.{Adds, Took, counted, raised}
 use Rattle.luks_open.specs.declared.opening.Opened.{Opened}
 use Rattle.luks_volume.specs.Plain.{sector_len, sector_start, sectors_of}
-use Rattle.luks_cli.proofs.PayloadLemmas.{plain_len}
+use Rattle.luks_runs.proofs.PayloadLemmas.{plain_len}
 use Rattle.luks_cli.proofs.PromptLemmas.{same_segment_by}
-use Rattle.luks_cli.specs.Ending.{Outcome}
+use Rattle.luks_runs.specs.Ending.{Outcome}
 use Rattle.luks_cli.specs.Volume.{payload_outcome, slot_outcome, volume_outcome, volume_outcome_by}
-use Rattle.luks_cli.specs.Standing.{reading_of}
-use Rattle.luks_cli.specs.declared.execute.standing.Standing.{Standing}
-use Rattle.luks_cli.specs.declared.execute.standing.Standing.TheVariants.{Attached}
-use Rattle.luks_cli.specs.VolumeParts.{PassesPayload, cat_promptly}
+use Rattle.luks_runs.specs.Standing.{reading_of}
+use Rattle.luks_runs.specs.declared.standing.Standing.{Standing}
+use Rattle.luks_runs.specs.declared.standing.Standing.TheVariants.{Attached}
+use Rattle.luks_runs.specs.Payload.{PassesPayload}
+use Rattle.luks_cli.specs.VolumeParts.{cat_promptly}
 use Rattle.luks_command.specs.Request.{OpeningRequest}
-use Rattle.luks_cli.specs.Run.{BreaksOff, Completes, Counts, Failures, Promptness, Runs, at_any_pace, breaks_off, is_failed_read, is_failed_write, message_of}
+use Rattle.luks_runs.specs.Run.{BreaksOff, Completes, Counts, Failures, Promptness, Runs, at_any_pace, breaks_off, is_failed_read, is_failed_write, message_of}
 use Rattle.luks_cli.specs.VolumeParts.{TakesHeld}
 use Rattle.luks_cli.specs.Unlocking.{Unlocks}
 use Rattle.luks_report.specs.Texts.{opened_line}

@@ -12,12 +12,12 @@ use Rattle.luks_open.specs.Order.{Tries, held_of, order_of}
 use Rattle.luks_volume.specs.Plain.{sector_len}
 use Rattle.luks_report.specs.declared.message.Message.{Message}
 use Rattle.luks_report.specs.declared.message.Message.TheVariants.{Cut, ReadFailed, WriteFailed}
-use Rattle.luks_cli.specs.Reading.{Reading}
-use Rattle.luks_cli.specs.Standing.{reading_of}
+use Rattle.luks_runs.specs.Reading.{Reading}
+use Rattle.luks_runs.specs.Standing.{reading_of}
 use Rattle.luks_cli.specs.Unlocking.{opens_promptly}
 use Rattle.luks_cli.specs.VolumeParts.{HasSegment, HasSegmentBy, cat_promptly}
-use Rattle.luks_cli.specs.declared.execute.standing.Standing.{Standing}
-use Rattle.luks_cli.specs.declared.execute.standing.Standing.TheVariants.{Attached, Detached}
+use Rattle.luks_runs.specs.declared.standing.Standing.{Standing}
+use Rattle.luks_runs.specs.declared.standing.Standing.TheVariants.{Attached, Detached}
 
 pub same_segment_by : (read : Reading) (image : List ℕ) (s t : Segment) → HasSegmentBy read image s
     → HasSegmentBy read image t → t ≡ s

@@ -15,24 +15,18 @@ use Rattle.luks_open.specs.declared.fault.OpenFault.{OpenFault}
 use Rattle.luks_open.specs.declared.fault.OpenFault.TheVariants.{NoSuchSlot as NotThere, Disabled, NamedSkipped, NothingTried as NoneTried, NoKey as NoneOpens, Memory}
 use Rattle.luks_report.specs.Faults.{message_for_header}
 use Rattle.luks_command.specs.Request.{OpeningRequest}
-use Rattle.luks_cli.proofs.HeaderTaking.{cost_there}
+use Rattle.luks_runs.proofs.HeaderTaking.{cost_there}
 use Rattle.luks_cli.specs.VolumeParts.{StopsFinding}
-use Rattle.luks_cli.specs.Standing.{reading_of}
+use Rattle.luks_runs.specs.Standing.{reading_of}
 use Rattle.luks_cli.specs.Volume.{volume_by}
-use Rattle.luks_cli.specs.declared.execute.standing.Standing.{Standing}
-use Rattle.luks_cli.specs.declared.execute.standing.Standing.TheVariants.{Attached, Detached}
+use Rattle.luks_runs.specs.declared.standing.Standing.{Standing}
+use Rattle.luks_runs.specs.declared.standing.Standing.TheVariants.{Attached, Detached}
 use Rattle.luks_report.specs.Faults.{message_for_opening}
 use Rattle.luks_report.specs.declared.message.Message.TheVariants.{SegmentRefused}
 
 -- as much is held of the header as it costs
 pub cost_held : (image area : List ℕ) → area ≡ take (cost_of image) image → length area ≡ cost_of image
 cost_held image area front = ap length front ∙ length-take-le (cost_of image) image (cost_there image)
-
--- where no header is read, none is wherever it stands
-pub reading_fault : (stand : Standing) (image : List ℕ) (fault : HeaderFault) → header_of image ≡ Err fault
-    → reading_of stand image ≡ Err fault
-reading_fault Attached image fault none = none
-reading_fault Detached image fault none = rw none refl
 
 module _ (stand : Standing) (o : OpeningRequest) (image : List ℕ) (left : Option (List ℕ)) where
   no_header : (fault : HeaderFault) → header_of image ≡ Err fault

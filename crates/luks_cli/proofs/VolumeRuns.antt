@@ -22,21 +22,21 @@ use Rattle.luks_cli.proofs.PromptLemmas.{held_early, prompt_before_payload, prom
 use Rattle.luks_cli.proofs.VolumeLemmas.{cost_held, volume_is}
 use Rattle.luks_report.specs.Faults.{message_for_header}
 use Rattle.luks_cli.specs.Volume.{OnOpened, found_outcome, opened_outcome, outcome_after, volume_outcome_by}
-use Rattle.luks_cli.specs.Ending.{Outcome, unwritten}
+use Rattle.luks_runs.specs.Ending.{Outcome, unwritten}
 use Rattle.luks_command.specs.Request.{OpeningRequest}
-use Rattle.luks_cli.specs.Run.{BreaksOff, IsBeginning, IsSilent, Runs}
+use Rattle.luks_runs.specs.Run.{BreaksOff, IsBeginning, IsSilent, Runs}
 use Rattle.luks_io.proofs.Taking.{adds-none, took-none}
 use Rattle.luks_io.specs.Bytes.{Adds, Took}
-use Rattle.luks_cli.proofs.HeaderTaking.{cost_there, took_header}
-use Rattle.luks_cli.specs.VolumeParts.{NoSecretRead}
-use Rattle.luks_cli.specs.Volume.{longest_key_file}
+use Rattle.luks_runs.proofs.HeaderTaking.{cost_there, took_header}
+use Rattle.luks_runs.specs.Secret.{NoSecretRead}
+use Rattle.luks_runs.specs.Secret.{longest_key_file}
 use Rattle.luks_cli.specs.VolumeParts.{TakesHeld}
 use Rattle.luks_cli.specs.Unlocking.{Unlocks, opens_promptly}
 use Rattle.luks_cli.specs.VolumeParts.{StopsFinding}
 use Rattle.luks_cli.specs.Volume.{Volume, held_for, volume_by}
-use Rattle.luks_cli.specs.Standing.{reading_of}
-use Rattle.luks_cli.specs.declared.execute.standing.Standing.{Standing}
-use Rattle.luks_cli.specs.declared.execute.standing.Standing.TheVariants.{Attached}
+use Rattle.luks_runs.specs.Standing.{reading_of}
+use Rattle.luks_runs.specs.declared.standing.Standing.{Standing}
+use Rattle.luks_runs.specs.declared.standing.Standing.TheVariants.{Attached}
 use Rattle.luks_report.specs.Faults.{message_for_opening}
 use Rattle.luks_report.specs.declared.message.Message.{Message}
 use Rattle.luks_report.specs.declared.message.Message.TheVariants.{Cut, KeyFileLength, OutOfMemory, ReadFailed, WriteFailed}

@@ -9,11 +9,12 @@ use Rattle.luks_report.specs.declared.message.Message.{Message}
 use Rattle.luks_report.specs.declared.message.Message.TheVariants.{NotLuks, Cut, Json, OutOfMemory, ReadFailed}
 use Rattle.luks_report.specs.declared.message.Message.TheVariants.{SegmentRefused, NoSuchSlot, SlotDisabled, SlotSkipped, NothingTried}
 use Rattle.luks_report.specs.declared.message.Message.TheVariants.{KeyFileLength, NoKey}
-use Rattle.luks_cli.specs.Ending.{Outcome}
-use Rattle.luks_cli.specs.Header.{is_luks_outcome, print_outcome_by, well}
+use Rattle.luks_runs.specs.Ending.{Outcome}
+use Rattle.luks_runs.specs.Header.{is_luks_outcome, print_outcome_by, well}
 use Rattle.luks_cli.specs.Outcome.{outcome_of}
-use Rattle.luks_cli.specs.Reading.{detached_header_of}
-use Rattle.luks_cli.specs.Run.{Counts, Failures, IsCounted, KnowsSecret, Promptness, RunsApart, TookNone, TookSecret, at_any_pace}
+use Rattle.luks_runs.specs.Reading.{detached_header_of}
+use Rattle.luks_runs.specs.Run.{Counts, Failures, Promptness, RunsApart, TookNone, at_any_pace}
+use Rattle.luks_cli.specs.Run.{IsCounted, KnowsSecret, TookSecret}
 use Rattle.luks_cli.specs.Volume.{detached_payload_outcome, slot_outcome, volume_by, volume_outcome_by}
 use Rattle.luks_cli.specs.VolumeParts.{detached_cat_promptly}
 

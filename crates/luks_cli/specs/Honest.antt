@@ -8,8 +8,8 @@ use Rattle.luks_seal.specs.Sealed.{Sealed}
 use Rattle.luks_command.specs.Request.{OpeningRequest, Request, luks_cat}
 use Rattle.luks_report.specs.declared.message.Message.{Message}
 use Rattle.luks_report.specs.declared.message.Message.TheVariants.{Done}
-use Rattle.luks_cli.specs.Run.{breaks_off}
-use Rattle.luks_cli.specs.Volume.{longest_key_file}
+use Rattle.luks_runs.specs.Run.{breaks_off}
+use Rattle.luks_runs.specs.Secret.{longest_key_file}
 
 -- if the key slot opens under this passphrase, it gives this key
 abbrev pub GivesNoOther : List ℕ → List ℕ → List ℕ → Entry → Type 0

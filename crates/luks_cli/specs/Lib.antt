@@ -1,14 +1,8 @@
 pub mod Detached
-pub mod Ending
-pub mod Header
 pub mod Honest
 pub mod MayEnd
 pub mod Outcome
-pub mod Reading
 pub mod Run
-pub mod Standing
-pub mod Stripe
-pub mod StripeParts
 pub mod Unlocking
 pub mod Volume
 pub mod VolumeParts

@@ -6,11 +6,11 @@ use Rattle.luks_verdict.specs.declared.segment.Segment.{Segment}
 use Rattle.luks_open.specs.declared.opening.Opened.{Opened}
 use Rattle.luks_command.specs.Request.{OpeningRequest}
 use Rattle.luks_report.specs.declared.message.Message.{Message}
-use Rattle.luks_cli.specs.Standing.{reading_of}
+use Rattle.luks_runs.specs.Standing.{reading_of}
 use Rattle.luks_cli.specs.Volume.{OnOpened, volume_outcome_by}
 use Rattle.luks_cli.specs.VolumeParts.{HasSegmentBy, cat_promptly}
-use Rattle.luks_cli.specs.declared.execute.standing.Standing.{Standing}
-use Rattle.luks_cli.specs.declared.execute.standing.Standing.TheVariants.{Attached, Detached}
+use Rattle.luks_runs.specs.declared.standing.Standing.{Standing}
+use Rattle.luks_runs.specs.declared.standing.Standing.TheVariants.{Attached, Detached}
 
 -- opening is broken off: with a header in the payload's image it owes what `luksCat` owes, and else it writes nothing
 abbrev pub opens_promptly : Standing → List ℕ → Message → ℕ → ℕ → ℕ → Type 0

@@ -17,8 +17,8 @@ use Rattle.luks_volume.specs.Plain.{ending_of, payload_end_of, plain_of}
 use Rattle.luks_report.specs.Faults.{message_at_end}
 use Rattle.luks_report.specs.Texts.{opened_line}
 use Rattle.luks_report.specs.declared.message.Message.TheVariants.{Done, Cut, KeyFileLength}
-use Rattle.luks_cli.specs.Ending.{Outcome, unwritten}
-use Rattle.luks_cli.specs.Reading.{Reading}
+use Rattle.luks_runs.specs.Ending.{Outcome, unwritten}
+use Rattle.luks_runs.specs.Reading.{Reading}
 use Rattle.luks_report.specs.declared.message.Message.{Message}
 use Rattle.luks_report.specs.declared.message.Message.TheVariants.{SegmentRefused}
 
@@ -56,10 +56,6 @@ volume_of = volume_by header_of
 -- how many bytes of the image are taken to open the volume: the header and the key areas of the slots that are tried
 abbrev pub held_for : List ℕ → Volume → ℕ
 held_for image volume = max (cost_of image) (held_of volume.tries.slots)
-
--- the longest key file
-abbrev pub longest_key_file : ℕ
-longest_key_file = 8388608
 
 -- what a command does with a volume that is opened: with its segment, its key, and the bytes of its image that were
 -- taken so far

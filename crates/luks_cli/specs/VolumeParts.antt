@@ -12,8 +12,9 @@ use Rattle.luks_command.specs.Request.{OpeningRequest}
 use Rattle.luks_report.specs.Faults.{message_at_end}
 use Rattle.luks_report.specs.declared.message.Message.{Message}
 use Rattle.luks_report.specs.declared.message.Message.TheVariants.{KeyFileLength, OutOfMemory, ReadFailed, WriteFailed}
-use Rattle.luks_cli.specs.Reading.{Reading, detached_header_of}
-use Rattle.luks_cli.specs.Volume.{OnOpened, longest_key_file, volume_by}
+use Rattle.luks_runs.specs.Reading.{Reading, detached_header_of}
+use Rattle.luks_cli.specs.Volume.{OnOpened, volume_by}
+use Rattle.luks_runs.specs.Secret.{longest_key_file}
 
 -- ---- the header
 
@@ -30,15 +31,6 @@ abbrev pub StopsFinding : Reading → OpeningRequest → List ℕ → Option (Li
 StopsFinding read o image left ReadFailed = TookUpTo image left (cost_of image)
 StopsFinding read o image left OutOfMemory = TookUpTo image left (cost_of image)
 StopsFinding read o image left message = (volume_by read o image ≡ Err message) × Took image left (cost_of image)
-
--- ---- the key file
-
--- how reading a key file failed: of one that is too long one byte more is taken than the longest has
-abbrev pub NoSecretRead : List ℕ → Option (List ℕ) → Message → Type 0
-NoSecretRead secret left KeyFileLength = (longest_key_file < length secret) × Took secret left (longest_key_file + 1)
-NoSecretRead secret left OutOfMemory = TookUpTo secret left (min (length secret) (longest_key_file + 1))
-NoSecretRead secret left ReadFailed = TookUpTo secret left (min (length secret) (longest_key_file + 1))
-NoSecretRead secret left _ = ⊥
 
 -- ---- opening
 
@@ -70,27 +62,3 @@ abbrev pub detached_cat_promptly : List ℕ → ℕ → Message → ℕ → ℕ 
 detached_cat_promptly file payload_taken message header_taken secret_taken output =
     (segment : Segment) → HasSegmentBy detached_header_of file segment
     → passed_promptly segment 0 message payload_taken output
-
--- passing on the payload of an image, of which so many bytes were taken before, ended with this message: all of it was
--- written and taken, or it was broken off within a sector
-abbrev pub PassesPayload : Segment → Cipher → List ℕ → ℕ → Option (List ℕ) → Option (List ℕ) → Option (List ℕ)
-    → Message → Type 0
-PassesPayload s cipher image held left before after ReadFailed =
-    (place : ℕ) × (count : ℕ) × (count ≡ (place - s.offset) / sector_len s) × (count ≤ sectors_of s image)
-    × (place ≤ payload_end_of s image)
-    × Took image left place × Adds before after (take (count * sector_len s) (plain_of s cipher image))
-PassesPayload s cipher image held left before after WriteFailed =
-    (count : ℕ) × (written : ℕ) × (count < sectors_of s image) × (written < sector_len s)
-    × (sector_start s (count + 1) ≤ payload_end_of s image)
-    × Took image left (max held (sector_start s (count + 1)))
-    × Adds before after (take (count * sector_len s + written) (plain_of s cipher image))
-PassesPayload s cipher image held left before after message =
-    (message ≡ message_at_end (ending_of s image)) × Took image left (max held (payload_end_of s image))
-    × Adds before after (plain_of s cipher image)
-
--- the same of every image whose first bytes are these, which are held, and of which the source has the rest
-abbrev pub PassesHeld : Segment → Cipher → List ℕ → Option (List ℕ) → Option (List ℕ) → Option (List ℕ)
-    → Option (List ℕ) → Message → Type 0
-PassesHeld s cipher held rest left before after message =
-    (image : List ℕ) → length image < 2 ^ 64 → held ≡ take (length held) image → Took image rest (length held)
-    → PassesPayload s cipher image (length held) left before after message

@@ -10,4 +10,3 @@ pub mod pump;
 mod sector;
 pub mod state;
 
-pub use luks_seal as seal;

@@ -10,17 +10,16 @@ ghost use Rattle.luks_cli.specs.Volume.{OnOpened, detached_payload_outcome, payl
 ghost use Rattle.luks_cli.specs.VolumeParts.{cat_promptly};
 ghost use Rattle.luks_command.specs.Request.{opening_request};
 ghost use Rattle.luks_cli.specs.Detached.{CountsDetached, EndsWithoutKey};
-ghost use Rattle.luks_cli.specs.Run.{Counts, failures_of, Runs, RunsApart, at_any_pace, is_failed_read, is_failed_write, message_of};
-ghost use Rattle.luks_cli.specs.MayEnd.{OpeningMessage, PayloadMessage};
-ghost use Rattle.luks_cli.specs.Reading.{detached_header_of};
-ghost use Rattle.luks_cli.specs.Standing.{reading_of};
+ghost use Rattle.luks_runs.specs.Run.{Counts, failures_of, Runs, RunsApart, at_any_pace, is_failed_read, is_failed_write, message_of};
+ghost use Rattle.luks_cli.specs.MayEnd.{OpeningMessage};
+ghost use Rattle.luks_runs.specs.MayEnd.{PayloadMessage};
+ghost use Rattle.luks_runs.specs.Reading.{detached_header_of};
+ghost use Rattle.luks_runs.specs.Standing.{reading_of};
 ghost use Rattle.luks_cli.specs.Unlocking.{Unlocks, opens_promptly};
 ghost use Rattle.luks_cli.specs.Volume.{volume_of};
-ghost use Rattle.luks_cli.specs.VolumeParts.{PassesHeld, StopsFinding, TakesHeld, detached_cat_promptly};
+ghost use Rattle.luks_runs.specs.Payload.{PassesHeld};
+ghost use Rattle.luks_cli.specs.VolumeParts.{StopsFinding, TakesHeld, detached_cat_promptly};
 
-use super::payload::write_payload;
-use super::secret::read_secret;
-use super::standing::{Standing, find_header};
 use luks_cipher::SectorCipher;
 use luks_command::command::Opening;
 use luks_header::area::HeaderArea;
@@ -35,6 +34,9 @@ use luks_open::order::order;
 use luks_open::tries::{Order, held_end};
 use luks_report::message::Message;
 use luks_report::opened::opened_page;
+use luks_runs::payload::write_payload;
+use luks_runs::secret::read_secret;
+use luks_runs::standing::{Standing, find_header};
 use std::alloc::Global;
 
 /// A volume whose header is read: where its payload lies, and which key slots are tried.

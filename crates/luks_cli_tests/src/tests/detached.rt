@@ -97,9 +97,9 @@ fn writes_a_payload_out(rt: HostRuntime) -> Result<(), Fail> {
     let alloc = rt.alloc();
     let plain = plain_bytes(alloc)?;
     let whole = sealed_in(alloc, Mode::XtsPlain64, KEY, USUAL, PASSPHRASE)?;
-    let same = run_apart(alloc, CAT, &whole, &whole, PASSPHRASE)?;
-    check(&rt, &same, &plain, 0, "");
-    same((same.header_left, same.image_left), (whole.len() - 260_096.min(whole.len()), 0)).expect(&rt, "the same");
+    let both = run_apart(alloc, CAT, &whole, &whole, PASSPHRASE)?;
+    check(&rt, &both, &plain, 0, "");
+    same((both.header_left, both.image_left), (whole.len() - 260_096.min(whole.len()), 0)).expect(&rt, "the same");
 
     let (header, payload) = halves(alloc, Mode::XtsPlain64, KEY, USUAL, 260_096)?;
     let apart = run_apart(alloc, CAT, &header, &payload, PASSPHRASE)?;

@@ -1,4 +1,4 @@
-use Rattle.luks_cli.specs.Run.{message_of}
+use Rattle.luks_runs.specs.Run.{message_of}
 use Rattle.luks_cli.proofs.OpenedRuns.{counts_passed, never_memory, runs_passed}
 use Rattle.luks_cli.proofs.execute.volumes.cat.Goals as goal
 

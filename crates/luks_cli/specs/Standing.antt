@@ -1,9 +1,0 @@
--- What is read where a header stands.
-use Rattle.luks_header.specs.Header.{header_of}
-use Rattle.luks_cli.specs.Reading.{Reading, detached_header_of}
-use Rattle.luks_cli.specs.declared.execute.standing.Standing.{Standing}
-use Rattle.luks_cli.specs.declared.execute.standing.Standing.TheVariants.{Attached, Detached}
-
-abbrev pub reading_of : Standing → Reading
-reading_of Attached = header_of
-reading_of Detached = detached_header_of

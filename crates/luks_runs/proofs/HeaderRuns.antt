@@ -1,0 +1,201 @@
+-- How the commands on headers end.
+use Rattle.std.specs.Prelude.{◌==◌}
+use Rattle.std.proofs.Common.{◌≡◌, ℕ, ◌<◌, ◌≤◌, Bool, true, false, List, Option, Result, Ok, Err, ap, refl, take, length, arith}
+use Rattle.luks_io.specs.Bytes.{Adds, Took}
+use Rattle.luks_io.proofs.Taking.{adds-none}
+use Rattle.luks_header.specs.Header.{BreaksReading, cost_of, header_of}
+use Rattle.luks_header.proofs.HeaderLemmas.{memory_below}
+use Rattle.luks_header.specs.declared.header.Header.{Header}
+use Rattle.luks_area.specs.declared.fault.HeaderFault.{HeaderFault}
+use Rattle.luks_area.specs.declared.fault.HeaderFault.TheVariants.{NotLuks as NoLuks, Cut as IsCut, Json as NoJson, Read, Memory}
+use Rattle.luks_report.specs.declared.message.Message.{Message}
+use Rattle.luks_report.specs.declared.message.Message.TheVariants.{Done, OutOfMemory, ReadFailed, WriteFailed}
+use Rattle.luks_runs.specs.Header.{answer_to_is_luks}
+use Rattle.luks_report.specs.Faults.{message_for_header}
+use Rattle.luks_runs.specs.Ending.{Outcome, unwritten}
+use Rattle.luks_runs.specs.MayEnd.{CheckMessage, PageMessage}
+use Rattle.luks_runs.specs.Header.{is_luks_outcome, print_outcome_by, told_of}
+use Rattle.luks_runs.specs.Standing.{reading_of}
+use Rattle.luks_runs.specs.declared.standing.Standing.{Standing}
+use Rattle.luks_runs.proofs.HeaderTaking.{reading_fault}
+use Rattle.luks_runs.specs.declared.headers.Page.{Page}
+use Rattle.luks_runs.specs.declared.headers.Page.TheVariants.{Uuid, Dump, Check}
+use Rattle.luks_report.specs.Check.{findings_of, message_for_check}
+use Rattle.luks_runs.specs.Run.{Counts, Failures, IsBeginning, IsSilent, Runs, BreaksOff, TookNone, at_any_pace, breaks_off}
+
+-- a run that ended before any output
+early : (o : Outcome) (image : List ℕ) (message : Message) (i w : Option (List ℕ)) (count : ℕ) → IsSilent message 0
+    → IsBeginning message 0 (length o.output) → count ≤ o.image_taken
+    → Took image i count → BreaksOff at_any_pace o message (Took image i) TookNone (Adds w w)
+early o image message i w count silent begins few took = record {
+  image_taken = count;
+  secret_taken = 0;
+  output_len = 0;
+  image_within = few;
+  secret_within = omega arith;
+  output_within = begins;
+  is_silent = silent;
+  is_prompt = tt;
+  image = took;
+  secret = refl;
+  output = adds-none w;
+}
+
+-- what is told once a page is printed is no want of memory and no failure
+pub told_well : (page : Page) (header : Header) → breaks_off (told_of page header) ≡ false
+unfolding message_for_check
+told_well Uuid header = refl
+told_well Dump header = refl
+told_well Check header = by (length (findings_of header) == 0) refl where
+  by : (b : Bool) → (length (findings_of header) == 0) ≡ b → breaks_off (message_for_check header) ≡ false
+  by true is = rw is refl
+  by false is = rw is refl
+
+-- it is one of the messages of the page
+pub told_may_end : (page : Page) (header : Header) → PageMessage page (told_of page header)
+unfolding message_for_check
+told_may_end Uuid header = tt
+told_may_end Dump header = tt
+told_may_end Check header = by (length (findings_of header) == 0) refl where
+  by : (b : Bool) → (length (findings_of header) == 0) ≡ b → CheckMessage (message_for_check header)
+  by true is = rw is tt
+  by false is = rw is tt
+
+-- no read failed
+pub told_no_read : (page : Page) (header : Header) → told_of page header ≡ ReadFailed → ⊥
+unfolding message_for_check
+told_no_read page header wrong =
+    let fine : breaks_off (told_of page header) ≡ false = told_well page header in
+    let lost : breaks_off (told_of page header) ≡ true = ap breaks_off wrong in
+    cc
+
+-- and nothing is counted
+pub told_counts : (page : Page) (header : Header) (before after : Failures) → after ≡ before
+    → Counts (told_of page header) before after
+unfolding message_for_check
+told_counts Uuid header before after same = same
+told_counts Dump header before after same = same
+told_counts Check header before after same = by (length (findings_of header) == 0) refl where
+  by : (b : Bool) → (length (findings_of header) == 0) ≡ b → Counts (message_for_check header) before after
+  by true is = rw is same
+  by false is = rw is same
+
+module _ (stand : Standing) (text : Header → List ℕ) (told : Header → Message) (image : List ℕ)
+    (i w : Option (List ℕ)) where
+  -- the header was read
+  module _ (header : Header) (found : reading_of stand image ≡ Ok header) (left : Took image i (cost_of image)) where
+    print_found : print_outcome_by (reading_of stand) text told image
+        ≡ record {
+          output = text header;
+          message = told header;
+          image_taken = cost_of image;
+          secret_taken = 0;
+          payload_taken = 0;
+        }
+    unfolding print_outcome_by
+    print_found = rw found refl
+
+    -- memory was refused for its text
+    pub runs_without_text : Runs at_any_pace (print_outcome_by (reading_of stand) text told image) OutOfMemory
+        (Took image i) TookNone
+        (Adds w w)
+    runs_without_text =
+        rw print_found (early _ image OutOfMemory i w (cost_of image) refl (omega arith) (omega arith)
+        (left))
+
+    -- the text was written
+    pub runs_to_end : (page : List ℕ) (w' : Option (List ℕ)) → page ≡ text header → Adds w w' page
+        → breaks_off (told header) ≡ false
+        → Runs at_any_pace (print_outcome_by (reading_of stand) text told image) (told header)
+        (Took image i) TookNone (Adds w w')
+    runs_to_end page w' is_text a fine =
+        rw (
+          fine,
+          print_found,
+          ← is_text,
+        ) (record { as_stated = refl; image = left; secret = refl; output = a })
+
+    -- a write failed within it
+    pub runs_without_rest : (page : List ℕ) (w' : Option (List ℕ)) (n : ℕ) → page ≡ text header → n < length page
+        → Adds w w' (take n page)
+        → Runs at_any_pace (print_outcome_by (reading_of stand) text told image) WriteFailed (Took image i) TookNone
+        (Adds w w')
+    runs_without_rest page w' n is_text within a = rw (print_found, ← is_text) (record {
+      image_taken = cost_of image;
+      secret_taken = 0;
+      output_len = n;
+      image_within = omega arith;
+      secret_within = omega arith;
+      output_within = omega arith;
+      is_silent = tt;
+      is_prompt = tt;
+      image = left;
+      secret = refl;
+      output = a;
+    })
+
+  print_cost : (print_outcome_by (reading_of stand) text told image).image_taken ≡ cost_of image
+  unfolding print_outcome_by
+  print_cost = refl
+
+  print_none : (fault : HeaderFault) → header_of image ≡ Err fault
+      → print_outcome_by (reading_of stand) text told image ≡ unwritten (message_for_header fault) (cost_of image) 0
+  unfolding print_outcome_by
+  print_none fault found = rw (reading_fault stand image fault found) refl
+
+  -- there was no header, or reading it failed
+  pub runs_without_header : (ends ends' : ℕ) (fault : HeaderFault) → BreaksReading image i ends ends' fault
+      → Runs at_any_pace (print_outcome_by (reading_of stand) text told image) (message_for_header fault)
+      (Took image i) TookNone (Adds w w)
+  runs_without_header ends ends' NoLuks stop =
+      rw (print_none NoLuks stop.0) (record
+      { as_stated = refl; image = stop.1.0; secret = refl; output = adds-none w })
+  runs_without_header ends ends' IsCut stop =
+      rw (print_none IsCut stop.0) (record
+      { as_stated = refl; image = stop.1.0; secret = refl; output = adds-none w })
+  runs_without_header ends ends' NoJson stop =
+      rw (print_none NoJson stop.0) (record
+      { as_stated = refl; image = stop.1.0; secret = refl; output = adds-none w })
+  runs_without_header ends ends' Read stop =
+      let some = stop.0 in
+      early _ image ReadFailed i w some.0 tt (omega arith) (omega (arith, some.1, print_cost)) some.2
+  runs_without_header ends ends' Memory stop =
+      let some = memory_below image i ends ends' stop in
+      early _ image OutOfMemory i w some.0 refl (omega arith) (omega (arith, some.1, print_cost)) some.2
+
+module _ (image : List ℕ) (i w : Option (List ℕ)) where
+  asked_cost : (is_luks_outcome image).image_taken ≡ cost_of image
+  unfolding is_luks_outcome
+  asked_cost = refl
+
+  asked : (answer : Result Header HeaderFault) → header_of image ≡ answer
+      → is_luks_outcome image
+      ≡ unwritten (answer_to_is_luks answer) (cost_of image) 0
+  unfolding is_luks_outcome
+  asked answer found = rw found refl
+
+  -- `isLuks` of an image with a header
+  pub is_luks_found : (header : Header) → header_of image ≡ Ok header → Took image i (cost_of image)
+      → Runs at_any_pace (is_luks_outcome image) Done (Took image i) TookNone (Adds w w)
+  is_luks_found header found left =
+      rw (asked (Ok header) found) (record
+      { as_stated = refl; image = left; secret = refl; output = adds-none w })
+
+  -- `isLuks` of one without a header that can be read
+  pub is_luks_refused : (ends ends' : ℕ) (fault : HeaderFault) → BreaksReading image i ends ends' fault
+      → Runs at_any_pace (is_luks_outcome image) (answer_to_is_luks (Err fault)) (Took image i) TookNone (Adds w w)
+  is_luks_refused ends ends' NoLuks stop =
+      rw (asked (Err NoLuks) stop.0) (record
+      { as_stated = refl; image = stop.1.0; secret = refl; output = adds-none w })
+  is_luks_refused ends ends' IsCut stop =
+      rw (asked (Err IsCut) stop.0) (record
+      { as_stated = refl; image = stop.1.0; secret = refl; output = adds-none w })
+  is_luks_refused ends ends' NoJson stop =
+      rw (asked (Err NoJson) stop.0) (record
+      { as_stated = refl; image = stop.1.0; secret = refl; output = adds-none w })
+  is_luks_refused ends ends' Read stop =
+      let some = stop.0 in
+      early _ image ReadFailed i w some.0 tt (omega arith) (omega (arith, some.1, asked_cost)) some.2
+  is_luks_refused ends ends' Memory stop =
+      let some = memory_below image i ends ends' stop in
+      early _ image OutOfMemory i w some.0 refl (omega arith) (omega (arith, some.1, asked_cost)) some.2

@@ -1,0 +1,155 @@
+-- Taking stripes one at a time, and how merging them ends.
+use Rattle.std.proofs.Common.{◌≡◌, ℕ, ◌+◌, ◌-◌, ◌*◌, ◌<◌, ◌≤◌, List, [], ◌++◌, true, false, suc, length-take-le, Option, Some, ◌∙◌, ap, sym, refl, take, drop, length, take_all, min, arith, zero-mul}
+use Rattle.std.proofs.lemmas.List.{take-append-drop}
+use Rattle.luks_io.proofs.Taking.{adds-none, took-none, took_all, took_more, took_sum}
+use Rattle.luks_io.specs.Bytes.{Adds, Took, TookInto, WhereKnown}
+use Rattle.std.proofs.lemmas.Bool.Decides.{nat_tests}
+use Rattle.std.proofs.Math.Nat.{mul-le-mul_right}
+use Rattle.std.specs.Prelude.{nat_le}
+use Rattle.luks_kdf.specs.declared.hash.Hash.{Hash}
+use Rattle.luks_kdf.specs.Bytes.{xor}
+use Rattle.luks_kdf.specs.Stripes.{Chain, chain_after, chain_of, merged, stripe_at}
+use Rattle.luks_kdf.proofs.StripesLemmas.{chain_of-append, merged_by_number, stripe_at-append}
+use Rattle.luks_report.specs.declared.message.Message.{Message}
+use Rattle.luks_report.specs.declared.message.Message.TheVariants.{Done, FewStripes, ReadFailed, WriteFailed}
+use Rattle.luks_runs.specs.Stripe.{merge_outcome}
+use Rattle.luks_runs.specs.Run.{Runs, BreaksOff, Completes, TookNone, at_any_pace}
+use Rattle.luks_runs.specs.StripeParts.{StopsTaking}
+
+-- before any byte is taken
+pub taken_none : (bytes : List ℕ) (s : Option (List ℕ)) (len : ℕ) → s ≡ Some bytes → Took bytes s (0 * len)
+taken_none bytes s len is = rw zero-mul (took-none bytes s is)
+
+module _ (bytes : List ℕ) (i len : ℕ) (s : Option (List ℕ)) (p : Took bytes s (i * len)) where
+  -- one whole stripe more
+  pub stripe_more : (s' : Option (List ℕ)) (stripe : List ℕ) → length stripe ≡ len
+      → WhereKnown s (λ rest. TookInto rest s' stripe len)
+      → Took bytes s' ((i + 1) * len) × (stripe ≡ stripe_at len bytes i)
+  unfolding stripe_at
+  stripe_more s' stripe long t =
+      let more : i * len + len ≡ (i + 1) * len = omega arith in (
+        took_sum bytes s s' (i * len) len ((i + 1) * len) more p (λ rest is. (t rest is).0),
+        sym (take_all len stripe (omega arith)) ∙ (t _ p.left).1,
+      )
+
+  -- a read failed within the next stripe
+  pub stops_reading : (count got : ℕ) (s' : Option (List ℕ)) (buf : List ℕ) → (i + 1) * len ≤ count * len → got < len
+      → WhereKnown s (λ rest. TookInto rest s' buf got)
+      → StopsTaking count len bytes s' ReadFailed
+  stops_reading count got s' buf below few t =
+      (i * len + got, omega arith, took_more bytes s s' (i * len) got p (λ rest is. (t rest is).0))
+
+  -- the bytes ended within the next stripe
+  pub stops_short : (count got : ℕ) (s' : Option (List ℕ)) (buf : List ℕ) → (i + 1) * len ≤ count * len → got < len
+      → WhereKnown s (λ rest. got ≡ min len (length rest))
+      → WhereKnown s (λ rest. TookInto rest s' buf got) → StopsTaking count len bytes s' FewStripes
+  stops_short count got s' buf below few all t =
+      let whole = took_all bytes s s' (i * len) len got p (λ rest is. (t rest is).0) all few in
+      (omega (arith, whole.0), whole.1)
+
+-- what stops before all but one stripe are there stops before all are
+pub stops_before : (count len : ℕ) (bytes : List ℕ) (s : Option (List ℕ)) (message : Message)
+    → StopsTaking (count - 1) len bytes s message
+    → StopsTaking count len bytes s message
+stops_before count len bytes s FewStripes stop = let fewer : (count - 1) * len
+    ≤ count * len = mul-le-mul_right len (omega arith) in (omega (arith, stop.0), stop.1)
+stops_before count len bytes s ReadFailed stop = let fewer : (count - 1) * len
+    ≤ count * len = mul-le-mul_right len (omega arith) in (stop.0, omega (arith, stop.1), stop.2)
+stops_before count len bytes s _ stop = absurd stop
+
+module _ (h : Hash) (count len : ℕ) (bytes : List ℕ) where
+  stripes_enough : count * len ≤ length bytes
+      → merge_outcome h count len bytes
+      ≡ record {
+        output = merged h len (take (count * len) bytes);
+        message = Done;
+        image_taken = count * len;
+        secret_taken = 0;
+        payload_taken = 0;
+      }
+  unfolding merge_outcome
+  stripes_enough enough = let yes : nat_le (count * len) (length bytes) ≡ true = grind (arith, nat_tests) in rw yes refl
+
+  stripes_few : length bytes < count * len
+      → merge_outcome h count len bytes
+      ≡ record { output = []; message = FewStripes; image_taken = length bytes; secret_taken = 0; payload_taken = 0 }
+  unfolding merge_outcome
+  stripes_few few = let no_more : nat_le (count * len) (length bytes)
+      ≡ false = grind (arith, nat_tests) in rw no_more refl
+
+  -- what was taken of the stripes may be
+  taken_within : (taken : ℕ) → taken ≤ count * len → taken ≤ length bytes
+      → taken ≤ (merge_outcome h count len bytes).image_taken
+  unfolding merge_outcome
+  taken_within taken needed there = grind (arith, nat_tests)
+
+-- the stripes were not all there, or a read of them failed
+pub runs_without_stripes : (h : Hash) (count len : ℕ) (bytes : List ℕ) (message : Message) (s w : Option (List ℕ))
+    → StopsTaking count len bytes s message
+    → Runs at_any_pace (merge_outcome h count len bytes) message (Took bytes s) TookNone (Adds w w)
+runs_without_stripes h count len bytes FewStripes s w stop =
+    rw (stripes_few h count len bytes stop.0) (record
+    { as_stated = refl; image = stop.1; secret = refl; output = adds-none w })
+runs_without_stripes h count len bytes ReadFailed s w stop = record {
+  image_taken = stop.0;
+  secret_taken = 0;
+  output_len = 0;
+  image_within = taken_within h count len bytes stop.0 stop.1 stop.2.within;
+  secret_within = omega arith;
+  output_within = omega arith;
+  is_silent = tt;
+  is_prompt = tt;
+  image = stop.2;
+  secret = refl;
+  output = adds-none w;
+}
+runs_without_stripes h count len bytes _ s w stop = absurd stop
+
+module _ (h : Hash) (count len : ℕ) (bytes : List ℕ) (s w w' : Option (List ℕ)) (key : List ℕ)
+    (p : Took bytes s (count * len))
+    (key_is : key ≡ merged h len (take (count * len) bytes)) where
+  -- the key was written
+  pub runs_to_end : Adds w w' key → Completes (merge_outcome h count len bytes) Done (Took bytes s) TookNone (Adds w w')
+  runs_to_end a = rw (stripes_enough h count len bytes p.within, ← key_is)
+      (record { as_stated = refl; image = p; secret = refl; output = a })
+
+  -- a write failed within it
+  pub runs_without_key : (n : ℕ) → n < length key → Adds w w' (take n key)
+      → BreaksOff at_any_pace (merge_outcome h count len bytes) WriteFailed (Took bytes s) TookNone (Adds w w')
+  runs_without_key n within a = rw (stripes_enough h count len bytes p.within, ← key_is) (record {
+    image_taken = count * len;
+    secret_taken = 0;
+    output_len = n;
+    image_within = omega arith;
+    secret_within = omega arith;
+    output_within = omega arith;
+    is_silent = tt;
+    is_prompt = tt;
+    image = p;
+    secret = refl;
+    output = a;
+  })
+
+-- the key of stripes that were taken one at a time
+pub key_merged : (h : Hash) (count len : ℕ) (bytes : List ℕ) (splitter : Chain) (stripe key : List ℕ) → 1 ≤ len
+    → 1 ≤ count → count * len ≤ length bytes
+    → splitter ≡ chain_after h len bytes (count - 1) → stripe ≡ stripe_at len bytes (count - 1)
+    → key ≡ xor splitter.block stripe
+    → key ≡ merged h len (take (count * len) bytes)
+key_merged h count len bytes splitter stripe key some one there chained next made =
+    let front = take (count * len) bytes in
+    let before = count - 1 in
+    let whole : length front ≡ count * len = length-take-le (count * len) bytes there in
+    let fewer : before * len ≤ count * len = mul-le-mul_right len (omega arith) in
+    let all : suc before ≡ count = omega arith in
+    let up : suc before * len ≡ count * len = ap (λ n. n * len) all in
+    let joined : front ++ drop (count * len) bytes ≡ bytes = take-append-drop (count * len) bytes in
+    let same_chain : chain_of h len bytes before ≡ chain_of h len front before =
+    ap (λ l. chain_of h len l before) (sym joined)
+    ∙ chain_of-append h len front (drop (count * len) bytes) before (omega arith) in
+    let same_stripe : stripe_at len bytes before ≡ stripe_at len front before =
+    ap (λ l. stripe_at len l before) (sym joined)
+    ∙ stripe_at-append len front (drop (count * len) bytes) before (omega arith) in
+    made ∙ ap (λ (s : Chain). xor s.block stripe) chained ∙ ap (λ d. xor d stripe) same_chain
+    ∙ ap (xor (chain_of h len front before)) (next ∙ same_stripe)
+    ∙ sym (merged_by_number h len front count some whole)

@@ -1,0 +1,364 @@
+-- Passing on a payload sector by sector.
+use Rattle.std.proofs.Common.{◌≡◌, ◌≢◌, ℕ, zero, suc, ◌+◌, ◌-◌, ◌*◌, ◌/◌, ◌%◌, ◌^◌, ◌<◌, ◌≤◌, ◌⊎◌, inl, inr, List, [], ◌++◌, Option, None, Some, Result, Ok, Err, ◌∙◌, ap, sym, refl, take, drop, length, take_all, length-take-le, length-drop, length-append, append-nil, add-one, max, arith}
+use Rattle.std.proofs.lemmas.Bool.{cases_lt}
+use Rattle.std.proofs.lemmas.List.{drop-drop, drop-take, drop_all, take-append-le}
+use Rattle.std.proofs.Math.Nat.{div-eq_of_lt-le, div-mul-le_self, mul-le-mul_left, mul-le-mul_right}
+use Rattle.std.proofs.Math.Seq.{drop-nil, take-append-add}
+use Rattle.luks_cipher.proofs.ModeLemmas.{length-sector_decrypted}
+use Rattle.luks_cipher.specs.Sector.{Cipher}
+use Rattle.luks_cipher.specs.Xts.{joined}
+use Rattle.luks_header.specs.SectorSize.{bytes_of}
+use Rattle.luks_verdict.specs.declared.sector_size.SectorSize.{SectorSize}
+use Rattle.luks_verdict.specs.declared.sector_size.SectorSize.TheVariants.{B512, B1024, B2048, B4096}
+use Rattle.luks_verdict.specs.declared.segment.Segment.{Segment}
+use Rattle.luks_io.proofs.Taking.{adds-more, adds-none}
+use Rattle.luks_io.specs.Bytes.{Adds, Took, counted}
+use Rattle.luks_volume.specs.Passing.{is_failed_read as is_lost, is_failed_write as is_unwritten}
+use Rattle.luks_volume.specs.Plain.{end_within, ending_of, payload_end_of, plain_of, sector_len, sector_of, sector_start, sectors_of, unit_plain, within_size}
+use Rattle.luks_volume.specs.Pumped.{Ends, Pumped, StandsIn, Steps, WritesSectors, after_step, place_in, position, reach_of}
+use Rattle.luks_volume.specs.declared.fault.VolumeFault.{VolumeFault}
+use Rattle.luks_volume.specs.declared.fault.VolumeFault.TheVariants.{CutBeforePayload as IsCutBefore, Tail as HasTail, Short as IsShort, Read, Write}
+use Rattle.luks_volume.specs.declared.state.State.{State}
+use Rattle.luks_volume.specs.declared.state.State.TheVariants.{BeforePayload, InPayload, Ended, Faulted}
+use Rattle.luks_volume.specs.declared.state.Step.{Step}
+use Rattle.luks_volume.specs.declared.state.Step.TheVariants.{Sector, End}
+use Rattle.luks_runs.specs.Payload.{PassesPayload}
+use Rattle.luks_report.specs.Faults.{message_at_end, message_for_payload}
+use Rattle.luks_runs.specs.Run.{is_failed_read, is_failed_write}
+use Rattle.luks_report.specs.declared.message.Message.TheVariants.{Done, OutOfMemory}
+
+-- ---- lengths
+
+-- a sector is whole blocks of the cipher
+record IsSectorLen (z : ℕ) : Type 0 where
+  long : 512 ≤ z
+  blocks : z % 16 ≡ 0
+
+sector_blocks : (size : SectorSize) → IsSectorLen (bytes_of size)
+sector_blocks B512 = record { long = omega arith; blocks = refl }
+sector_blocks B1024 = record { long = omega arith; blocks = refl }
+sector_blocks B2048 = record { long = omega arith; blocks = refl }
+sector_blocks B4096 = record { long = omega arith; blocks = refl }
+
+joined_length : (f : ℕ → List ℕ) (z n : ℕ) → ((j : ℕ) → j < n → length (f j) ≡ z) → length (joined f n) ≡ n * z
+unfolding joined
+joined_length f z zero sizes = omega arith
+joined_length f z (suc n) sizes =
+    let before = joined_length f z n (λ j low. sizes j (omega arith)) in
+    rw (length-append (joined f n) (f n), before, sizes n (omega arith)) (omega arith)
+
+-- a beginning of what is joined that ends within piece k
+take_joined : (f : ℕ → List ℕ) (z n k m : ℕ) → ((j : ℕ) → j < n → length (f j) ≡ z) → k < n → m ≤ z
+    → take (k * z + m) (joined f n) ≡ joined f k ++ take m (f k)
+unfolding joined
+take_joined f z zero k m sizes below few = absurd (omega arith)
+take_joined f z (suc n) k m sizes below few =
+    let smaller : (j : ℕ) → j < n → length (f j) ≡ z = λ j low. sizes j (omega arith) in
+    let long = joined_length f z n smaller in
+    elim (cases_lt k n) [
+      | inl inside ↦
+          let more : (k + 1) * z ≤ n * z = mul-le-mul_right z (omega arith) in
+          take-append-le (k * z + m) (joined f n) (f n) (omega arith) ∙ take_joined f z n k m smaller inside few
+      | inr last ↦
+          let e : k ≡ n = omega arith in
+          rw (e, ← long) (take-append-add (joined f n) (f n) m)
+    ]
+
+-- a beginning of what is joined that ends with a piece
+take_whole : (f : ℕ → List ℕ) (z n k : ℕ) → ((j : ℕ) → j < n → length (f j) ≡ z) → k ≤ n
+    → take (k * z) (joined f n) ≡ joined f k
+take_whole f z n k sizes below = elim (cases_lt k n) [
+  | inl inside ↦ let same : k * z
+      ≡ k * z + 0 = omega arith in rw same (take_joined f z n k 0 sizes inside (omega arith) ∙ append-nil (joined f k))
+  | inr all ↦
+      let e : k ≡ n = omega arith in
+      rw e (take_all (n * z) (joined f n) (omega (arith, joined_length f z n sizes)))
+]
+
+unit_len : (cipher : Cipher) (number : ℕ) (unit : List ℕ) → length unit % 16 ≡ 0
+    → length (unit_plain cipher number unit) ≡ length unit
+unfolding unit_plain
+unit_len cipher number unit whole = length-sector_decrypted cipher number unit whole
+
+within_len : (size : Option ℕ) (len : ℕ) → within_size size len ≤ len
+within_len None len = omega arith
+within_len (Some size) len = omega arith
+
+-- so many bytes of a payload end with it or before
+within_end : (size : Option ℕ) (offset len n : ℕ) → 0 < n → n ≤ within_size size (len - offset)
+    → offset + n ≤ end_within size offset len
+within_end None offset len n some few = omega arith
+within_end (Some size) offset len n some few = omega arith
+
+-- a place within whole sectors of a payload is within the payload
+place_in_size : (size : Option ℕ) (offset len n place : ℕ) → place ≤ offset + n → n ≤ within_size size (len - offset)
+    → place ≤ len → place ≤ end_within size offset len
+place_in_size None offset len n place few there within = within
+place_in_size (Some size) offset len n place few there within = omega arith
+
+end_there : (size : Option ℕ) (offset len : ℕ) → end_within size offset len ≤ len
+end_there None offset len = omega arith
+end_there (Some size) offset len = omega arith
+
+module _ (s : Segment) (image : List ℕ) where
+  -- a sector of the payload ends before the payload does
+  sector_before_end : (i : ℕ) → i < sectors_of s image → sector_start s (i + 1) ≤ payload_end_of s image
+  sector_before_end i below =
+      let z = sector_blocks s.sector_size in
+      let whole = div-mul-le_self (within_size s.size (length image - s.offset)) (sector_len s) in
+      let more : (i + 1) * sector_len s
+      ≤ sectors_of s image * sector_len s = mul-le-mul_right (sector_len s) (omega arith) in
+      let some : 1 * sector_len s ≤ (i + 1) * sector_len s = mul-le-mul_right (sector_len s) (omega arith) in
+      within_end s.size s.offset (length image) ((i + 1) * sector_len s) (omega (arith, z.long)) (omega arith)
+
+  -- and is there
+  sector_there : (i : ℕ) → i < sectors_of s image → sector_start s (i + 1) ≤ length image
+  sector_there i below = omega (arith, sector_before_end i below, end_there s.size s.offset (length image))
+
+  -- of an image that can be there are fewer sectors than can be counted
+  pub few_sectors : length image < 2 ^ 64 → sectors_of s image < 2 ^ 64 - 1
+  few_sectors counted =
+      let z = sector_blocks s.sector_size in
+      let all = within_len s.size (length image - s.offset) in
+      let whole = div-mul-le_self (within_size s.size (length image - s.offset)) (sector_len s) in
+      let many : sectors_of s image * 512
+      ≤ sectors_of s image * sector_len s = mul-le-mul_left (sectors_of s image) z.long in
+      omega arith
+
+  sector_size : (cipher : Cipher) (i : ℕ) → i < sectors_of s image → length (sector_of s cipher image i) ≡ sector_len s
+  sector_size cipher i below =
+      let z = sector_blocks s.sector_size in
+      let there = sector_there i below in
+      let more : (i + 1) * sector_len s ≡ i * sector_len s + sector_len s = omega arith in
+      let unit = length-take-le (sector_len s) (drop (sector_start s i) image)
+      (omega (arith, length-drop (sector_start s i) image)) in
+      unit_len cipher _ _ (ap (λ n. n % 16) unit ∙ z.blocks) ∙ unit
+
+  pub plain_len : (cipher : Cipher) → length (plain_of s cipher image) ≡ sectors_of s image * sector_len s
+  plain_len cipher = joined_length (sector_of s cipher image) (sector_len s) (sectors_of s image) (sector_size cipher)
+
+-- ---- a pump on its way
+
+-- what is left in front of a pump behind one more sector
+front_behind : (front image : List ℕ) (start z : ℕ) → front ≡ take (length front) (drop start image)
+    → drop z front ≡ take (length (drop z front)) (drop (start + z) image)
+front_behind front image start z next = elim (cases_lt z (length front)) [
+  | inl many ↦
+      let more : length front ≡ z + (length front - z) = omega arith in
+      let rest : drop z front ≡ take (length front - z) (drop (start + z) image) =
+      ap (drop z) next ∙ ap (λ n. drop z (take n (drop start image))) more
+      ∙ drop-take z (length front - z) (drop start image)
+      ∙ ap (take (length front - z)) (drop-drop z start image) in
+      rest ∙ ap (λ n. take n (drop (start + z) image)) (sym (length-drop z front))
+  | inr few ↦ let none : drop z front ≡ [] = drop_all z front (omega arith) in rw none refl
+]
+
+-- a place up to a sector's start is not behind it, wherever a pump stands
+place_le : (state : State) (consumed start : ℕ) → consumed ≤ start → place_in state consumed start ≤ start
+place_le BeforePayload consumed start few = few
+place_le InPayload consumed start few = omega arith
+place_le Ended consumed start few = omega arith
+place_le (Faulted _) consumed start few = omega arith
+
+-- a pump stands in an image of which so many bytes were taken before, and the sectors that it has passed on are written
+pub record Passing (p : Pumped) (image : List ℕ) (held : ℕ) (left before after : Option (List ℕ)) : Type 0 where
+  pub stands : StandsIn image p left
+  pub early : p.consumed ≤ p.segment.offset
+  pub bare : ((p.count ≡ 0) × (p.front ≡ [])) ⊎ (p.state ≡ InPayload)
+  pub reach : reach_of p ≡ max held (position p)
+  pub few : p.count ≤ sectors_of p.segment image
+  pub wrote : Adds before after (joined (sector_of p.segment p.cipher image) p.count)
+
+pub passing_start : (p : Pumped) (image : List ℕ) (held : ℕ) (left w : Option (List ℕ)) → p.count ≡ 0
+    → p.consumed ≤ p.segment.offset → (p.front ≡ []) ⊎ (p.state ≡ InPayload) → reach_of p ≡ held
+    → StandsIn image p left
+    → Passing p image held left w w
+unfolding joined
+passing_start p image held left w none early bare reach stands = record {
+  stands = stands;
+  early = early;
+  bare = elim bare [ inl empty ↦ inl (none, empty) | inr is ↦ inr is ];
+  reach = omega arith;
+  few = omega arith;
+  wrote = rw none (adds-none w);
+}
+
+module _ (p : Pumped) (image : List ℕ) (held : ℕ) (l b w l' w' : Option (List ℕ)) (so_far : Passing p image held l b w)
+  where
+    -- a pump does not stand behind its next sector
+    place : position p ≤ sector_start p.segment p.count
+    place =
+        let early = so_far.early in
+        place_le p.state p.consumed (sector_start p.segment p.count) (omega arith)
+
+    next_start : sector_start p.segment (p.count + 1) ≡ sector_start p.segment p.count + sector_len p.segment
+    next_start = omega arith
+
+    -- as many bytes were taken as before, or more: up to the end of the next sector
+    reached : max (reach_of p) (sector_start p.segment (p.count + 1)) ≡ max held (sector_start p.segment (p.count + 1))
+    reached = omega (arith, so_far.reach, place, next_start)
+
+    next_front : drop (sector_len p.segment) p.front
+        ≡ take (length (drop (sector_len p.segment) p.front)) (drop (sector_start p.segment (p.count + 1)) image)
+    next_front = elim so_far.bare [
+      | inl (none, empty) ↦ rw (empty, drop-nil (sector_len p.segment)) refl
+      | inr is ↦
+          let next : p.front ≡ take (length p.front) (drop (sector_start p.segment p.count) image) =
+          rw is at so_far.stands.stands.next in
+          rw next_start (front_behind p.front image (sector_start p.segment p.count) (sector_len p.segment) next)
+    ]
+
+    next_reach : sector_start p.segment (p.count + 1) + length (drop (sector_len p.segment) p.front)
+        ≡ max held (sector_start p.segment (p.count + 1))
+    next_reach =
+        let less = length-drop (sector_len p.segment) p.front in
+        elim so_far.bare [
+          | inl (none, empty) ↦
+              let small : length p.front ≡ 0 = ap length empty in
+              omega (arith, so_far.reach, place, next_start, less)
+          | inr is ↦
+              let from : sector_start p.segment p.count + length p.front
+              ≡ max held (sector_start p.segment p.count) = rw is at so_far.reach in
+              omega (arith, next_start, less)
+        ]
+
+    pub passing_more : Steps p.segment p.cipher p.count (reach_of p) image (Ok Sector) l' w w'
+        → Passing (after_step p (Ok Sector)) image held l' b w'
+    unfolding joined
+    passing_more step =
+        let taken = step.0 in
+        record {
+          stands = record {
+            running = refl;
+            stands = record { next = next_front; took = rw (next_reach, ← reached) taken.took };
+          };
+          early = so_far.early;
+          bare = inr refl;
+          reach = next_reach;
+          few = omega (arith, taken.is_one);
+          wrote = rw add-one
+              (adds-more b w w' (joined (sector_of p.segment p.cipher image) p.count)
+              (sector_of p.segment p.cipher image p.count) so_far.wrote step.1);
+        }
+
+    -- nor behind the payload's end
+    place_in_end : position p ≤ payload_end_of p.segment image
+    place_in_end =
+        let z = sector_len p.segment in
+        let within = so_far.stands.stands.took.within in
+        let all : p.count * z ≤ sectors_of p.segment image * z = mul-le-mul_right z so_far.few in
+        let whole = div-mul-le_self (within_size p.segment.size (length image - p.segment.offset)) z in
+        place_in_size p.segment.size p.segment.offset (length image) (p.count * z) (position p)
+        (omega (arith, place)) (omega arith) (omega arith)
+
+    -- the payload came to its stated end
+    ended : (answer : Result Step VolumeFault) → Ends image p.segment p.count (reach_of p) answer l' → w' ≡ w
+        → (message_at_end answer ≡ message_at_end (ending_of p.segment image))
+        × Took image l' (max held (payload_end_of p.segment image)) × Adds b w' (plain_of p.segment p.cipher image)
+    ended answer end same =
+        let all : max (reach_of p) (payload_end_of p.segment image) ≡ max held (payload_end_of p.segment image) =
+        omega (arith, so_far.reach, place_in_end) in
+        (ap message_at_end end.as_stated, rw all at end.took, rw (same, ← end.all) so_far.wrote)
+
+    pub passing_ends : Steps p.segment p.cipher p.count (reach_of p) image (Ok End) l' w w' → w' ≡ w
+        → PassesPayload p.segment p.cipher image held l' b w' Done
+    passing_ends step same = ended (Ok End) step same
+
+    -- a read failed within the next sector
+    lost : Steps p.segment p.cipher p.count (reach_of p) image (Err Read) l' w w' → w' ≡ w
+        → PassesPayload p.segment p.cipher image held l' b w' (message_for_payload Read)
+    lost step same =
+        let z = sector_blocks p.segment.sector_size in
+        let end = step.0 in
+        let more : (p.count + 1) * sector_len p.segment
+        ≡ p.count * sector_len p.segment + sector_len p.segment = omega arith in
+        let first : p.count * sector_len p.segment ≤ end - p.segment.offset = elim so_far.bare [
+          | inl (none, empty) ↦ rw none (omega arith)
+          | inr is ↦ let from : sector_start p.segment p.count + length p.front ≤ end = rw is at step.1 in omega arith
+        ] in
+        let row : (end - p.segment.offset) / sector_len p.segment
+        ≡ p.count = div-eq_of_lt-le (sector_len p.segment) (omega arith) (omega (arith, step.2, z.long)) in
+        let whole = take_whole (sector_of p.segment p.cipher image) (sector_len p.segment) (sectors_of p.segment image)
+        p.count (sector_size p.segment image p.cipher) so_far.few in (
+          end,
+          p.count,
+          sym row,
+          so_far.few,
+          omega (arith, step.2),
+          step.3,
+          rw (same, whole) so_far.wrote,
+        )
+
+    -- a write failed within it
+    unwritten : Steps p.segment p.cipher p.count (reach_of p) image (Err Write) l' w w'
+        → PassesPayload p.segment p.cipher image held l' b w' (message_for_payload Write)
+    unwritten step =
+        let taken = step.0 in
+        let written = step.1 in
+        let few = written.1 in
+        let part = take_joined (sector_of p.segment p.cipher image) (sector_len p.segment) (sectors_of p.segment image)
+        p.count written.0 (sector_size p.segment image p.cipher) taken.is_one (omega arith) in (
+          p.count,
+          written.0,
+          taken.is_one,
+          few,
+          sector_before_end p.segment image p.count taken.is_one,
+          rw reached at taken.took,
+          rw part (adds-more b w w' (joined (sector_of p.segment p.cipher image) p.count)
+              (take written.0 (sector_of p.segment p.cipher image p.count)) so_far.wrote written.2),
+        )
+
+    -- a step was not made
+    pub passing_breaks : (fault : VolumeFault) (Same : Type 0) → (Same → w' ≡ w) → WritesSectors (Err fault) Same
+        → Steps p.segment p.cipher p.count (reach_of p) image (Err fault) l' w w'
+        → PassesPayload p.segment p.cipher image held l' b w' (message_for_payload fault)
+    passing_breaks IsCutBefore Same same is step = ended (Err IsCutBefore) step (same is)
+    passing_breaks (HasTail bytes) Same same is step = ended (Err (HasTail bytes)) step (same is)
+    passing_breaks (IsShort bytes) Same same is step = ended (Err (IsShort bytes)) step (same is)
+    passing_breaks Read Same same is step = lost step (same is)
+    passing_breaks Write Same same is step = unwritten step
+
+-- ---- a pump behind what is held
+
+-- where that reaches into the payload, its bytes there come first
+module _ (held image : List ℕ) (offset : ℕ) (within : offset ≤ length held) where
+  front_len : length (take (length held - offset) (drop offset held)) ≡ length held - offset
+  front_len = length-take-le (length held - offset) (drop offset held) (omega (arith, length-drop offset held))
+
+  pub held_reach : offset + length (take (length held - offset) (drop offset held)) ≡ length held
+  held_reach = omega (arith, front_len)
+
+  pub stands_within : held ≡ take (length held) image
+      → take (length held - offset) (drop offset held)
+      ≡ take (length (take (length held - offset) (drop offset held))) (drop offset image)
+  stands_within front =
+      let more : length held ≡ offset + (length held - offset) = omega arith in
+      take_all (length held - offset) (drop offset held) (omega (arith, length-drop offset held))
+      ∙ ap (drop offset) front ∙ ap (λ n. drop offset (take n image)) more
+      ∙ drop-take offset (length held - offset) image
+      ∙ ap (λ n. take n (drop offset image)) (sym front_len)
+
+-- ---- counts of failures
+
+pub reads_are : (fault : VolumeFault) (n : ℕ)
+    → counted (is_lost {T = Step} (Err fault)) n ≡ counted (is_failed_read (message_for_payload fault)) n
+reads_are IsCutBefore n = refl
+reads_are (HasTail bytes) n = refl
+reads_are (IsShort bytes) n = refl
+reads_are Read n = refl
+reads_are Write n = refl
+
+pub writes_are : (fault : VolumeFault) (n : ℕ)
+    → counted (is_unwritten {T = Step} (Err fault)) n ≡ counted (is_failed_write (message_for_payload fault)) n
+writes_are IsCutBefore n = refl
+writes_are (HasTail bytes) n = refl
+writes_are (IsShort bytes) n = refl
+writes_are Read n = refl
+writes_are Write n = refl
+
+pub never_memory : (fault : VolumeFault) → message_for_payload fault ≢ OutOfMemory
+never_memory IsCutBefore e = cc
+never_memory (HasTail bytes) e = cc
+never_memory (IsShort bytes) e = cc
+never_memory Read e = cc
+never_memory Write e = cc

@@ -1,0 +1,252 @@
+-- How splitting a key ends.
+use Rattle.std.proofs.Common.{◌≡◌, ℕ, ◌+◌, ◌-◌, ◌*◌, ◌/◌, ◌<◌, ◌≤◌, ◌⊎◌, inl, inr, List, [], ◌++◌, Option, Some, ◌∙◌, ap, sym, refl, take, drop, length, take-take, length-take-le, length-append, min, arith, true, false}
+use Rattle.std.proofs.lemmas.List.{take-append-drop, take-append-le}
+use Rattle.std.proofs.Math.Seq.{take-append-add}
+use Rattle.std.proofs.lemmas.Bool.{cases_lt}
+use Rattle.std.proofs.lemmas.Bool.Decides.{nat_tests}
+use Rattle.std.proofs.Math.Nat.{div-eq_of_lt-le, div-mul-le_self, zero-div, zero-mul, mul-le-mul_right}
+use Rattle.std.proofs.lemmas.Nat.{le-div}
+use Rattle.std.specs.Prelude.{◌&&◌, nat_lt, nat_le}
+use Rattle.luks_kdf.specs.declared.hash.Hash.{Hash}
+use Rattle.luks_kdf.specs.Bytes.{xor}
+use Rattle.luks_kdf.specs.Stripes.{Chain, chain_after, chain_of}
+use Rattle.luks_kdf.proofs.StripesLemmas.{chain_of-append}
+use Rattle.luks_io.proofs.Taking.{adds-more, adds-none, took-none}
+use Rattle.luks_io.specs.Bytes.{Adds, Took}
+use Rattle.luks_report.specs.declared.message.Message.{Message}
+use Rattle.luks_report.specs.declared.message.Message.TheVariants.{Done, KeyLength, FewRandomBytes, ReadFailed, WriteFailed}
+use Rattle.luks_runs.specs.Ending.{Outcome}
+use Rattle.luks_runs.specs.Stripe.{split_key_outcome, split_outcome, stripes_of}
+use Rattle.luks_runs.specs.Run.{IsBeginning, IsSilent, Runs, BreaksOff, Completes}
+use Rattle.luks_runs.specs.StripeParts.{NoKeyRead, Passed, StopsAtStripe, split_promptly}
+
+module _ (h : Hash) (count : ℕ) (key random : List ℕ) where
+  -- a key of a length that is allowed
+  key_allowed : 1 ≤ length key → length key ≤ 512
+      → split_outcome h count key random ≡ split_key_outcome h count key random
+  unfolding split_outcome
+  key_allowed some room = let both : (nat_lt 0 (length key) && nat_le (length key) 512)
+      ≡ true = grind (arith, nat_tests) in rw both refl
+
+  -- a key of another length
+  key_refused : (min (length key) 513 ≡ 0) ⊎ (512 < length key)
+      → split_outcome h count key random
+      ≡ record {
+        output = [];
+        message = KeyLength;
+        image_taken = min (length key) 513;
+        secret_taken = 0;
+        payload_taken = 0;
+      }
+  unfolding split_outcome
+  key_refused bad = let none : (nat_lt 0 (length key) && nat_le (length key) 512)
+      ≡ false = grind (arith, nat_tests) in rw none refl
+
+  -- no more of the key is taken than it has
+  key_taken : (c : ℕ) → c ≤ min (length key) 513 → c ≤ (split_outcome h count key random).image_taken
+  unfolding split_outcome split_key_outcome
+  key_taken c few = grind (arith, nat_tests)
+
+  random_enough : (count - 1) * length key ≤ length random
+      → split_key_outcome h count key random
+      ≡ record {
+        output = stripes_of h count key (take ((count - 1) * length key) random);
+        message = Done;
+        image_taken = length key;
+        secret_taken = (count - 1) * length key;
+        payload_taken = 0;
+      }
+  unfolding split_key_outcome
+  random_enough enough = let yes : nat_le ((count - 1) * length key) (length random)
+      ≡ true = grind (arith, nat_tests) in rw yes refl
+
+  random_few : length random < (count - 1) * length key
+      → split_key_outcome h count key random
+      ≡ record {
+        output = take (length random / length key * length key) random;
+        message = FewRandomBytes;
+        image_taken = length key;
+        secret_taken = length random;
+        payload_taken = 0;
+      }
+  unfolding split_key_outcome
+  random_few few = let no : nat_le ((count - 1) * length key) (length random)
+      ≡ false = grind (arith, nat_tests) in rw no refl
+
+-- the key was refused, or a read of it failed
+pub runs_without_key : (h : Hash) (count : ℕ) (key random : List ℕ) (message : Message) (k r w : Option (List ℕ))
+    → NoKeyRead key k message → r ≡ Some random
+    → Runs (split_promptly (length key)) (split_outcome h count key random) message (Took key k) (Took random r)
+    (Adds w w)
+runs_without_key h count key random KeyLength k r w refused is =
+    rw (key_refused h count key random refused.0) (record
+    { as_stated = refl; image = refused.1; secret = took-none random r is; output = adds-none w })
+runs_without_key h count key random ReadFailed k r w failed is = record {
+  image_taken = failed.0;
+  secret_taken = 0;
+  output_len = 0;
+  image_within = key_taken h count key random failed.0 failed.1;
+  secret_within = omega arith;
+  output_within = omega arith;
+  is_silent = tt;
+  is_prompt = simp (zero-div, zero-mul);
+  image = failed.2;
+  secret = took-none random r is;
+  output = adds-none w;
+}
+runs_without_key h count key random _ k r w p is = absurd p
+
+-- the stated output begins with the whole random stripes that there are, and they may be taken
+record MayPass (o : Outcome) (random : List ℕ) (taken written : ℕ) : Type 0 where
+  within : taken ≤ o.secret_taken
+  fits : written ≤ length o.output
+  begins : take written o.output ≡ take written random
+
+may_pass : (h : Hash) (count : ℕ) (key random : List ℕ) (j taken written : ℕ) → 1 ≤ length key
+    → taken ≤ (count - 1) * length key → taken ≤ length random
+    → j ≤ count - 1 → j * length key ≤ length random → written ≤ j * length key
+    → MayPass (split_key_outcome h count key random) random taken written
+may_pass h count key random j taken written some within there below fits few =
+    let needed = (count - 1) * length key in
+    let more : j * length key ≤ needed = mul-le-mul_right (length key) below in
+    elim (cases_lt (length random) needed) as
+    (λ _. MayPass (split_key_outcome h count key random) random taken written) [
+      | inl lacking ↦
+          let whole : j ≤ length random / length key = le-div j (length random) (length key) some fits in
+          let span : j * length key ≤ length random / length key * length key = mul-le-mul_right (length key) whole in
+          let long : length (take (length random / length key * length key) random)
+          ≡ length random / length key * length key =
+          length-take-le _ random (div-mul-le_self (length random) (length key)) in
+          rw (random_few h count key random lacking) (record {
+            within = there;
+            fits = omega arith;
+            begins = take-take written (length random / length key * length key) random (omega arith);
+          })
+      | inr enough ↦ let long : length (take needed random) ≡ needed = length-take-le needed random enough in
+          rw (random_enough h count key random enough) (record {
+            within = within;
+            fits = omega (
+              arith,
+              length-append (take needed random)
+                  (xor (chain_of h (length key) (take needed random) (count - 1)) key),
+            );
+            begins = take-append-le written (take needed random)
+                (xor (chain_of h (length key) (take needed random) (count - 1)) key) (omega arith)
+                ∙ take-take written needed random (omega arith);
+          })
+    ]
+
+module _ (h : Hash) (count : ℕ) (key random : List ℕ) (k r b w : Option (List ℕ)) (some : 1 ≤ length key)
+    (room : length key ≤ 512) (took : Took key k (length key)) where
+  key_whole : length key ≤ (split_key_outcome h count key random).image_taken
+  unfolding split_key_outcome
+  key_whole = grind (arith, nat_tests)
+
+  -- the random bytes were taken and written so far
+  broken : (message : Message) (taken written : ℕ) → IsSilent message written
+      → MayPass (split_key_outcome h count key random) random taken written
+      → IsBeginning message written (length (split_key_outcome h count key random).output)
+      → split_promptly (length key) message (length key) taken written → Passed random r b w taken written
+      → BreaksOff (split_promptly (length key)) (split_outcome h count key random) message (Took key k) (Took random r)
+      (Adds b w)
+  broken message taken written silent may begins prompt p = rw (key_allowed h count key random some room) (record {
+    image_taken = length key;
+    secret_taken = taken;
+    output_len = written;
+    image_within = key_whole;
+    secret_within = may.within;
+    output_within = begins;
+    is_silent = silent;
+    is_prompt = prompt;
+    image = took;
+    secret = p.took;
+    output = rw may.begins p.added;
+  })
+
+  -- the random stripes could not be passed on
+  pub runs_without_stripes : (message : Message) → StopsAtStripe (count - 1) (length key) random r b w message
+      → Runs (split_promptly (length key)) (split_outcome h count key random) message (Took key k) (Took random r)
+      (Adds b w)
+  runs_without_stripes FewRandomBytes stop =
+      let below : stop.0 + 1 ≤ count - 1 = omega (arith, stop.1) in
+      let span : (stop.0 + 1) * length key ≤ (count - 1) * length key = mul-le-mul_right (length key) below in
+      let few : length random < (count - 1) * length key = omega arith in
+      let whole : length random / length key ≡ stop.0 = div-eq_of_lt-le (length key) stop.2 stop.3 in
+      rw (key_allowed h count key random some room, random_few h count key random few, whole)
+      (record { as_stated = refl; image = took; secret = stop.4.took; output = stop.4.added })
+  runs_without_stripes ReadFailed stop =
+      let below : stop.0 + 1 ≤ count - 1 = omega (arith, stop.2) in
+      let span : (stop.0 + 1) * length key ≤ (count - 1) * length key = mul-le-mul_right (length key) below in
+      let there = stop.5.took.within in
+      let may = may_pass h count key random stop.0 stop.1 (stop.0 * length key) some (omega arith) there (omega arith)
+      (omega arith) (omega arith) in
+      broken ReadFailed stop.1 (stop.0 * length key) tt may may.fits
+      (ap (λ q. q * length key) (sym (div-eq_of_lt-le (length key) stop.3 stop.4))) stop.5
+  runs_without_stripes WriteFailed stop =
+      let below : stop.0 + 1 ≤ count - 1 = omega (arith, stop.2) in
+      let span : (stop.0 + 1) * length key ≤ (count - 1) * length key = mul-le-mul_right (length key) below in
+      let whole = (stop.0 + 1) * length key in
+      let there = stop.5.took.within in
+      let may = may_pass h count key random (stop.0 + 1) whole stop.1 some span there (omega arith) there
+      (omega arith) in
+      let all = may_pass h count key random (stop.0 + 1) whole whole some span there (omega arith) there
+      (omega arith) in
+      broken WriteFailed whole stop.1 tt may (omega (arith, all.fits, stop.4))
+      (rw (div-eq_of_lt-le (length key) stop.3 stop.4) (omega arith)) stop.5
+  runs_without_stripes _ stop = absurd stop
+
+  -- all random stripes were passed on, and the last stripe is this one
+  module _ (last : List ℕ) (p : Passed random r b w ((count - 1) * length key) ((count - 1) * length key))
+      (last_is : last ≡ xor (chain_of h (length key) (take ((count - 1) * length key) random) (count - 1)) key)
+      (w' : Option (List ℕ)) where
+    -- the last stripe was written
+    pub runs_to_end : Adds w w' last
+        → Completes (split_outcome h count key random) Done (Took key k) (Took random r) (Adds b w')
+    runs_to_end a =
+        rw (key_allowed h count key random some room, random_enough h count key random p.took.within, ← last_is)
+        (record {
+          as_stated = refl;
+          image = took;
+          secret = p.took;
+          output = adds-more b w w' (take ((count - 1) * length key) random) last p.added a;
+        })
+
+    -- a write failed within it
+    pub runs_without_last : (n : ℕ) → n < length last → length last ≡ length key → Adds w w' (take n last)
+        → BreaksOff (split_promptly (length key)) (split_outcome h count key random) WriteFailed (Took key k)
+        (Took random r) (Adds b w')
+    runs_without_last n within long a =
+        let needed = (count - 1) * length key in
+        let front = take needed random in
+        let whole : length front ≡ needed = length-take-le needed random p.took.within in
+        let both : length (front ++ last) ≡ length front + length last = length-append front last in
+        let begin : take (needed + n) (front ++ last) ≡ front ++ take n last =
+        ap (λ m. take (m + n) (front ++ last)) (sym whole) ∙ take-append-add front last n in
+        let row : (needed + n) / length key ≡ count - 1 = div-eq_of_lt-le (length key) (omega arith) (omega arith) in
+        rw (key_allowed h count key random some room, random_enough h count key random p.took.within)
+        (record {
+          image_taken = length key;
+          secret_taken = needed;
+          output_len = needed + n;
+          image_within = omega arith;
+          secret_within = omega arith;
+          output_within = rw (← last_is) (omega arith);
+          is_silent = tt;
+          is_prompt = rw row (omega arith);
+          image = took;
+          secret = p.took;
+          output = rw (← last_is, begin) (adds-more b w w' front (take n last) p.added a);
+        })
+
+-- the last stripe is made over the random stripes alone
+pub last_stripe : (h : Hash) (n : ℕ) (key random : List ℕ) (splitter : Chain)
+    → splitter ≡ chain_after h (length key) random n → n * length key ≤ length random
+    → (last : List ℕ) → last ≡ xor splitter.block key
+    → last ≡ xor (chain_of h (length key) (take (n * length key) random) n) key
+last_stripe h n key random splitter is there last made =
+    let front = take (n * length key) random in
+    let whole : length front ≡ n * length key = length-take-le (n * length key) random there in
+    let same : chain_of h (length key) random n ≡ chain_of h (length key) front n =
+    ap (λ l. chain_of h (length key) l n) (sym (take-append-drop (n * length key) random))
+    ∙ chain_of-append h (length key) front (drop (n * length key) random) n (omega arith) in
+    made ∙ ap (λ (s : Chain). xor s.block key) is ∙ ap (λ d. xor d key) same

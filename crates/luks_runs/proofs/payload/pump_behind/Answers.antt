@@ -1,0 +1,39 @@
+use Rattle.std.proofs.Common.{◌≡◌, ◌+◌, ◌-◌, ◌≤◌, length, take, drop, refl, subst, arith}
+use Rattle.luks_io.specs.Bytes.{Took}
+use Rattle.luks_volume.specs.Plain.{sector_start}
+use Rattle.luks_runs.proofs.PayloadLemmas.{held_reach, stands_within}
+use Rattle.luks_runs.proofs.payload.pump_behind.Goals as goal
+
+pub returns-then-consumed-segment-clause-stands : goal.returns-then-consumed-segment-clause-stands
+returns-then-consumed-segment-clause-stands c whole left front took =
+    let same : length c.args.held.now ≡ length c.args.held.now + 0 = omega arith in
+    rw c.new.ensures (record {
+      running = refl;
+      stands = record { next = refl; took = subst (Took whole left) same took };
+    })
+
+pub returns-clause-stands : goal.returns-clause-stands
+returns-clause-stands c whole left front took =
+    let held = c.args.held.now in
+    let offset = c.args.segment.offset in
+    let within : offset ≤ length held = omega arith in
+    let all : length held
+    ≡ sector_start c.args.segment 0 + length (take (length held - offset) (drop offset held)) =
+    omega (arith, held_reach held whole offset within) in
+    let start : offset ≡ sector_start c.args.segment 0 = omega arith in
+    rw c.with_front.ensures (record {
+      running = refl;
+      stands = record {
+        next = subst (λ n. take (length held - offset) (drop offset held)
+            ≡ take (length (take (length held - offset) (drop offset held))) (drop n whole)) start
+            (stands_within held whole offset within front);
+        took = subst (Took whole left) all took;
+      };
+    })
+
+pub returns-clause-reach : goal.returns-clause-reach
+returns-clause-reach c =
+    let held = c.args.held.now in
+    let offset = c.args.segment.offset in
+    let within : offset ≤ length held = omega arith in
+    rw c.with_front.ensures (omega (arith, held_reach held held offset within))

@@ -1,0 +1,85 @@
+use Rattle.std.proofs.Common.{◌+◌, ◌∙◌, ap, refl, arith}
+use Rattle.std.proofs.lemmas.Result.{err_from_is_err_and}
+use Rattle.luks_runs.proofs.PayloadLemmas.{few_sectors, never_memory, passing_breaks, passing_ends, passing_more, passing_start, reads_are, writes_are}
+use Rattle.luks_report.specs.Faults.{message_for_payload}
+use Rattle.luks_io.specs.Bytes.{counted}
+use Rattle.luks_runs.specs.Run.{is_failed_read, is_failed_write}
+use Rattle.luks_runs.proofs.payload.write_payload.Goals as goal
+
+pub sectors-init : goal.sectors-init
+sectors-init g c =
+    let made = c.pump_behind-pump.ensures in
+    record {
+      segment = made.segment;
+      cipher = made.cipher;
+      count = made.count;
+      running = made.running;
+      reads = refl;
+      writes = refl;
+      passing = λ whole few front took.
+          passing_start _ whole _ _ _ made.count (rw (← made.segment) at made.early) made.bare made.reach
+          (made.stands whole _ front took);
+    }
+
+pub sectors-preserved : goal.sectors-preserved
+sectors-preserved g c =
+    let so_far = c.sectors.invariant in
+    let step = rw c.in-Sector.is at c.in_ok-step.ensures in
+    rw step.pump (record {
+      segment = so_far.segment;
+      cipher = so_far.cipher;
+      count = ap (λ n. n + 1) so_far.count;
+      running = refl;
+      reads = step.reads so_far.running ∙ so_far.reads;
+      writes = step.writes so_far.running ∙ so_far.writes;
+      passing = λ whole few front took.
+          let passing = so_far.passing whole few front took in
+          passing_more _ whole _ _ _ _ _ _ passing (step.run whole few passing.stands);
+    })
+
+pub returns-in_err-step-clause-run : goal.returns-in_err-step-clause-run
+returns-in_err-step-clause-run g c =
+    let p = err_from_is_err_and c.from_residual.result c.from_residual.ensures.1 in
+    let so_far = c.sectors.invariant in
+    let step = c.in_err-step.ensures in
+    rw (p.1, p.2, ← so_far.segment, ← so_far.cipher) (λ whole few front took.
+    let passing = so_far.passing whole few front took in
+    passing_breaks _ whole _ _ _ _ _ _ passing _ _ (λ same. ap g.O.Sink.written same) step.writes_sectors
+    (step.run whole few passing.stands))
+
+pub returns-in_err-step-clause-reads : goal.returns-in_err-step-clause-reads
+returns-in_err-step-clause-reads g c =
+    let p = err_from_is_err_and c.from_residual.result c.from_residual.ensures.1 in
+    let so_far = c.sectors.invariant in
+    let fault = c.in_err-step.field-0.0 in
+    rw (p.1, p.2) (c.in_err-step.ensures.reads so_far.running ∙ reads_are fault (g.I.Source.failures c.sectors.image)
+    ∙ ap (counted (is_failed_read (message_for_payload fault))) so_far.reads)
+
+pub returns-in_err-step-clause-writes : goal.returns-in_err-step-clause-writes
+returns-in_err-step-clause-writes g c =
+    let p = err_from_is_err_and c.from_residual.result c.from_residual.ensures.1 in
+    let so_far = c.sectors.invariant in
+    let fault = c.in_err-step.field-0.0 in
+    rw (p.1, p.2) (c.in_err-step.ensures.writes so_far.running ∙ writes_are fault (g.O.Sink.failures c.sectors.out)
+    ∙ ap (counted (is_failed_write (message_for_payload fault))) so_far.writes)
+
+pub returns-in_err-step-clause-memory : goal.returns-in_err-step-clause-memory
+returns-in_err-step-clause-memory g c =
+    let p = err_from_is_err_and c.from_residual.result c.from_residual.ensures.1 in
+    rw (p.1, p.2) (never_memory _)
+
+pub returns-in-End-clause-run : goal.returns-in-End-clause-run
+returns-in-End-clause-run g c =
+    let so_far = c.sectors.invariant in
+    let step = rw c.in-End.is at c.in_ok-step.ensures in
+    rw (← so_far.segment, ← so_far.cipher) (λ whole few front took.
+    let passing = so_far.passing whole few front took in
+    passing_ends _ whole _ _ _ _ _ _ passing (step.run whole few passing.stands)
+    (ap g.O.Sink.written step.writes_sectors))
+
+pub returns-clause-run : goal.returns-clause-run
+returns-clause-run g c whole few front took =
+    let so_far = c.sectors.invariant in
+    let passing = so_far.passing whole few front took in
+    let all = few_sectors c.sectors.pump.segment whole few in
+    absurd (omega (arith, passing.few, so_far.count))

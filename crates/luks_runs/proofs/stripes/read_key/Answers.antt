@@ -1,0 +1,17 @@
+use Rattle.std.proofs.Common.{◌≡◌, ◌∙◌, length, take_all, arith}
+use Rattle.std.proofs.lemmas.Result.{err_from_is_err_and}
+use Rattle.luks_io.proofs.Taking.{took-all}
+use Rattle.luks_runs.proofs.stripes.read_key.Goals as goal
+
+pub returns-in_err-len-clause-err : goal.returns-in_err-len-clause-err
+returns-in_err-len-clause-err g c =
+    let p = err_from_is_err_and c.from_residual.result c.from_residual.ensures.1 in
+    rw (p.1, p.2) (λ key is.
+    let next = c.in_err-len.ensures.bytes key is in
+    (c.in_err-len.field-0.0.got, omega (arith, c.in_err-len.ensures.bound, next.0.within), next.0))
+
+pub returns-clause-key : goal.returns-clause-key
+returns-clause-key g c key is =
+    let next = c.in_ok-len.ensures.bytes key is in
+    let whole : c.in_ok-len.len ≡ length key = omega (arith, c.in_ok-len.ensures.end key is) in
+    (next.1 ∙ take_all c.in_ok-len.len key (omega arith), took-all key _ c.in_ok-len.len (omega arith) next.0.left)

@@ -1,0 +1,14 @@
+use Rattle.std.proofs.Common.{◌≡◌, ◌*◌, length}
+use Rattle.luks_io.specs.Bytes.{Took, WhereKnown}
+use Rattle.luks_kdf.specs.Stripes.{chain_after}
+use Rattle.luks_runs.proofs.stripes.take_stripes.Given as goal
+
+-- the stripes so far were taken and chained
+abbrev pub invariant-stripes : goal.invariant-stripes
+invariant-stripes g l = record {
+  reads : g.S.Source.failures l.stripes ≡ g.S.Source.failures l.initial.stripes;
+  len : length l.splitter.block ≡ length l.stripe;
+  taken : WhereKnown (g.S.Source.to_come l.initial.stripes)
+      (λ known. (l.splitter ≡ chain_after l.fn.hash (length l.stripe) known l.counter)
+      × Took known (g.S.Source.to_come l.stripes) (l.counter * length l.stripe));
+}

@@ -1,0 +1,65 @@
+-- What the commands on headers come to.
+use Rattle.std.specs.Prelude.{ℕ, List, [], Result, Ok, Err}
+use Rattle.luks_header.specs.Header.{cost_of, header_of}
+use Rattle.luks_header.specs.declared.header.Header.{Header}
+use Rattle.luks_area.specs.declared.fault.HeaderFault.{HeaderFault}
+use Rattle.luks_area.specs.declared.fault.HeaderFault.TheVariants.{NotLuks}
+use Rattle.luks_report.specs.Check.{check_of, message_for_check}
+use Rattle.luks_report.specs.Dump.{dump_of, uuid_of}
+use Rattle.luks_report.specs.Faults.{message_for_header}
+use Rattle.luks_report.specs.declared.message.Message.{Message}
+use Rattle.luks_report.specs.declared.message.Message.TheVariants.{Done, No}
+use Rattle.luks_runs.specs.Ending.{Outcome, unwritten}
+use Rattle.luks_runs.specs.Reading.{Reading}
+use Rattle.luks_runs.specs.declared.headers.Page.{Page}
+use Rattle.luks_runs.specs.declared.headers.Page.TheVariants.{Uuid, Dump, Check}
+
+-- what `isLuks` tells
+abbrev pub answer_to_is_luks : Result Header HeaderFault → Message
+answer_to_is_luks (Ok _) = Done
+answer_to_is_luks (Err NotLuks) = No
+answer_to_is_luks (Err fault) = message_for_header fault
+
+-- the text of a page
+abbrev pub text_of : Page → Header → List ℕ
+text_of Uuid = uuid_of
+text_of Dump = dump_of
+text_of Check = check_of
+
+-- that it was printed is all that is told
+abbrev pub well : Header → Message
+well header = Done
+
+-- what is told once a page is printed
+abbrev pub told_of : Page → Header → Message
+told_of Uuid = well
+told_of Dump = well
+told_of Check = message_for_check
+
+-- what is printed of the header, if there is one
+abbrev pub printed : (Header → List ℕ) → Result Header HeaderFault → List ℕ
+printed text (Ok header) = text header
+printed text (Err _) = []
+
+-- the message of a command that prints a text of the header, which tells this of it
+abbrev pub message_printing : (Header → Message) → Result Header HeaderFault → Message
+message_printing told (Ok header) = told header
+message_printing told (Err fault) = message_for_header fault
+
+-- `isLuks`: nothing is written
+unfoldable pub is_luks_outcome : List ℕ → Outcome
+is_luks_outcome image = unwritten (answer_to_is_luks (header_of image)) (cost_of image) 0
+
+-- a command that prints a text of a header that is read so
+unfoldable pub print_outcome_by : Reading → (Header → List ℕ) → (Header → Message) → List ℕ → Outcome
+print_outcome_by read text told image = record {
+  output = printed text (read image);
+  message = message_printing told (read image);
+  image_taken = cost_of image;
+  secret_taken = 0;
+  payload_taken = 0;
+}
+
+-- a command that prints a text of the header
+abbrev pub print_outcome : (Header → List ℕ) → (Header → Message) → List ℕ → Outcome
+print_outcome = print_outcome_by header_of

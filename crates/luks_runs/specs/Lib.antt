@@ -1,0 +1,10 @@
+pub mod Ending
+pub mod Header
+pub mod MayEnd
+pub mod Payload
+pub mod Reading
+pub mod Run
+pub mod Secret
+pub mod Standing
+pub mod Stripe
+pub mod StripeParts

@@ -1,0 +1,41 @@
+-- What passing on a payload leaves in its devices.
+use Rattle.std.specs.Prelude.{◌≡◌, ℕ, ◌+◌, ◌-◌, ◌*◌, ◌/◌, ◌^◌, ◌<◌, ◌≤◌, List, length, max, min, take, Option, Ok, Err}
+use Rattle.luks_cipher.specs.Sector.{Cipher}
+use Rattle.luks_io.specs.Bytes.{Adds, Took, TookUpTo}
+use Rattle.luks_header.specs.Header.{cost_of, header_of}
+use Rattle.luks_header.specs.Segment.{segment_of}
+use Rattle.luks_header.specs.declared.header.Header.{Header}
+use Rattle.luks_verdict.specs.declared.segment.Segment.{Segment}
+use Rattle.luks_open.specs.declared.opening.Opened.{Opened}
+use Rattle.luks_volume.specs.Plain.{ending_of, payload_end_of, plain_of, sector_len, sector_start, sectors_of}
+use Rattle.luks_command.specs.Request.{OpeningRequest}
+use Rattle.luks_report.specs.Faults.{message_at_end}
+use Rattle.luks_report.specs.declared.message.Message.{Message}
+use Rattle.luks_report.specs.declared.message.Message.TheVariants.{KeyFileLength, OutOfMemory, ReadFailed, WriteFailed}
+use Rattle.luks_runs.specs.Reading.{Reading, detached_header_of}
+use Rattle.luks_cli.specs.Volume.{OnOpened, volume_by}
+use Rattle.luks_runs.specs.Secret.{longest_key_file}
+
+-- passing on the payload of an image, of which so many bytes were taken before, ended with this message: all of it was
+-- written and taken, or it was broken off within a sector
+abbrev pub PassesPayload : Segment → Cipher → List ℕ → ℕ → Option (List ℕ) → Option (List ℕ) → Option (List ℕ)
+    → Message → Type 0
+PassesPayload s cipher image held left before after ReadFailed =
+    (place : ℕ) × (count : ℕ) × (count ≡ (place - s.offset) / sector_len s) × (count ≤ sectors_of s image)
+    × (place ≤ payload_end_of s image)
+    × Took image left place × Adds before after (take (count * sector_len s) (plain_of s cipher image))
+PassesPayload s cipher image held left before after WriteFailed =
+    (count : ℕ) × (written : ℕ) × (count < sectors_of s image) × (written < sector_len s)
+    × (sector_start s (count + 1) ≤ payload_end_of s image)
+    × Took image left (max held (sector_start s (count + 1)))
+    × Adds before after (take (count * sector_len s + written) (plain_of s cipher image))
+PassesPayload s cipher image held left before after message =
+    (message ≡ message_at_end (ending_of s image)) × Took image left (max held (payload_end_of s image))
+    × Adds before after (plain_of s cipher image)
+
+-- the same of every image whose first bytes are these, which are held, and of which the source has the rest
+abbrev pub PassesHeld : Segment → Cipher → List ℕ → Option (List ℕ) → Option (List ℕ) → Option (List ℕ)
+    → Option (List ℕ) → Message → Type 0
+PassesHeld s cipher held rest left before after message =
+    (image : List ℕ) → length image < 2 ^ 64 → held ≡ take (length held) image → Took image rest (length held)
+    → PassesPayload s cipher image (length held) left before after message

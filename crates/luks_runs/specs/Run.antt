@@ -1,0 +1,115 @@
+-- What a run leaves in its devices, and what it keeps to where it is broken off. Each device is spoken of by itself: a
+-- run takes so many bytes of the image and of the second input, and writes these; what that means for a device is a
+-- fact of its own.
+use Rattle.std.specs.Prelude.{◌≡◌, ℕ, ◌<◌, ◌≤◌, ◌^◌, List, length, take, Option, Some, Bool, true, false, MatchBool, ◌⊎◌, is_err, Result, Ok, Err}
+use Rattle.luks_io.specs.Bytes.{Adds, Took, WhereKnown, raised}
+use Rattle.luks_cli.specs.VolumeParts.{cat_promptly}
+use Rattle.luks_command.specs.Request.{Request, is_luks, luks_uuid, luks_dump, luks_check, test_passphrase, luks_cat, af_split, af_merge}
+use Rattle.luks_runs.specs.Ending.{Outcome}
+use Rattle.luks_cli.specs.Outcome.{outcome_of}
+use Rattle.luks_runs.specs.Stripe.{longest_key}
+use Rattle.luks_runs.specs.StripeParts.{split_promptly}
+use Rattle.luks_cli.specs.Volume.{volume_of}
+use Rattle.luks_report.specs.declared.message.Message.{Message}
+use Rattle.luks_report.specs.declared.message.Message.TheVariants.{Done, OutOfMemory, ReadFailed, WriteFailed}
+
+-- memory was refused, or a read or a write failed
+abbrev pub breaks_off : Message → Bool
+breaks_off OutOfMemory = true
+breaks_off ReadFailed = true
+breaks_off WriteFailed = true
+breaks_off _ = false
+
+-- how prompt a run is that is broken off: a fact on its message, the bytes of the image and of the second input that it
+-- took, and the length of what it wrote
+abbrev pub Promptness : Type 1
+Promptness = Message → ℕ → ℕ → ℕ → Type 0
+
+-- nothing is said of it
+abbrev pub at_any_pace : Promptness
+at_any_pace _ _ _ _ = Unit {0}
+
+-- a run that is refused memory writes nothing
+abbrev pub IsSilent : Message → ℕ → Type 0
+IsSilent OutOfMemory output = output ≡ 0
+IsSilent _ output = Unit {0}
+
+-- so many of the bytes of the stated output were written: all of them at most, and fewer where a write failed
+abbrev pub IsBeginning : Message → ℕ → ℕ → Type 0
+IsBeginning WriteFailed output stated = output < stated
+IsBeginning _ output stated = output ≤ stated
+
+-- a run that was broken off: what it wrote is a beginning of the stated output, and no input was taken further than
+-- stated
+pub record BreaksOff (is_prompt' : Promptness) (o : Outcome) (message : Message) (TookImage TookSecret : ℕ → Type 0)
+    (Wrote : List ℕ → Type 0) : Type 0 where
+  pub image_taken : ℕ
+  pub secret_taken : ℕ
+  pub output_len : ℕ
+  pub image_within : image_taken ≤ o.image_taken
+  pub secret_within : secret_taken ≤ o.secret_taken
+  pub output_within : IsBeginning message output_len (length o.output)
+  pub is_silent : IsSilent message output_len
+  pub is_prompt : is_prompt' message image_taken secret_taken output_len
+  pub image : TookImage image_taken
+  pub secret : TookSecret secret_taken
+  pub output : Wrote (take output_len o.output)
+
+-- a run that was not: the stated message, output and bytes taken
+pub record Completes (o : Outcome) (message : Message) (TookImage TookSecret : ℕ → Type 0)
+    (Wrote : List ℕ → Type 0) : Type 0 where
+  pub as_stated : message ≡ o.message
+  pub image : TookImage o.image_taken
+  pub secret : TookSecret o.secret_taken
+  pub output : Wrote o.output
+
+-- a run with the stated outcome, as far as it came
+abbrev pub Runs : Promptness → Outcome → Message → (ℕ → Type 0) → (ℕ → Type 0) → (List ℕ → Type 0) → Type 0
+Runs is_prompt o message TookImage TookSecret Wrote =
+    MatchBool (breaks_off message) (BreaksOff is_prompt o message TookImage TookSecret Wrote)
+    (Completes o message TookImage TookSecret Wrote)
+
+-- a run whose payload's image is another than the header's: as one over the header, and as many bytes are taken of the
+-- payload's image as is stated, or no more where it is broken off
+pub record RunsApart (is_prompt' : ℕ → Promptness) (o : Outcome) (message : Message)
+    (TookImage TookPayload TookSecret : ℕ → Type 0) (Wrote : List ℕ → Type 0) : Type 0 where
+  pub payload_taken : ℕ
+  pub payload_within : MatchBool (breaks_off message) (payload_taken ≤ o.payload_taken)
+      (payload_taken ≡ o.payload_taken)
+  pub payload : TookPayload payload_taken
+  pub run : Runs (is_prompt' payload_taken) o message TookImage TookSecret Wrote
+
+-- of an input that a command does not have, nothing is taken
+abbrev pub TookNone : ℕ → Type 0
+TookNone count = count ≡ 0
+
+-- the message of a part of a run
+abbrev pub message_of : {T : Type 0} → Result T Message → Message
+message_of (Ok _) = Done
+message_of (Err message) = message
+
+-- a failed read is told
+abbrev pub is_failed_read : Message → Bool
+is_failed_read ReadFailed = true
+is_failed_read _ = false
+
+-- a failed write is told
+abbrev pub is_failed_write : Message → Bool
+is_failed_write WriteFailed = true
+is_failed_write _ = false
+
+-- how many reads of the image and of the secret and how many writes have failed
+pub record Failures : Type 0 where
+  pub image : ℕ
+  pub secret : ℕ
+  pub written : ℕ
+
+abbrev pub failures_of : ℕ → ℕ → ℕ → Failures
+failures_of image secret written = record { image = image; secret = secret; written = written }
+
+-- the counts after a run with this message: one of them rose by one where a read or a write failed, and else none did
+abbrev pub Counts : Message → Failures → Failures → Type 0
+Counts ReadFailed before after =
+    (after ≡ record before { image = raised before.image }) ⊎ (after ≡ record before { secret = raised before.secret })
+Counts WriteFailed before after = after ≡ record before { written = raised before.written }
+Counts _ before after = after ≡ before

@@ -1,0 +1,56 @@
+-- What the commands on stripes come to.
+use Rattle.std.specs.Prelude.{ℕ, ◌+◌, ◌-◌, ◌*◌, ◌/◌, ◌&&◌, ◌++◌, List, length, take, min, nat_lt, nat_le, if◌then◌else◌}
+use Rattle.luks_kdf.specs.Bytes.{xor}
+use Rattle.luks_kdf.specs.Stripes.{chain_of, merged}
+use Rattle.luks_kdf.specs.declared.hash.Hash.{Hash}
+use Rattle.luks_report.specs.declared.message.Message.TheVariants.{Done, KeyLength, FewRandomBytes, FewStripes}
+use Rattle.luks_runs.specs.Ending.{Outcome, unwritten}
+
+-- the longest key
+abbrev pub longest_key : ℕ
+longest_key = 512
+
+-- the stripes of a key: the random ones, and the one that makes them merge to the key
+abbrev pub stripes_of : Hash → ℕ → List ℕ → List ℕ → List ℕ
+stripes_of hash count key random = random ++ xor (chain_of hash (length key) random (count - 1)) key
+
+-- splitting a key of a length that is allowed
+unfoldable pub split_key_outcome : Hash → ℕ → List ℕ → List ℕ → Outcome
+split_key_outcome hash count key random =
+    let needed = (count - 1) * length key in
+    if nat_le needed (length random)
+    then record {
+      output = stripes_of hash count key (take needed random);
+      message = Done;
+      image_taken = length key;
+      secret_taken = needed;
+      payload_taken = 0;
+    }
+    else record {
+      output = take (length random / length key * length key) random;
+      message = FewRandomBytes;
+      image_taken = length key;
+      secret_taken = length random;
+      payload_taken = 0;
+    }
+
+-- `afSplit`: the key is the whole image, and the random bytes are the secret
+unfoldable pub split_outcome : Hash → ℕ → List ℕ → List ℕ → Outcome
+split_outcome hash count key random =
+    if nat_lt 0 (length key) && nat_le (length key) longest_key
+    then split_key_outcome hash count key random
+    else unwritten KeyLength (min (length key) (longest_key + 1)) 0
+
+-- `afMerge`: the stripes are the beginning of the image
+unfoldable pub merge_outcome : Hash → ℕ → ℕ → List ℕ → Outcome
+merge_outcome hash count key_bytes image =
+    let needed = count * key_bytes in
+    if nat_le needed (length image)
+    then record {
+      output = merged hash key_bytes (take needed image);
+      message = Done;
+      image_taken = needed;
+      secret_taken = 0;
+      payload_taken = 0;
+    }
+    else unwritten FewStripes (length image) 0

@@ -1,0 +1,46 @@
+-- What the parts of the stripe commands leave in their devices.
+use Rattle.std.specs.Prelude.{◌≡◌, ℕ, ◌+◌, ◌*◌, ◌/◌, ◌<◌, ◌≤◌, ◌⊎◌, List, length, take, min, Option}
+use Rattle.luks_io.specs.Bytes.{Adds, Took, TookUpTo}
+use Rattle.luks_report.specs.declared.message.Message.{Message}
+use Rattle.luks_report.specs.declared.message.Message.TheVariants.{KeyLength, FewRandomBytes, FewStripes, ReadFailed, WriteFailed}
+use Rattle.luks_runs.specs.Stripe.{longest_key}
+
+-- how reading a key failed: of one that is too long one byte more is taken than the longest has
+abbrev pub NoKeyRead : List ℕ → Option (List ℕ) → Message → Type 0
+NoKeyRead key left KeyLength =
+    (min (length key) (longest_key + 1) ≡ 0 ⊎ longest_key < length key)
+    × Took key left (min (length key) (longest_key + 1))
+NoKeyRead key left ReadFailed = TookUpTo key left (min (length key) (longest_key + 1))
+NoKeyRead key left _ = ⊥
+
+-- so many random bytes were taken, and so many of them written
+pub record Passed (random : List ℕ) (left before after : Option (List ℕ)) (taken written : ℕ) : Type 0 where
+  pub took : Took random left taken
+  pub added : Adds before after (take written random)
+
+-- passing on `count` random stripes of `len` bytes was broken off at stripe i, from 0: at the end of the random bytes
+-- or by a failed read after the whole stripes, and by a failed write within the stripe
+abbrev pub StopsAtStripe : ℕ → ℕ → List ℕ → Option (List ℕ) → Option (List ℕ) → Option (List ℕ) → Message → Type 0
+StopsAtStripe count len random left before after FewRandomBytes =
+    (i : ℕ) × (i < count) × (i * len ≤ length random) × (length random < (i + 1) * len)
+    × Passed random left before after (length random) (i * len)
+StopsAtStripe count len random left before after ReadFailed =
+    (i : ℕ) × (taken : ℕ) × (i < count) × (i * len ≤ taken) × (taken < (i + 1) * len)
+    × Passed random left before after taken (i * len)
+StopsAtStripe count len random left before after WriteFailed =
+    (i : ℕ) × (written : ℕ) × (i < count) × (i * len ≤ written) × (written < (i + 1) * len)
+    × Passed random left before after ((i + 1) * len) written
+StopsAtStripe count len random left before after _ = ⊥
+
+-- taking `count` stripes of `len` bytes was broken off: by the end of the bytes, or by a failed read
+abbrev pub StopsTaking : ℕ → ℕ → List ℕ → Option (List ℕ) → Message → Type 0
+StopsTaking count len known left FewStripes = (length known < count * len) × Took known left (length known)
+StopsTaking count len known left ReadFailed = TookUpTo known left (count * len)
+StopsTaking count len known left _ = ⊥
+
+-- a split that is broken off: where a write fails, nothing past the stripe of the last byte written was taken; where a
+-- read fails, the whole random stripes that were taken are written
+abbrev pub split_promptly : ℕ → Message → ℕ → ℕ → ℕ → Type 0
+split_promptly len WriteFailed image secret output = secret ≤ (output / len + 1) * len
+split_promptly len ReadFailed image secret output = output ≡ secret / len * len
+split_promptly len _ image secret output = Unit {0}

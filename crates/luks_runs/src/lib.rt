@@ -1,0 +1,9 @@
+//! The parts of runs that need no key: what a run is, the commands on headers and stripes, the key
+//! file, and the payload on its way.
+#![tactic(auto)]
+
+pub mod headers;
+pub mod payload;
+pub mod secret;
+pub mod standing;
+pub mod stripes;

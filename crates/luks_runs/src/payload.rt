@@ -1,0 +1,65 @@
+//! The payload on its way from the image to the output.
+
+ghost use Rattle.std.specs.Prelude.{◌≡◌, ◌≢◌, ◌<◌, ◌≤◌, ◌⊎◌, ◌^◌, List, [], ℕ, Option, IfErr, true, length, take};
+ghost use Rattle.luks_runs.specs.Payload.{PassesHeld};
+ghost use Rattle.luks_runs.specs.MayEnd.{PayloadMessage};
+ghost use Rattle.luks_runs.specs.Run.{is_failed_read, is_failed_write, message_of};
+ghost use Rattle.luks_io.specs.Bytes.{Took, counted};
+ghost use Rattle.luks_volume.specs.Pumped.{StandsIn, is_running, reach_of};
+
+use luks_cipher::SectorCipher;
+use luks_header::segment::Segment;
+use luks_io::sink::Sink;
+use luks_io::source::Source;
+use luks_report::message::Message;
+use luks_volume::pump::Pump;
+use luks_volume::state::{State, Step};
+
+/// A pump of the payload of an image whose first bytes are held: those of the payload among them
+/// are passed on first.
+fn pump_behind<'a>(segment: Segment, cipher: SectorCipher, held: &'a [u8]) -> Pump<'a>
+    ensures segment { result.segment ≡ segment }
+    ensures cipher { result.cipher ≡ cipher }
+    ensures count { result.count ≡ 0 }
+    ensures early { result.consumed ≤ segment.offset }
+    ensures running { is_running result.state ≡ true }
+    ensures bare { (result.front ≡ []) ⊎ (result.state ≡ State.InPayload) }
+    ensures reach { reach_of result ≡ length held.now }
+    ensures stands { (whole : List ℕ) (left : Option (List ℕ))
+        → held.now ≡ take (length held.now) whole → Took whole left (length held.now)
+        → StandsIn whole result left }
+{
+    let consumed = held.len() as u64;
+    if consumed <= segment.offset {
+        return Pump::new(segment, cipher, consumed);
+    }
+    Pump::with_front(segment, cipher, &held[segment.offset as usize..])
+}
+
+/// Writes the payload of an image, whose first bytes are held, as plain text: each sector as it
+/// comes.
+pub fn write_payload<I: Source, O: Sink>(
+    segment: Segment,
+    cipher: SectorCipher,
+    held: &[u8],
+    image: &mut I,
+    out: &mut O,
+) -> Result<(), Message>
+    ensures run { PassesHeld segment cipher held.now (I.to_come image.old) (I.to_come image.new)
+        (O.written out.old) (O.written out.new) (message_of result) }
+    ensures only { PayloadMessage (message_of result) }
+    ensures memory { IfErr result (λ message. message ≢ Message.OutOfMemory) }
+    ensures reads { I.failures image.new
+        ≡ counted (is_failed_read (message_of result)) (I.failures image.old) }
+    ensures writes { O.failures out.new
+        ≡ counted (is_failed_write (message_of result)) (O.failures out.old) }
+{
+    let mut pump = pump_behind(segment, cipher, held);
+    'sectors: for _ in 0..u64::MAX {
+        match pump.step(image, out)? {
+            Step::Sector => {}
+            Step::End => return Ok(()),
+        }
+    }
+    Ok(())
+}

@@ -1,0 +1,67 @@
+//! The key file, whose bytes are the passphrase.
+
+ghost use Rattle.std.specs.Prelude.{◌≡◌, ◌+◌, ◌<◌, ◌≤◌, ◌⊎◌, ◌++◌, List, ℕ, IfOk, IfErr, length, min, take, vec_len};
+ghost use Rattle.luks_io.specs.Bytes.{Took, TookUpTo, WhereKnown, counted};
+ghost use Rattle.luks_runs.specs.Run.{is_failed_read, message_of};
+ghost use Rattle.luks_runs.specs.Secret.{NoSecretRead};
+ghost use Rattle.luks_runs.specs.Secret.{longest_key_file};
+
+use luks_io::source::{Source, fill};
+use luks_report::message::Message;
+use std::alloc::Global;
+
+/// The length of the longest key file.
+const LONGEST: usize = 8_388_608;
+
+/// How many bytes are read at once.
+const PIECE: usize = 4096;
+
+/// Reads the key file, which is all that the source gives, a last newline too. Of one that is too
+/// long, one byte more is taken than the longest has.
+pub fn read_secret<S: Source>(alloc: Global, source: &mut S) -> Result<Vec<u8>, Message>
+    ensures few { IfOk result (λ secret. vec_len secret ≤ longest_key_file) }
+    ensures ok { IfOk result (λ secret. WhereKnown (S.to_come source.old)
+        (λ known. (secret.items ≡ known) × Took known (S.to_come source.new) (length known))) }
+    ensures err { IfErr result (λ message. WhereKnown (S.to_come source.old)
+        (λ known. NoSecretRead known (S.to_come source.new) message)) }
+    ensures only { IfErr result (λ message. (message ≡ Message.KeyFileLength)
+        ⊎ ((message ≡ Message.OutOfMemory) ⊎ (message ≡ Message.ReadFailed))) }
+    ensures reads { S.failures source.new
+        ≡ counted (is_failed_read (message_of result)) (S.failures source.old) }
+{
+    let mut buffer = [0; PIECE];
+    let mut secret = Vec::new(alloc);
+    'pieces: while secret.len() <= LONGEST {
+        let size = PIECE.min(LONGEST + 1 - secret.len());
+        if take_piece(&mut buffer[..size], &mut secret, source)? < size {
+            return Ok(secret);
+        }
+    }
+    Err(Message::KeyFileLength)
+}
+
+/// Puts the next piece of the key file behind the bytes so far. Answers its length, which is less
+/// than that of the buffer only at the end.
+fn take_piece<S: Source>(
+    piece: &mut [u8],
+    secret: &mut Vec<u8>,
+    source: &mut S,
+) -> Result<usize, Message>
+    requires { vec_len secret.old + length piece.old ≤ longest_key_file + 1 }
+    ensures size { IfOk result (λ got. got ≤ length piece.old) }
+    ensures len { IfOk result (λ got. vec_len secret.new ≡ vec_len secret.old + got) }
+    ensures ok { IfOk result (λ got. WhereKnown (S.to_come source.old)
+        (λ known. (got ≡ min (length piece.old) (length known))
+        × Took known (S.to_come source.new) got
+        × (secret.new.items ≡ secret.old.items ++ take got known))) }
+    ensures err { IfErr result (λ message. WhereKnown (S.to_come source.old)
+        (λ known. TookUpTo known (S.to_come source.new) (length piece.old))) }
+    ensures only { IfErr result
+        (λ message. (message ≡ Message.OutOfMemory) ⊎ (message ≡ Message.ReadFailed)) }
+    ensures reads { S.failures source.new
+        ≡ counted (is_failed_read (message_of result)) (S.failures source.old) }
+{
+    let got = fill(source, piece)?;
+    secret.extend_from_slice(&piece[..got])?;
+    Ok(got)
+}

@@ -1,0 +1,179 @@
+//! `afSplit` and `afMerge`: keys and the stripes that hold them.
+
+ghost use Rattle.std.specs.Prelude.{◌≡◌, ◌≢◌, ◌*◌, ◌<◌, ◌≤◌, ◌⊎◌, ◌+◌, ℕ, IfOk, IfErr, OnOk, length, take};
+ghost use Rattle.luks_kdf.specs.Stripes.{chain_after};
+ghost use Rattle.luks_io.specs.Bytes.{Adds, Took, WhereKnown, counted};
+ghost use Rattle.luks_runs.specs.Run.{Counts, failures_of, Runs, TookNone, at_any_pace, is_failed_read, is_failed_write, message_of};
+ghost use Rattle.luks_runs.specs.MayEnd.{MergeMessage, SplitMessage};
+ghost use Rattle.luks_runs.specs.Stripe.{merge_outcome, split_outcome};
+ghost use Rattle.luks_runs.specs.StripeParts.{NoKeyRead, Passed, StopsAtStripe, StopsTaking, split_promptly};
+ghost use Rattle.luks_runs.specs.Stripe.{longest_key};
+
+use luks_command::command::{Merging, Splitting};
+use luks_io::sink::{Sink, put_all};
+use luks_io::source::{Source, fill};
+use luks_kdf::{AfSplitter, Hash};
+use luks_report::message::Message;
+
+/// The length of the longest key.
+const LONGEST_KEY: usize = 512;
+
+/// Reads a key, which is all that the source gives, into the front of the buffer. Answers its
+/// length. The buffer has room for one byte more than the longest key.
+fn read_key<S: Source>(source: &mut S, buf: &mut [u8]) -> Result<usize, Message>
+    requires { length buf.old ≡ longest_key + 1 }
+    ensures length { IfOk result (λ len. (1 ≤ len) × (len ≤ longest_key)) }
+    ensures fits { IfOk result
+        (λ len. WhereKnown (S.to_come source.old) (λ key. len ≡ length key)) }
+    ensures key { IfOk result (λ len. WhereKnown (S.to_come source.old)
+        (λ key. (take len buf.new ≡ key) × Took key (S.to_come source.new) (length key))) }
+    ensures err { IfErr result (λ message. WhereKnown (S.to_come source.old)
+        (λ key. NoKeyRead key (S.to_come source.new) message)) }
+    ensures only { IfErr result (λ message.
+        (message ≡ Message.KeyLength) ⊎ (message ≡ Message.ReadFailed)) }
+    ensures reads { S.failures source.new
+        ≡ counted (is_failed_read (message_of result)) (S.failures source.old) }
+{
+    let len = fill(source, buf)?;
+    if len == 0 || len > LONGEST_KEY {
+        return Err(Message::KeyLength);
+    }
+    Ok(len)
+}
+
+/// Writes so many random stripes, each as it is whole, and answers the splitter that has taken
+/// them.
+fn pass_stripes<R: Source, O: Sink>(
+    hash: Hash,
+    count: usize,
+    stripe: &mut [u8],
+    random: &mut R,
+    out: &mut O,
+) -> Result<AfSplitter, Message>
+    requires some { 1 ≤ length stripe.old }
+    requires room { length stripe.old ≤ longest_key }
+    requires few { count ≤ 4000 }
+    ensures len { IfOk result (λ splitter. length splitter.block ≡ length stripe.new) }
+    ensures ok { IfOk result (λ splitter. WhereKnown (R.to_come random.old)
+        (λ known. (splitter ≡ chain_after hash (length stripe.new) known count)
+        × Passed known (R.to_come random.new) (O.written out.old) (O.written out.new)
+        (count * length stripe.new) (count * length stripe.new))) }
+    ensures err { IfErr result (λ message. WhereKnown (R.to_come random.old)
+        (λ known. StopsAtStripe count (length stripe.new) known
+        (R.to_come random.new) (O.written out.old) (O.written out.new) message)) }
+    ensures only { SplitMessage (message_of result) }
+    ensures memory { IfErr result (λ message. message ≢ Message.OutOfMemory) }
+    ensures reads { R.failures random.new
+        ≡ counted (is_failed_read (message_of result)) (R.failures random.old) }
+    ensures writes { O.failures out.new
+        ≡ counted (is_failed_write (message_of result)) (O.failures out.old) }
+{
+    let mut splitter = AfSplitter::new(hash, stripe.len());
+    'stripes: for _ in 0..count {
+        if fill(random, stripe)? < stripe.len() {
+            return Err(Message::FewRandomBytes);
+        }
+        put_all(out, stripe)?;
+        splitter.stripe(stripe);
+    }
+    Ok(splitter)
+}
+
+/// `afSplit`: the key that the first source gives in stripes, the random ones first.
+pub fn split<K: Source, R: Source, O: Sink>(
+    splitting: &Splitting<'_>,
+    key: &mut K,
+    random: &mut R,
+    out: &mut O,
+) -> Result<(), Message>
+    ensures run { WhereKnown (K.to_come key.old)
+        (λ known. WhereKnown (R.to_come random.old) (λ bytes.
+        Runs (split_promptly (length known))
+        (split_outcome splitting.now.hash splitting.now.stripes.count known bytes)
+        (message_of result)
+        (Took known (K.to_come key.new)) (Took bytes (R.to_come random.new))
+        (Adds (O.written out.old) (O.written out.new)))) }
+    ensures only { SplitMessage (message_of result) }
+    ensures unneeded { WhereKnown (K.to_come key.old) (λ known.
+        (length known ≡ 0) ⊎ (longest_key < length known) → random.new ≡ random.old) }
+    ensures memory { IfErr result (λ message. message ≢ Message.OutOfMemory) }
+    ensures counts { Counts (message_of result)
+        (failures_of (K.failures key.old) (R.failures random.old) (O.failures out.old))
+        (failures_of (K.failures key.new) (R.failures random.new) (O.failures out.new)) }
+{
+    let mut key_buf = [0; LONGEST_KEY + 1];
+    let len = read_key(key, &mut key_buf)?;
+    let mut stripe_buf = [0; LONGEST_KEY];
+    let stripe = &mut stripe_buf[..len];
+    let splitter = pass_stripes(
+        splitting.hash,
+        splitting.stripes.get() - 1,
+        stripe,
+        random,
+        out,
+    )?;
+    splitter.last(&key_buf[..len], stripe);
+    put_all(out, stripe)?;
+    Ok(())
+}
+
+/// Takes so many stripes, one at a time, and answers the splitter that has taken them.
+fn take_stripes<S: Source>(
+    hash: Hash,
+    count: usize,
+    stripe: &mut [u8],
+    stripes: &mut S,
+) -> Result<AfSplitter, Message>
+    requires some { 1 ≤ length stripe.old }
+    requires room { length stripe.old ≤ longest_key }
+    ensures len { IfOk result (λ splitter. length splitter.block ≡ length stripe.new) }
+    ensures ok { IfOk result (λ splitter. WhereKnown (S.to_come stripes.old)
+        (λ known. (splitter ≡ chain_after hash (length stripe.new) known count)
+        × Took known (S.to_come stripes.new) (count * length stripe.new))) }
+    ensures err { IfErr result (λ message. WhereKnown (S.to_come stripes.old)
+        (λ known. StopsTaking count (length stripe.new) known (S.to_come stripes.new) message)) }
+    ensures only { IfErr result (λ message.
+        (message ≡ Message.FewStripes) ⊎ (message ≡ Message.ReadFailed)) }
+    ensures reads { S.failures stripes.new
+        ≡ counted (is_failed_read (message_of result)) (S.failures stripes.old) }
+{
+    let mut splitter = AfSplitter::new(hash, stripe.len());
+    'stripes: for _ in 0..count {
+        if fill(stripes, stripe)? < stripe.len() {
+            return Err(Message::FewStripes);
+        }
+        splitter.stripe(stripe);
+    }
+    Ok(splitter)
+}
+
+/// `afMerge`: the key of the stripes that the source gives first.
+pub fn merge<S: Source, O: Sink>(
+    merging: &Merging<'_>,
+    stripes: &mut S,
+    out: &mut O,
+) -> Result<(), Message>
+    ensures run { WhereKnown (S.to_come stripes.old) (λ known. let m = merging.now in
+        Runs at_any_pace (merge_outcome m.hash m.stripes.count m.key_bytes.bytes known)
+        (message_of result) (Took known (S.to_come stripes.new)) TookNone
+        (Adds (O.written out.old) (O.written out.new))) }
+    ensures memory { IfErr result (λ message. message ≢ Message.OutOfMemory) }
+    ensures only { MergeMessage (message_of result) }
+    ensures reads_first { message_of result ≡ Message.ReadFailed → out.new ≡ out.old }
+    ensures counts { (secret : ℕ) → Counts (message_of result)
+        (failures_of (S.failures stripes.old) secret (O.failures out.old))
+        (failures_of (S.failures stripes.new) secret (O.failures out.new)) }
+{
+    let len = merging.key_bytes.get();
+    let mut stripe_buf = [0; LONGEST_KEY];
+    let mut key_buf = [0; LONGEST_KEY];
+    let stripe = &mut stripe_buf[..len];
+    let key = &mut key_buf[..len];
+    let splitter = take_stripes(merging.hash, merging.stripes.get() - 1, stripe, stripes)?;
+    if fill(stripes, stripe)? < len {
+        return Err(Message::FewStripes);
+    }
+    splitter.last(stripe, key);
+    put_all(out, key)?;
+    Ok(())
+}
