@@ -2,6 +2,7 @@
 # make demo       builds it and reads both sample volumes, from pipes
 # make check      runs the built program on files and pipes, and beside cryptsetup and qemu-img: all of `make test` but the gate
 # make test       what CI runs: the gate, which proves everything from nothing, and beside it the same scripts on the program that it builds
+# make wrong-bodies  tries the wrong bodies that the gate leaves out; it takes an hour
 # make bench      measures key derivation, decryption and whole volumes beside other implementations
 # make install    puts the program, its man page and its completions below PREFIX (/usr/local where
 #                 it is not given), in DESTDIR where that is given
@@ -19,7 +20,7 @@ PAGES = $(DESTDIR)$(PREFIX)/share/man/man1
 BASH_WORDS = $(DESTDIR)$(PREFIX)/share/bash-completion/completions
 ZSH_WORDS = $(DESTDIR)$(ZSH_FUNCTIONS)
 
-.PHONY: all demo check scripts test bench install uninstall deb
+.PHONY: all demo check scripts test wrong-bodies bench install uninstall deb
 
 all: $(PROGRAM)
 
@@ -45,6 +46,7 @@ check: all $(SEALER) scripts
 # The programs are taken as they are.
 scripts:
 	tests/packages
+	tests/wrong-bodies --applied
 	tests/stripes.sh $(PROGRAM)
 	tests/volumes.sh $(PROGRAM)
 	tests/devices.sh $(PROGRAM)
@@ -57,15 +59,20 @@ scripts:
 	interop/volumes.sh $(PROGRAM)
 	interop/volumes2.sh $(PROGRAM)
 	interop/detached.sh $(PROGRAM)
+	interop/filesystems.sh $(PROGRAM)
 	interop/sealed.sh $(PROGRAM) $(SEALER)
 
 test:
 	tests/gate
 
+wrong-bodies:
+	tests/wrong-bodies
+
 bench: all
 	bench/pbkdf2
 	bench/xts
 	bench/volume
+	bench/plot
 
 # What is built already is installed as it is, so that this needs no toolchain.
 install:

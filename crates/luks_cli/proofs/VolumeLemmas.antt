@@ -17,10 +17,10 @@ use Rattle.luks_report.specs.Faults.{message_for_header}
 use Rattle.luks_command.specs.Request.{OpeningRequest}
 use Rattle.luks_runs.proofs.HeaderTaking.{cost_there}
 use Rattle.luks_cli.specs.VolumeParts.{StopsFinding}
+use Rattle.luks_runs.proofs.HeaderTaking.{reading_fault}
 use Rattle.luks_runs.specs.Standing.{reading_of}
 use Rattle.luks_cli.specs.Volume.{volume_by}
 use Rattle.luks_runs.specs.declared.standing.Standing.{Standing}
-use Rattle.luks_runs.specs.declared.standing.Standing.TheVariants.{Attached, Detached}
 use Rattle.luks_report.specs.Faults.{message_for_opening}
 use Rattle.luks_report.specs.declared.message.Message.TheVariants.{SegmentRefused}
 

@@ -1,13 +1,11 @@
 -- With which messages each command may end, whatever its devices do.
 use Rattle.std.specs.Prelude.{◌≡◌, ◌⊎◌}
 use Rattle.luks_command.specs.Request.{Request, is_luks, luks_uuid, luks_dump, luks_check, test_passphrase, luks_cat, af_split, af_merge}
-use Rattle.luks_runs.specs.declared.headers.Page.{Page}
-use Rattle.luks_runs.specs.declared.headers.Page.TheVariants.{Uuid, Dump, Check}
+use Rattle.luks_runs.specs.MayEnd.{CheckMessage, IsLuksMessage, MergeMessage, PayloadMessage, PrintMessage, SplitMessage}
 use Rattle.luks_report.specs.declared.message.Message.{Message}
-use Rattle.luks_report.specs.declared.message.Message.TheVariants.{Done, No, Findings, NotLuks, Cut, Json, OutOfMemory, ReadFailed, WriteFailed}
+use Rattle.luks_report.specs.declared.message.Message.TheVariants.{Done, NotLuks, Cut, Json, OutOfMemory, ReadFailed, WriteFailed}
 use Rattle.luks_report.specs.declared.message.Message.TheVariants.{SegmentRefused, NoSuchSlot, SlotDisabled, SlotSkipped, NothingTried}
-use Rattle.luks_report.specs.declared.message.Message.TheVariants.{KeyFileLength, NoKey, CutBeforePayload, Tail, Short}
-use Rattle.luks_report.specs.declared.message.Message.TheVariants.{KeyLength, FewRandomBytes, FewStripes}
+use Rattle.luks_report.specs.declared.message.Message.TheVariants.{KeyFileLength, NoKey}
 
 -- opening a volume
 abbrev pub OpeningMessage : Message → Type 0

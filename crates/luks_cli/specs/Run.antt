@@ -1,15 +1,14 @@
 -- How a run of a command is held to the outcome that is stated for it.
-use Rattle.std.specs.Prelude.{◌≡◌, ℕ, ◌<◌, ◌≤◌, ◌^◌, List, length, take, Option, Some, Bool, true, false, MatchBool, ◌⊎◌, is_err, Result, Ok, Err}
-use Rattle.luks_io.specs.Bytes.{Adds, Took, WhereKnown, raised}
+use Rattle.std.specs.Prelude.{◌≡◌, ℕ, ◌<◌, ◌^◌, List, length, Option, Some, true, ◌⊎◌, is_err}
+use Rattle.luks_io.specs.Bytes.{Adds, Took, WhereKnown}
 use Rattle.luks_cli.specs.VolumeParts.{cat_promptly}
 use Rattle.luks_command.specs.Request.{Request, is_luks, luks_uuid, luks_dump, luks_check, test_passphrase, luks_cat, af_split, af_merge}
-use Rattle.luks_runs.specs.Ending.{Outcome}
 use Rattle.luks_cli.specs.Outcome.{outcome_of}
+use Rattle.luks_runs.specs.Run.{Promptness, Runs, TookNone, at_any_pace}
 use Rattle.luks_runs.specs.Stripe.{longest_key}
 use Rattle.luks_runs.specs.StripeParts.{split_promptly}
 use Rattle.luks_cli.specs.Volume.{volume_of}
 use Rattle.luks_report.specs.declared.message.Message.{Message}
-use Rattle.luks_report.specs.declared.message.Message.TheVariants.{Done, OutOfMemory, ReadFailed, WriteFailed}
 
 -- how prompt a command is with this image
 abbrev pub promptness_of : Request → List ℕ → Promptness

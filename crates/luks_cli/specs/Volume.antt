@@ -17,6 +17,7 @@ use Rattle.luks_volume.specs.Plain.{ending_of, payload_end_of, plain_of}
 use Rattle.luks_report.specs.Faults.{message_at_end}
 use Rattle.luks_report.specs.Texts.{opened_line}
 use Rattle.luks_report.specs.declared.message.Message.TheVariants.{Done, Cut, KeyFileLength}
+use Rattle.luks_runs.specs.Secret.{longest_key_file}
 use Rattle.luks_runs.specs.Ending.{Outcome, unwritten}
 use Rattle.luks_runs.specs.Reading.{Reading}
 use Rattle.luks_report.specs.declared.message.Message.{Message}

@@ -1,20 +1,17 @@
 -- What the parts of the commands on volumes leave in their devices.
-use Rattle.std.specs.Prelude.{◌≡◌, ℕ, ◌+◌, ◌-◌, ◌*◌, ◌/◌, ◌^◌, ◌<◌, ◌≤◌, List, length, max, min, take, Option, Ok, Err}
-use Rattle.luks_cipher.specs.Sector.{Cipher}
-use Rattle.luks_io.specs.Bytes.{Adds, Took, TookUpTo}
+use Rattle.std.specs.Prelude.{◌≡◌, ℕ, ◌+◌, ◌-◌, ◌*◌, ◌/◌, ◌<◌, ◌≤◌, List, length, max, Option, Ok, Err}
+use Rattle.luks_io.specs.Bytes.{Took, TookUpTo}
 use Rattle.luks_header.specs.Header.{cost_of, header_of}
 use Rattle.luks_header.specs.Segment.{segment_of}
 use Rattle.luks_header.specs.declared.header.Header.{Header}
 use Rattle.luks_verdict.specs.declared.segment.Segment.{Segment}
 use Rattle.luks_open.specs.declared.opening.Opened.{Opened}
-use Rattle.luks_volume.specs.Plain.{ending_of, payload_end_of, plain_of, sector_len, sector_start, sectors_of}
+use Rattle.luks_volume.specs.Plain.{sector_len, sector_start}
 use Rattle.luks_command.specs.Request.{OpeningRequest}
-use Rattle.luks_report.specs.Faults.{message_at_end}
 use Rattle.luks_report.specs.declared.message.Message.{Message}
-use Rattle.luks_report.specs.declared.message.Message.TheVariants.{KeyFileLength, OutOfMemory, ReadFailed, WriteFailed}
+use Rattle.luks_report.specs.declared.message.Message.TheVariants.{OutOfMemory, ReadFailed, WriteFailed}
 use Rattle.luks_runs.specs.Reading.{Reading, detached_header_of}
 use Rattle.luks_cli.specs.Volume.{OnOpened, volume_by}
-use Rattle.luks_runs.specs.Secret.{longest_key_file}
 
 -- ---- the header
 

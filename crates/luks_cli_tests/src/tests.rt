@@ -226,7 +226,11 @@ fn refuses_keys_by_length(rt: HostRuntime) -> Result<(), Fail> {
     check(&rt, &long, &[], 4, told);
     same((long.image_left, long.secret_left), (2, 600)).expect(&rt, "the same");
     let longest = run(alloc, line, &[7; 512], &[0; 600])?;
-    same((longest.status, longest.output.len(), longest.secret_left), (0, 1024, 88)).expect(&rt, "the same");
+    same(
+        (longest.status, longest.output.len(), longest.secret_left),
+        (0, 1024, 88),
+    )
+    .expect(&rt, "the same");
     Ok(())
 }
 
@@ -255,7 +259,11 @@ fn tells_how_it_is_called(rt: HostRuntime) -> Result<(), Fail> {
     }
     let report = Report::of_fault(PlanFault::Memory);
     same((report.status, report.message), (3, Message::OutOfMemory)).expect(&rt, "the same");
-    same(line_of(alloc, &report.message)?.as_slice(), b"luksrd: out of memory\n".as_slice()).expect(&rt, "the same");
+    same(
+        line_of(alloc, &report.message)?.as_slice(),
+        b"luksrd: out of memory\n".as_slice(),
+    )
+    .expect(&rt, "the same");
     Ok(())
 }
 

@@ -4,7 +4,6 @@ use Rattle.luks_io.specs.Bytes.{Took}
 use Rattle.luks1_header.specs.Header1.{is_luks1}
 use Rattle.luks2_header.proofs.AbsentLemmas.{cost2_there}
 use Rattle.luks_header.specs.Header.{cost_of, header_of}
-use Rattle.luks_header.specs.declared.header.Header.{Header}
 use Rattle.luks_area.specs.declared.fault.HeaderFault.{HeaderFault}
 use Rattle.luks_runs.specs.Standing.{reading_of}
 use Rattle.luks_runs.specs.declared.standing.Standing.{Standing}

@@ -1,12 +1,9 @@
 -- With which messages the parts of runs may end, whatever their devices do.
-use Rattle.std.specs.Prelude.{◌≡◌, ◌⊎◌}
-use Rattle.luks_command.specs.Request.{Request, is_luks, luks_uuid, luks_dump, luks_check, test_passphrase, luks_cat, af_split, af_merge}
 use Rattle.luks_runs.specs.declared.headers.Page.{Page}
 use Rattle.luks_runs.specs.declared.headers.Page.TheVariants.{Uuid, Dump, Check}
 use Rattle.luks_report.specs.declared.message.Message.{Message}
 use Rattle.luks_report.specs.declared.message.Message.TheVariants.{Done, No, Findings, NotLuks, Cut, Json, OutOfMemory, ReadFailed, WriteFailed}
-use Rattle.luks_report.specs.declared.message.Message.TheVariants.{SegmentRefused, NoSuchSlot, SlotDisabled, SlotSkipped, NothingTried}
-use Rattle.luks_report.specs.declared.message.Message.TheVariants.{KeyFileLength, NoKey, CutBeforePayload, Tail, Short}
+use Rattle.luks_report.specs.declared.message.Message.TheVariants.{CutBeforePayload, Tail, Short}
 use Rattle.luks_report.specs.declared.message.Message.TheVariants.{KeyLength, FewRandomBytes, FewStripes}
 
 -- which messages `isLuks` may end with

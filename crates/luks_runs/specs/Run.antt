@@ -1,15 +1,9 @@
 -- What a run leaves in its devices, and what it keeps to where it is broken off. Each device is spoken of by itself: a
 -- run takes so many bytes of the image and of the second input, and writes these; what that means for a device is a
 -- fact of its own.
-use Rattle.std.specs.Prelude.{◌≡◌, ℕ, ◌<◌, ◌≤◌, ◌^◌, List, length, take, Option, Some, Bool, true, false, MatchBool, ◌⊎◌, is_err, Result, Ok, Err}
-use Rattle.luks_io.specs.Bytes.{Adds, Took, WhereKnown, raised}
-use Rattle.luks_cli.specs.VolumeParts.{cat_promptly}
-use Rattle.luks_command.specs.Request.{Request, is_luks, luks_uuid, luks_dump, luks_check, test_passphrase, luks_cat, af_split, af_merge}
+use Rattle.std.specs.Prelude.{◌≡◌, ℕ, ◌<◌, ◌≤◌, List, length, take, Bool, true, false, MatchBool, ◌⊎◌, Result, Ok, Err}
+use Rattle.luks_io.specs.Bytes.{raised}
 use Rattle.luks_runs.specs.Ending.{Outcome}
-use Rattle.luks_cli.specs.Outcome.{outcome_of}
-use Rattle.luks_runs.specs.Stripe.{longest_key}
-use Rattle.luks_runs.specs.StripeParts.{split_promptly}
-use Rattle.luks_cli.specs.Volume.{volume_of}
 use Rattle.luks_report.specs.declared.message.Message.{Message}
 use Rattle.luks_report.specs.declared.message.Message.TheVariants.{Done, OutOfMemory, ReadFailed, WriteFailed}
 

@@ -9,4 +9,3 @@ mod passing;
 pub mod pump;
 mod sector;
 pub mod state;
-

@@ -49,7 +49,11 @@ fn check_fields(rt: &impl Abort, header: &Header2) {
     same(header.hash, Hash::Sha256).expect(rt, "the same");
     same(header.salt[0], 0).expect(rt, "the same");
     same(header.salt[63], 63).expect(rt, "the same");
-    same(header.uuid.as_bytes(), b"11111111-2222-3333-4444-555555555555".as_slice()).expect(rt, "the same");
+    same(
+        header.uuid.as_bytes(),
+        b"11111111-2222-3333-4444-555555555555".as_slice(),
+    )
+    .expect(rt, "the same");
     same(header.subsystem.as_bytes(), b"sub".as_slice()).expect(rt, "the same");
     same(header.finding, None).expect(rt, "the same");
 }

@@ -281,7 +281,12 @@ fn limits(rt: HostRuntime) -> Result<(), Fail> {
         (1999, Judgement::Skipped(SkipReason::Digest)),
         (2000, Judgement::Usable(1)),
     ] {
-        same_in(&limit, judge(&metadata, ATTACHED, Some(limit), 2), Some(want)).expect(&rt, "the same");
+        same_in(
+            &limit,
+            judge(&metadata, ATTACHED, Some(limit), 2),
+            Some(want),
+        )
+        .expect(&rt, "the same");
     }
     Ok(())
 }

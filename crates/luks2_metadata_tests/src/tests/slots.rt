@@ -37,7 +37,12 @@ pub(super) fn check_metadata(
     let judgement = judge(metadata, ATTACHED, None, 2);
     same_in(&why, word(judgement), want).expect(rt, "the same");
     let usable = slot(rt.alloc(), metadata, ATTACHED, 2)?;
-    same_in(&why, usable.is_some(), matches!(judgement, Some(Judgement::Usable(_)))).expect(rt, "the same");
+    same_in(
+        &why,
+        usable.is_some(),
+        matches!(judgement, Some(Judgement::Usable(_))),
+    )
+    .expect(rt, "the same");
     Ok(())
 }
 
@@ -74,7 +79,12 @@ fn the_slots_as_they_are(rt: HostRuntime) -> Result<(), Fail> {
         (2, "usable 1"),
         (32, "not there"),
     ] {
-        same_in(&number, word(judge(&metadata, ATTACHED, None, number)), want).expect(&rt, "the same");
+        same_in(
+            &number,
+            word(judge(&metadata, ATTACHED, None, number)),
+            want,
+        )
+        .expect(&rt, "the same");
     }
     let Some(slot) = slot(rt.alloc(), &metadata, ATTACHED, 2)? else {
         return Err(Fail::new("no slot"));
@@ -324,6 +334,10 @@ fn limits(rt: HostRuntime) -> Result<(), Fail> {
         let judgement = judge(&metadata, ATTACHED, limit, 2);
         same_in(&limit, word(judgement), want).expect(&rt, "the same");
     }
-    same(judge(&metadata, ATTACHED, Some(1), 0), Some(Judgement::Skipped(SkipReason::Argon2id))).expect(&rt, "the same");
+    same(
+        judge(&metadata, ATTACHED, Some(1), 0),
+        Some(Judgement::Skipped(SkipReason::Argon2id)),
+    )
+    .expect(&rt, "the same");
     Ok(())
 }

@@ -99,12 +99,20 @@ fn writes_a_payload_out(rt: HostRuntime) -> Result<(), Fail> {
     let whole = sealed_in(alloc, Mode::XtsPlain64, KEY, USUAL, PASSPHRASE)?;
     let both = run_apart(alloc, CAT, &whole, &whole, PASSPHRASE)?;
     check(&rt, &both, &plain, 0, "");
-    same((both.header_left, both.image_left), (whole.len() - 260_096.min(whole.len()), 0)).expect(&rt, "the same");
+    same(
+        (both.header_left, both.image_left),
+        (whole.len() - 260_096.min(whole.len()), 0),
+    )
+    .expect(&rt, "the same");
 
     let (header, payload) = halves(alloc, Mode::XtsPlain64, KEY, USUAL, 260_096)?;
     let apart = run_apart(alloc, CAT, &header, &payload, PASSPHRASE)?;
     check(&rt, &apart, &plain, 0, "");
-    same((apart.header_left, apart.image_left, apart.secret_left), (0, 0, 0)).expect(&rt, "the same");
+    same(
+        (apart.header_left, apart.image_left, apart.secret_left),
+        (0, 0, 0),
+    )
+    .expect(&rt, "the same");
 
     let torn = &payload[..payload.len().saturating_sub(1)];
     let torn = run_apart(alloc, CAT, &header, torn, PASSPHRASE)?;
@@ -136,12 +144,20 @@ fn reads_the_image_once_a_key_is_found(rt: HostRuntime) -> Result<(), Fail> {
 
     let none = run_apart(alloc, CAT, &payload, &header, PASSPHRASE)?;
     check(&rt, &none, &[], 4, "luksrd: not a LUKS image\n");
-    same((none.image_left, none.secret_left), (260_096, PASSPHRASE.len())).expect(&rt, "the same");
+    same(
+        (none.image_left, none.secret_left),
+        (260_096, PASSPHRASE.len()),
+    )
+    .expect(&rt, "the same");
 
     let line = "luksCat --key-file f --header h --key-slot 1 i";
     let disabled = run_apart(alloc, line, &header, &payload, PASSPHRASE)?;
     check(&rt, &disabled, &[], 1, "luksrd: key slot 1 is disabled\n");
-    same((disabled.image_left, disabled.secret_left), (1536, PASSPHRASE.len())).expect(&rt, "the same");
+    same(
+        (disabled.image_left, disabled.secret_left),
+        (1536, PASSPHRASE.len()),
+    )
+    .expect(&rt, "the same");
 
     let refused = run(alloc, "luksCat --key-file f i", &header, PASSPHRASE)?;
     same(refused.status, 1).expect(&rt, "the same");
@@ -166,7 +182,12 @@ fn other_commands_leave_the_image(rt: HostRuntime) -> Result<(), Fail> {
     ] {
         let ended = run_apart(alloc, line, &header, &payload, PASSPHRASE)?;
         check(&rt, &ended, output.as_bytes(), 0, "");
-        same_in(&line, header.len() - ended.header_left.min(header.len()), taken).expect(&rt, "the same");
+        same_in(
+            &line,
+            header.len() - ended.header_left.min(header.len()),
+            taken,
+        )
+        .expect(&rt, "the same");
         same_in(&line, ended.image_left, 1536).expect(&rt, "the same");
     }
     let dump = run_apart(alloc, "luksDump --header h i", &header, &payload, &[])?;
@@ -224,13 +245,22 @@ fn writes_payloads_of_luks2(rt: HostRuntime) -> Result<(), Fail> {
         let header = header2(alloc, offset, size)?;
         let ended = run_apart(alloc, CAT, &header, image, PASSPHRASE)?;
         check(&rt, &ended, &plain[..plain.len().min(len)], status, told);
-        same_in(&(offset, size), (ended.header_left, ended.image_left), (0, left)).expect(&rt, "the same");
+        same_in(
+            &(offset, size),
+            (ended.header_left, ended.image_left),
+            (0, left),
+        )
+        .expect(&rt, "the same");
         let checked = run_apart(alloc, "luksCheck --header h i", &header, image, &[])?;
         check(&rt, &checked, b"clean\n", 0, "");
     }
     let odd = header2(alloc, "100", "dynamic")?;
     let refused = run_apart(alloc, CAT, &odd, &payload, PASSPHRASE)?;
     check(&rt, &refused, &[], 1, "luksrd: segment refused: offset\n");
-    same((refused.image_left, refused.secret_left), (1536, PASSPHRASE.len())).expect(&rt, "the same");
+    same(
+        (refused.image_left, refused.secret_left),
+        (1536, PASSPHRASE.len()),
+    )
+    .expect(&rt, "the same");
     Ok(())
 }

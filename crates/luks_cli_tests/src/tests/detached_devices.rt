@@ -61,7 +61,9 @@ fn check_failures(
             match device {
                 1 => same_in(&(name, call), written, taken / 512 * 512).expect(rt, "the same"),
                 3 => holds_in(&(name, call), taken <= (written / 512 + 1) * 512).expect(rt, "so"),
-                _ => same_in(&(name, device, call), (written, taken), (0, 0)).expect(rt, "the same"),
+                _ => same_in(&(name, device, call), (written, taken), (0, 0)).expect(
+                    rt, "the same",
+                ),
             }
             assert!(rt; call < 899);
         }

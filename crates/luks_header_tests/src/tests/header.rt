@@ -23,7 +23,11 @@ fn check_fields(rt: &impl Abort, header: &Header1) {
     same(header.digest_salt[0], 0x20).expect(rt, "the same");
     same(header.digest_salt[31], 0x3f).expect(rt, "the same");
     same(header.digest_iterations, 0x0102_0304).expect(rt, "the same");
-    same(header.uuid.as_bytes(), b"0123456789abcdefghijklmnopqrstuvwxyzABCD".as_slice()).expect(rt, "the same");
+    same(
+        header.uuid.as_bytes(),
+        b"0123456789abcdefghijklmnopqrstuvwxyzABCD".as_slice(),
+    )
+    .expect(rt, "the same");
 }
 
 fn check_slots(rt: &impl Abort, slots: &[KeySlot; 8]) {
@@ -133,13 +137,21 @@ fn other_images_are_no_luks(rt: HostRuntime) {
     secondary[0] = 0x53;
     for image in [version_two, version_257, secondary, [0; 592]] {
         let mut source = MemSource::new(&image);
-        same(fault_of(rt.alloc(), &mut source), Some(HeaderFault::NotLuks)).expect(&rt, "the same");
+        same(
+            fault_of(rt.alloc(), &mut source),
+            Some(HeaderFault::NotLuks),
+        )
+        .expect(&rt, "the same");
         same(source.left().len(), 0).expect(&rt, "the same");
     }
     // All of a short image is read to learn that it has no header.
     let zeros = [0; 600];
     let mut source = MemSource::new(&zeros);
-    same(fault_of(rt.alloc(), &mut source), Some(HeaderFault::NotLuks)).expect(&rt, "the same");
+    same(
+        fault_of(rt.alloc(), &mut source),
+        Some(HeaderFault::NotLuks),
+    )
+    .expect(&rt, "the same");
     same(source.left().len(), 0).expect(&rt, "the same");
 }
 
@@ -152,7 +164,11 @@ fn a_failed_read_is_told(rt: HostRuntime) {
             piece: 1,
             calls,
         };
-        same(fault_of(rt.alloc(), &mut ReadSource::new(device)), Some(HeaderFault::Read)).expect(&rt, "the same");
+        same(
+            fault_of(rt.alloc(), &mut ReadSource::new(device)),
+            Some(HeaderFault::Read),
+        )
+        .expect(&rt, "the same");
     }
 }
 
@@ -163,7 +179,11 @@ fn the_end_is_no_failed_read(rt: HostRuntime) {
         piece: 100,
         calls: 2,
     };
-    same(fault_of(rt.alloc(), &mut ReadSource::new(device)), Some(HeaderFault::Cut)).expect(&rt, "the same");
+    same(
+        fault_of(rt.alloc(), &mut ReadSource::new(device)),
+        Some(HeaderFault::Cut),
+    )
+    .expect(&rt, "the same");
 }
 
 #[test]

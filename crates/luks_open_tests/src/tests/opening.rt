@@ -33,7 +33,12 @@ fn check_opens(
         return Err("nothing opens".into());
     };
     same_in(&question, opened.slot, slot).expect(rt, "the same");
-    same_in(&question, opened.key.as_slice(), volume.key(rt.alloc())?.as_slice()).expect(rt, "the same");
+    same_in(
+        &question,
+        opened.key.as_slice(),
+        volume.key(rt.alloc())?.as_slice(),
+    )
+    .expect(rt, "the same");
     same_in(&question, work.count(), evaluations).expect(rt, "the same");
     Ok(())
 }

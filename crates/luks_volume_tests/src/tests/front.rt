@@ -96,11 +96,19 @@ fn a_failed_read_behind_what_is_held_is_told(rt: HostRuntime) -> Result<(), Fail
     let mut sink = taker(alloc, 65536, 700, NEVER)?;
     let mut pump = Pump::with_front(small, key()?, &first[first.len().min(1000)..]);
     let run = run_pump(&mut pump, &mut source, &mut sink);
-    same(run, Run {
+    same(
+        run,
+        Run {
             sectors: 1,
             last: Err(VolumeFault::Read),
-        }).expect(&rt, "the same");
-    same(sink.as_slice(), &volume.plain[..volume.plain.len().min(512)]).expect(&rt, "the same");
+        },
+    )
+    .expect(&rt, "the same");
+    same(
+        sink.as_slice(),
+        &volume.plain[..volume.plain.len().min(512)],
+    )
+    .expect(&rt, "the same");
     same(source.left(), rest.len()).expect(&rt, "the same");
     Ok(())
 }

@@ -6,11 +6,11 @@ use super::fixture::{NEVER, Run, counted, dynamic, run_pump, taker};
 use luks_cipher::{Mode, SectorCipher};
 use luks_header::sector_size::SectorSize;
 use luks_kdf::{Hash, Work, af_merge, pbkdf2};
+use luks_seal::luks1::seal1;
+use luks_seal::parameters::{Seal1, Slot1};
 use luks_testing::devices::Flaky;
 use luks_testing::same::same;
 use luks_volume::pump::Pump;
-use luks_seal::luks1::seal1;
-use luks_seal::parameters::{Seal1, Slot1};
 use luks_volume::state::Step;
 use std::alloc::Global;
 use std::process::Abort;
@@ -124,20 +124,52 @@ fn check_header(rt: &(impl Abort + AllocGlobal), image: &[u8]) {
     same(at(image, 0, 11), b"LUKS\xba\xbe\x00\x01aes".as_slice()).expect(rt, "the same");
     same(at(image, 40, 12), b"xts-plain64\x00".as_slice()).expect(rt, "the same");
     same(at(image, 72, 7), b"sha256\x00".as_slice()).expect(rt, "the same");
-    same(at(image, 104, 8), b"\x00\x00\x00\x48\x00\x00\x00\x20".as_slice()).expect(rt, "the same");
+    same(
+        at(image, 104, 8),
+        b"\x00\x00\x00\x48\x00\x00\x00\x20".as_slice(),
+    )
+    .expect(rt, "the same");
     same(at(image, 112, 20), DIGEST).expect(rt, "the same");
     same(at(image, 132, 32), SALT.as_slice()).expect(rt, "the same");
     same(at(image, 164, 4), b"\x00\x00\x00\x03".as_slice()).expect(rt, "the same");
     same(at(image, 168, 7), b"a-uuid\x00".as_slice()).expect(rt, "the same");
     // The slots: state and iterations, then salt, place and stripes.
-    same(at(image, 208, 8), b"\x00\xac\x71\xf3\x00\x00\x00\x02".as_slice()).expect(rt, "the same");
+    same(
+        at(image, 208, 8),
+        b"\x00\xac\x71\xf3\x00\x00\x00\x02".as_slice(),
+    )
+    .expect(rt, "the same");
     same(at(image, 216, 32), FIRST_SALT.as_slice()).expect(rt, "the same");
-    same(at(image, 248, 8), b"\x00\x00\x00\x08\x00\x00\x00\x04".as_slice()).expect(rt, "the same");
-    same(at(image, 256, 8), b"\x00\x00\xde\xad\x00\x00\x00\x00".as_slice()).expect(rt, "the same");
-    same(at(image, 296, 8), b"\x00\x00\x00\x10\x00\x00\x00\x04".as_slice()).expect(rt, "the same");
-    same(at(image, 448, 8), b"\x00\xac\x71\xf3\x00\x00\x00\x02".as_slice()).expect(rt, "the same");
-    same(at(image, 488, 8), b"\x00\x00\x00\x30\x00\x00\x00\x04".as_slice()).expect(rt, "the same");
-    same(at(image, 584, 12), b"\x00\x00\x00\x40\x00\x00\x00\x04\x00\x00\x00\x00".as_slice()).expect(rt, "the same");
+    same(
+        at(image, 248, 8),
+        b"\x00\x00\x00\x08\x00\x00\x00\x04".as_slice(),
+    )
+    .expect(rt, "the same");
+    same(
+        at(image, 256, 8),
+        b"\x00\x00\xde\xad\x00\x00\x00\x00".as_slice(),
+    )
+    .expect(rt, "the same");
+    same(
+        at(image, 296, 8),
+        b"\x00\x00\x00\x10\x00\x00\x00\x04".as_slice(),
+    )
+    .expect(rt, "the same");
+    same(
+        at(image, 448, 8),
+        b"\x00\xac\x71\xf3\x00\x00\x00\x02".as_slice(),
+    )
+    .expect(rt, "the same");
+    same(
+        at(image, 488, 8),
+        b"\x00\x00\x00\x30\x00\x00\x00\x04".as_slice(),
+    )
+    .expect(rt, "the same");
+    same(
+        at(image, 584, 12),
+        b"\x00\x00\x00\x40\x00\x00\x00\x04\x00\x00\x00\x00".as_slice(),
+    )
+    .expect(rt, "the same");
 }
 
 fn check_sealed(rt: &(impl Abort + AllocGlobal)) -> Result<(), Fail> {
