@@ -1,5 +1,6 @@
 //! Whole runs over memory: worked examples, and devices that fail.
 
+mod argon;
 mod cuts2;
 mod detached;
 mod detached_devices;

@@ -2,6 +2,7 @@
 //! are refused memory.
 
 use super::detached::{detached, halves};
+use super::volume_devices::check_refused;
 use super::volume2::header2;
 use crate::tests::volume::{KEY, PASSPHRASE, SMALL, plain_bytes};
 use luks_cipher::Mode;
@@ -131,15 +132,7 @@ fn check_refusals(
         scarcity.relent();
     }
     drop(scarcity);
-    let last = reports.pop().ok_or("a run")?;
-    same_in(&name, last.0, Report::of(Message::Done)).expect(rt, "the same");
-    same_in(&name, out.as_slice(), whole).expect(rt, "the same");
-    holds_in(&name, 10 < reports.len()).expect(rt, "so");
-    for (report, written, left) in reports.iter() {
-        same_in(&name, *report, Report::of(Message::OutOfMemory)).expect(rt, "the same");
-        same_in(&name, (*written, *left), (0, image.len())).expect(rt, "the same");
-    }
-    Ok(())
+    check_refused(rt, name, reports, image.len(), (out.as_slice(), whole))
 }
 
 #[test]

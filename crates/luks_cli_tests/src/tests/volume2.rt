@@ -6,26 +6,35 @@ use luks_testing::header2::{SIZE, image_of};
 use std::alloc::{AllocError, Global};
 use std::test::Fail;
 
-// The key material stands right behind both headers. The salts and the digest are those of the
-// volume of LUKS1, which Python's base64 and hashlib modules gave as text.
-const KEYSLOTS: &str = "{\"keyslots\":{\"0\":{\"type\":\"luks2\",\"key_size\":64,\
+/// Its one key slot, without a number. The key material stands right behind both headers. The salts
+/// and the digest are those of the volume of LUKS1, which Python's base64 and hashlib modules gave
+/// as text.
+pub(crate) const SLOT: &str = "{\"type\":\"luks2\",\"key_size\":64,\
     \"af\":{\"type\":\"luks1\",\"stripes\":4,\"hash\":\"sha256\"},\
     \"area\":{\"type\":\"raw\",\"offset\":\"32768\",\"size\":\"512\",\
     \"encryption\":\"aes-xts-plain64\",\"key_size\":64},\
     \"kdf\":{\"type\":\"pbkdf2\",\"hash\":\"sha256\",\"iterations\":2,\
-    \"salt\":\"UVFRUVFRUVFRUVFRUVFRUVFRUVFRUVFRUVFRUVFRUVE=\"}}},";
+    \"salt\":\"UVFRUVFRUVFRUVFRUVFRUVFRUVFRUVFRUVFRUVFRUVE=\"}}";
 
-const DIGESTS: &str = "\"digests\":{\"0\":{\"type\":\"pbkdf2\",\"keyslots\":[\"0\"],\
-    \"segments\":[\"0\"],\"hash\":\"sha256\",\"iterations\":1,\
+const DIGEST: &str = "\"hash\":\"sha256\",\"iterations\":1,\
     \"salt\":\"0dHR0dHR0dHR0dHR0dHR0dHR0dHR0dHR0dHR0dHR0dE=\",\
-    \"digest\":\"kh/wb/bbnsoJhTaSaOTgsjtZ5Ng=\"}}}";
+    \"digest\":\"kh/wb/bbnsoJhTaSaOTgsjtZ5Ng=\"";
 
-// What the JSON area says, with a payload of this size from this offset on.
-fn json(alloc: Global, offset: &str, size: &str) -> Result<String, AllocError> {
+// What the JSON area says of these key slots, with a payload of this size from this offset on. The
+// digest is that of the slots with these names.
+fn json(
+    alloc: Global,
+    slots: &str,
+    names: &str,
+    offset: &str,
+    size: &str,
+) -> Result<String, AllocError> {
     format!(in alloc;
-        "{KEYSLOTS}\"segments\":{{\"0\":{{\"type\":\"crypt\",\"offset\":\"{offset}\",\
-        \"size\":\"{size}\",\"iv_tweak\":\"0\",\"encryption\":\"aes-xts-plain64\",\
-        \"sector_size\":512}}}},{DIGESTS}"
+        "{{\"keyslots\":{{{slots}}},\"segments\":{{\"0\":{{\"type\":\"crypt\",\
+        \"offset\":\"{offset}\",\"size\":\"{size}\",\"iv_tweak\":\"0\",\
+        \"encryption\":\"aes-xts-plain64\",\"sector_size\":512}}}},\
+        \"digests\":{{\"0\":{{\"type\":\"pbkdf2\",\"keyslots\":[{names}],\
+        \"segments\":[\"0\"],{DIGEST}}}}}}}"
     )
 }
 
@@ -44,9 +53,21 @@ pub(crate) fn sealed2(alloc: Global) -> Result<Vec<u8>, Fail> {
 /// The header of the volume with its key material, 33,280 bytes, for a payload of this size from
 /// this offset on.
 pub(crate) fn header2(alloc: Global, offset: &str, size: &str) -> Result<Vec<u8>, Fail> {
+    let slots = format!(in alloc; "\"0\":{SLOT}")?;
+    let json = json(alloc, slots.as_str(), "\"0\"", offset, size)?;
+    under(alloc, json.as_str())
+}
+
+/// The same with these key slots, each of which has one of these names.
+pub(crate) fn header2_with(alloc: Global, slots: &str, names: &str) -> Result<Vec<u8>, Fail> {
+    let json = json(alloc, slots, names, "36864", "dynamic")?;
+    under(alloc, json.as_str())
+}
+
+// The key material under a header with this JSON text.
+fn under(alloc: Global, json: &str) -> Result<Vec<u8>, Fail> {
     let first = sealed(alloc, SMALL, PASSPHRASE)?;
-    let json = json(alloc, offset, size)?;
-    let mut image = image_of(alloc, 1, 1, json.as_str())?;
+    let mut image = image_of(alloc, 1, 1, json)?;
     if image.len() == 2 * SIZE && 4608 <= first.len() {
         image.extend_from_slice(&first[4096..4608])?;
     }

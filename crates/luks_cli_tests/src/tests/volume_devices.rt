@@ -184,20 +184,32 @@ fn check_refusals(
         let mut secret = MemSource::new(PASSPHRASE);
         let report = execute(alloc, &command, &mut source, &mut secret, &mut out);
         let done = report.status == 0;
-        let _ = reports.push((report, out.as_slice().len()));
+        let _ = reports.push((report, out.as_slice().len(), 0));
         if done {
             break;
         }
         scarcity.relent();
     }
     drop(scarcity);
-    let last = reports.pop().ok_or("a run")?;
+    check_refused(rt, name, reports, 0, (out.as_slice(), whole))
+}
+
+// The last of these runs met no refusal, and its output is the whole. Each before it answers want
+// of memory, wrote nothing, and left so many bytes of the image.
+pub(super) fn check_refused(
+    rt: &impl Abort,
+    name: &str,
+    mut runs: Vec<(Report, usize, usize)>,
+    left: usize,
+    (out, whole): (&[u8], &[u8]),
+) -> Result<(), Fail> {
+    let last = runs.pop().ok_or("a run")?;
     same_in(&name, last.0, Report::of(Message::Done)).expect(rt, "the same");
-    same_in(&name, out.as_slice(), whole).expect(rt, "the same");
-    holds_in(&name, 10 < reports.len()).expect(rt, "so");
-    for (report, written) in reports.iter() {
+    same_in(&name, out, whole).expect(rt, "the same");
+    holds_in(&name, 10 < runs.len()).expect(rt, "so");
+    for (report, written, rest) in runs.iter() {
         same_in(&name, *report, Report::of(Message::OutOfMemory)).expect(rt, "the same");
-        same_in(&name, *written, 0).expect(rt, "the same");
+        same_in(&name, (*written, *rest), (0, left)).expect(rt, "the same");
     }
     Ok(())
 }
