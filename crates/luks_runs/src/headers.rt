@@ -85,7 +85,8 @@ pub fn print<S: Source, O: Sink>(
     out: &mut O,
 ) -> Result<(), Message>
     ensures run { WhereKnown (S.to_come image.old) (λ known.
-        Runs at_any_pace (print_outcome_by (reading_of standing) (text_of page) (told_of page) known)
+        Runs at_any_pace
+        (print_outcome_by (reading_of standing) (text_of page) (told_of page) known)
         (message_of result) (Took known (S.to_come image.new)) TookNone
         (Adds (O.written out.old) (O.written out.new))) }
     ensures only { PageMessage page (message_of result) }
