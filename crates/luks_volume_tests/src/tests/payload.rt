@@ -207,11 +207,11 @@ fn broken_run(
     let calls = (source.calls(), sink.calls());
     let again = run_pump(&mut pump, &mut source, &mut sink);
     let skipped = pump.skip(&mut source);
-    let same = again.last == first.last
+    let for_good = again.last == first.last
         && again.sectors == 0
         && (source.calls(), sink.calls()) == calls
         && skipped.is_err() == first.last.is_err();
-    Ok((first, image.len().saturating_sub(left), same))
+    Ok((first, image.len().saturating_sub(left), for_good))
 }
 
 fn check_failures(rt: &(impl Abort + AllocGlobal)) -> Result<(), Fail> {
@@ -230,10 +230,10 @@ fn check_failures(rt: &(impl Abort + AllocGlobal)) -> Result<(), Fail> {
         (15, 3, Ok(Step::End), 2536),
     ] {
         let mut written = Vec::new(alloc);
-        let (run, took, same) = broken_run(alloc, &volume.image, (bad, NEVER), &mut written)?;
+        let (run, took, for_good) = broken_run(alloc, &volume.image, (bad, NEVER), &mut written)?;
         same(run, Run { sectors, last }).expect(rt, "the same");
         same(took, taken).expect(rt, "the same");
-        assert!(rt; same);
+        assert!(rt; for_good);
         let plain = (sectors as usize * 512).min(volume.plain.len());
         same(written.as_slice(), &volume.plain[..plain]).expect(rt, "the same");
     }
@@ -246,10 +246,10 @@ fn check_failures(rt: &(impl Abort + AllocGlobal)) -> Result<(), Fail> {
         (9, 3, Ok(Step::End), 2536, 1536),
     ] {
         let mut written = Vec::new(alloc);
-        let (run, took, same) = broken_run(alloc, &volume.image, (NEVER, bad), &mut written)?;
+        let (run, took, for_good) = broken_run(alloc, &volume.image, (NEVER, bad), &mut written)?;
         same(run, Run { sectors, last }).expect(rt, "the same");
         same(took, taken).expect(rt, "the same");
-        assert!(rt; same);
+        assert!(rt; for_good);
         let plain = volume.plain.len().min(plain);
         same(written.as_slice(), &volume.plain[..plain]).expect(rt, "the same");
     }
