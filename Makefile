@@ -43,23 +43,26 @@ demo: all
 
 check: all $(SEALER) scripts
 
-# The programs are taken as they are.
+# The programs are taken as they are. Four scripts run side by side; what each prints comes when it
+# has ended.
+TESTS := stripes volumes devices memory hostile completions package
+INTEROP := headers headers2 volumes volumes2 detached filesystems
+SCRIPTS := $(TESTS:%=test-%) $(INTEROP:%=interop-%) interop-sealed
+
+.PHONY: $(SCRIPTS)
+
 scripts:
 	tests/packages
 	tests/wrong-bodies --applied
-	tests/stripes.sh $(PROGRAM)
-	tests/volumes.sh $(PROGRAM)
-	tests/devices.sh $(PROGRAM)
-	tests/memory.sh $(PROGRAM)
-	tests/hostile.sh $(PROGRAM)
-	tests/completions.sh $(PROGRAM)
-	tests/package.sh $(PROGRAM)
-	interop/headers.sh $(PROGRAM)
-	interop/headers2.sh $(PROGRAM)
-	interop/volumes.sh $(PROGRAM)
-	interop/volumes2.sh $(PROGRAM)
-	interop/detached.sh $(PROGRAM)
-	interop/filesystems.sh $(PROGRAM)
+	+$(MAKE) -k -j 4 --output-sync=target --no-print-directory $(SCRIPTS)
+
+$(TESTS:%=test-%): test-%:
+	tests/$*.sh $(PROGRAM)
+
+$(INTEROP:%=interop-%): interop-%:
+	interop/$*.sh $(PROGRAM)
+
+interop-sealed:
 	interop/sealed.sh $(PROGRAM) $(SEALER)
 
 test:

@@ -4,8 +4,8 @@
 # shellcheck source=interop/common.sh
 . "$(dirname "$0")/common.sh"
 
-# make NAME SIZE: a file system of this kind that holds what lies in the folder files
-make() {
+# file_system NAME SIZE: one of this kind that holds what lies in the folder files
+file_system() {
     truncate -s "$2" "$1"
     case $1 in
     ext4) mke2fs -q -t ext4 -d files ext4 ;;
@@ -64,9 +64,9 @@ head -c 5000 /dev/urandom >files/folder/inner
 printf 'one line\n' >files/line
 printf '%s\n' / '0 0' 'd--755 0 0' 'large ---644 0 0 files/large' 'line ---644 0 0 files/line' 'folder d--755 0 0' \
     'inner ---644 0 0 files/folder/inner' '$' '$' >prototype
-make ext4 2M
-make vfat 2M
-make xfs 16M
+file_system ext4 2M
+file_system vfat 2M
+file_system xfs 16M
 
 # one KIND CIPHER KEY_BITS: it is sealed as LUKS1
 one() {

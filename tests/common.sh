@@ -2,6 +2,8 @@
 # What the scripts that run the built program share: a folder to work in, and how a run is compared. The first argument is the program.
 # Images are plain files; no device mapper and no kernel cryptography is used.
 set -u
+# what the make that calls this script was told is not for those that it calls
+unset MAKEFLAGS
 program=$(realpath "${1:?the built program}")
 work=$(mktemp -d)
 trap 'rm -rf "$work"' EXIT

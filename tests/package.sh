@@ -5,8 +5,6 @@ sources=$(realpath "$(dirname "$0")/..")
 # shellcheck source=tests/common.sh
 . "$(dirname "$0")/common.sh"
 export LC_ALL=C
-# what the make that calls this script was told is not for those that it calls
-unset MAKEFLAGS
 
 # made FILE: `make deb` of the program into this file
 made() {
