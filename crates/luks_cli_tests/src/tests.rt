@@ -10,6 +10,7 @@ mod honest;
 mod hostile;
 mod modes;
 mod past;
+mod same;
 mod second;
 pub(crate) mod volume;
 pub(crate) mod volume2;
@@ -20,6 +21,7 @@ mod volumes2;
 ghost use Rattle.std.specs.Prelude.{◌≡◌, IfOk, false};
 ghost use Rattle.luks_command.specs.Request.{is_detached, request_of};
 
+use crate::tests::same::{assert_in, assert_same, assert_same_in};
 use failing::check_failures;
 use luks_cli::execute::execute;
 use luks_command::command::Command;
@@ -27,7 +29,6 @@ use luks_command::planning::{PlanFault, plan};
 use luks_io::memory::{MemSink, MemSource};
 use luks_report::message::Message;
 use luks_report::report::Report;
-use luks_testing::same::{holds_in, same, same_in};
 use std::alloc::{AllocError, Global};
 use std::process::Abort;
 use std::test::Fail;
@@ -80,9 +81,9 @@ fn run(alloc: Global, line: &str, image: &[u8], secret: &[u8]) -> Result<Ended, 
 }
 
 fn check(rt: &impl Abort, ended: &Ended, output: &[u8], status: u8, told: &str) {
-    same(ended.output.as_slice(), output).expect(rt, "the same");
-    same(ended.status, status).expect(rt, "the same");
-    same(ended.told.as_slice(), told.as_bytes()).expect(rt, "the same");
+    assert_same(rt, ended.output.as_slice(), output);
+    assert_same(rt, ended.status, status);
+    assert_same(rt, ended.told.as_slice(), told.as_bytes());
 }
 
 const ZEROS: [u8; 28] = [0; 28];
@@ -138,17 +139,17 @@ fn merges(rt: HostRuntime) -> Result<(), Fail> {
         &[],
     )?;
     check(&rt, &one, &bytes, 0, "");
-    same(one.image_left, 0).expect(&rt, "the same");
+    assert_same(&rt, one.image_left, 0);
 
     let two = joined(alloc, &[&ZEROS, &LAST, b"x"])?;
     let line = "afMerge --hash sha256 --stripes 2 --key-bytes 28 s";
     let merged = run(alloc, line, two.as_slice(), &[])?;
     check(&rt, &merged, &[0xff; 28], 0, "");
-    same(merged.image_left, 1).expect(&rt, "the same");
+    assert_same(&rt, merged.image_left, 1);
 
     let few = run(alloc, line, &[0; 55], &[])?;
     check(&rt, &few, &[], 4, "luksrd: stripes are too few\n");
-    same(few.image_left, 0).expect(&rt, "the same");
+    assert_same(&rt, few.image_left, 0);
 
     let three = joined(alloc, &[&ZEROS, &HASHED, &HASHED])?;
     let line = "afMerge --hash sha256 --stripes 3 --key-bytes 28 s";
@@ -170,11 +171,11 @@ fn splits(rt: HostRuntime) -> Result<(), Fail> {
     let two = joined(alloc, &[&ZEROS, &LAST])?;
     let ended = run(alloc, line, &key, &[0; 30])?;
     check(&rt, &ended, two.as_slice(), 0, "");
-    same((ended.image_left, ended.secret_left), (0, 2)).expect(&rt, "the same");
+    assert_same(&rt, (ended.image_left, ended.secret_left), (0, 2));
 
     let few = run(alloc, line, &key, &[0; 27])?;
     check(&rt, &few, &[], 4, "luksrd: random bytes are too few\n");
-    same(few.secret_left, 0).expect(&rt, "the same");
+    assert_same(&rt, few.secret_left, 0);
 
     let three = joined(alloc, &[&ZEROS, &HASHED, &HASHED])?;
     let random = joined(alloc, &[&ZEROS, &HASHED])?;
@@ -222,16 +223,16 @@ fn refuses_keys_by_length(rt: HostRuntime) -> Result<(), Fail> {
     let told = "luksrd: key must be 1 to 512 bytes\n";
     let none = run(alloc, line, &[], &[0; 600])?;
     check(&rt, &none, &[], 4, told);
-    same(none.secret_left, 600).expect(&rt, "the same");
+    assert_same(&rt, none.secret_left, 600);
     let long = run(alloc, line, &[7; 515], &[0; 600])?;
     check(&rt, &long, &[], 4, told);
-    same((long.image_left, long.secret_left), (2, 600)).expect(&rt, "the same");
+    assert_same(&rt, (long.image_left, long.secret_left), (2, 600));
     let longest = run(alloc, line, &[7; 512], &[0; 600])?;
-    same(
+    assert_same(
+        &rt,
         (longest.status, longest.output.len(), longest.secret_left),
         (0, 1024, 88),
-    )
-    .expect(&rt, "the same");
+    );
     Ok(())
 }
 
@@ -256,15 +257,19 @@ fn tells_how_it_is_called(rt: HostRuntime) -> Result<(), Fail> {
     ] {
         let ended = run(alloc, line, b"x", b"y")?;
         check(&rt, &ended, &[], 1, usage);
-        same_in(&line, (ended.image_left, ended.secret_left), (1, 1)).expect(&rt, "the same");
+        assert_same_in(&rt, &line, (ended.image_left, ended.secret_left), (1, 1));
     }
     let report = Report::of_fault(PlanFault::Memory);
-    same((report.status, report.message), (3, Message::OutOfMemory)).expect(&rt, "the same");
-    same(
+    assert_same(
+        &rt,
+        (report.status, report.message),
+        (3, Message::OutOfMemory),
+    );
+    assert_same(
+        &rt,
         line_of(alloc, &report.message)?.as_slice(),
         b"luksrd: out of memory\n".as_slice(),
-    )
-    .expect(&rt, "the same");
+    );
     Ok(())
 }
 
@@ -299,8 +304,8 @@ fn writes_what_fits(rt: HostRuntime) -> Result<(), Fail> {
         let mut out = MemSink::new(alloc, room)?;
         let report = execute(alloc, &command, &mut key, &mut random, &mut out);
         assert!(rt; report == Report::of(Message::WriteFailed));
-        same(out.as_slice(), &two[..two.len().min(room)]).expect(&rt, "the same");
-        same(random.left().len(), 72).expect(&rt, "the same");
+        assert_same(&rt, out.as_slice(), &two[..two.len().min(room)]);
+        assert_same(&rt, random.left().len(), 72);
     }
     Ok(())
 }

@@ -3,7 +3,7 @@
 use super::volume::{PASSPHRASE, SMALL, plain_bytes, sealed};
 use super::volume2::{header2, sealed2};
 use super::{check, run};
-use luks_testing::same::{same, same_in};
+use crate::tests::same::{assert_same, assert_same_in};
 use std::alloc::Global;
 use std::process::Abort;
 use std::test::Fail;
@@ -29,7 +29,7 @@ fn check_cut(
     let ended = run(alloc, CAT, &image[..image.len().min(len)], PASSPHRASE)?;
     let status = if told.is_empty() { 0 } else { 4 };
     check(rt, &ended, &plain[..plain.len().min(written)], status, told);
-    same_in(&len, ended.image_left, 0).expect(rt, "the same");
+    assert_same_in(rt, &len, ended.image_left, 0);
     Ok(())
 }
 
@@ -91,9 +91,9 @@ fn fixed_image(alloc: Global) -> Result<Vec<u8>, Fail> {
 // 1,024 bytes of plain text, and 512 bytes of the image that are left.
 fn check_whole(rt: &(impl Abort + AllocGlobal), image: &[u8]) -> Result<(), Fail> {
     let whole = run(rt.alloc(), CAT, image, PASSPHRASE)?;
-    same(whole.status, 0).expect(rt, "the same");
-    same(whole.output.len(), 1024).expect(rt, "the same");
-    same(whole.image_left, 512).expect(rt, "the same");
+    assert_same(rt, whole.status, 0);
+    assert_same(rt, whole.output.len(), 1024);
+    assert_same(rt, whole.image_left, 512);
     Ok(())
 }
 

@@ -5,13 +5,13 @@ ghost use Rattle.luks_command.specs.Request.{is_detached, request_of};
 
 use super::volume2::header2;
 use super::{line_of, run};
+use crate::tests::same::{assert_same, assert_same_in};
 use crate::tests::volume::{KEY, PASSPHRASE, Size, USUAL, changed, plain_bytes, sealed_in};
 use luks_cipher::Mode;
 use luks_cli::execute::execute_detached;
 use luks_command::command::Command;
 use luks_command::planning::plan;
 use luks_io::memory::{MemSink, MemSource};
-use luks_testing::same::{same, same_in};
 use std::alloc::Global;
 use std::process::Abort;
 use std::test::Fail;
@@ -72,9 +72,9 @@ fn run_apart(
 }
 
 fn check(rt: &impl Abort, ended: &Apart, output: &[u8], status: u8, told: &str) {
-    same(ended.output.as_slice(), output).expect(rt, "the same");
-    same(ended.status, status).expect(rt, "the same");
-    same(ended.told.as_slice(), told.as_bytes()).expect(rt, "the same");
+    assert_same(rt, ended.output.as_slice(), output);
+    assert_same(rt, ended.status, status);
+    assert_same(rt, ended.told.as_slice(), told.as_bytes());
 }
 
 /// A volume of LUKS1 in two: its header and its key areas, with the payload's start at byte 0, and
@@ -99,20 +99,20 @@ fn writes_a_payload_out(rt: HostRuntime) -> Result<(), Fail> {
     let whole = sealed_in(alloc, Mode::XtsPlain64, KEY, USUAL, PASSPHRASE)?;
     let both = run_apart(alloc, CAT, &whole, &whole, PASSPHRASE)?;
     check(&rt, &both, &plain, 0, "");
-    same(
+    assert_same(
+        &rt,
         (both.header_left, both.image_left),
         (whole.len() - 260_096.min(whole.len()), 0),
-    )
-    .expect(&rt, "the same");
+    );
 
     let (header, payload) = halves(alloc, Mode::XtsPlain64, KEY, USUAL, 260_096)?;
     let apart = run_apart(alloc, CAT, &header, &payload, PASSPHRASE)?;
     check(&rt, &apart, &plain, 0, "");
-    same(
+    assert_same(
+        &rt,
         (apart.header_left, apart.image_left, apart.secret_left),
         (0, 0, 0),
-    )
-    .expect(&rt, "the same");
+    );
 
     let torn = &payload[..payload.len().saturating_sub(1)];
     let torn = run_apart(alloc, CAT, &header, torn, PASSPHRASE)?;
@@ -136,33 +136,33 @@ fn reads_the_image_once_a_key_is_found(rt: HostRuntime) -> Result<(), Fail> {
         4,
         "luksrd: image ends inside the header or a key area\n",
     );
-    same((cut.header_left, cut.image_left), (0, 1536)).expect(&rt, "the same");
+    assert_same(&rt, (cut.header_left, cut.image_left), (0, 1536));
 
     let wrong = run_apart(alloc, CAT, &header, &payload, b"wrong")?;
     check(&rt, &wrong, &[], 2, "luksrd: no key opens the volume\n");
-    same((wrong.header_left, wrong.image_left), (0, 1536)).expect(&rt, "the same");
+    assert_same(&rt, (wrong.header_left, wrong.image_left), (0, 1536));
 
     let none = run_apart(alloc, CAT, &payload, &header, PASSPHRASE)?;
     check(&rt, &none, &[], 4, "luksrd: not a LUKS image\n");
-    same(
+    assert_same(
+        &rt,
         (none.image_left, none.secret_left),
         (260_096, PASSPHRASE.len()),
-    )
-    .expect(&rt, "the same");
+    );
 
     let line = "luksCat --key-file f --header h --key-slot 1 i";
     let disabled = run_apart(alloc, line, &header, &payload, PASSPHRASE)?;
     check(&rt, &disabled, &[], 1, "luksrd: key slot 1 is disabled\n");
-    same(
+    assert_same(
+        &rt,
         (disabled.image_left, disabled.secret_left),
         (1536, PASSPHRASE.len()),
-    )
-    .expect(&rt, "the same");
+    );
 
     let refused = run(alloc, "luksCat --key-file f i", &header, PASSPHRASE)?;
-    same(refused.status, 1).expect(&rt, "the same");
+    assert_same(&rt, refused.status, 1);
     let told = b"luksrd: segment refused: offset\n";
-    same(refused.told.as_slice(), told.as_slice()).expect(&rt, "the same");
+    assert_same(&rt, refused.told.as_slice(), told.as_slice());
     Ok(())
 }
 
@@ -182,19 +182,19 @@ fn other_commands_leave_the_image(rt: HostRuntime) -> Result<(), Fail> {
     ] {
         let ended = run_apart(alloc, line, &header, &payload, PASSPHRASE)?;
         check(&rt, &ended, output.as_bytes(), 0, "");
-        same_in(
+        assert_same_in(
+            &rt,
             &line,
             header.len() - ended.header_left.min(header.len()),
             taken,
-        )
-        .expect(&rt, "the same");
-        same_in(&line, ended.image_left, 1536).expect(&rt, "the same");
+        );
+        assert_same_in(&rt, &line, ended.image_left, 1536);
     }
     let dump = run_apart(alloc, "luksDump --header h i", &header, &payload, &[])?;
-    same((dump.status, dump.image_left), (0, 1536)).expect(&rt, "the same");
+    assert_same(&rt, (dump.status, dump.image_left), (0, 1536));
     assert!(rt; dump.output.starts_with(b"Version: 1\n"));
     let attached = run(alloc, "luksCheck i", &header, &[])?;
-    same(attached.status, 1).expect(&rt, "the same");
+    assert_same(&rt, attached.status, 1);
     assert!(rt; attached.output.starts_with(b"segment: offset\n"));
     Ok(())
 }
@@ -213,7 +213,7 @@ fn writes_out_each_mode(rt: HostRuntime) -> Result<(), Fail> {
         let (header, payload) = halves(alloc, mode, key, USUAL, end)?;
         let ended = run_apart(alloc, CAT, &header, &payload, PASSPHRASE)?;
         check(&rt, &ended, &plain, 0, "");
-        same((ended.header_left, ended.image_left), (0, 0)).expect(&rt, "the same");
+        assert_same(&rt, (ended.header_left, ended.image_left), (0, 0));
     }
     Ok(())
 }
@@ -245,22 +245,22 @@ fn writes_payloads_of_luks2(rt: HostRuntime) -> Result<(), Fail> {
         let header = header2(alloc, offset, size)?;
         let ended = run_apart(alloc, CAT, &header, image, PASSPHRASE)?;
         check(&rt, &ended, &plain[..plain.len().min(len)], status, told);
-        same_in(
+        assert_same_in(
+            &rt,
             &(offset, size),
             (ended.header_left, ended.image_left),
             (0, left),
-        )
-        .expect(&rt, "the same");
+        );
         let checked = run_apart(alloc, "luksCheck --header h i", &header, image, &[])?;
         check(&rt, &checked, b"clean\n", 0, "");
     }
     let odd = header2(alloc, "100", "dynamic")?;
     let refused = run_apart(alloc, CAT, &odd, &payload, PASSPHRASE)?;
     check(&rt, &refused, &[], 1, "luksrd: segment refused: offset\n");
-    same(
+    assert_same(
+        &rt,
         (refused.image_left, refused.secret_left),
         (1536, PASSPHRASE.len()),
-    )
-    .expect(&rt, "the same");
+    );
     Ok(())
 }

@@ -4,6 +4,7 @@
 use super::detached::{detached, halves};
 use super::volume_devices::check_refused;
 use super::volume2::header2;
+use crate::tests::same::{assert_in, assert_same_in};
 use crate::tests::volume::{KEY, PASSPHRASE, SMALL, plain_bytes};
 use luks_cipher::Mode;
 use luks_cli::execute::execute_detached;
@@ -11,7 +12,6 @@ use luks_io::memory::{MemSink, MemSource};
 use luks_report::message::Message;
 use luks_report::report::Report;
 use luks_testing::devices::{Flaky, Leaky};
-use luks_testing::same::{holds_in, same_in};
 use luks_testing::scarce::Scarcity;
 use std::process::Abort;
 use std::test::Fail;
@@ -46,9 +46,9 @@ fn check_failures(
                 &mut secret,
                 &mut out,
             );
-            holds_in(&name, whole.starts_with(out.as_slice())).expect(rt, "so");
+            assert_in(rt, &name, whole.starts_with(out.as_slice()));
             if report.status == 0 {
-                same_in(&name, out.as_slice(), whole).expect(rt, "the same");
+                assert_same_in(rt, &name, out.as_slice(), whole);
                 break;
             }
             let told = if device == 3 {
@@ -56,15 +56,13 @@ fn check_failures(
             } else {
                 Message::ReadFailed
             };
-            same_in(&(name, device, call), report, Report::of(told)).expect(rt, "the same");
+            assert_same_in(rt, &(name, device, call), report, Report::of(told));
             let taken = image.len() - payload.left().min(image.len());
             let written = out.as_slice().len();
             match device {
-                1 => same_in(&(name, call), written, taken / 512 * 512).expect(rt, "the same"),
-                3 => holds_in(&(name, call), taken <= (written / 512 + 1) * 512).expect(rt, "so"),
-                _ => same_in(&(name, device, call), (written, taken), (0, 0)).expect(
-                    rt, "the same",
-                ),
+                1 => assert_same_in(rt, &(name, call), written, taken / 512 * 512),
+                3 => assert_in(rt, &(name, call), taken <= (written / 512 + 1) * 512),
+                _ => assert_same_in(rt, &(name, device, call), (written, taken), (0, 0)),
             }
             assert!(rt; call < 899);
         }
@@ -109,7 +107,7 @@ fn check_refusals(
         &mut secret,
         &mut out,
     );
-    same_in(&name, first, Report::of(Message::Done)).expect(rt, "the same");
+    assert_same_in(rt, &name, first, Report::of(Message::Done));
     let mut out = MemSink::new(alloc, 4096)?;
     let mut scarcity = Scarcity::new(alloc, 400, piece)?;
     for _ in 0..400 {

@@ -4,12 +4,12 @@ ghost use Rattle.std.specs.Prelude.{◌≡◌, false};
 ghost use Rattle.luks_command.specs.Request.{is_detached, request_of};
 
 use super::attached;
+use crate::tests::same::assert_in;
 use luks_cli::execute::execute;
 use luks_command::command::Command;
 use luks_report::message::Message;
 use luks_report::report::Report;
 use luks_testing::devices::{Flaky, Leaky};
-use luks_testing::same::holds_in;
 use std::process::Abort;
 use std::test::Fail;
 
@@ -50,14 +50,14 @@ fn check_ending(
     written: &[u8],
     whole: &[u8],
 ) {
-    holds_in(&failing, whole.starts_with(written)).expect(rt, "so");
+    assert_in(rt, &failing, whole.starts_with(written));
     let message = if failed {
         failing.told()
     } else {
         Message::Done
     };
-    holds_in(&failing, *report == Report::of(message)).expect(rt, "so");
-    holds_in(&failing, failed || written == whole).expect(rt, "so");
+    assert_in(rt, &failing, *report == Report::of(message));
+    assert_in(rt, &failing, failed || written == whole);
 }
 
 // One run; whether the call was made and failed. The image comes in a hundred pieces or so, of 5

@@ -4,11 +4,11 @@ ghost use Rattle.std.specs.Prelude.{◌≡◌, ◌+◌, ◌≤◌, length};
 
 use super::failing::check_failures;
 use super::{attached, check, run};
+use crate::tests::same::{assert_in, assert_same, assert_same_in};
 use luks_cli::execute::execute;
 use luks_io::memory::{MemSink, MemSource};
 use luks_report::message::Message;
 use luks_report::report::Report;
-use luks_testing::same::{holds_in, same, same_in};
 use luks_testing::scarce::Scarcity;
 use std::alloc::{AllocError, Global};
 use std::process::Abort;
@@ -104,7 +104,7 @@ fn prints_headers(rt: HostRuntime) -> Result<(), Fail> {
     image.push(7)?;
     let ended = run(alloc, "isLuks i", image.as_slice(), b"secret")?;
     check(&rt, &ended, &[], 0, "");
-    same((ended.image_left, ended.secret_left), (1, 6)).expect(&rt, "the same");
+    assert_same(&rt, (ended.image_left, ended.secret_left), (1, 6));
     Ok(())
 }
 
@@ -152,7 +152,7 @@ fn tells_what_is_no_header(rt: HostRuntime) -> Result<(), Fail> {
     ] {
         let ended = run(alloc, "isLuks i", &header[..len], &[])?;
         check(&rt, &ended, &[], status, told);
-        same(ended.image_left, 0).expect(&rt, "the same");
+        assert_same(&rt, ended.image_left, 0);
         let told = if told.is_empty() { none } else { told };
         if len < 592 {
             check(
@@ -193,7 +193,7 @@ fn seeks_a_header_so_far(rt: HostRuntime) -> Result<(), Fail> {
     for (len, left) in [(1000, 0), (4_198_400, 0), (4_200_000, 1600)] {
         let ended = run(alloc, "isLuks i", &zeros(alloc, len)?, &[])?;
         check(&rt, &ended, &[], 1, "");
-        same(ended.image_left, left).expect(&rt, "the same");
+        assert_same(&rt, ended.image_left, left);
     }
     Ok(())
 }
@@ -208,7 +208,7 @@ fn tells_what_is_amiss(rt: HostRuntime) -> Result<(), Fail> {
     let told = "luksrd: the header has findings\n";
     let ended = run(alloc, "luksCheck i", &header, &[])?;
     check(&rt, &ended, FINDINGS.as_bytes(), 1, told);
-    same(ended.image_left, 0).expect(&rt, "the same");
+    assert_same(&rt, ended.image_left, 0);
     put(&mut header, 304, &[0, 0, 0xde, 0xad]);
     let ended = run(alloc, "luksCheck i", &header, &[])?;
     check(&rt, &ended, b"clean\n", 0, "");
@@ -233,8 +233,8 @@ fn tells_failed_devices(rt: HostRuntime) -> Result<(), Fail> {
         &mut secret,
         &mut out,
     );
-    same(report, Report::of(Message::WriteFailed)).expect(&rt, "the same");
-    same(out.as_slice(), b"Version: 1".as_slice()).expect(&rt, "the same");
+    assert_same(&rt, report, Report::of(Message::WriteFailed));
+    assert_same(&rt, out.as_slice(), b"Version: 1".as_slice());
     Ok(())
 }
 
@@ -267,12 +267,12 @@ pub(super) fn check_refusals(
     }
     drop(scarcity);
     let last = reports.pop().ok_or("a run")?;
-    same_in(&line, last.0, Report::of(message)).expect(rt, "the same");
-    same_in(&line, out.as_slice(), whole.as_bytes()).expect(rt, "the same");
-    holds_in(&line, !reports.is_empty()).expect(rt, "so");
+    assert_same_in(rt, &line, last.0, Report::of(message));
+    assert_same_in(rt, &line, out.as_slice(), whole.as_bytes());
+    assert_in(rt, &line, !reports.is_empty());
     for (report, written) in reports.iter() {
-        same_in(&line, *report, Report::of(Message::OutOfMemory)).expect(rt, "the same");
-        same_in(&line, *written, 0).expect(rt, "the same");
+        assert_same_in(rt, &line, *report, Report::of(Message::OutOfMemory));
+        assert_same_in(rt, &line, *written, 0);
     }
     Ok(())
 }

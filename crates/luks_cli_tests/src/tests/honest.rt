@@ -2,6 +2,7 @@
 //! in each mode, with sectors of each length.
 
 use super::attached;
+use crate::tests::same::{assert_in, assert_same_in};
 use crate::tests::volume::KEY;
 use crate::tests::volumes2::{RANDOM, parameters, plain_of, slot};
 use luks_cipher::Mode;
@@ -13,7 +14,6 @@ use luks_report::report::Report;
 use luks_seal::luks1::seal1;
 use luks_seal::luks2::seal2;
 use luks_seal::parameters::{Seal1, Seal2, SealFault, Slot1, Slot2};
-use luks_testing::same::{holds_in, same_in};
 use luks_verdict::sector_size::SectorSize;
 use std::alloc::Global;
 use std::process::Abort;
@@ -113,8 +113,8 @@ fn check_written(
         let mut secret = MemSource::new(passphrase);
         let mut out = MemSink::new(alloc, 8192)?;
         let report = execute(alloc, &command, &mut source, &mut secret, &mut out);
-        holds_in(&mode, report == Report::of(Message::Done)).expect(rt, "so");
-        same_in(&mode, out.as_slice(), plain).expect(rt, "the same");
+        assert_in(rt, &mode, report == Report::of(Message::Done));
+        assert_same_in(rt, &mode, out.as_slice(), plain);
     }
     Ok(())
 }

@@ -1,8 +1,8 @@
 //! Volumes of which one number of the header is changed, from both sides of each bound.
 
 use super::{check, run};
+use crate::tests::same::assert_same;
 use crate::tests::volume::{PASSPHRASE, USUAL, changed, sealed};
-use luks_testing::same::same;
 use std::process::Abort;
 use std::test::Fail;
 
@@ -36,8 +36,8 @@ fn check_refused(rt: &(impl Abort + AllocGlobal), image: &[u8], told: &str) -> R
         PASSPHRASE,
     )?;
     check(rt, &ended, &[], 1, told);
-    same(ended.secret_left, PASSPHRASE.len()).expect(rt, "the same");
-    same(image.len() - ended.image_left.min(image.len()), 592).expect(rt, "the same");
+    assert_same(rt, ended.secret_left, PASSPHRASE.len());
+    assert_same(rt, image.len() - ended.image_left.min(image.len()), 592);
     Ok(())
 }
 
@@ -83,8 +83,8 @@ fn tries_key_slots_within_the_bounds(rt: HostRuntime) -> Result<(), Fail> {
         let other = changed(alloc, &image, place, &number.to_be_bytes())?;
         let ended = run(alloc, "testPassphrase --key-file f i", &other, PASSPHRASE)?;
         check(&rt, &ended, &[], 2, NO_KEY);
-        same(ended.secret_left, 0).expect(&rt, "the same");
-        same(image.len() - ended.image_left.min(image.len()), taken).expect(&rt, "the same");
+        assert_same(&rt, ended.secret_left, 0);
+        assert_same(&rt, image.len() - ended.image_left.min(image.len()), taken);
     }
     // The key material may end where the payload starts.
     let other = changed(alloc, &image, PAYLOAD_OFFSET, &508u32.to_be_bytes())?;
@@ -105,7 +105,7 @@ fn holds_no_more_than_32_mib(rt: HostRuntime) -> Result<(), Fail> {
     last.resize(33_554_433, 0)?;
     let ended = run(alloc, "testPassphrase --key-file f i", &last, PASSPHRASE)?;
     check(&rt, &ended, &[], 2, NO_KEY);
-    same(ended.image_left, 1).expect(&rt, "the same");
+    assert_same(&rt, ended.image_left, 1);
     Ok(())
 }
 

@@ -1,9 +1,9 @@
 //! Whole runs over volumes in the older modes.
 
 use super::{check, run};
+use crate::tests::same::assert_same;
 use crate::tests::volume::{KEY, PASSPHRASE, USUAL, changed, plain_bytes, sealed_in};
 use luks_cipher::Mode;
-use luks_testing::same::same;
 use std::process::Abort;
 use std::test::Fail;
 
@@ -20,10 +20,10 @@ fn check_mode(
     let plain = plain_bytes(alloc)?;
     let ended = run(alloc, "luksCat --key-file f i", &image, PASSPHRASE)?;
     check(rt, &ended, &plain, 0, "");
-    same((ended.image_left, ended.secret_left), (0, 0)).expect(rt, "the same");
+    assert_same(rt, (ended.image_left, ended.secret_left), (0, 0));
     let ended = run(alloc, "testPassphrase --key-file f i", &image, PASSPHRASE)?;
     check(rt, &ended, b"Key slot 0 opens the volume.\n", 0, "");
-    same(image.len() - ended.image_left.min(image.len()), held).expect(rt, "the same");
+    assert_same(rt, image.len() - ended.image_left.min(image.len()), held);
     let ended = run(alloc, "luksCat --key-file f i", &image, b"wrong")?;
     check(rt, &ended, &[], 2, "luksrd: no key opens the volume\n");
     Ok(())
@@ -53,7 +53,7 @@ fn check_length(
     let image = changed(alloc, &image, 111, &[key_len])?;
     let ended = run(alloc, "luksCat --key-file f i", &image, PASSPHRASE)?;
     check(rt, &ended, &[], 1, told);
-    same(ended.secret_left, PASSPHRASE.len()).expect(rt, "the same");
+    assert_same(rt, ended.secret_left, PASSPHRASE.len());
     Ok(())
 }
 

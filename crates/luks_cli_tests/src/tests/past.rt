@@ -2,6 +2,7 @@
 //! secondary one reads past the payload's start, and what it has read of the payload comes first.
 
 use super::{attached, check, run};
+use crate::tests::same::assert_same;
 use crate::tests::volume::{PASSPHRASE, changed, plain_bytes};
 use crate::tests::volume2::sealed2;
 use luks_cli::execute::execute;
@@ -9,7 +10,6 @@ use luks_io::memory::{MemSink, MemSource};
 use luks_report::message::Message;
 use luks_report::report::Report;
 use luks_testing::devices::Flaky;
-use luks_testing::same::same;
 use std::alloc::Global;
 use std::process::Abort;
 use std::test::Fail;
@@ -30,7 +30,7 @@ fn writes_what_the_search_has_read(rt: HostRuntime) -> Result<(), Fail> {
     let plain = plain_bytes(alloc)?;
     let whole = run(alloc, CAT, &image, PASSPHRASE)?;
     check(&rt, &whole, &plain, 0, "");
-    same((whole.image_left, whole.secret_left), (0, 0)).expect(&rt, "the same");
+    assert_same(&rt, (whole.image_left, whole.secret_left), (0, 0));
 
     let cut = run(alloc, CAT, &image[..image.len().min(38_300)], PASSPHRASE)?;
     let told = "luksrd: image ends inside a sector: 412 bytes left over\n";
@@ -39,7 +39,7 @@ fn writes_what_the_search_has_read(rt: HostRuntime) -> Result<(), Fail> {
     let line = "testPassphrase --key-file f i";
     let opened = run(alloc, line, &image, PASSPHRASE)?;
     check(&rt, &opened, b"Key slot 0 opens the volume.\n", 0, "");
-    same(opened.image_left, 0).expect(&rt, "the same");
+    assert_same(&rt, opened.image_left, 0);
 
     let wrong = run(alloc, CAT, &image, b"another passphrase")?;
     check(&rt, &wrong, &[], 2, "luksrd: no key opens the volume\n");
@@ -58,17 +58,17 @@ fn stops_in_what_the_search_has_read(rt: HostRuntime) -> Result<(), Fail> {
         let mut secret = MemSource::new(PASSPHRASE);
         let mut out = MemSink::new(alloc, room)?;
         let report = execute(alloc, &command, &mut source, &mut secret, &mut out);
-        same(report, Report::of(Message::WriteFailed)).expect(&rt, "the same");
-        same(out.as_slice(), &plain[..plain.len().min(room)]).expect(&rt, "the same");
-        same(source.left().len(), 0).expect(&rt, "the same");
+        assert_same(&rt, report, Report::of(Message::WriteFailed));
+        assert_same(&rt, out.as_slice(), &plain[..plain.len().min(room)]);
+        assert_same(&rt, source.left().len(), 0);
     }
     for piece in [1, 511, 4097] {
         let mut source = Flaky::new(&image, piece, u64::MAX);
         let mut secret = MemSource::new(PASSPHRASE);
         let mut out = MemSink::new(alloc, 4096)?;
         let report = execute(alloc, &command, &mut source, &mut secret, &mut out);
-        same(report, Report::of(Message::Done)).expect(&rt, "the same");
-        same(out.as_slice(), plain.as_slice()).expect(&rt, "the same");
+        assert_same(&rt, report, Report::of(Message::Done));
+        assert_same(&rt, out.as_slice(), plain.as_slice());
     }
     Ok(())
 }

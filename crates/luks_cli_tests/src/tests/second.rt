@@ -4,13 +4,13 @@
 use super::failing::check_failures;
 use super::headers::check_refusals;
 use super::{attached, check, run};
+use crate::tests::same::{assert_same, assert_same_in};
 use luks_cli::execute::execute;
 use luks_io::memory::{MemSink, MemSource};
 use luks_report::message::Message;
 use luks_report::report::Report;
 use luks_testing::devices::Flaky;
 use luks_testing::header2::{SIZE, image_of};
-use luks_testing::same::{same, same_in};
 use std::alloc::Global;
 use std::process::Abort;
 use std::test::Fail;
@@ -65,9 +65,9 @@ fn prints_the_same_for_all_pieces(rt: HostRuntime) -> Result<(), Fail> {
             let mut out = MemSink::new(alloc, 4096)?;
             let mut secret = MemSource::new(&[]);
             let report = execute(alloc, &command, &mut source, &mut secret, &mut out);
-            same_in(&line, report, Report::of(Message::Done)).expect(&rt, "the same");
-            same_in(&line, out.as_slice(), page.as_bytes()).expect(&rt, "the same");
-            same_in(&line, source.left(), 10).expect(&rt, "the same");
+            assert_same_in(&rt, &line, report, Report::of(Message::Done));
+            assert_same_in(&rt, &line, out.as_slice(), page.as_bytes());
+            assert_same_in(&rt, &line, source.left(), 10);
         }
     }
     Ok(())
@@ -100,12 +100,12 @@ fn a_cut_image_has_what_is_whole(rt: HostRuntime) -> Result<(), Fail> {
         let ended = run(alloc, "luksCheck i", &image[..len.min(image.len())], &[])?;
         let told = "luksrd: the header has findings\n";
         check(&rt, &ended, b"secondary header: not valid\n", 1, told);
-        same(ended.image_left, 0).expect(&rt, "the same");
+        assert_same(&rt, ended.image_left, 0);
     }
     for len in [591, 4095, 4096, SIZE - 1] {
         let ended = run(alloc, "luksUUID i", &image[..len.min(image.len())], &[])?;
         check(&rt, &ended, &[], 4, "luksrd: not a LUKS image\n");
-        same(ended.image_left, 0).expect(&rt, "the same");
+        assert_same(&rt, ended.image_left, 0);
     }
     Ok(())
 }

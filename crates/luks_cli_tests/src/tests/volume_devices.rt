@@ -2,6 +2,7 @@
 
 use super::attached;
 use super::failing::check_failures;
+use crate::tests::same::{assert_in, assert_same, assert_same_in};
 use crate::tests::volume::{PASSPHRASE, SMALL, USUAL, plain_bytes, sealed};
 use crate::tests::volume2::sealed2;
 use luks_cli::execute::execute;
@@ -9,7 +10,6 @@ use luks_io::memory::{MemSink, MemSource};
 use luks_report::message::Message;
 use luks_report::report::Report;
 use luks_testing::devices::{Broken, Flaky, Leaky};
-use luks_testing::same::{holds_in, same, same_in};
 use luks_testing::scarce::Scarcity;
 use std::process::Abort;
 use std::test::Fail;
@@ -30,9 +30,9 @@ fn check_pieces(rt: &(impl Abort + AllocGlobal), image: &[u8]) -> Result<(), Fai
             let mut secret = Flaky::new(PASSPHRASE, given, NEVER);
             let mut out = Leaky::new(alloc, 4096, taken, NEVER)?;
             let report = execute(alloc, &command, &mut source, &mut secret, &mut out);
-            same(report, Report::of(Message::Done)).expect(rt, "the same");
-            same(out.as_slice(), plain.as_slice()).expect(rt, "the same");
-            same((source.left(), secret.left()), (0, 0)).expect(rt, "the same");
+            assert_same(rt, report, Report::of(Message::Done));
+            assert_same(rt, out.as_slice(), plain.as_slice());
+            assert_same(rt, (source.left(), secret.left()), (0, 0));
         }
     }
     Ok(())
@@ -58,9 +58,13 @@ fn check_room(
     let mut secret = MemSource::new(PASSPHRASE);
     let mut out = MemSink::new(alloc, room)?;
     let report = execute(alloc, &command, &mut source, &mut secret, &mut out);
-    same(report, Report::of(Message::WriteFailed)).expect(rt, "the same");
-    same(out.as_slice(), &plain[..plain.len().min(room)]).expect(rt, "the same");
-    same(image.len() - source.left().len().min(image.len()), taken).expect(rt, "the same");
+    assert_same(rt, report, Report::of(Message::WriteFailed));
+    assert_same(rt, out.as_slice(), &plain[..plain.len().min(room)]);
+    assert_same(
+        rt,
+        image.len() - source.left().len().min(image.len()),
+        taken,
+    );
     Ok(())
 }
 
@@ -88,10 +92,10 @@ fn check_broken(
     let mut secret = MemSource::new(PASSPHRASE);
     let mut out = MemSink::new(alloc, 4096)?;
     let report = execute(alloc, &command, &mut source, &mut secret, &mut out);
-    same(report, Report::of(Message::ReadFailed)).expect(rt, "the same");
+    assert_same(rt, report, Report::of(Message::ReadFailed));
     let written = 512 * sectors.min(8);
-    same(out.as_slice(), &plain[..plain.len().min(written)]).expect(rt, "the same");
-    same(image.len() - source.left().min(image.len()), given).expect(rt, "the same");
+    assert_same(rt, out.as_slice(), &plain[..plain.len().min(written)]);
+    assert_same(rt, image.len() - source.left().min(image.len()), given);
     Ok(())
 }
 
@@ -124,10 +128,10 @@ fn stops_at_a_failed_read_of_the_key_file(rt: HostRuntime) -> Result<(), Fail> {
     let mut secret = Broken::new(PASSPHRASE, 5);
     let mut out = MemSink::new(alloc, 4096)?;
     let report = execute(alloc, &command, &mut source, &mut secret, &mut out);
-    same(report, Report::of(Message::ReadFailed)).expect(&rt, "the same");
-    same(image.len() - source.left().len().min(image.len()), 592).expect(&rt, "the same");
-    same(out.as_slice().len(), 0).expect(&rt, "the same");
-    same(secret.left(), PASSPHRASE.len() - 5).expect(&rt, "the same");
+    assert_same(&rt, report, Report::of(Message::ReadFailed));
+    assert_same(&rt, image.len() - source.left().len().min(image.len()), 592);
+    assert_same(&rt, out.as_slice().len(), 0);
+    assert_same(&rt, secret.left(), PASSPHRASE.len() - 5);
     Ok(())
 }
 
@@ -157,8 +161,8 @@ fn run_whole(
     let mut secret = MemSource::new(PASSPHRASE);
     let mut out = MemSink::new(alloc, 4096)?;
     let report = execute(alloc, &command, &mut source, &mut secret, &mut out);
-    same(report, Report::of(Message::Done)).expect(rt, "the same");
-    same(out.as_slice(), whole).expect(rt, "the same");
+    assert_same(rt, report, Report::of(Message::Done));
+    assert_same(rt, out.as_slice(), whole);
     Ok(())
 }
 
@@ -204,12 +208,12 @@ pub(super) fn check_refused(
     (out, whole): (&[u8], &[u8]),
 ) -> Result<(), Fail> {
     let last = runs.pop().ok_or("a run")?;
-    same_in(&name, last.0, Report::of(Message::Done)).expect(rt, "the same");
-    same_in(&name, out, whole).expect(rt, "the same");
-    holds_in(&name, 10 < runs.len()).expect(rt, "so");
+    assert_same_in(rt, &name, last.0, Report::of(Message::Done));
+    assert_same_in(rt, &name, out, whole);
+    assert_in(rt, &name, 10 < runs.len());
     for (report, written, rest) in runs.iter() {
-        same_in(&name, *report, Report::of(Message::OutOfMemory)).expect(rt, "the same");
-        same_in(&name, (*written, *rest), (0, left)).expect(rt, "the same");
+        assert_same_in(rt, &name, *report, Report::of(Message::OutOfMemory));
+        assert_same_in(rt, &name, (*written, *rest), (0, left));
     }
     Ok(())
 }

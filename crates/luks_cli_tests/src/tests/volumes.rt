@@ -1,9 +1,9 @@
 //! Whole runs of the commands on volumes.
 
 use super::{Ended, check, run};
+use crate::tests::same::{assert_same, assert_same_in};
 use crate::tests::volume::{PASSPHRASE, PLAIN_LEN, SMALL, USUAL, changed, plain_bytes, sealed};
 use crate::tests::volume2::sealed2;
-use luks_testing::same::{same, same_in};
 use std::alloc::{AllocError, Global};
 use std::process::Abort;
 use std::test::Fail;
@@ -21,17 +21,21 @@ const OPENS: &str = "Key slot 0 opens the volume.\n";
 fn opens_a_usual_volume(rt: HostRuntime) -> Result<(), Fail> {
     let alloc = rt.alloc();
     let image = sealed(alloc, USUAL, PASSPHRASE)?;
-    same(image.len(), 2_098_688).expect(&rt, "the same");
+    assert_same(&rt, image.len(), 2_098_688);
     let plain = plain_bytes(alloc)?;
     for line in ["luksCat --key-file f i", "luksCat --key-file - i"] {
         let ended = run(alloc, line, &image, PASSPHRASE)?;
         check(&rt, &ended, &plain, 0, "");
-        same((ended.image_left, ended.secret_left), (0, 0)).expect(&rt, "the same");
+        assert_same(&rt, (ended.image_left, ended.secret_left), (0, 0));
     }
     let ended = run(alloc, "testPassphrase --key-file f i", &image, PASSPHRASE)?;
     check(&rt, &ended, OPENS.as_bytes(), 0, "");
-    same(image.len() - ended.image_left.min(image.len()), 260_096).expect(&rt, "the same");
-    same(ended.secret_left, 0).expect(&rt, "the same");
+    assert_same(
+        &rt,
+        image.len() - ended.image_left.min(image.len()),
+        260_096,
+    );
+    assert_same(&rt, ended.secret_left, 0);
     Ok(())
 }
 
@@ -42,8 +46,12 @@ fn counts_a_newline_of_the_key_file(rt: HostRuntime) -> Result<(), Fail> {
     for line in ["luksCat --key-file f i", "testPassphrase --key-file f i"] {
         let ended = run(alloc, line, &image, b"correct horse\n")?;
         check(&rt, &ended, &[], 2, NO_KEY);
-        same(image.len() - ended.image_left.min(image.len()), 260_096).expect(&rt, "the same");
-        same(ended.secret_left, 0).expect(&rt, "the same");
+        assert_same(
+            &rt,
+            image.len() - ended.image_left.min(image.len()),
+            260_096,
+        );
+        assert_same(&rt, ended.secret_left, 0);
     }
     let image = sealed(alloc, SMALL, b"correct horse\n")?;
     let ended = run(
@@ -84,7 +92,7 @@ fn tells_where_a_usual_volume_is_cut(rt: HostRuntime) -> Result<(), Fail> {
         let ended = run(alloc, "luksCat --key-file f i", &image[..len], PASSPHRASE)?;
         let written = plain.len().min(512 * sectors);
         check(&rt, &ended, &plain[..written], status, told);
-        same(ended.image_left, 0).expect(&rt, "the same");
+        assert_same(&rt, ended.image_left, 0);
     }
     Ok(())
 }
@@ -109,7 +117,7 @@ fn check_cut(
         )?;
         check(rt, &ended, &plain[..whole], 4, told.as_str());
     }
-    same((ended.image_left, ended.secret_left), (0, 0)).expect(rt, "the same");
+    assert_same(rt, (ended.image_left, ended.secret_left), (0, 0));
     Ok(())
 }
 
@@ -118,12 +126,12 @@ fn tells_where_a_payload_is_cut(rt: HostRuntime) -> Result<(), Fail> {
     let alloc = rt.alloc();
     let plain = plain_bytes(alloc)?;
     let image = sealed(alloc, SMALL, PASSPHRASE)?;
-    same(image.len(), 38_400).expect(&rt, "the same");
+    assert_same(&rt, image.len(), 38_400);
     for len in 0..PLAIN_LEN + 1 {
         check_cut(&rt, &image, &plain, len)?;
     }
     let image = sealed2(alloc)?;
-    same(image.len(), 38_400).expect(&rt, "the same");
+    assert_same(&rt, image.len(), 38_400);
     for len in [0, 1, 511, 512, 513, 1024, 1535, 1536] {
         check_cut(&rt, &image, &plain, len)?;
     }
@@ -143,8 +151,13 @@ fn check_refused(
         let line = format!(in alloc; "{command} --key-file f {options}i")?;
         let ended = run(alloc, line.as_str(), image, PASSPHRASE)?;
         check(rt, &ended, &[], 1, told);
-        same_in(&line, ended.secret_left, PASSPHRASE.len()).expect(rt, "the same");
-        same_in(&line, image.len() - ended.image_left.min(image.len()), 592).expect(rt, "the same");
+        assert_same_in(rt, &line, ended.secret_left, PASSPHRASE.len());
+        assert_same_in(
+            rt,
+            &line,
+            image.len() - ended.image_left.min(image.len()),
+            592,
+        );
     }
     Ok(())
 }
@@ -229,18 +242,18 @@ fn reads_long_key_files(rt: HostRuntime) -> Result<(), Fail> {
     let image = sealed(alloc, SMALL, first(&zeros, LONGEST))?;
     let ended = run_with(alloc, &image, &zeros, LONGEST)?;
     check(&rt, &ended, OPENS.as_bytes(), 0, "");
-    same(ended.secret_left, 0).expect(&rt, "the same");
+    assert_same(&rt, ended.secret_left, 0);
     let long = "luksrd: key file is longer than 8388608 bytes\n";
     for more in [1, 2, 4] {
         let ended = run_with(alloc, &image, &zeros, LONGEST + more)?;
         check(&rt, &ended, &[], 1, long);
-        same(ended.secret_left, more - 1).expect(&rt, "the same");
-        same(image.len() - ended.image_left.min(image.len()), 592).expect(&rt, "the same");
+        assert_same(&rt, ended.secret_left, more - 1);
+        assert_same(&rt, image.len() - ended.image_left.min(image.len()), 592);
     }
     for len in [0, 1, 4095, 4096, 4097, 8192, LONGEST - 1] {
         let ended = run_with(alloc, &image, &zeros, len)?;
         check(&rt, &ended, &[], 2, NO_KEY);
-        same(ended.secret_left, 0).expect(&rt, "the same");
+        assert_same(&rt, ended.secret_left, 0);
     }
     Ok(())
 }

@@ -2,6 +2,7 @@
 //! header whose search goes past the payload's start.
 
 use super::{attached, check, run};
+use crate::tests::same::assert_same;
 use crate::tests::volume::{KEY, changed};
 use luks_cipher::Mode;
 use luks_cli::execute::execute;
@@ -11,7 +12,6 @@ use luks_report::message::Message;
 use luks_report::report::Report;
 use luks_seal::luks2::seal2;
 use luks_seal::parameters::{Seal2, Slot2};
-use luks_testing::same::same;
 use luks_verdict::sector_size::SectorSize;
 use std::alloc::{AllocError, Global};
 use std::process::Abort;
@@ -125,7 +125,7 @@ fn a_fixed_size_ends_the_payload(rt: HostRuntime) -> Result<(), Fail> {
     let line = "luksCat --key-file f i";
     let whole = run(alloc, line, &image, b"one")?;
     check(&rt, &whole, &plain, 0, "");
-    same(whole.image_left, 808).expect(&rt, "the same");
+    assert_same(&rt, whole.image_left, 808);
     let cut = run(
         alloc,
         line,
@@ -165,9 +165,9 @@ fn a_search_past_the_start_loses_nothing(rt: HostRuntime) -> Result<(), Fail> {
         let mut secret = MemSource::new(b"one");
         let mut out = MemSink::new(alloc, room)?;
         let report = execute(alloc, &command, &mut source, &mut secret, &mut out);
-        same(report, Report::of(told)).expect(&rt, "the same");
-        same(out.as_slice(), &plain[..plain.len().min(room)]).expect(&rt, "the same");
-        same(source.left().len(), left).expect(&rt, "the same");
+        assert_same(&rt, report, Report::of(told));
+        assert_same(&rt, out.as_slice(), &plain[..plain.len().min(room)]);
+        assert_same(&rt, source.left().len(), left);
     }
     Ok(())
 }

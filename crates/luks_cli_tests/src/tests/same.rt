@@ -1,0 +1,25 @@
+//! Comparisons that end a test. They stand here and not in `luks_testing`, since no library may end
+//! the process, and what they compare holds references, which an error that is expected may not.
+
+use std::fmt::Debug;
+use std::process::Abort;
+
+/// Asserts that both values are the same.
+pub(super) fn assert_same<T: PartialEq + Debug + Drop>(rt: &impl Abort, left: T, right: T) {
+    assert_eq!(rt; left, right);
+}
+
+/// Asserts that both values are the same, in this case of a table.
+pub(super) fn assert_same_in<C: Debug, T: PartialEq + Debug + Drop>(
+    rt: &impl Abort,
+    case: &C,
+    left: T,
+    right: T,
+) {
+    assert_eq!(rt; left, right, "{case:?}");
+}
+
+/// Asserts what holds in this case of a table.
+pub(super) fn assert_in<C: Debug>(rt: &impl Abort, case: &C, holds: bool) {
+    assert!(rt; holds, "{case:?}");
+}
