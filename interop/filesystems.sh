@@ -8,9 +8,9 @@
 file_system() {
     truncate -s "$2" "$1"
     case $1 in
-    ext4) mke2fs -q -t ext4 -d files ext4 ;;
+    ext4) mke2fs -q -t ext4 -b 4096 -d files ext4 ;;
     vfat) mkfs.vfat vfat && mcopy -s -i vfat files/large files/line files/folder :: ;;
-    xfs) mkfs.xfs -q --unsupported -p prototype xfs ;;
+    xfs) mkfs.xfs -q --unsupported -s size=4096 -p prototype xfs ;;
     esac >err 2>&1 || { cat err >&2; exit 1; }
 }
 
@@ -19,7 +19,7 @@ checked() {
     case $1 in
     ext4) e2fsck -fn "$2" ;;
     vfat) fsck.vfat -n "$2" ;;
-    xfs) xfs_repair -nf "$2" ;;
+    xfs) xfs_repair -nf -o force_geometry "$2" ;;
     esac >err 2>&1
     echo $?
 }
@@ -74,7 +74,8 @@ one() {
     format1 "$1 in LUKS1 by $2-$3" "aes-$2" sha256 "$3"
     fill "$1 in LUKS1 by $2-$3"
     reads "$1 in LUKS1 by $2-$3" "$1"
-    nbdkit_reads "$1 in LUKS1 by $2-$3"
+    # nbdkit 1.32 crashes on ESSIV
+    [[ $2 = *essiv* ]] || nbdkit_reads "$1 in LUKS1 by $2-$3"
 }
 
 # two KIND CIPHER KEY_BITS SECTOR: it is sealed as LUKS2
@@ -87,6 +88,9 @@ two() {
 for kind in ext4 vfat xfs; do
     one "$kind" xts-plain64 512
     two "$kind" xts-plain64 512 512
+done
+# cryptsetup refuses sectors that are longer than the blocks of the file system: vfat has 512 bytes
+for kind in ext4 xfs; do
     two "$kind" xts-plain64 256 4096
 done
 for sealed in 'xts-plain 256' 'cbc-essiv:sha256 256' 'cbc-plain64 128'; do
