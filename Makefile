@@ -2,7 +2,6 @@
 # make demo       builds it and reads both sample volumes, from pipes
 # make check      runs the built program on files and pipes, and beside cryptsetup and qemu-img: all of `make test` but the gate
 # make test       what CI runs: the gate, which proves everything from nothing, and beside it the same scripts on the program that it builds
-# make wrong-bodies  tries the wrong bodies that the gate leaves out; it takes an hour
 # make bench      measures key derivation, decryption and whole volumes beside other implementations
 # make install    puts the program, its man page and its completions below PREFIX (/usr/local where
 #                 it is not given), in DESTDIR where that is given
@@ -20,7 +19,7 @@ PAGES = $(DESTDIR)$(PREFIX)/share/man/man1
 BASH_WORDS = $(DESTDIR)$(PREFIX)/share/bash-completion/completions
 ZSH_WORDS = $(DESTDIR)$(ZSH_FUNCTIONS)
 
-.PHONY: all demo check scripts test wrong-bodies bench install uninstall deb
+.PHONY: all demo check scripts test bench install uninstall deb
 
 all: $(PROGRAM)
 
@@ -53,7 +52,6 @@ SCRIPTS := $(TESTS:%=test-%) $(INTEROP:%=interop-%) interop-sealed
 
 scripts:
 	tests/packages
-	tests/wrong-bodies --applied
 	+$(MAKE) -k -j 4 --output-sync=target --no-print-directory $(SCRIPTS)
 
 $(TESTS:%=test-%): test-%:
@@ -67,9 +65,6 @@ interop-sealed:
 
 test:
 	tests/gate
-
-wrong-bodies:
-	tests/wrong-bodies
 
 bench: all
 	bench/pbkdf2
