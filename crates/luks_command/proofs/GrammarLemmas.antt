@@ -1,5 +1,6 @@
 -- What `clap` says of luksrd's command line.
-use Rattle.std.proofs.Common.{◌≡◌, ◌∙◌, Err, IsErrAnd, List, None, Ok, Option, Result, [], ◌∷◌, ap, inl, inr, refl, subst, sym, true}
+use Rattle.std.proofs.Common.{◌≡◌, ◌∙◌, ◌||◌, Bool, Err, IsErrAnd, List, None, Ok, Option, Result, [], ◌∷◌, ap, false, inl, inr, refl, subst, sym, true}
+use Rattle.std.proofs.Math.Bool.{or-false}
 use Rattle.clap.specs.Words.{App, HasKind, HasMatchesOf, Kinds, Text, fault_of, is_simple, is_simple_and_free, kind_of, subcommand_of, subcommand_rows_of}
 use Rattle.clap.specs.declared.Error.{Error}
 use Rattle.clap.specs.declared.ArgMatches.{ArgMatches}
@@ -16,6 +17,10 @@ luksrd-simple = refl
 luksrd-free : is_simple_and_free luksrd ≡ true
 unfolding luksrd header_command volume_command clap_on_literals
 luksrd-free = refl
+
+-- an argument that goes on to no other command leaves whether others do
+pub stays : (old new global : Bool) → new ≡ (old || global) → global ≡ false → new ≡ old
+stays old new global is local = is ∙ ap (λ b. old || b) local ∙ or-false old
 
 pub free : (app : App) → app ≡ luksrd → is_simple_and_free app ≡ true
 free app e = ap is_simple_and_free e ∙ luksrd-free

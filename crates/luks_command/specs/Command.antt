@@ -91,18 +91,23 @@ merging_in rows = do
     stripes_file = stripes_file;
   })
 
--- the command by its name, with its options
-abbrev pub request_in : Text × List Row → Option Request
-request_in (name, rows) =
+-- the command on headers by its name, with its options
+unfoldable pub header_request_in : Text → List Row → Option Request
+header_request_in name rows =
     if bytes_eq name (codes "isLuks") then option_map is_luks (reading_in rows)
     else (if bytes_eq name (codes "luksUUID") then option_map luks_uuid (reading_in rows)
     else (if bytes_eq name (codes "luksDump") then option_map luks_dump (reading_in rows)
     else (if bytes_eq name (codes "luksCheck") then option_map luks_check (reading_in rows)
-    else (if bytes_eq name (codes "testPassphrase") then option_map test_passphrase (opening_in rows)
+    else None)))
+
+-- the command by its name, with its options
+abbrev pub request_in : Text × List Row → Option Request
+request_in (name, rows) =
+    if bytes_eq name (codes "testPassphrase") then option_map test_passphrase (opening_in rows)
     else (if bytes_eq name (codes "luksCat") then option_map luks_cat (opening_in rows)
     else (if bytes_eq name (codes "afSplit") then option_map af_split (splitting_in rows)
     else (if bytes_eq name (codes "afMerge") then option_map af_merge (merging_in rows)
-    else None)))))))
+    else header_request_in name rows)))
 
 -- the input is there and is standard input
 abbrev pub is_standard : Option Text → Bool

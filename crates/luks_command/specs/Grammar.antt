@@ -92,7 +92,17 @@ pub record Reads (command : Command) (as_read : App) : Type 0 where
   pub app : app_of command ≡ as_read
   pub local : (out-Command command).has_globals ≡ false
 
+-- `made` is `before` with the option or input as well
+pub record Takes (before : Command) (rule : Rule) (made : Command) : Type 0 where
+  pub app : app_of made ≡ with_rule (app_of before) rule
+  pub local : (out-Command made).has_globals ≡ (out-Command before).has_globals
+
 -- `made` is `before` with `[--header FILE] IMAGE` behind its options
 pub record TakesImage (before made : Command) : Type 0 where
   pub app : app_of made ≡ with_rule (with_rule (app_of before) header_option) input
+  pub local : (out-Command made).has_globals ≡ (out-Command before).has_globals
+
+-- `made` is `before` with `--hash HASH --stripes N` as well
+pub record TakesStripes (before made : Command) : Type 0 where
+  pub app : app_of made ≡ with_rule (with_rule (app_of before) (required (codes "hash"))) (required (codes "stripes"))
   pub local : (out-Command made).has_globals ≡ (out-Command before).has_globals

@@ -2,7 +2,8 @@
 
 ghost use Rattle.std.specs.Prelude.{◌≡◌, IfOk, false};
 ghost use Rattle.clap.specs.Words.{app_of, rule_of, with_subcommand};
-ghost use Rattle.luks_command.specs.Grammar.{Reads, TakesImage, af_merge, af_split, alone};
+ghost use Rattle.luks_command.specs.Grammar.{Reads, Takes, TakesImage, TakesStripes};
+ghost use Rattle.luks_command.specs.Grammar.{af_merge, af_split, alone};
 ghost use Rattle.luks_command.specs.Grammar.{header_command, input, is_luks};
 ghost use Rattle.luks_command.specs.Grammar.{luks_cat, luks_check, luks_dump, luks_uuid, luksrd};
 ghost use Rattle.luks_command.specs.Grammar.{option, program};
@@ -17,7 +18,6 @@ pub(super) fn grammar<'a>(alloc: Global) -> Result<Command<'a>, AllocError>
     ensures { IfOk result (λ command. app_of command ≡ luksrd) }
 {
     let program = with_header_commands(alloc, program(alloc))?;
-    let program = with_check(alloc, program)?;
     let program = with_volume_commands(alloc, program)?;
     with_stripe_commands(alloc, program)
 }
@@ -32,24 +32,28 @@ fn program<'a>(alloc: Global) -> Command<'a>
         .disable_help_subcommand(true)
 }
 
-// The program with the commands on headers as well, but for the check.
+// The program with the commands on headers as well.
 fn with_header_commands<'a>(alloc: Global, program: Command<'a>) -> Result<Command<'a>, AllocError>
     ensures { IfOk result (λ command. app_of command ≡ with_subcommand (with_subcommand
-        (with_subcommand (app_of program.entry) is_luks) luks_uuid) luks_dump) }
+        (with_subcommand (with_subcommand (app_of program.entry) is_luks) luks_uuid) luks_dump)
+        luks_check) }
 {
-    program
-        .subcommand(header_command(alloc, "isLuks")?)?
-        .subcommand(header_command(alloc, "luksUUID")?)?
-        .subcommand(header_command(alloc, "luksDump")?)
+    let program = with_header_command(alloc, program, "isLuks")?;
+    let program = with_header_command(alloc, program, "luksUUID")?;
+    let program = with_header_command(alloc, program, "luksDump")?;
+    with_header_command(alloc, program, "luksCheck")
 }
 
-// The program with the check of a header as well. (A chain of four is more than the prover searches
-// through.)
-fn with_check<'a>(alloc: Global, program: Command<'a>) -> Result<Command<'a>, AllocError>
-    ensures { IfOk result (λ command.
-        app_of command ≡ with_subcommand (app_of program.entry) luks_check) }
+// The program with the command on headers as well.
+fn with_header_command<'a>(
+    alloc: Global,
+    program: Command<'a>,
+    name: &'a str,
+) -> Result<Command<'a>, AllocError>
+    ensures { IfOk result (λ command. app_of command
+        ≡ with_subcommand (app_of program.entry) (header_command name.entry.now)) }
 {
-    program.subcommand(header_command(alloc, "luksCheck")?)
+    program.subcommand(header_command(alloc, name)?)
 }
 
 // The program with the commands on volumes as well.
@@ -57,9 +61,20 @@ fn with_volume_commands<'a>(alloc: Global, program: Command<'a>) -> Result<Comma
     ensures { IfOk result (λ command. app_of command
         ≡ with_subcommand (with_subcommand (app_of program.entry) test_passphrase) luks_cat) }
 {
-    program
-        .subcommand(volume_command(alloc, "testPassphrase")?)?
-        .subcommand(volume_command(alloc, "luksCat")?)
+    let program = with_volume_command(alloc, program, "testPassphrase")?;
+    with_volume_command(alloc, program, "luksCat")
+}
+
+// The program with the command on volumes as well.
+fn with_volume_command<'a>(
+    alloc: Global,
+    program: Command<'a>,
+    name: &'a str,
+) -> Result<Command<'a>, AllocError>
+    ensures { IfOk result (λ command. app_of command
+        ≡ with_subcommand (app_of program.entry) (volume_command name.entry.now)) }
+{
+    program.subcommand(volume_command(alloc, name)?)
 }
 
 // The program with the commands on stripes as well.
@@ -67,9 +82,22 @@ fn with_stripe_commands<'a>(alloc: Global, program: Command<'a>) -> Result<Comma
     ensures { IfOk result (λ command. app_of command
         ≡ with_subcommand (with_subcommand (app_of program.entry) af_split) af_merge) }
 {
-    program
-        .subcommand(af_split(alloc)?)?
-        .subcommand(af_merge(alloc)?)
+    let program = with_af_split(alloc, program)?;
+    with_af_merge(alloc, program)
+}
+
+fn with_af_split<'a>(alloc: Global, program: Command<'a>) -> Result<Command<'a>, AllocError>
+    ensures { IfOk result (λ command. app_of command
+        ≡ with_subcommand (app_of program.entry) af_split) }
+{
+    program.subcommand(af_split(alloc)?)
+}
+
+fn with_af_merge<'a>(alloc: Global, program: Command<'a>) -> Result<Command<'a>, AllocError>
+    ensures { IfOk result (λ command. app_of command
+        ≡ with_subcommand (app_of program.entry) af_merge) }
+{
+    program.subcommand(af_merge(alloc)?)
 }
 
 // `NAME [--header FILE] IMAGE`
@@ -85,10 +113,9 @@ fn header_command<'a>(alloc: Global, name: &'a str) -> Result<Command<'a>, Alloc
 fn volume_command<'a>(alloc: Global, name: &'a str) -> Result<Command<'a>, AllocError>
     ensures { IfOk result (λ made. Reads made (alone (volume_command name.entry.now))) }
 {
-    let command = Command::new(alloc, name)
-        .arg(option(alloc, "key-file", true))?
-        .arg(option(alloc, "key-slot", false))?
-        .arg(option(alloc, "max-iterations", false))?;
+    let command = with_option(alloc, Command::new(alloc, name), "key-file", true)?;
+    let command = with_option(alloc, command, "key-slot", false)?;
+    let command = with_option(alloc, command, "max-iterations", false)?;
     with_image(alloc, command)
 }
 
@@ -96,31 +123,54 @@ fn volume_command<'a>(alloc: Global, name: &'a str) -> Result<Command<'a>, Alloc
 fn with_image<'a>(alloc: Global, command: Command<'a>) -> Result<Command<'a>, AllocError>
     ensures { IfOk result (λ made. TakesImage command.entry made) }
 {
-    command
-        .arg(option(alloc, "header", false))?
-        .arg(input(alloc))
+    let command = with_option(alloc, command, "header", false)?;
+    with_input(alloc, command)
 }
 
 // `afSplit --hash HASH --stripes N --random FILE KEY`
 fn af_split<'a>(alloc: Global) -> Result<Command<'a>, AllocError>
     ensures { IfOk result (λ command. Reads command (alone af_split)) }
 {
-    Command::new(alloc, "afSplit")
-        .arg(option(alloc, "hash", true))?
-        .arg(option(alloc, "stripes", true))?
-        .arg(option(alloc, "random", true))?
-        .arg(input(alloc))
+    let command = with_stripes(alloc, Command::new(alloc, "afSplit"))?;
+    let command = with_option(alloc, command, "random", true)?;
+    with_input(alloc, command)
 }
 
 // `afMerge --hash HASH --stripes N --key-bytes N STRIPES`
 fn af_merge<'a>(alloc: Global) -> Result<Command<'a>, AllocError>
     ensures { IfOk result (λ command. Reads command (alone af_merge)) }
 {
-    Command::new(alloc, "afMerge")
-        .arg(option(alloc, "hash", true))?
-        .arg(option(alloc, "stripes", true))?
-        .arg(option(alloc, "key-bytes", true))?
-        .arg(input(alloc))
+    let command = with_stripes(alloc, Command::new(alloc, "afMerge"))?;
+    let command = with_option(alloc, command, "key-bytes", true)?;
+    with_input(alloc, command)
+}
+
+// The command with `--hash HASH --stripes N` as well.
+fn with_stripes<'a>(alloc: Global, command: Command<'a>) -> Result<Command<'a>, AllocError>
+    ensures { IfOk result (λ made. TakesStripes command.entry made) }
+{
+    let command = with_option(alloc, command, "hash", true)?;
+    with_option(alloc, command, "stripes", true)
+}
+
+// The command with the option `--name` as well.
+fn with_option<'a>(
+    alloc: Global,
+    command: Command<'a>,
+    name: &'a str,
+    is_required: bool,
+) -> Result<Command<'a>, AllocError>
+    ensures { IfOk result (λ made.
+        Takes command.entry (option name.entry.now is_required) made) }
+{
+    command.arg(option(alloc, name, is_required))
+}
+
+// The command with its input as well.
+fn with_input<'a>(alloc: Global, command: Command<'a>) -> Result<Command<'a>, AllocError>
+    ensures { IfOk result (λ made. Takes command.entry input made) }
+{
+    command.arg(input(alloc))
 }
 
 // The option `--name`, which takes one text.

@@ -2,8 +2,9 @@
 
 ghost use Rattle.std.specs.Prelude.{◌≡◌, IfOk, None, Some, map, option_map, option_and_then};
 ghost use Rattle.clap.specs.Words.{found_of, kind_of, rows_of, subcommand_rows_of};
-ghost use Rattle.luks_command.specs.Command.{command_of, fault_for, merging_in, opening_in};
-ghost use Rattle.luks_command.specs.Command.{reading_in, request_in, splitting_in, subcommand_in};
+ghost use Rattle.luks_command.specs.Command.{command_of, fault_for, header_request_in, merging_in};
+ghost use Rattle.luks_command.specs.Command.{opening_in, reading_in, request_in, splitting_in};
+ghost use Rattle.luks_command.specs.Command.{subcommand_in};
 ghost use Rattle.luks_command.specs.Request.{merging_request, opening_request, reading_request};
 ghost use Rattle.luks_command.specs.Request.{request_of, splitting_request};
 
@@ -81,6 +82,25 @@ impl<'a> Command<'a> {
             ≡ option_and_then request_in (subcommand_rows_of matches.now) }
     {
         let (name, options) = matches.subcommand()?;
+        if name == "testPassphrase" {
+            Some(Command::TestPassphrase(Opening::read(options)?))
+        } else if name == "luksCat" {
+            Some(Command::LuksCat(Opening::read(options)?))
+        } else if name == "afSplit" {
+            Some(Command::AfSplit(Splitting::read(options)?))
+        } else if name == "afMerge" {
+            Some(Command::AfMerge(Merging::read(options)?))
+        } else {
+            Command::read_on_header(name, options)
+        }
+    }
+
+    // The command on headers of that name.
+    #[tactic(auto, unfolding(crate::specs::Command::header_request_in))]
+    fn read_on_header(name: &str, options: &ArgMatches<'a>) -> Option<Command<'a>>
+        ensures { option_map request_of result
+            ≡ header_request_in name.now (rows_of (found_of options.now)) }
+    {
         if name == "isLuks" {
             Some(Command::IsLuks(Reading::read(options)?))
         } else if name == "luksUUID" {
@@ -89,14 +109,6 @@ impl<'a> Command<'a> {
             Some(Command::LuksDump(Reading::read(options)?))
         } else if name == "luksCheck" {
             Some(Command::LuksCheck(Reading::read(options)?))
-        } else if name == "testPassphrase" {
-            Some(Command::TestPassphrase(Opening::read(options)?))
-        } else if name == "luksCat" {
-            Some(Command::LuksCat(Opening::read(options)?))
-        } else if name == "afSplit" {
-            Some(Command::AfSplit(Splitting::read(options)?))
-        } else if name == "afMerge" {
-            Some(Command::AfMerge(Merging::read(options)?))
         } else {
             None
         }

@@ -64,36 +64,65 @@ fn lengths_of_keys(rt: HostRuntime) -> Result<(), Fail> {
     Ok(())
 }
 
-// The line's unit is encrypted to the other one, and back.
-fn chain_holds(alloc: Global, line: &str) -> Result<bool, Fail> {
+// A line of a table of chains; bytes are hexadecimal digits.
+#[derive(Clone, Copy)]
+struct Chain<'a> {
+    key: &'a str,
+    vector: &'a str,
+    plain: &'a str,
+    encrypted: &'a str,
+}
+
+fn chain_of(line: &str) -> Result<Chain<'_>, Fail> {
     let mut words = line.split(' ');
-    let key = bytes(alloc, words.next().ok_or("no key")?)?;
-    let vector = bytes(alloc, words.next().ok_or("no vector")?)?;
-    let plain = bytes(alloc, words.next().ok_or("no unit")?)?;
-    let encrypted = bytes(alloc, words.next().ok_or("no answer")?)?;
-    let key = SliceKey::new(&key).ok_or("no length of a key")?;
-    if vector.len() != 16 || plain.len() % 16 != 0 || encrypted.len() % 16 != 0 {
-        return Err("no unit".into());
+    Ok(Chain {
+        key: words.next().ok_or("no key")?,
+        vector: words.next().ok_or("no vector")?,
+        plain: words.next().ok_or("no unit")?,
+        encrypted: words.next().ok_or("no answer")?,
+    })
+}
+
+fn vector_of(alloc: Global, digits: &str) -> Result<[u8; 16], Fail> {
+    let vector = bytes(alloc, digits)?;
+    if vector.len() != 16 {
+        return Err("no vector".into());
     }
     let mut first = [0; 16];
     first.copy_from_slice(&vector);
-    let mut there = plain.clone()?;
-    if there.len() % 16 != 0 {
+    Ok(first)
+}
+
+fn chain_is_encrypted(alloc: Global, key: &SliceKey, chain: &Chain<'_>) -> Result<bool, Fail> {
+    let first = vector_of(alloc, chain.vector)?;
+    let mut unit = bytes(alloc, chain.plain)?;
+    if unit.len() % 16 != 0 {
         return Err("no unit".into());
     }
-    encrypt_chain(key.key(), first, &mut there);
-    let mut back = encrypted.clone()?;
-    if back.len() % 16 != 0 {
+    encrypt_chain(key.key(), first, &mut unit);
+    Ok(unit == bytes(alloc, chain.encrypted)?)
+}
+
+fn chain_is_decrypted(alloc: Global, key: &SliceKey, chain: &Chain<'_>) -> Result<bool, Fail> {
+    let first = vector_of(alloc, chain.vector)?;
+    let mut unit = bytes(alloc, chain.encrypted)?;
+    if unit.len() % 16 != 0 {
         return Err("no unit".into());
     }
-    decrypt_chain(&key, first, &mut back);
-    Ok(there == encrypted && back == plain)
+    decrypt_chain(key, first, &mut unit);
+    Ok(unit == bytes(alloc, chain.plain)?)
+}
+
+// The line's unit is encrypted to the other one, and back.
+fn chain_holds(alloc: Global, chain: &Chain<'_>) -> Result<bool, Fail> {
+    let key = SliceKey::new(&bytes(alloc, chain.key)?).ok_or("no length of a key")?;
+    Ok(chain_is_encrypted(alloc, &key, chain)? && chain_is_decrypted(alloc, &key, chain)?)
 }
 
 #[test]
 fn chains(rt: HostRuntime) -> Result<(), Fail> {
     for line in CHAINS.lines() {
-        assert_in(&rt, &line, chain_holds(rt.alloc(), line)?);
+        assert_in(&rt, &line, chain_holds(rt.alloc(), &chain_of(line)?)?);
     }
     Ok(())
 }
@@ -118,23 +147,39 @@ fn both_ways(
     Ok(())
 }
 
-fn sector_holds(alloc: Global, line: &str) -> Result<bool, Fail> {
+// A line of a table of sectors; bytes are hexadecimal digits.
+#[derive(Clone, Copy)]
+struct Sector<'a> {
+    mode: Mode,
+    key: &'a str,
+    number: u64,
+    plain: &'a str,
+    encrypted: &'a str,
+}
+
+fn sector_of(line: &str) -> Result<Sector<'_>, Fail> {
     let mut words = line.split(' ');
-    let mode = Mode::from_name(words.next().ok_or("no mode")?).ok_or("no mode")?;
-    let key = bytes(alloc, words.next().ok_or("no key")?)?;
-    let number = words.next().ok_or("no number")?.parse::<u64>()?;
-    let plain = bytes(alloc, words.next().ok_or("no sector")?)?;
-    let encrypted = bytes(alloc, words.next().ok_or("no answer")?)?;
-    let mut there = plain.clone()?;
-    let mut back = encrypted.clone()?;
-    both_ways(mode, &key, number, &mut there, &mut back)?;
-    Ok(there == encrypted && back == plain)
+    Ok(Sector {
+        mode: Mode::from_name(words.next().ok_or("no mode")?).ok_or("no mode")?,
+        key: words.next().ok_or("no key")?,
+        number: words.next().ok_or("no number")?.parse()?,
+        plain: words.next().ok_or("no sector")?,
+        encrypted: words.next().ok_or("no answer")?,
+    })
+}
+
+fn sector_holds(alloc: Global, sector: &Sector<'_>) -> Result<bool, Fail> {
+    let key = bytes(alloc, sector.key)?;
+    let mut there = bytes(alloc, sector.plain)?;
+    let mut back = bytes(alloc, sector.encrypted)?;
+    both_ways(sector.mode, &key, sector.number, &mut there, &mut back)?;
+    Ok(there == bytes(alloc, sector.encrypted)? && back == bytes(alloc, sector.plain)?)
 }
 
 #[test]
 fn sectors(rt: HostRuntime) -> Result<(), Fail> {
     for line in SECTORS.lines() {
-        assert_in(&rt, &line, sector_holds(rt.alloc(), line)?);
+        assert_in(&rt, &line, sector_holds(rt.alloc(), &sector_of(line)?)?);
     }
     Ok(())
 }
@@ -152,7 +197,7 @@ xts-plain64 0000000000000000000000000000000000000000000000000000000000000000 0 0
 #[test]
 fn worked_sectors(rt: HostRuntime) -> Result<(), Fail> {
     for line in WORKED.lines() {
-        assert_in(&rt, &line, sector_holds(rt.alloc(), line)?);
+        assert_in(&rt, &line, sector_holds(rt.alloc(), &sector_of(line)?)?);
     }
     Ok(())
 }

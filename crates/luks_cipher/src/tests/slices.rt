@@ -80,31 +80,52 @@ fn filled(alloc: Global, length: usize, pattern: Pattern) -> Result<Vec<u8>, Fai
     Ok(all)
 }
 
-// The line's sector is encrypted to what has the digest, and that is decrypted to the plain one.
-fn holds(alloc: Global, line: &str) -> Result<bool, Fail> {
+// A line of the table.
+#[derive(Clone, Copy)]
+struct Row<'a> {
+    mode: Mode,
+    key_length: usize,
+    number: u64,
+    length: usize,
+    digest: &'a str,
+}
+
+fn row_of(line: &str) -> Result<Row<'_>, Fail> {
     let mut words = line.split(' ');
-    let mode = Mode::from_name(words.next().ok_or("no mode")?).ok_or("no mode of this name")?;
-    let key_length: usize = words.next().ok_or("no key")?.parse()?;
-    let number = words.next().ok_or("no number")?.parse()?;
-    let length: usize = words.next().ok_or("no length")?.parse()?;
-    let digest = bytes(alloc, words.next().ok_or("no digest")?)?;
-    let key = filled(alloc, key_length, Pattern::Key)?;
-    let cipher = SectorCipher::new(mode, &key).ok_or("no length of a key")?;
-    let plain = filled(alloc, length, Pattern::Plain)?;
-    let mut sector = plain.clone()?;
+    Ok(Row {
+        mode: Mode::from_name(words.next().ok_or("no mode")?).ok_or("no mode of this name")?,
+        key_length: words.next().ok_or("no key")?.parse()?,
+        number: words.next().ok_or("no number")?.parse()?,
+        length: words.next().ok_or("no length")?.parse()?,
+        digest: words.next().ok_or("no digest")?,
+    })
+}
+
+// The digest of the sector as it is encrypted. It is decrypted again.
+fn there_and_back(cipher: &SectorCipher, number: u64, sector: &mut [u8]) -> Result<[u8; 32], Fail> {
     if sector.len() % 16 != 0 || sector.len() < 16 || sector.len() > 4096 {
         return Err("no sector".into());
     }
-    cipher.encrypt_unit(number, &mut sector);
-    let encrypted = Sha256::digest(&sector);
-    cipher.decrypt_unit(number, &mut sector);
-    Ok(encrypted[..] == digest[..] && sector == plain)
+    cipher.encrypt_unit(number, sector);
+    let digest = Sha256::digest(&*sector);
+    cipher.decrypt_unit(number, sector);
+    Ok(digest)
+}
+
+// The row's sector is encrypted to what has the digest, and that is decrypted to the plain one.
+fn holds(alloc: Global, row: &Row<'_>) -> Result<bool, Fail> {
+    let key = filled(alloc, row.key_length, Pattern::Key)?;
+    let cipher = SectorCipher::new(row.mode, &key).ok_or("no length of a key")?;
+    let plain = filled(alloc, row.length, Pattern::Plain)?;
+    let mut sector = plain.clone()?;
+    let digest = there_and_back(&cipher, row.number, &mut sector)?;
+    Ok(digest[..] == bytes(alloc, row.digest)?[..] && sector == plain)
 }
 
 #[test]
 fn sectors_of_slices_and_blocks(rt: HostRuntime) -> Result<(), Fail> {
     for line in SECTORS.lines() {
-        assert_in(&rt, &line, holds(rt.alloc(), line)?);
+        assert_in(&rt, &line, holds(rt.alloc(), &row_of(line)?)?);
     }
     Ok(())
 }

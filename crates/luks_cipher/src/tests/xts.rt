@@ -25,26 +25,48 @@ fn decrypt(key: &XtsKey, number: u64, unit: &mut [u8]) -> Result<(), Fail> {
     Ok(())
 }
 
-// The line's key takes its plain unit to its encrypted one, and back.
-fn holds(alloc: Global, line: &str) -> Result<bool, Fail> {
+// A line of a table; bytes are hexadecimal digits.
+#[derive(Clone, Copy)]
+struct Row<'a> {
+    key: &'a str,
+    number: u64,
+    plain: &'a str,
+    encrypted: &'a str,
+}
+
+fn row_of(line: &str) -> Result<Row<'_>, Fail> {
     let mut words = line.split(' ');
-    let key = bytes(alloc, words.next().ok_or("no key")?)?;
-    let number = words.next().ok_or("no number")?.parse::<u64>()?;
-    let plain = bytes(alloc, words.next().ok_or("no unit")?)?;
-    let encrypted = bytes(alloc, words.next().ok_or("no answer")?)?;
-    let key = XtsKey::new(&key).ok_or("no length of a key")?;
-    let mut there = plain.clone()?;
-    encrypt(&key, number, &mut there)?;
-    let mut back = encrypted.clone()?;
-    decrypt(&key, number, &mut back)?;
-    Ok(there == encrypted && back == plain)
+    Ok(Row {
+        key: words.next().ok_or("no key")?,
+        number: words.next().ok_or("no number")?.parse()?,
+        plain: words.next().ok_or("no unit")?,
+        encrypted: words.next().ok_or("no answer")?,
+    })
+}
+
+fn is_encrypted(alloc: Global, key: &XtsKey, row: &Row<'_>) -> Result<bool, Fail> {
+    let mut unit = bytes(alloc, row.plain)?;
+    encrypt(key, row.number, &mut unit)?;
+    Ok(unit == bytes(alloc, row.encrypted)?)
+}
+
+fn is_decrypted(alloc: Global, key: &XtsKey, row: &Row<'_>) -> Result<bool, Fail> {
+    let mut unit = bytes(alloc, row.encrypted)?;
+    decrypt(key, row.number, &mut unit)?;
+    Ok(unit == bytes(alloc, row.plain)?)
+}
+
+// The row's key takes its plain unit to its encrypted one, and back.
+fn holds(alloc: Global, row: &Row<'_>) -> Result<bool, Fail> {
+    let key = XtsKey::new(&bytes(alloc, row.key)?).ok_or("no length of a key")?;
+    Ok(is_encrypted(alloc, &key, row)? && is_decrypted(alloc, &key, row)?)
 }
 
 #[test]
 fn published_units(rt: HostRuntime) -> Result<(), Fail> {
     for table in [NIST, SHORT, LARGE_NUMBERS] {
         for line in table.lines() {
-            assert_in(&rt, &line, holds(rt.alloc(), line)?);
+            assert_in(&rt, &line, holds(rt.alloc(), &row_of(line)?)?);
         }
     }
     Ok(())
@@ -59,6 +81,16 @@ fn rising(alloc: Global, length: usize) -> Result<Vec<u8>, Fail> {
     Ok(unit)
 }
 
+// What the standard publishes of the units that are encrypted one after the other.
+fn published_under(number: u64) -> Option<&'static str> {
+    match number {
+        0 => Some(UNIT_00),
+        0xfd => Some(UNIT_FD),
+        0xff => Some(UNIT_FF),
+        _ => None,
+    }
+}
+
 #[test]
 fn units_of_512_bytes(rt: HostRuntime) -> Result<(), Fail> {
     let alloc = rt.alloc();
@@ -66,11 +98,8 @@ fn units_of_512_bytes(rt: HostRuntime) -> Result<(), Fail> {
     let mut unit = rising(alloc, 512)?;
     for number in 0..=255u64 {
         encrypt(&key, number, &mut unit)?;
-        let published = match number {
-            0 => UNIT_00,
-            0xfd => UNIT_FD,
-            0xff => UNIT_FF,
-            _ => continue,
+        let Some(published) = published_under(number) else {
+            continue;
         };
         let published = bytes(alloc, published)?;
         assert_in(&rt, &number, unit == published);

@@ -92,20 +92,24 @@ fn check(
     Ok(())
 }
 
+const GOOD: [&str; 2] = ["fine", "usable"];
+
+// The payload's sector, and what is wrong where the header is attached.
+static SECTORS: [(u32, [&str; 2]); 6] = [
+    (0, ["offset", "area"]),
+    (1, ["offset", "area"]),
+    (2, ["fine", "area"]),
+    (507, ["fine", "area"]),
+    (508, GOOD),
+    (0xffff_ffff, GOOD),
+];
+
 // The key material ends with sector 508.
 #[test]
 fn a_header_of_luks1(rt: HostRuntime) -> Result<(), Fail> {
-    let good = ["fine", "usable"];
-    for (sector, attached) in [
-        (0, ["offset", "area"]),
-        (1, ["offset", "area"]),
-        (2, ["fine", "area"]),
-        (507, ["fine", "area"]),
-        (508, good),
-        (0xffff_ffff, good),
-    ] {
+    for (sector, attached) in SECTORS {
         let header = first(rt.alloc(), &[(PAYLOAD_OFFSET, sector)])?;
-        check(&rt, header, attached, good)?;
+        check(&rt, header, attached, GOOD)?;
     }
     Ok(())
 }
@@ -125,21 +129,24 @@ fn key_areas_of_luks1(rt: HostRuntime) -> Result<(), Fail> {
     Ok(())
 }
 
+const WRONG: [&str; 2] = ["offset", "usable"];
+
+// The payload's start, and what is wrong where the header is attached and where it is not.
+static OFFSETS: [(&str, [&str; 2], [&str; 2]); 7] = [
+    ("0", WRONG, GOOD),
+    ("511", WRONG, WRONG),
+    ("32256", WRONG, GOOD),
+    ("32768", ["fine", "area"], GOOD),
+    ("32769", WRONG, WRONG),
+    ("288256", ["fine", "area"], GOOD),
+    ("288768", GOOD, GOOD),
+];
+
 // Both headers end with byte 32,768, and the key material with byte 288,768. Where the payload's
 // start is refused, key areas are judged without it.
 #[test]
 fn a_header_of_luks2(rt: HostRuntime) -> Result<(), Fail> {
-    let good = ["fine", "usable"];
-    let wrong = ["offset", "usable"];
-    for (offset, attached, detached) in [
-        ("0", wrong, good),
-        ("511", wrong, wrong),
-        ("32256", wrong, good),
-        ("32768", ["fine", "area"], good),
-        ("32769", wrong, wrong),
-        ("288256", ["fine", "area"], good),
-        ("288768", good, good),
-    ] {
+    for (offset, attached, detached) in OFFSETS {
         check(&rt, second(rt.alloc(), offset)?, attached, detached)?;
     }
     Ok(())

@@ -186,24 +186,26 @@ fn the_end_is_no_failed_read(rt: HostRuntime) {
     .expect(&rt, "the same");
 }
 
+// How many bytes are asked for, whether they are there, and how many are held then. Twice it is
+// asked for fewer than are held, or for as many.
+static LACKING: [(usize, bool, usize); 8] = [
+    (0, true, 0),
+    (4, true, 4),
+    (3, true, 4),
+    (4, true, 4),
+    (9, true, 9),
+    (10, true, 10),
+    (11, false, 10),
+    (HeaderArea::LONGEST, false, 10),
+];
+
 #[test]
 fn an_area_takes_what_it_lacks(rt: HostRuntime) -> Result<(), Fail> {
     let bytes = b"0123456789";
     let mut source = MemSource::new(bytes);
     let mut area = HeaderArea::new(rt.alloc());
     same(area.as_slice().len(), 0).expect(&rt, "the same");
-    // How many bytes are asked for, whether they are there, and how many are held then. Twice it is
-    // asked for fewer than are held, or for as many.
-    for (end, there, held) in [
-        (0, true, 0),
-        (4, true, 4),
-        (3, true, 4),
-        (4, true, 4),
-        (9, true, 9),
-        (10, true, 10),
-        (11, false, 10),
-        (HeaderArea::LONGEST, false, 10),
-    ] {
+    for (end, there, held) in LACKING {
         same_in(&end, area.extend_to(&mut source, end)?, there).expect(&rt, "the same");
         let (front, rest) = bytes.split_at(held.min(10));
         same_in(&end, area.as_slice(), front).expect(&rt, "the same");

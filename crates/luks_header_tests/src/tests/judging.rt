@@ -2,11 +2,12 @@
 
 use super::fixture::{patch, volume_header};
 use luks_cipher::Mode;
-use luks_header::digest::digest_for;
+use luks_header::digest::{KeyDigest, digest_for};
 use luks_header::header::{Header, read_header};
 use luks_header::payload::segment;
 use luks_header::refusal::{SegmentFault, SkipReason};
 use luks_header::sector_size::SectorSize;
+use luks_header::segment::Segment;
 use luks_header::slot::{Judgement, Slot, Verdict, judge, slot, slots};
 use luks_io::memory::MemSource;
 use luks_kdf::Hash;
@@ -192,7 +193,12 @@ fn a_usable_slot_has_its_numbers(rt: HostRuntime) -> Result<(), Fail> {
         check_parts(&rt, slot);
         check_bytes(&rt, slot.parts.salt.as_slice(), 32, 0x40);
     }
-    // 3999 stripes of 64 bytes are 499 sectors and seven eighths of one.
+    Ok(())
+}
+
+// 3999 stripes of 64 bytes are 499 sectors and seven eighths of one.
+#[test]
+fn an_area_is_whole_sectors(rt: HostRuntime) -> Result<(), Fail> {
     let fewer = changed(&[(STRIPES, 3999)]);
     let verdicts = slots(rt.alloc(), &parse(rt.alloc(), &fewer)?, None)?;
     check_area(&rt, &verdicts);
@@ -293,17 +299,21 @@ fn each_number_of_a_segment(rt: HostRuntime) -> Result<(), Fail> {
     Ok(())
 }
 
+fn check_segment(rt: &impl Abort, segment: &Segment, offset: u64) {
+    same(segment.offset, offset).expect(rt, "the same");
+    same(segment.size, None).expect(rt, "the same");
+    same(segment.iv_tweak, 0).expect(rt, "the same");
+    same(segment.sector_size, SectorSize::B512).expect(rt, "the same");
+    same(segment.mode, Mode::XtsPlain64).expect(rt, "the same");
+}
+
 #[test]
 fn a_segment_goes_to_the_images_end(rt: HostRuntime) -> Result<(), Fail> {
     let far = changed(&[(PAYLOAD_OFFSET, 0xffff_ffff)]);
     for (bytes, offset) in [(volume_header(), 2_097_152), (far, 2_199_023_255_040)] {
-        same(fault(rt.alloc(), &bytes)?, "none").expect(&rt, "the same");
-        if let Ok(segment) = segment(&parse(rt.alloc(), &bytes)?) {
-            same(segment.offset, offset).expect(&rt, "the same");
-            same(segment.size, None).expect(&rt, "the same");
-            same(segment.iv_tweak, 0).expect(&rt, "the same");
-            same(segment.sector_size, SectorSize::B512).expect(&rt, "the same");
-            same(segment.mode, Mode::XtsPlain64).expect(&rt, "the same");
+        match segment(&parse(rt.alloc(), &bytes)?) {
+            Ok(segment) => check_segment(&rt, &segment, offset),
+            Err(fault) => return Err(fault.text().into()),
         }
     }
     Ok(())
@@ -354,17 +364,26 @@ fn a_slot_is_judged_by_its_number(rt: HostRuntime) -> Result<(), Fail> {
     Ok(())
 }
 
+fn check_digest(rt: &impl Abort, digest: &KeyDigest) {
+    same(digest.hash, Some(Hash::Sha256)).expect(rt, "the same");
+    same(digest.iterations, 1000).expect(rt, "the same");
+    check_bytes(rt, digest.salt.as_slice(), 32, 0x20);
+    same(digest.value.as_slice().len(), 20).expect(rt, "the same");
+    same(digest.value.as_slice().last(), Some(&0x13)).expect(rt, "the same");
+}
+
 #[test]
 fn a_digest_has_its_numbers(rt: HostRuntime) -> Result<(), Fail> {
     let header = parse(rt.alloc(), &volume_header())?;
-    let Some(digest) = digest_for(rt.alloc(), &header, 0)? else {
-        return Err("no digest".into());
-    };
-    same(digest.hash, Some(Hash::Sha256)).expect(&rt, "the same");
-    same(digest.iterations, 1000).expect(&rt, "the same");
-    check_bytes(&rt, digest.salt.as_slice(), 32, 0x20);
-    same(digest.value.as_slice().len(), 20).expect(&rt, "the same");
-    same(digest.value.as_slice().last(), Some(&0x13)).expect(&rt, "the same");
+    match digest_for(rt.alloc(), &header, 0)? {
+        Some(digest) => check_digest(&rt, &digest),
+        None => return Err("no digest".into()),
+    }
+    Ok(())
+}
+
+#[test]
+fn a_digest_of_no_iterations_is_none(rt: HostRuntime) -> Result<(), Fail> {
     let none = parse(rt.alloc(), &changed(&[(DIGEST_ITERATIONS, 0)]))?;
     assert!(rt; digest_for(rt.alloc(), &none, 0)?.is_none());
     Ok(())
