@@ -129,70 +129,83 @@ fn joined(alloc: Global, parts: &[&[u8]]) -> Result<Vec<u8>, AllocError> {
 }
 
 #[test]
-fn merges(rt: HostRuntime) -> Result<(), Fail> {
-    let alloc = rt.alloc();
+fn merges_one_stripe(rt: HostRuntime) -> Result<(), Fail> {
     let bytes: [u8; 32] = patterned(1, 0);
-    let one = run(
-        alloc,
-        "afMerge --hash sha256 --stripes 1 --key-bytes 32 s",
-        &bytes,
-        &[],
-    )?;
+    let line = "afMerge --hash sha256 --stripes 1 --key-bytes 32 s";
+    let one = run(rt.alloc(), line, &bytes, &[])?;
     check(&rt, &one, &bytes, 0, "");
     assert_same(&rt, one.image_left, 0);
+    Ok(())
+}
 
-    let two = joined(alloc, &[&ZEROS, &LAST, b"x"])?;
-    let line = "afMerge --hash sha256 --stripes 2 --key-bytes 28 s";
-    let merged = run(alloc, line, two.as_slice(), &[])?;
+const MERGES_TWO: &str = "afMerge --hash sha256 --stripes 2 --key-bytes 28 s";
+
+#[test]
+fn merges_two_stripes(rt: HostRuntime) -> Result<(), Fail> {
+    let two = joined(rt.alloc(), &[&ZEROS, &LAST, b"x"])?;
+    let merged = run(rt.alloc(), MERGES_TWO, two.as_slice(), &[])?;
     check(&rt, &merged, &[0xff; 28], 0, "");
     assert_same(&rt, merged.image_left, 1);
-
-    let few = run(alloc, line, &[0; 55], &[])?;
-    check(&rt, &few, &[], 4, "luksrd: stripes are too few\n");
-    assert_same(&rt, few.image_left, 0);
-
-    let three = joined(alloc, &[&ZEROS, &HASHED, &HASHED])?;
-    let line = "afMerge --hash sha256 --stripes 3 --key-bytes 28 s";
-    check(
-        &rt,
-        &run(alloc, line, three.as_slice(), &[])?,
-        &ZEROS,
-        0,
-        "",
-    );
     Ok(())
 }
 
 #[test]
-fn splits(rt: HostRuntime) -> Result<(), Fail> {
-    let alloc = rt.alloc();
-    let line = "afSplit --hash sha256 --stripes 2 --random r k";
-    let key = [0xff; 28];
-    let two = joined(alloc, &[&ZEROS, &LAST])?;
-    let ended = run(alloc, line, &key, &[0; 30])?;
+fn tells_too_few_stripes(rt: HostRuntime) -> Result<(), Fail> {
+    let few = run(rt.alloc(), MERGES_TWO, &[0; 55], &[])?;
+    check(&rt, &few, &[], 4, "luksrd: stripes are too few\n");
+    assert_same(&rt, few.image_left, 0);
+    Ok(())
+}
+
+#[test]
+fn merges_three_stripes(rt: HostRuntime) -> Result<(), Fail> {
+    let three = joined(rt.alloc(), &[&ZEROS, &HASHED, &HASHED])?;
+    let line = "afMerge --hash sha256 --stripes 3 --key-bytes 28 s";
+    let merged = run(rt.alloc(), line, three.as_slice(), &[])?;
+    check(&rt, &merged, &ZEROS, 0, "");
+    Ok(())
+}
+
+const SPLITS_IN_TWO: &str = "afSplit --hash sha256 --stripes 2 --random r k";
+
+const SPLITS_IN_THREE: &str = "afSplit --hash sha256 --stripes 3 --random r k";
+
+#[test]
+fn splits_in_two(rt: HostRuntime) -> Result<(), Fail> {
+    let two = joined(rt.alloc(), &[&ZEROS, &LAST])?;
+    let ended = run(rt.alloc(), SPLITS_IN_TWO, &[0xff; 28], &[0; 30])?;
     check(&rt, &ended, two.as_slice(), 0, "");
     assert_same(&rt, (ended.image_left, ended.secret_left), (0, 2));
+    Ok(())
+}
 
-    let few = run(alloc, line, &key, &[0; 27])?;
+#[test]
+fn tells_too_few_random_bytes(rt: HostRuntime) -> Result<(), Fail> {
+    let few = run(rt.alloc(), SPLITS_IN_TWO, &[0xff; 28], &[0; 27])?;
     check(&rt, &few, &[], 4, "luksrd: random bytes are too few\n");
     assert_same(&rt, few.secret_left, 0);
+    Ok(())
+}
 
-    let three = joined(alloc, &[&ZEROS, &HASHED, &HASHED])?;
-    let random = joined(alloc, &[&ZEROS, &HASHED])?;
-    let line = "afSplit --hash sha256 --stripes 3 --random r k";
-    check(
-        &rt,
-        &run(alloc, line, &ZEROS, random.as_slice())?,
-        three.as_slice(),
-        0,
-        "",
-    );
+#[test]
+fn splits_in_three(rt: HostRuntime) -> Result<(), Fail> {
+    let three = joined(rt.alloc(), &[&ZEROS, &HASHED, &HASHED])?;
+    let random = joined(rt.alloc(), &[&ZEROS, &HASHED])?;
+    let ended = run(rt.alloc(), SPLITS_IN_THREE, &ZEROS, random.as_slice())?;
+    check(&rt, &ended, three.as_slice(), 0, "");
+    Ok(())
+}
 
+#[test]
+fn splits_in_one(rt: HostRuntime) -> Result<(), Fail> {
     let line = "afSplit --hash sha1 --stripes 1 --random r k";
-    check(&rt, &run(alloc, line, b"12345", &[])?, b"12345", 0, "");
+    check(&rt, &run(rt.alloc(), line, b"12345", &[])?, b"12345", 0, "");
+    Ok(())
+}
 
-    let line = "afSplit --hash sha256 --stripes 3 --random r k";
-    let some = run(alloc, line, b"1234", b"abcdefg")?;
+#[test]
+fn writes_the_stripes_that_it_has(rt: HostRuntime) -> Result<(), Fail> {
+    let some = run(rt.alloc(), SPLITS_IN_THREE, b"1234", b"abcdefg")?;
     check(&rt, &some, b"abcd", 4, "luksrd: random bytes are too few\n");
     Ok(())
 }

@@ -54,12 +54,12 @@ fn area_object(alloc: Global, seal: &Seal2<'_>, slot: &Slot2<'_>) -> Result<Valu
     requires slot { FitsSlot2 (length seal.now.key.now) slot.now }
     ensures { IfOk result (λ value. view value ≡ area_object seal.now slot.now) }
 {
-    let encryption = encryption_text(alloc, seal.area_mode)?;
-    let offset = decimal_text(alloc, area_start(seal, slot.number))?;
-    let size = decimal_text(alloc, area_size(seal.key.len(), slot.stripes))?;
     json!(in alloc; {
-        "encryption": encryption, "key_size": seal.area_key_size, "offset": offset,
-        "size": size, "type": "raw"
+        "encryption": encryption_text(alloc, seal.area_mode)?,
+        "key_size": seal.area_key_size,
+        "offset": decimal_text(alloc, area_start(seal, slot.number))?,
+        "size": decimal_text(alloc, area_size(seal.key.len(), slot.stripes))?,
+        "type": "raw"
     })
 }
 
@@ -68,9 +68,11 @@ fn area_object(alloc: Global, seal: &Seal2<'_>, slot: &Slot2<'_>) -> Result<Valu
 fn kdf_object(alloc: Global, slot: &Slot2<'_>) -> Result<Value, AllocError>
     ensures { IfOk result (λ value. view value ≡ kdf_object slot.now) }
 {
-    let salt = base64_text(alloc, &slot.salt)?;
     json!(in alloc; {
-        "hash": slot.hash.name(), "iterations": slot.iterations, "salt": salt, "type": "pbkdf2"
+        "hash": slot.hash.name(),
+        "iterations": slot.iterations,
+        "salt": base64_text(alloc, &slot.salt)?,
+        "type": "pbkdf2"
     })
 }
 
@@ -81,12 +83,13 @@ fn keyslot_object(alloc: Global, seal: &Seal2<'_>, slot: &Slot2<'_>) -> Result<V
     requires slot { FitsSlot2 (length seal.now.key.now) slot.now }
     ensures { IfOk result (λ value. view value ≡ keyslot_object seal.now slot.now) }
 {
-    let af = af_object(alloc, slot)?;
-    let area = area_object(alloc, seal, slot)?;
-    let kdf = kdf_object(alloc, slot)?;
     json!(in alloc; {
-        "af": af, "area": area, "kdf": kdf, "key_size": seal.key.len(),
-        "priority": slot.priority, "type": "luks2"
+        "af": af_object(alloc, slot)?,
+        "area": area_object(alloc, seal, slot)?,
+        "kdf": kdf_object(alloc, slot)?,
+        "key_size": seal.key.len(),
+        "priority": slot.priority,
+        "type": "luks2"
     })
 }
 
@@ -147,12 +150,14 @@ fn digest_object(alloc: Global, seal: &Seal2<'_>) -> Result<Value, AllocError>
     requires { AreParameters2 seal.now }
     ensures { IfOk result (λ value. view value ≡ digest_object seal.now) }
 {
-    let digest = digest_text(alloc, seal)?;
-    let keyslots = keyslot_names(alloc, seal)?;
-    let salt = base64_text(alloc, &seal.digest_salt)?;
     json!(in alloc; {
-        "digest": digest, "hash": seal.digest_hash.name(), "iterations": seal.digest_iterations,
-        "keyslots": keyslots, "salt": salt, "segments": ["0"], "type": "pbkdf2"
+        "digest": digest_text(alloc, seal)?,
+        "hash": seal.digest_hash.name(),
+        "iterations": seal.digest_iterations,
+        "keyslots": keyslot_names(alloc, seal)?,
+        "salt": base64_text(alloc, &seal.digest_salt)?,
+        "segments": ["0"],
+        "type": "pbkdf2"
     })
 }
 
@@ -172,13 +177,13 @@ fn size_text(alloc: Global, fixed: bool, len: usize) -> Result<Value, AllocError
 fn segment_object(alloc: Global, seal: &Seal2<'_>) -> Result<Value, AllocError>
     ensures { IfOk result (λ value. view value ≡ segment_object seal.now) }
 {
-    let encryption = encryption_text(alloc, seal.mode)?;
-    let iv_tweak = decimal_text(alloc, seal.iv_tweak)?;
-    let offset = decimal_text(alloc, seal.offset)?;
-    let size = size_text(alloc, seal.fixed, seal.plain.len())?;
     json!(in alloc; {
-        "encryption": encryption, "iv_tweak": iv_tweak, "offset": offset,
-        "sector_size": seal.sector_size.bytes(), "size": size, "type": "crypt"
+        "encryption": encryption_text(alloc, seal.mode)?,
+        "iv_tweak": decimal_text(alloc, seal.iv_tweak)?,
+        "offset": decimal_text(alloc, seal.offset)?,
+        "sector_size": seal.sector_size.bytes(),
+        "size": size_text(alloc, seal.fixed, seal.plain.len())?,
+        "type": "crypt"
     })
 }
 
@@ -188,9 +193,10 @@ fn config_object(alloc: Global, seal: &Seal2<'_>) -> Result<Value, AllocError>
     requires { AreParameters2 seal.now }
     ensures { IfOk result (λ value. view value ≡ config_object seal.now) }
 {
-    let json_size = decimal_text(alloc, seal.hdr_size - 4096)?;
-    let keyslots_size = decimal_text(alloc, seal.offset.saturating_sub(2 * seal.hdr_size))?;
-    json!(in alloc; {"json_size": json_size, "keyslots_size": keyslots_size})
+    json!(in alloc; {
+        "json_size": decimal_text(alloc, seal.hdr_size - 4096)?,
+        "keyslots_size": decimal_text(alloc, seal.offset.saturating_sub(2 * seal.hdr_size))?
+    })
 }
 
 /// All metadata.
@@ -199,13 +205,12 @@ fn metadata_of(alloc: Global, seal: &Seal2<'_>) -> Result<Value, AllocError>
     requires { AreParameters2 seal.now }
     ensures { IfOk result (λ value. view value ≡ metadata_of seal.now) }
 {
-    let config = config_object(alloc, seal)?;
-    let digest = digest_object(alloc, seal)?;
-    let keyslots = keyslots(alloc, seal)?;
-    let segment = segment_object(alloc, seal)?;
     json!(in alloc; {
-        "config": config, "digests": {"0": digest}, "keyslots": keyslots,
-        "segments": {"0": segment}, "tokens": {}
+        "config": config_object(alloc, seal)?,
+        "digests": {"0": digest_object(alloc, seal)?},
+        "keyslots": keyslots(alloc, seal)?,
+        "segments": {"0": segment_object(alloc, seal)?},
+        "tokens": {}
     })
 }
 

@@ -218,49 +218,61 @@ fn writes_out_each_mode(rt: HostRuntime) -> Result<(), Fail> {
     Ok(())
 }
 
-// Payloads of LUKS2 from the first byte on, from a later one, and of a fixed size.
+// What comes of a payload of LUKS2 that starts and ends so. Its header is clean.
+fn check_payload(
+    rt: &(impl Abort + AllocGlobal),
+    (offset, size): (&str, &str),
+    image: &[u8],
+    plain: &[u8],
+    (status, told, left): (u8, &str, usize),
+) -> Result<(), Fail> {
+    let header = header2(rt.alloc(), offset, size)?;
+    let ended = run_apart(rt.alloc(), CAT, &header, image, PASSPHRASE)?;
+    check(rt, &ended, plain, status, told);
+    let lefts = (ended.header_left, ended.image_left);
+    assert_same_in(rt, &(offset, size), lefts, (0, left));
+    let checked = run_apart(rt.alloc(), "luksCheck --header h i", &header, image, &[])?;
+    check(rt, &checked, b"clean\n", 0, "");
+    Ok(())
+}
+
+const SHORT: &str = "luksrd: image ends 512 bytes before the segment does\n";
+
+const BEYOND: &str = "luksrd: image ends before the payload\n";
+
+// From the first byte on, and of a fixed size.
 #[test]
 fn writes_payloads_of_luks2(rt: HostRuntime) -> Result<(), Fail> {
-    let alloc = rt.alloc();
-    let plain = plain_bytes(alloc)?;
-    let (_, payload) = halves(alloc, Mode::XtsPlain64, KEY, USUAL, 592)?;
-    let mut behind = vec![in alloc; 0xee; 1024]?;
-    behind.extend_from_slice(&payload)?;
-    let short = "luksrd: image ends 512 bytes before the segment does\n";
-    for (offset, size, image, len, status, told, left) in [
-        ("0", "dynamic", payload.as_slice(), 1536, 0, "", 0),
-        ("1024", "dynamic", behind.as_slice(), 1536, 0, "", 0),
-        ("0", "1024", payload.as_slice(), 1024, 0, "", 512),
-        ("0", "2048", payload.as_slice(), 1536, 4, short, 0),
-        (
-            "4096",
-            "dynamic",
-            behind.as_slice(),
-            0,
-            4,
-            "luksrd: image ends before the payload\n",
-            0,
-        ),
+    let plain = plain_bytes(rt.alloc())?;
+    let (_, image) = halves(rt.alloc(), Mode::XtsPlain64, KEY, USUAL, 592)?;
+    for (size, len, end) in [
+        ("dynamic", 1536, (0, "", 0)),
+        ("1024", 1024, (0, "", 512)),
+        ("2048", 1536, (4, SHORT, 0)),
     ] {
-        let header = header2(alloc, offset, size)?;
-        let ended = run_apart(alloc, CAT, &header, image, PASSPHRASE)?;
-        check(&rt, &ended, &plain[..plain.len().min(len)], status, told);
-        assert_same_in(
-            &rt,
-            &(offset, size),
-            (ended.header_left, ended.image_left),
-            (0, left),
-        );
-        let checked = run_apart(alloc, "luksCheck --header h i", &header, image, &[])?;
-        check(&rt, &checked, b"clean\n", 0, "");
+        let plain = &plain[..plain.len().min(len)];
+        check_payload(&rt, ("0", size), &image, plain, end)?;
     }
-    let odd = header2(alloc, "100", "dynamic")?;
-    let refused = run_apart(alloc, CAT, &odd, &payload, PASSPHRASE)?;
+    Ok(())
+}
+
+#[test]
+fn writes_payloads_of_luks2_from_a_later_byte(rt: HostRuntime) -> Result<(), Fail> {
+    let plain = plain_bytes(rt.alloc())?;
+    let (_, payload) = halves(rt.alloc(), Mode::XtsPlain64, KEY, USUAL, 592)?;
+    let mut image = vec![in rt.alloc(); 0xee; 1024]?;
+    image.extend_from_slice(&payload)?;
+    check_payload(&rt, ("1024", "dynamic"), &image, &plain, (0, "", 0))?;
+    check_payload(&rt, ("4096", "dynamic"), &image, &[], (4, BEYOND, 0))
+}
+
+#[test]
+fn refuses_payloads_of_luks2_at_odd_bytes(rt: HostRuntime) -> Result<(), Fail> {
+    let (_, payload) = halves(rt.alloc(), Mode::XtsPlain64, KEY, USUAL, 592)?;
+    let odd = header2(rt.alloc(), "100", "dynamic")?;
+    let refused = run_apart(rt.alloc(), CAT, &odd, &payload, PASSPHRASE)?;
     check(&rt, &refused, &[], 1, "luksrd: segment refused: offset\n");
-    assert_same(
-        &rt,
-        (refused.image_left, refused.secret_left),
-        (1536, PASSPHRASE.len()),
-    );
+    let lefts = (refused.image_left, refused.secret_left);
+    assert_same(&rt, lefts, (1536, PASSPHRASE.len()));
     Ok(())
 }

@@ -192,29 +192,53 @@ fn names_key_slots(rt: HostRuntime) -> Result<(), Fail> {
     Ok(())
 }
 
+// Slot 3 is damaged, slot 5 is in use with too many stripes, and slot 7 with none.
+static WRONG_SLOTS: [(usize, [u8; 4]); 5] = [
+    (352, [0, 0, 0, 1]),
+    (448, [0, 0xac, 0x71, 0xf3]),
+    (492, [0, 0, 15, 0xa1]),
+    (544, [0, 0xac, 0x71, 0xf3]),
+    (588, [0; 4]),
+];
+
+// A volume with wrong key slots, and with these bytes in place of slot 0's state.
+fn with_wrong_slots(alloc: Global, state: &[u8; 4]) -> Result<Vec<u8>, Fail> {
+    let mut image = sealed(alloc, SMALL, PASSPHRASE)?;
+    for (place, bytes) in WRONG_SLOTS {
+        image = changed(alloc, &image, place, &bytes)?;
+    }
+    Ok(changed(alloc, &image, 208, state)?)
+}
+
+const ENABLED: [u8; 4] = [0, 0xac, 0x71, 0xf3];
+
 #[test]
 fn tells_skipped_key_slots_by_number(rt: HostRuntime) -> Result<(), Fail> {
-    let alloc = rt.alloc();
-    let image = sealed(alloc, SMALL, PASSPHRASE)?;
-    // Slot 3 is damaged, slot 5 is in use with too many stripes, and slot 7 with none.
-    let image = changed(alloc, &image, 352, &[0, 0, 0, 1])?;
-    let image = changed(alloc, &image, 448, &[0, 0xac, 0x71, 0xf3])?;
-    let image = changed(alloc, &image, 492, &[0, 0, 15, 0xa1])?;
-    let image = changed(alloc, &image, 544, &[0, 0xac, 0x71, 0xf3])?;
-    let image = changed(alloc, &image, 588, &[0; 4])?;
-    let ended = run(alloc, "luksCat --key-file f i", &image, b"wrong")?;
+    let image = with_wrong_slots(rt.alloc(), &ENABLED)?;
+    let ended = run(rt.alloc(), "luksCat --key-file f i", &image, b"wrong")?;
     let told = "luksrd: no key opens the volume; skipped: 3 (state), 5 (stripes), 7 (stripes)\n";
     check(&rt, &ended, &[], 2, told);
-    let ended = run(
-        alloc,
-        "luksCat --key-file f --key-slot 0 i",
-        &image,
-        b"wrong",
-    )?;
-    check(&rt, &ended, &[], 2, NO_KEY);
-    let line = "--key-slot 3 ";
-    check_refused(&rt, line, &image, "luksrd: key slot 3 is skipped: state\n")?;
-    let image = changed(alloc, &image, 208, &[0, 0, 0xde, 0xad])?;
+    Ok(())
+}
+
+#[test]
+fn tells_no_skipped_key_slots_where_one_is_asked_for(rt: HostRuntime) -> Result<(), Fail> {
+    let image = with_wrong_slots(rt.alloc(), &ENABLED)?;
+    let line = "luksCat --key-file f --key-slot 0 i";
+    check(
+        &rt,
+        &run(rt.alloc(), line, &image, b"wrong")?,
+        &[],
+        2,
+        NO_KEY,
+    );
+    let told = "luksrd: key slot 3 is skipped: state\n";
+    check_refused(&rt, "--key-slot 3 ", &image, told)
+}
+
+#[test]
+fn tells_skipped_key_slots_where_none_can_be_tried(rt: HostRuntime) -> Result<(), Fail> {
+    let image = with_wrong_slots(rt.alloc(), &[0, 0, 0xde, 0xad])?;
     let told = "luksrd: no key slot can be tried; skipped: 3 (state), 5 (stripes), 7 (stripes)\n";
     check_refused(&rt, "", &image, told)
 }

@@ -5,7 +5,7 @@ ghost use Rattle.luks_pages.specs.Dump1.{dump1_of, enabled_text, number_lines, s
 ghost use Rattle.luks_pages.specs.Dump1.{slot_text, text_lines, uuid_line};
 
 use crate::escaping::escape;
-use crate::field::push_field;
+use crate::field::{push_bytes, push_field, push_number, push_text};
 use luks_header::header::{Header1, KeySlot, SlotState};
 use std::alloc::{AllocError, Global};
 
@@ -36,15 +36,13 @@ pub(super) fn dump_page(alloc: Global, header: &Header1) -> Result<String, Alloc
 fn push_texts(alloc: Global, page: &mut String, header: &Header1) -> Result<(), AllocError>
     ensures { OnOk result (string_bytes page.new ≡ string_bytes page.old ++ text_lines header.now) }
 {
-    let uuid = escape(alloc, header.uuid.as_bytes())?;
     let name = escape(alloc, header.cipher_name.as_bytes())?;
     let mode = escape(alloc, header.cipher_mode.as_bytes())?;
     let cipher = format!(in alloc; "{name}-{mode}")?;
-    let hash = escape(alloc, header.hash_spec.as_bytes())?;
     push_field(page, "Version", "1")?;
-    push_field(page, "UUID", uuid.as_str())?;
+    push_text(alloc, page, "UUID", header.uuid.as_bytes())?;
     push_field(page, "Cipher", cipher.as_str())?;
-    push_field(page, "Hash", hash.as_str())?;
+    push_text(alloc, page, "Hash", header.hash_spec.as_bytes())?;
     Ok(())
 }
 
@@ -54,16 +52,16 @@ fn push_numbers(alloc: Global, page: &mut String, header: &Header1) -> Result<()
     ensures { OnOk result
         (string_bytes page.new ≡ string_bytes page.old ++ number_lines header.now) }
 {
-    let offset = header.payload_offset.to_string(alloc)?;
-    let key_bytes = header.key_bytes.to_string(alloc)?;
-    let digest = hex::encode(alloc, header.digest.as_slice())?;
-    let salt = hex::encode(alloc, header.digest_salt.as_slice())?;
-    let iterations = header.digest_iterations.to_string(alloc)?;
-    push_field(page, "Payload offset", offset.as_str())?;
-    push_field(page, "Key bytes", key_bytes.as_str())?;
-    push_field(page, "MK digest", digest.as_str())?;
-    push_field(page, "MK salt", salt.as_str())?;
-    push_field(page, "MK iterations", iterations.as_str())?;
+    push_number(alloc, page, "Payload offset", header.payload_offset as u64)?;
+    push_number(alloc, page, "Key bytes", header.key_bytes as u64)?;
+    push_bytes(alloc, page, "MK digest", &header.digest)?;
+    push_bytes(alloc, page, "MK salt", &header.digest_salt)?;
+    push_number(
+        alloc,
+        page,
+        "MK iterations",
+        header.digest_iterations as u64,
+    )?;
     Ok(())
 }
 

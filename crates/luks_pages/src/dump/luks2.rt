@@ -4,7 +4,7 @@ ghost use Rattle.std.specs.Prelude.{◌≡◌, ◌++◌, IfOk, OnOk, string_byte
 ghost use Rattle.luks_pages.specs.Dump2.{dump2_of, place_lines, place_text, text_lines, uuid2_line};
 
 use crate::escaping::escape;
-use crate::field::push_field;
+use crate::field::{push_field, push_number, push_text};
 use luks_header::header::bounds;
 use luks2_header::header::{Header2, Place};
 use luks2_members::tree::Metadata;
@@ -49,13 +49,10 @@ fn push_place(alloc: Global, page: &mut String, header: &Header2) -> Result<(), 
     ensures { OnOk result
         (string_bytes page.new ≡ string_bytes page.old ++ place_lines header.now) }
 {
-    let sequence = header.sequence.to_string(alloc)?;
-    let size = header.size.to_string(alloc)?;
     push_field(page, "Version", "2")?;
     push_field(page, "Header", place_text(header.place))?;
-    push_field(page, "Sequence", sequence.as_str())?;
-    push_field(page, "Header size", size.as_str())?;
-    Ok(())
+    push_number(alloc, page, "Sequence", header.sequence)?;
+    push_number(alloc, page, "Header size", header.size as u64)
 }
 
 // Which of the two headers it is.
@@ -73,12 +70,8 @@ fn place_text(place: Place) -> &'static str
 fn push_texts(alloc: Global, page: &mut String, header: &Header2) -> Result<(), AllocError>
     ensures { OnOk result (string_bytes page.new ≡ string_bytes page.old ++ text_lines header.now) }
 {
-    let uuid = escape(alloc, header.uuid.as_bytes())?;
-    let label = escape(alloc, header.label.as_bytes())?;
-    let subsystem = escape(alloc, header.subsystem.as_bytes())?;
-    push_field(page, "UUID", uuid.as_str())?;
-    push_field(page, "Label", label.as_str())?;
-    push_field(page, "Subsystem", subsystem.as_str())?;
-    push_field(page, "Checksum", header.hash.name())?;
-    Ok(())
+    push_text(alloc, page, "UUID", header.uuid.as_bytes())?;
+    push_text(alloc, page, "Label", header.label.as_bytes())?;
+    push_text(alloc, page, "Subsystem", header.subsystem.as_bytes())?;
+    push_field(page, "Checksum", header.hash.name())
 }

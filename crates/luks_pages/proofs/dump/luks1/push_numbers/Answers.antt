@@ -6,22 +6,10 @@ pub returns : goal.returns
 unfolding number_lines
 returns c =
     simp (
-      c.in_ok-push_field-5.ensures,
-      c.in_ok-push_field-4.ensures,
-      c.in_ok-push_field-3.ensures,
-      c.in_ok-push_field-2.ensures,
-      c.in_ok-push_field.ensures,
-      c.as_str.ensures.value,
-      c.as_str-2.ensures.value,
-      c.as_str-3.ensures.value,
-      c.as_str-4.ensures.value,
-      c.as_str-5.ensures.value,
-      c.in_ok-offset.ensures.ok,
-      c.in_ok-key_bytes.ensures.ok,
-      c.in_ok-digest.ensures,
-      c.in_ok-salt.ensures,
-      c.in_ok-iterations.ensures.ok,
-      c.as_slice.ensures,
-      c.as_slice-2.ensures,
+      c.in_ok-push_number-3.ensures,
+      c.in_ok-push_bytes-2.ensures,
+      c.in_ok-push_bytes.ensures,
+      c.in_ok-push_number-2.ensures,
+      c.in_ok-push_number.ensures,
       append_assoc,
     )

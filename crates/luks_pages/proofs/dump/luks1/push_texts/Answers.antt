@@ -6,15 +6,11 @@ pub returns : goal.returns
 unfolding text_lines
 returns c =
     simp (
-      c.in_ok-push_field-4.ensures,
-      c.in_ok-push_field-3.ensures,
+      c.in_ok-push_text-2.ensures,
       c.in_ok-push_field-2.ensures,
+      c.in_ok-push_text.ensures,
       c.in_ok-push_field.ensures,
       c.as_str.ensures.value,
-      c.as_str-2.ensures.value,
-      c.as_str-3.ensures.value,
-      c.in_ok-uuid.ensures,
-      c.in_ok-hash.ensures,
       c.in_ok-cipher.ensures.ok,
       c.in_ok-name.ensures,
       c.in_ok-mode.ensures,
