@@ -1,5 +1,6 @@
 -- What is known of a slot that there is no reason to skip.
-use Rattle.std.proofs.Common.{◌≡◌, ◌∙◌, ℕ, ◌+◌, ◌*◌, ◌≤◌, sym, subst, refl, Bool, true, false, List, [], ◌∷◌, Option, Some, None, arith}
+use Rattle.std.proofs.Common.{◌≡◌, ◌∙◌, ℕ, ◌+◌, ◌*◌, ◌≤◌, sym, subst, refl, Bool, true, false, List, [], ◌∷◌, Option}
+use Rattle.std.proofs.Common.{Some, None, arith}
 use Rattle.std.specs.Prelude.{if◌then◌else◌, option_map, option_and_then, slice_get}
 use Rattle.std.proofs.lemmas.Bool.Decides.{nat_tests}
 use Rattle.std.proofs.lemmas.Option.{same_Some}
@@ -16,7 +17,9 @@ use Rattle.luks_verdict.specs.declared.slot.Slot.{Slot}
 use Rattle.luks_verdict.specs.declared.slot.Verdict.TheVariants.{Usable}
 use Rattle.luks_verdict.specs.declared.slot.Verdict.TheVariants.{Disabled as Unused}
 use Rattle.luks_verdict.specs.declared.slot.Judgement.TheVariants.{Usable as Open}
-use Rattle.luks1_header.specs.Slot1.{digest1_of, hash1_of, is_damaged, is_disabled, is_misplaced1, mode1_of, payload1_of, reason1_of, slot1_at, slot1_of, slot_parts1_of, verdict1_at, verdict1_of}
+use Rattle.luks1_header.specs.Slot1.{digest1_of, hash1_of, is_damaged, is_disabled, is_misplaced1, mode1_of}
+use Rattle.luks1_header.specs.Slot1.{payload1_of, reason1_of, slot1_at, slot1_of, slot_parts1_of, verdict1_at}
+use Rattle.luks1_header.specs.Slot1.{verdict1_of}
 use Rattle.luks1_header.specs.declared.header.Header1.{Header1}
 use Rattle.luks1_header.specs.declared.header.KeySlot.{KeySlot}
 

@@ -1,5 +1,6 @@
 -- What becomes of the key slots of LUKS1.
-use Rattle.std.specs.Prelude.{ℕ, ◌*◌, if◌then◌else◌, Bool, true, false, [], ◌∷◌, Option, Some, None, bytes_eq, codes, option_and_then, option_map, slice_get}
+use Rattle.std.specs.Prelude.{ℕ, ◌*◌, if◌then◌else◌, Bool, true, false, [], ◌∷◌, Option, Some, None, bytes_eq, codes}
+use Rattle.std.specs.Prelude.{option_and_then, option_map, slice_get}
 use Rattle.luks_cipher.specs.Sector.{mode_named}
 use Rattle.luks_cipher.specs.declared.mode.Mode.{Mode}
 use Rattle.luks_kdf.specs.Hash.{hash_named}

@@ -1,7 +1,8 @@
 //! The header of LUKS1 (LUKS1 On-Disk Format Specification 1.2.3).
 
 ghost use Rattle.std.specs.Prelude.{◌≡◌, length};
-ghost use Rattle.luks1_header.specs.Header1.{header1_of, is_luks1, key_slot_of, key_slots_of, state_of};
+ghost use Rattle.luks1_header.specs.Header1.{header1_of, is_luks1, key_slot_of, key_slots_of};
+ghost use Rattle.luks1_header.specs.Header1.{state_of};
 
 use luks_area::field::{bytes_at, number_at, text_at};
 use luks_area::text::Text;

@@ -5,7 +5,9 @@ ghost use Rattle.luks_cipher.specs.Sector.{mode_named};
 ghost use Rattle.luks_verdict.specs.Digest.{is_undigested};
 ghost use Rattle.luks_verdict.specs.Slot.{judgement_of};
 ghost use Rattle.luks1_header.specs.Segment1.{fault1_of, segment1_of, starts_inside};
-ghost use Rattle.luks1_header.specs.Slot1.{digest1_of, hash1_of, is_disabled, is_misplaced1, mode1_of, payload1_of, reason1_of, slot1_at, slot1_of, verdict1_at, verdict1_of};
+ghost use Rattle.luks1_header.specs.Slot1.{digest1_of, hash1_of, is_disabled, is_misplaced1};
+ghost use Rattle.luks1_header.specs.Slot1.{mode1_of, payload1_of, reason1_of, slot1_at, slot1_of};
+ghost use Rattle.luks1_header.specs.Slot1.{verdict1_at, verdict1_of};
 
 use crate::header::{HEADER1_LEN, Header1, KeySlot, SlotState};
 use luks_cipher::Mode;

@@ -1,5 +1,6 @@
 -- The front of an image says of its headers what the image says.
-use Rattle.std.proofs.Common.{◌≡◌, ◌∙◌, ℕ, ◌+◌, ◌-◌, ◌<◌, ◌≤◌, List, Some, None, Bool, true, false, ap, sym, refl, take, drop, length, max, arith}
+use Rattle.std.proofs.Common.{◌≡◌, ◌∙◌, ℕ, ◌+◌, ◌-◌, ◌<◌, ◌≤◌, List, Some, None, Bool, true, false, ap, sym, refl, take}
+use Rattle.std.proofs.Common.{drop, length, max, arith}
 use Rattle.std.specs.Prelude.{if◌then◌else◌, not, IsTrue, ◌↔◌}
 use Rattle.std.specs.Bool.{then_some}
 use Rattle.std.proofs.lemmas.Bool.{le-leb, lt-leb}

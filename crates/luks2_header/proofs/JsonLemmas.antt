@@ -1,12 +1,14 @@
 -- The header that an image has stands, with its JSON area, within the bytes that were read to choose it.
-use Rattle.std.proofs.Common.{◌≡◌, ◌∙◌, ℕ, ◌+◌, ◌-◌, ◌≤◌, List, [], ◌∷◌, Option, Some, None, Bool, true, false, ap, sym, refl, take, drop, arith}
+use Rattle.std.proofs.Common.{◌≡◌, ◌∙◌, ℕ, ◌+◌, ◌-◌, ◌≤◌, List, [], ◌∷◌, Option, Some, None, Bool, true, false, ap, sym}
+use Rattle.std.proofs.Common.{refl, take, drop, arith}
 use Rattle.std.specs.Prelude.{Ok, nat_lt, ok_or}
 use Rattle.std.proofs.lemmas.List.{drop-take, take-take}
 use Rattle.std.proofs.lemmas.Option.{option_and_then_some}
 use Rattle.luks_kdf.specs.declared.hash.Hash.{Hash}
 use Rattle.luks_area.specs.declared.fault.HeaderFault.TheVariants.{NotLuks}
 use Rattle.luks_area.specs.Field.{at, text_of}
-use Rattle.luks2_header.specs.Choice2.{beside_primary, binary_at, chosen2_of, found_at, header2_of, is_valid, least_valid, size_at}
+use Rattle.luks2_header.specs.Choice2.{beside_primary, binary_at, chosen2_of, found_at, header2_of, is_valid}
+use Rattle.luks2_header.specs.Choice2.{least_valid, size_at}
 use Rattle.luks2_header.specs.Cost2.{cost2_of, reach2_of, reach_at}
 use Rattle.luks2_header.specs.Header2.{binary_len, hash_in, header_in, sequence_in, size_in, sizes}
 use Rattle.luks2_header.specs.Text2.{json_area_of, json_text_of, place_of}

@@ -1,5 +1,6 @@
 -- The search for a secondary header, place by place.
-use Rattle.std.proofs.Common.{◌≡◌, ◌∙◌, ℕ, suc, ◌+◌, ◌<◌, ◌≤◌, List, ◌∷◌, Option, Some, None, Bool, true, false, ap, sym, refl, drop, get_or, length, max, add-one, arith}
+use Rattle.std.proofs.Common.{◌≡◌, ◌∙◌, ℕ, suc, ◌+◌, ◌<◌, ◌≤◌, List, ◌∷◌, Option, Some, None, Bool, true, false, ap}
+use Rattle.std.proofs.Common.{sym, refl, drop, get_or, length, max, add-one, arith}
 use Rattle.std.proofs.Math.Seq.{drop-cons}
 use Rattle.std.specs.Prelude.{is_some, nat_le, option_and_then}
 use Rattle.std.proofs.lemmas.Bool.{leb-true}

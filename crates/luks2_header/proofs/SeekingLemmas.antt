@@ -1,5 +1,6 @@
 -- What is held and taken once the header of an image is found, or is not.
-use Rattle.std.proofs.Common.{◌≡◌, ◌∙◌, ℕ, ◌+◌, ◌-◌, ◌<◌, ◌≤◌, ◌⊎◌, inl, inr, List, ◌++◌, Option, Some, None, Ok, Err, Bool, true, false, ap, sym, subst, refl, take, drop, length, length-append, max, arith}
+use Rattle.std.proofs.Common.{◌≡◌, ◌∙◌, ℕ, ◌+◌, ◌-◌, ◌<◌, ◌≤◌, ◌⊎◌, inl, inr, List, ◌++◌, Option, Some, None, Ok, Err}
+use Rattle.std.proofs.Common.{Bool, true, false, ap, sym, subst, refl, take, drop, length, length-append, max, arith}
 use Rattle.std.specs.Prelude.{IfErr, IfOk, Result, ok_or}
 use Rattle.std.proofs.Math.Seq.{drop-append_seam, take-append-add, take-append_seam}
 use Rattle.std.proofs.lemmas.List.{drop-drop}

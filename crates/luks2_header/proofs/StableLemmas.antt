@@ -1,5 +1,6 @@
 -- The first bytes of an image, as many as its header costs, have the same header and the same cost.
-use Rattle.std.proofs.Common.{◌≡◌, ◌∙◌, ℕ, ◌+◌, ◌*◌, ◌<◌, ◌≤◌, List, [], ◌∷◌, Option, Some, None, Err, Bool, true, false, ap, sym, refl, inl, inr, take, take_all, length, length-take-le, max, arith}
+use Rattle.std.proofs.Common.{◌≡◌, ◌∙◌, ℕ, ◌+◌, ◌*◌, ◌<◌, ◌≤◌, List, [], ◌∷◌, Option, Some, None, Err, Bool, true}
+use Rattle.std.proofs.Common.{false, ap, sym, refl, inl, inr, take, take_all, length, length-take-le, max, arith}
 use Rattle.std.specs.Prelude.{nat_lt, ok_or, option_and_then}
 use Rattle.std.proofs.lemmas.Bool.{cases_lt, le-ltb}
 use Rattle.luks_area.specs.declared.fault.HeaderFault.TheVariants.{NotLuks}
@@ -10,7 +11,8 @@ use Rattle.luks2_header.specs.Header2.{header_in, size_in, sizes}
 use Rattle.luks2_header.specs.declared.header.Finding.TheVariants.{PrimaryNotValid}
 use Rattle.luks2_header.specs.declared.header.Place.TheVariants.{Secondary}
 use Rattle.luks2_header.proofs.AgreeLemmas.{at-front, fits-front, reach_fit, reach_least, valid-front}
-use Rattle.luks2_header.proofs.ChoiceLemmas.{beside_same, chosen_other, chosen_primary, reach_first, reach_other, reach_primary, reach_some}
+use Rattle.luks2_header.proofs.ChoiceLemmas.{beside_same, chosen_other, chosen_primary, reach_first, reach_other}
+use Rattle.luks2_header.proofs.ChoiceLemmas.{reach_primary, reach_some}
 use Rattle.luks2_header.proofs.SearchLemmas.{least_is, search_reach_is}
 use Rattle.luks2_header.proofs.ValidLemmas.{short-fits, unfit-is_valid}
 use Rattle.luks2_header.proofs.WalkLemmas.{first_valid, furthest}

@@ -1,6 +1,7 @@
 -- Which header of LUKS2 an image has (LUKS2 On-Disk Format Specification 1.1, sections 2.1 and 2.2): the primary one
 -- stands at the image's start, the secondary one at its own length.
-use Rattle.std.specs.Prelude.{ℕ, ◌+◌, ◌==◌, ◌&&◌, ◌||◌, not, nat_le, nat_lt, if◌then◌else◌, Bool, List, [], ◌∷◌, Option, Some, None, Result, bytes_eq, is_some, length, ok_or, option_and_then}
+use Rattle.std.specs.Prelude.{ℕ, ◌+◌, ◌==◌, ◌&&◌, ◌||◌, not, nat_le, nat_lt, if◌then◌else◌, Bool, List, [], ◌∷◌, Option}
+use Rattle.std.specs.Prelude.{Some, None, Result, bytes_eq, is_some, length, ok_or, option_and_then}
 use Rattle.std.specs.List.{find, list_any}
 use Rattle.luks_area.specs.Field.{at}
 use Rattle.luks_area.specs.declared.fault.HeaderFault.{HeaderFault}

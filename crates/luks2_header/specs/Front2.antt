@@ -1,5 +1,6 @@
 -- What is held of an image while its header is sought.
-use Rattle.std.specs.Prelude.{◌≡◌, ◌+◌, ◌-◌, ◌<◌, ◌≤◌, ◌&&◌, ℕ, Bool, true, false, not, if◌then◌else◌, List, Option, Some, None, Result, Ok, Err, drop, length, max, nat_lt, take}
+use Rattle.std.specs.Prelude.{◌≡◌, ◌+◌, ◌-◌, ◌<◌, ◌≤◌, ◌&&◌, ℕ, Bool, true, false, not, if◌then◌else◌, List, Option}
+use Rattle.std.specs.Prelude.{Some, None, Result, Ok, Err, drop, length, max, nat_lt, take}
 use Rattle.luks_io.specs.Bytes.{counted}
 use Rattle.luks_area.specs.Area.{TookBehind}
 use Rattle.luks_area.specs.declared.fault.HeaderFault.{HeaderFault}

@@ -2,7 +2,8 @@
 
 ghost use Rattle.std.specs.Prelude.{◌≡◌, ◌≤◌, ◌==◌, length, position};
 ghost use Rattle.luks_area.specs.Field.{at, text_of};
-ghost use Rattle.luks2_header.specs.Header2.{end2_of, hash_in, header_in, place_in, sequence_in, size_in};
+ghost use Rattle.luks2_header.specs.Header2.{end2_of, hash_in, header_in, place_in, sequence_in};
+ghost use Rattle.luks2_header.specs.Header2.{size_in};
 ghost use Rattle.luks2_header.specs.Text2.{json_text_of};
 
 use luks_area::field::{bytes_at, number64_at, text_at};

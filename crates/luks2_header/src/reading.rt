@@ -1,11 +1,14 @@
 //! Finding the header of an image.
 
-ghost use Rattle.std.specs.Prelude.{◌≡◌, ◌+◌, ◌≤◌, ◌↔◌, ◌⊎◌, ◌++◌, ◌<◌, true, false, length, max, take, IsTrue, Ok, Err, IfOk, IfErr, IfSome, OnErr, OnOk, List, ℕ, option_and_then};
+ghost use Rattle.std.specs.Prelude.{◌≡◌, ◌+◌, ◌≤◌, ◌↔◌, ◌⊎◌, ◌++◌, ◌<◌, true, false, length, max};
+ghost use Rattle.std.specs.Prelude.{take, IsTrue, Ok, Err, IfOk, IfErr, IfSome, OnErr, OnOk, List};
+ghost use Rattle.std.specs.Prelude.{ℕ, option_and_then};
 ghost use Rattle.luks_io.specs.Bytes.{WhereKnown, counted};
 ghost use Rattle.luks_area.specs.Area.{is_read, longest_area};
 ghost use Rattle.luks2_header.specs.Choice2.{chosen2_of, found_at, header2_of, least_valid};
 ghost use Rattle.luks2_header.specs.Cost2.{cost2_of, reach2_of, reach_at, search_reach};
-ghost use Rattle.luks2_header.specs.Front2.{BreaksSeeking, FallsShort, Grew, finds_end, OfEach, Reaches, StaysBelow, TookCost, WithinReach, valid_size};
+ghost use Rattle.luks2_header.specs.Front2.{BreaksSeeking, FallsShort, Grew, finds_end, OfEach};
+ghost use Rattle.luks2_header.specs.Front2.{Reaches, StaysBelow, TookCost, WithinReach, valid_size};
 
 use crate::choice::{beside_primary, valid_header};
 use crate::header::{BINARY_LEN, Finding, Header2, Place};

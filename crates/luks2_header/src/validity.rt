@@ -1,11 +1,13 @@
 //! Whether there is a valid header at a place.
 
-ghost use Rattle.std.specs.Prelude.{◌≡◌, ◌+◌, ◌≤◌, ◌++◌, ◌==◌, ◌&&◌, ◌||◌, IfSome, bytes_eq, if◌then◌else◌, length, Some, None};
+ghost use Rattle.std.specs.Prelude.{◌≡◌, ◌+◌, ◌≤◌, ◌++◌, ◌==◌, ◌&&◌, ◌||◌, IfSome, bytes_eq};
+ghost use Rattle.std.specs.Prelude.{if◌then◌else◌, length, Some, None};
 ghost use Rattle.std.specs.List.{list_any};
 ghost use Rattle.luks_kdf.specs.Hash.{hash_of, size_of};
 ghost use Rattle.luks_area.specs.Field.{at};
 ghost use Rattle.luks2_header.specs.Checksum2.{is_intact, no_checksum, without_checksum};
-ghost use Rattle.luks2_header.specs.Choice2.{beginning_at, binary_at, fits, is_binary_of, is_valid, size_at};
+ghost use Rattle.luks2_header.specs.Choice2.{beginning_at, binary_at, fits, is_binary_of, is_valid};
+ghost use Rattle.luks2_header.specs.Choice2.{size_at};
 ghost use Rattle.luks2_header.specs.Header2.{hash_in, size_in, sizes};
 
 use crate::header::{BINARY_LEN, hash_in, place_in, size_in};

@@ -1,12 +1,14 @@
 -- A text in base64 is looked at group by group.
-use Rattle.std.proofs.Common.{◌≡◌, ◌∙◌, ℕ, ◌+◌, ◌*◌, ◌<◌, ◌≤◌, ◌-◌, Bool, true, false, List, [], ◌++◌, length, take, take_all, drop, Option, Some, None, Ok, Err, refl, sym, ap, subst, arith}
+use Rattle.std.proofs.Common.{◌≡◌, ◌∙◌, ℕ, ◌+◌, ◌*◌, ◌<◌, ◌≤◌, ◌-◌, Bool, true, false, List, [], ◌++◌, length, take}
+use Rattle.std.proofs.Common.{take_all, drop, Option, Some, None, Ok, Err, refl, sym, ap, subst, arith}
 use Rattle.std.specs.Prelude.{◌&&◌, if◌then◌else◌, not, is_none, option_map, slice_index}
 use Rattle.std.specs.Io.KnownBytes.{prepend_known}
 use Rattle.std.proofs.lemmas.List.{append-nil, length-append, length-drop, length-take}
 use Rattle.base64.proofs.Decoding.{groups_error_first, length-groups_bytes}
 use Rattle.base64.proofs.Streams.{decoded_of-groups, decoded_of-ok}
 use Rattle.base64.proofs.Tables.{all_below_at}
-use Rattle.base64.specs.Decode.{decode_outcome, decoded_bytes, groups_before_last, groups_error, or_else, lone_error, suffix_error}
+use Rattle.base64.specs.Decode.{decode_outcome, decoded_bytes, groups_before_last, groups_error, or_else, lone_error}
+use Rattle.base64.specs.Decode.{suffix_error}
 use Rattle.base64.specs.Engines.{standard}
 use Rattle.base64.specs.GeneralPurpose.{IsDecodeFailure, decode_of, decoded_of, groups_bytes_of, groups_error_of}
 use Rattle.base64.specs.declared.decode.DecodeAllocError.{DecodeAllocError}

@@ -1,5 +1,6 @@
 -- The numbers that texts write in decimal digits.
-use Rattle.std.proofs.Common.{◌≡◌, ◌<◌, ◌≤◌, ◌^◌, ℕ, List, None, Result, Ok, Err, ◌⊎◌, true, length, arith, rules, refl, inl, inr}
+use Rattle.std.proofs.Common.{◌≡◌, ◌<◌, ◌≤◌, ◌^◌, ℕ, List, None, Result, Ok, Err, ◌⊎◌, true, length, arith, rules, refl}
+use Rattle.std.proofs.Common.{inl, inr}
 use Rattle.std.proofs.lemmas.Bool.{cases_lt, le-ltb, lt-ltb, le-leb}
 use Rattle.std.proofs.lemmas.Str.Parse.{IsNumeralModel, numerals_by_value, parse_digits, parse_gives}
 use Rattle.std.specs.Char.{is_ascii_digit}

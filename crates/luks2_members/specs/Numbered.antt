@@ -1,6 +1,7 @@
 -- The names of key slots and digests (LUKS2 On-Disk Format Specification 1.1, section 3): the numbers from 0 to 31 in
 -- decimal digits, without leading zeros. Members under other names are passed over.
-use Rattle.std.specs.Prelude.{ℕ, zero, suc, ◌||◌, not, Bool, false, List, Option, None, bytes_eq, codes, decimal, nat_lt, if◌then◌else◌, option_map, unwrap_or}
+use Rattle.std.specs.Prelude.{ℕ, zero, suc, ◌||◌, not, Bool, false, List, Option, None, bytes_eq, codes, decimal}
+use Rattle.std.specs.Prelude.{nat_lt, if◌then◌else◌, option_map, unwrap_or}
 use Rattle.std.specs.Option.{option_or}
 use Rattle.luks_verdict.specs.Rule.{most_slots}
 use Rattle.luks2_members.specs.Member.{within}

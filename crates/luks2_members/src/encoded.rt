@@ -1,7 +1,8 @@
 //! Bytes in base64: whether a text stands for bytes, and for which.
 
 ghost use Rattle.std.specs.Prelude.{◌≡◌, ◌≤◌, IfOk, IfSome, length, option_map};
-ghost use Rattle.luks2_members.specs.Encoded.{begins_with_group, encoded_len, is_in_alphabet, is_symbol};
+ghost use Rattle.luks2_members.specs.Encoded.{begins_with_group, encoded_len, is_in_alphabet};
+ghost use Rattle.luks2_members.specs.Encoded.{is_symbol};
 ghost use Rattle.base64.specs.Engines.{standard};
 ghost use Rattle.base64.specs.GeneralPurpose.{decoded_of};
 

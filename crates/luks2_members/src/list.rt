@@ -2,7 +2,8 @@
 
 ghost use Rattle.std.specs.Prelude.{◌≡◌, ◌++◌, [], IfOk, OnOk, List, ℕ, map, string_bytes};
 ghost use Rattle.std.specs.List.{cons_option};
-ghost use Rattle.luks2_members.specs.List.{all_items, any_item, has_texts, is_text, is_the_text, lists, texts_among, texts_at};
+ghost use Rattle.luks2_members.specs.List.{all_items, any_item, has_texts, is_text, is_the_text};
+ghost use Rattle.luks2_members.specs.List.{lists, texts_among, texts_at};
 ghost use Rattle.serde_json.specs.Find.{as_str};
 ghost use Rattle.serde_json.specs.View.{items_view, view as data_of};
 

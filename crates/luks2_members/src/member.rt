@@ -4,7 +4,8 @@
 ghost use Rattle.std.specs.Prelude.{◌≡◌, List, ℕ, length, option_map, IfOk};
 ghost use Rattle.std.specs.Char.{is_ascii_digit};
 ghost use Rattle.std.specs.List.{list_all};
-ghost use Rattle.luks2_members.specs.Member.{base64_text, decimal_of, decimal_text, is_named, is_type, text as text_of, whole_number};
+ghost use Rattle.luks2_members.specs.Member.{base64_text, decimal_of, decimal_text, is_named};
+ghost use Rattle.luks2_members.specs.Member.{is_type, text as text_of, whole_number};
 ghost use Rattle.serde_json.specs.View.{view};
 
 use crate::encoded::{decoded, encoded_len};

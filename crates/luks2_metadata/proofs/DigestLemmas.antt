@@ -1,5 +1,6 @@
 -- Usable digests.
-use Rattle.std.proofs.Common.{◌≡◌, ◌∙◌, ℕ, ◌<◌, ◌≤◌, Bool, true, false, Option, Some, None, ap, sym, refl, arith, length}
+use Rattle.std.proofs.Common.{◌≡◌, ◌∙◌, ℕ, ◌<◌, ◌≤◌, Bool, true, false, Option, Some, None, ap, sym, refl, arith}
+use Rattle.std.proofs.Common.{length}
 use Rattle.std.specs.Prelude.{◌&&◌, codes, if◌then◌else◌, is_some, option_and_then, option_map}
 use Rattle.luks_kdf.specs.declared.hash.Hash.{Hash}
 use Rattle.luks2_members.specs.List.{has_texts}
@@ -11,7 +12,8 @@ use Rattle.luks_verdict.specs.Rule.{is_beyond, is_digest, most_iterations, most_
 use Rattle.luks_verdict.specs.declared.digest.KeyDigest.{KeyDigest}
 use Rattle.luks2_members.proofs.NumberedLemmas.{lowest_found, lowest_made}
 use Rattle.luks2_members.specs.Numbered.{lowest, numbered}
-use Rattle.luks2_metadata.specs.Digest2.{digest2_for, digest2_of, own_digest, own_digest_at, digest_parts2_of, is_digest2, is_of_slot, iterations_of, value_in}
+use Rattle.luks2_metadata.specs.Digest2.{digest2_for, digest2_of, own_digest, own_digest_at, digest_parts2_of}
+use Rattle.luks2_metadata.specs.Digest2.{is_digest2, is_of_slot, iterations_of, value_in}
 use Rattle.luks2_members.specs.Derivation.{hash_in, iterations_in}
 use Rattle.serde_json.specs.Data.{Data}
 

@@ -8,7 +8,8 @@ use Rattle.luks_area.specs.Area.{longest_area}
 use Rattle.luks_cipher.specs.declared.mode.Mode.{Mode}
 use Rattle.luks_cipher.proofs.ModeLemmas.{longest_key}
 use Rattle.luks_verdict.specs.Digest.{is_undigested}
-use Rattle.luks_verdict.specs.Rule.{exceeds, is_beyond, is_in_range, is_misplaced, is_unstriped, most_iterations, need_of}
+use Rattle.luks_verdict.specs.Rule.{exceeds, is_beyond, is_in_range, is_misplaced, is_unstriped, most_iterations}
+use Rattle.luks_verdict.specs.Rule.{need_of}
 use Rattle.luks_verdict.specs.Slot.{are_in_range, end_of, judged, judgement_of, slot_of}
 use Rattle.luks_verdict.proofs.MadeLemmas.{slot_from-yes}
 use Rattle.luks_verdict.specs.declared.refusal.SkipReason.{SkipReason}
@@ -25,7 +26,10 @@ use Rattle.luks2_members.specs.Member.{is_type}
 use Rattle.luks2_metadata.specs.Digest2.{digest2_for}
 use Rattle.luks2_metadata.specs.declared.bounds.Bounds.{Bounds}
 use Rattle.luks2_metadata.specs.Segment2.{payload2_of, payload_mode2_of}
-use Rattle.luks2_metadata.specs.Slot2.{slot_reasons, af_hash_of, are_key_sizes, area_key_size_of, area_mode_of, area_offset_of, area_size_of, has_members, has_unknown_hash, is_kdf_type, is_misplaced2, iterations_of, kdf_hash_of, key_size_of, priority_of, reason2_of, slot2_at, slot2_of, slot_parts2_of, stripes_of, verdict2_at, verdict2_of}
+use Rattle.luks2_metadata.specs.Slot2.{slot_reasons, af_hash_of, are_key_sizes, area_key_size_of, area_mode_of}
+use Rattle.luks2_metadata.specs.Slot2.{area_offset_of, area_size_of, has_members, has_unknown_hash, is_kdf_type}
+use Rattle.luks2_metadata.specs.Slot2.{is_misplaced2, iterations_of, kdf_hash_of, key_size_of, priority_of, reason2_of}
+use Rattle.luks2_metadata.specs.Slot2.{slot2_at, slot2_of, slot_parts2_of, stripes_of, verdict2_at, verdict2_of}
 use Rattle.serde_json.specs.Data.{Data}
 
 -- ---- key lengths

@@ -1,5 +1,6 @@
 -- The digests of LUKS2 (LUKS2 On-Disk Format Specification 1.1, section 3, the digests object).
-use Rattle.std.specs.Prelude.{ℕ, ◌&&◌, Bool, List, [], Option, None, codes, decimal, is_some, if◌then◌else◌, option_and_then, option_map, unwrap_or}
+use Rattle.std.specs.Prelude.{ℕ, ◌&&◌, Bool, List, [], Option, None, codes, decimal, is_some, if◌then◌else◌}
+use Rattle.std.specs.Prelude.{option_and_then, option_map, unwrap_or}
 use Rattle.luks_verdict.specs.Digest.{digest_from}
 use Rattle.luks_verdict.specs.Rule.{most_slots}
 use Rattle.luks_verdict.specs.Table.{rising}

@@ -1,13 +1,16 @@
 -- Where the payload of LUKS2 lies, or why it cannot be read (LUKS2 On-Disk Format Specification 1.1, section 3, the
 -- segments object and the config object).
-use Rattle.std.specs.Prelude.{ℕ, ◌%◌, ◌==◌, ◌&&◌, ◌||◌, not, nat_lt, Bool, true, false, List, [], ◌∷◌, Option, Some, None, Result, bytes_eq, codes, is_none, is_some, if◌then◌else◌, option_and_then, option_map, unwrap_or}
+use Rattle.std.specs.Prelude.{ℕ, ◌%◌, ◌==◌, ◌&&◌, ◌||◌, not, nat_lt, Bool, true, false, List, [], ◌∷◌, Option, Some}
+use Rattle.std.specs.Prelude.{None, Result, bytes_eq, codes, is_none, is_some, if◌then◌else◌, option_and_then}
+use Rattle.std.specs.Prelude.{option_map, unwrap_or}
 use Rattle.std.specs.Result.{result_ok}
 use Rattle.luks_cipher.specs.declared.mode.Mode.{Mode}
 use Rattle.luks_verdict.specs.SectorSize.{are_sectors}
 use Rattle.luks_verdict.specs.Segment.{refused_or, segment_from}
 use Rattle.luks_verdict.specs.Table.{first_holding}
 use Rattle.luks_verdict.specs.declared.refusal.SegmentFault.{SegmentFault}
-use Rattle.luks_verdict.specs.declared.refusal.SegmentFault.TheVariants.{Requirement, Segments, Member, Kind, Integrity, Encryption, SectorSize, Offset, Size}
+use Rattle.luks_verdict.specs.declared.refusal.SegmentFault.TheVariants.{Requirement, Segments, Member, Kind, Integrity}
+use Rattle.luks_verdict.specs.declared.refusal.SegmentFault.TheVariants.{Encryption, SectorSize, Offset, Size}
 use Rattle.luks_verdict.specs.declared.sector_size.SectorSize.{SectorSize as Sector}
 use Rattle.luks_verdict.specs.declared.sector_size.SectorSize.TheVariants.{B512, B1024, B2048, B4096}
 use Rattle.luks_verdict.specs.declared.segment.Segment.{Segment}

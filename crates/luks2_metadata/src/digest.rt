@@ -2,7 +2,9 @@
 
 ghost use Rattle.std.specs.Prelude.{◌≡◌, ◌≤◌, [], IfOk, length, option_map, unwrap_or, vec_len};
 ghost use Rattle.luks_verdict.specs.Rule.{most_slots};
-ghost use Rattle.luks2_metadata.specs.Digest2.{own_digest_at, digest2_for, digest2_numbered, digest2_of, digests2_of, is_digest2, is_of_slot, iterations_of, listed_of, value_in};
+ghost use Rattle.luks2_metadata.specs.Digest2.{own_digest_at, digest2_for, digest2_numbered};
+ghost use Rattle.luks2_metadata.specs.Digest2.{digest2_of, digests2_of, is_digest2, is_of_slot};
+ghost use Rattle.luks2_metadata.specs.Digest2.{iterations_of, listed_of, value_in};
 ghost use Rattle.serde_json.specs.View.{view as data_of};
 
 use itoa::Buffer;

@@ -2,7 +2,12 @@
 
 ghost use Rattle.std.specs.Prelude.{◌≡◌, option_map};
 ghost use Rattle.luks_verdict.specs.Table.{first_holding};
-ghost use Rattle.luks2_metadata.specs.Segment2.{has_none_of, has_requirement, has_segment_members, is_empty_list, is_segment, is_torn, mode2_of, payload2_of, payload_mode2_of, requires_nothing, sector_size_of, sector_size_with, segment2_of, segment_faults, segment_parts2_of, size_of, starts_inside, starts_wrong, the_segment};
+ghost use Rattle.luks2_metadata.specs.Segment2.{has_none_of, has_requirement, has_segment_members};
+ghost use Rattle.luks2_metadata.specs.Segment2.{is_empty_list, is_segment, is_torn, mode2_of};
+ghost use Rattle.luks2_metadata.specs.Segment2.{payload2_of, payload_mode2_of, requires_nothing};
+ghost use Rattle.luks2_metadata.specs.Segment2.{sector_size_of, sector_size_with, segment2_of};
+ghost use Rattle.luks2_metadata.specs.Segment2.{segment_faults, segment_parts2_of, size_of};
+ghost use Rattle.luks2_metadata.specs.Segment2.{starts_inside, starts_wrong, the_segment};
 ghost use Rattle.serde_json.specs.View.{view as data_of};
 
 use crate::bounds::Bounds;

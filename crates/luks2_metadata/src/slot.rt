@@ -1,13 +1,19 @@
 //! What becomes of the key slots of a header.
 
-ghost use Rattle.std.specs.Prelude.{◌≡◌, ◌≤◌, IfOk, codes, option_map};
+ghost use Rattle.std.specs.Prelude.{◌≡◌, ◌≤◌, IfOk, option_map};
 ghost use Rattle.luks_verdict.specs.Digest.{is_undigested};
 ghost use Rattle.luks_verdict.specs.Rule.{most_iterations};
 ghost use Rattle.luks_verdict.specs.Slot.{judgement_of};
-ghost use Rattle.luks2_members.specs.Member.{passes};
 ghost use Rattle.luks2_metadata.specs.Digest2.{digest2_for};
-ghost use Rattle.luks2_metadata.specs.Slot2.{af_hash_of, are_key_sizes, area_key_size_of, area_mode_of, area_offset_of, area_size_of, has_members, has_unknown_hash, is_af, is_area, is_kdf, is_kdf_type, is_misplaced2, is_pbkdf2, iterations_of, kdf_hash_of, key_size_of, priority_of, reason2_of, salt_of, slot2_at, slot2_of, slot_parts2_of, stripes_of, verdict2_at, verdict2_of};
+ghost use Rattle.luks2_metadata.specs.Slot2.{af_hash_of, are_key_sizes, area_key_size_of};
+ghost use Rattle.luks2_metadata.specs.Slot2.{area_mode_of, area_offset_of, area_size_of};
+ghost use Rattle.luks2_metadata.specs.Slot2.{has_unknown_hash, is_kdf_type, is_misplaced2};
+ghost use Rattle.luks2_metadata.specs.Slot2.{iterations_of, kdf_hash_of, key_size_of, reason2_of};
+ghost use Rattle.luks2_metadata.specs.Slot2.{salt_of, slot2_at, slot2_of, slot_parts2_of};
+ghost use Rattle.luks2_metadata.specs.Slot2.{stripes_of, verdict2_at, verdict2_of};
 ghost use Rattle.serde_json.specs.View.{view as data_of};
+
+mod members;
 
 use crate::bounds::Bounds;
 use crate::digest::iterations_for;
@@ -20,107 +26,12 @@ use luks_verdict::rule::{beyond, misplaced, need, unstriped};
 use luks_verdict::slot::{Judgement, Slot, SlotParts};
 use luks2_members::derivation::{hash_in, iterations_in, salt_in};
 use luks2_members::encryption::{is_length_for, mode_of};
-use luks2_members::member::{base64_len, decimal_text, is_type, text, whole_number};
+use luks2_members::member::{decimal_text, is_type, text, whole_number};
 use luks2_members::numbered::numbered;
 use luks2_members::tree::Metadata;
+use members::{has_members, priority};
 use serde_json::Value;
 use std::alloc::{AllocError, Global};
-
-// How soon the slot is tried: 0, 1 or 2, and 1 where nothing is said.
-#[tactic(auto, unfolding(crate::specs::Slot2::priority_of))]
-fn priority(slot: &Value) -> Option<u8>
-    ensures { result ≡ priority_of (data_of slot.now) }
-{
-    if slot.get("priority").is_none() {
-        return Some(1);
-    }
-    match whole_number(slot, "priority")? {
-        0 => Some(0),
-        1 => Some(1),
-        2 => Some(2),
-        _ => None,
-    }
-}
-
-// How the key material is split into stripes.
-#[tactic(auto, unfolding(crate::specs::Slot2::is_af))]
-fn is_af(af: &Value) -> bool
-    ensures { result ≡ is_af (data_of af.now) }
-{
-    is_type(af, "luks1") && whole_number(af, "stripes").is_some() && text(af, "hash").is_some()
-}
-
-// Where the key material lies, and how it is encrypted.
-#[tactic(auto, unfolding(crate::specs::Slot2::is_area))]
-fn is_area(area: &Value) -> bool
-    ensures { result ≡ is_area (data_of area.now) }
-{
-    is_type(area, "raw")
-        && decimal_text(area, "offset").is_some()
-        && decimal_text(area, "size").is_some()
-        && text(area, "encryption").is_some()
-        && whole_number(area, "key_size").is_some()
-}
-
-// What PBKDF2 takes.
-#[tactic(auto, unfolding(crate::specs::Slot2::is_pbkdf2))]
-fn is_pbkdf2(kdf: &Value) -> bool
-    ensures { result ≡ is_pbkdf2 (data_of kdf.now) }
-{
-    text(kdf, "hash").is_some()
-        && whole_number(kdf, "iterations").is_some()
-        && base64_len(kdf, "salt").is_some()
-}
-
-// How the key material's key comes of a passphrase.
-#[tactic(auto, unfolding(crate::specs::Slot2::is_kdf))]
-fn is_kdf(kdf: &Value) -> bool
-    ensures { result ≡ is_kdf (data_of kdf.now) }
-{
-    text(kdf, "type").is_some() && (!is_type(kdf, "pbkdf2") || is_pbkdf2(kdf))
-}
-
-// The slot's `af` is whole.
-fn has_af(slot: &Value) -> bool
-    ensures { result ≡ passes (codes "af") is_af (data_of slot.now) }
-{
-    match slot.get("af") {
-        Some(af) => is_af(af),
-        None => false,
-    }
-}
-
-// The slot's `area` is whole.
-fn has_area(slot: &Value) -> bool
-    ensures { result ≡ passes (codes "area") is_area (data_of slot.now) }
-{
-    match slot.get("area") {
-        Some(area) => is_area(area),
-        None => false,
-    }
-}
-
-// The slot's `kdf` is whole.
-fn has_kdf(slot: &Value) -> bool
-    ensures { result ≡ passes (codes "kdf") is_kdf (data_of slot.now) }
-{
-    match slot.get("kdf") {
-        Some(kdf) => is_kdf(kdf),
-        None => false,
-    }
-}
-
-// Each member of a key slot is there, in its kind.
-#[tactic(auto, unfolding(crate::specs::Slot2::has_members))]
-fn has_members(slot: &Value) -> bool
-    ensures { result ≡ has_members (data_of slot.now) }
-{
-    whole_number(slot, "key_size").is_some()
-        && priority(slot).is_some()
-        && has_af(slot)
-        && has_area(slot)
-        && has_kdf(slot)
-}
 
 // The function by which the key comes of a passphrase is of this type.
 fn is_kdf_type(slot: &Value, expected: &str) -> bool

@@ -1,10 +1,13 @@
 -- What consists of bytes: field elements, states, words and key schedules.
-use Rattle.std.proofs.Common.{◌≡◌, ℕ, zero, suc, ◌+◌, ◌-◌, ◌*◌, ◌%◌, ◌/◌, ◌<◌, Bool, true, false, cond, eqb, ltb, List, [], ◌∷◌, ◌++◌, length, take, drop, arith, refl}
+use Rattle.std.proofs.Common.{◌≡◌, ℕ, zero, suc, ◌+◌, ◌-◌, ◌*◌, ◌%◌, ◌/◌, ◌<◌, Bool, true, false, cond, eqb, ltb, List}
+use Rattle.std.proofs.Common.{[], ◌∷◌, ◌++◌, length, take, drop, arith, refl}
 use Rattle.std.specs.Prelude.{slice_index}
 use Rattle.std.specs.Int.Bits.{xor_lt}
 use Rattle.std.proofs.lemmas.Bool.{agree_below_at, ltb-true}
 use Rattle.luks_aes.specs.Field.{◌⊕◌, ◌•◌, times_x, product_of_bits, power_of_x}
-use Rattle.luks_aes.specs.Aes.{sbox, cell, state_of, sub_bytes, shift_rows, multiplied_columns, add_round_key, word_of, word_at, word_sum, rot_word, sub_word, round_constant, next_word, with_next_word, words_after, key_expansion, state_after, cipher, encrypted}
+use Rattle.luks_aes.specs.Aes.{sbox, cell, state_of, sub_bytes, shift_rows, multiplied_columns, add_round_key, word_of}
+use Rattle.luks_aes.specs.Aes.{word_at, word_sum, rot_word, sub_word, round_constant, next_word, with_next_word}
+use Rattle.luks_aes.specs.Aes.{words_after, key_expansion, state_after, cipher, encrypted}
 use Rattle.luks_aes.specs.Bytes.{IsBytes}
 use Rattle.luks_aes.specs.declared.sbox.TheConstants.{SBOX}
 use Rattle.luks_aes.proofs.Bytes.{below_256}

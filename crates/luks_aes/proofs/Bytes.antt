@@ -1,8 +1,10 @@
 -- Facts that hold of every number below a bound, since they were computed at each.
-use Rattle.std.proofs.Common.{◌≡◌, ℕ, zero, suc, ◌+◌, ◌<◌, ◌≤◌, Bool, true, eqb, ltb, List, [], ◌∷◌, slice_index, Some, inl, inr, arith, sym, ◌∙◌, ap}
+use Rattle.std.proofs.Common.{◌≡◌, ℕ, zero, suc, ◌+◌, ◌<◌, ◌≤◌, Bool, true, eqb, ltb, List, [], ◌∷◌, slice_index, Some}
+use Rattle.std.proofs.Common.{inl, inr, arith, sym, ◌∙◌, ap}
 use Rattle.std.specs.List.{find, list_all, range_with_len}
 use Rattle.std.specs.Option.{unwrap_or}
-use Rattle.std.proofs.lemmas.Bool.{agree_below, agree_below_at, eqb-true, ltb-true, and_parts, cases_Bool, cases_lt, false≢true}
+use Rattle.std.proofs.lemmas.Bool.{agree_below, agree_below_at, eqb-true, ltb-true, and_parts, cases_Bool, cases_lt}
+use Rattle.std.proofs.lemmas.Bool.{false≢true}
 use Rattle.luks_aes.specs.Field.{the_element}
 
 -- two functions agree below n, which is computed at a written-out n

@@ -3,7 +3,8 @@ use Rattle.std.proofs.Common.{◌≡◌, ℕ, ◌+◌, ◌*◌, List, [], ◌∷
 use Rattle.std.specs.Prelude.{slice_index}
 use Rattle.std.specs.Int.{w32, to_le_bytes}
 use Rattle.luks_aes.specs.Field.{◌⊕◌}
-use Rattle.luks_aes.specs.Aes.{sbox, inv_sbox, word_of, word_sum, sub_bytes, shift_rows, multiplied_columns, mix_columns, add_round_key, inv_shift_rows, inv_sub_bytes, inv_mix_columns}
+use Rattle.luks_aes.specs.Aes.{sbox, inv_sbox, word_of, word_sum, sub_bytes, shift_rows, multiplied_columns}
+use Rattle.luks_aes.specs.Aes.{mix_columns, add_round_key, inv_shift_rows, inv_sub_bytes, inv_mix_columns}
 use Rattle.luks_aes.specs.Columns.{spelt, column_product}
 use Rattle.luks_aes.proofs.ByteLists.{IsState, bytes_nil, bytes_cons}
 

@@ -2,11 +2,14 @@
 use Rattle.std.proofs.Common.{◌≡◌, ℕ, zero, suc, ◌+◌, ◌-◌, ◌*◌, ◌%◌, ◌<◌, List, length, arith, refl, sym, ap, ◌∙◌}
 use Rattle.std.specs.Int.Bits.{xor_zero_r}
 use Rattle.luks_aes.specs.Field.{◌⊕◌, ◌•◌, times_x, product_of_bits}
-use Rattle.luks_aes.specs.Aes.{sbox, inv_sbox, cell, sub_bytes, shift_rows, multiplied_columns, mix_columns, add_round_key, inv_shift_rows, inv_sub_bytes, inv_mix_columns, rounds_of, key_expansion, state_after, cipher, inv_state_after, inv_cipher, encrypted, decrypted}
+use Rattle.luks_aes.specs.Aes.{sbox, inv_sbox, cell, sub_bytes, shift_rows, multiplied_columns, mix_columns}
+use Rattle.luks_aes.specs.Aes.{add_round_key, inv_shift_rows, inv_sub_bytes, inv_mix_columns, rounds_of, key_expansion}
+use Rattle.luks_aes.specs.Aes.{state_after, cipher, inv_state_after, inv_cipher, encrypted, decrypted}
 use Rattle.luks_aes.specs.Bytes.{IsBytes}
 use Rattle.luks_aes.proofs.Bytes.{same_below}
 use Rattle.luks_aes.proofs.SboxLemmas.{sbox_entry, inv_sbox_entry, inv_sbox_byte, there_and_back}
-use Rattle.luks_aes.proofs.ByteLists.{IsState, made_state, product_byte, columns_state, add_round_key_state, expansion_bytes}
+use Rattle.luks_aes.proofs.ByteLists.{IsState, made_state, product_byte, columns_state, add_round_key_state}
+use Rattle.luks_aes.proofs.ByteLists.{expansion_bytes}
 use Rattle.luks_aes.proofs.MixingLemmas.{mixed, unmixed, product_sum4, gathered}
 use Rattle.luks_aes.proofs.Undone.{whole_state, same_states, add_round_key_undone}
 

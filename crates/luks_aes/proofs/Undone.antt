@@ -3,11 +3,14 @@ use Rattle.std.proofs.Common.{◌≡◌, ℕ, zero, suc, ◌+◌, ◌-◌, ◌*�
 use Rattle.std.specs.Prelude.{slice_index}
 use Rattle.std.specs.Int.Bits.{bit_xor, xor_assoc, xor_self, xor_zero_r}
 use Rattle.luks_aes.specs.Field.{◌⊕◌}
-use Rattle.luks_aes.specs.Aes.{sbox, inv_sbox, cell, state_of, sub_bytes, shift_rows, multiplied_columns, mix_columns, add_round_key, inv_shift_rows, inv_sub_bytes, inv_mix_columns, rounds_of, key_expansion, state_after, cipher, inv_state_after, inv_cipher, encrypted, decrypted}
+use Rattle.luks_aes.specs.Aes.{sbox, inv_sbox, cell, state_of, sub_bytes, shift_rows, multiplied_columns, mix_columns}
+use Rattle.luks_aes.specs.Aes.{add_round_key, inv_shift_rows, inv_sub_bytes, inv_mix_columns, rounds_of, key_expansion}
+use Rattle.luks_aes.specs.Aes.{state_after, cipher, inv_state_after, inv_cipher, encrypted, decrypted}
 use Rattle.luks_aes.specs.Bytes.{IsBytes}
 use Rattle.luks_aes.proofs.SboxLemmas.{sbox_entry, inv_sbox_entry, back_and_there}
 use Rattle.luks_aes.proofs.StateLemmas.{filled_all, cell_at}
-use Rattle.luks_aes.proofs.ByteLists.{IsState, sbox_byte, sub_bytes_state, shift_rows_state, columns_state, after_state, expansion_bytes}
+use Rattle.luks_aes.proofs.ByteLists.{IsState, sbox_byte, sub_bytes_state, shift_rows_state, columns_state, after_state}
+use Rattle.luks_aes.proofs.ByteLists.{expansion_bytes}
 use Rattle.luks_aes.proofs.MixingLemmas.{mixed, unmixed, unmixed_is}
 
 -- ---- the steps

@@ -1,6 +1,7 @@
 -- AES (FIPS 197) on lists of bytes. A word is a list of 4 bytes and a state one of 16. Section numbers are those of the
 -- standard's update of 2023.
-use Rattle.std.specs.Prelude.{ℕ, zero, suc, ◌+◌, ◌-◌, ◌*◌, ◌/◌, ◌%◌, Bool, ◌&&◌, ◌||◌, nat_lt, ◌==◌, if◌then◌else◌, List, [], ◌∷◌, ◌++◌, length, slice_index}
+use Rattle.std.specs.Prelude.{ℕ, zero, suc, ◌+◌, ◌-◌, ◌*◌, ◌/◌, ◌%◌, Bool, ◌&&◌, ◌||◌, nat_lt, ◌==◌, if◌then◌else◌}
+use Rattle.std.specs.Prelude.{List, [], ◌∷◌, ◌++◌, length, slice_index}
 use Rattle.std.specs.Int.{w8, rotate_left}
 use Rattle.luks_aes.specs.Field.{◌⊕◌, ◌•◌, power_of_x, the_element, inverse}
 

@@ -1,7 +1,9 @@
 //! A key of AES and its schedule.
 
-ghost use Rattle.std.specs.Prelude.{◌≡◌, ◌+◌, ◌*◌, ◌<◌, ◌≤◌, List, ℕ, take, length, Some, None, if◌then◌else◌};
-ghost use Rattle.luks_aes.specs.Aes.{encrypted, decrypted, is_aes_key_length, rounds_of, key_expansion, cell};
+ghost use Rattle.std.specs.Prelude.{◌≡◌, ◌+◌, ◌*◌, ◌<◌, ◌≤◌, List, ℕ, take, length, Some, None};
+ghost use Rattle.std.specs.Prelude.{if◌then◌else◌};
+ghost use Rattle.luks_aes.specs.Aes.{encrypted, decrypted, is_aes_key_length, rounds_of};
+ghost use Rattle.luks_aes.specs.Aes.{key_expansion, cell};
 ghost use Rattle.luks_aes.specs.Bytes.{IsBytes};
 ghost use Rattle.luks_aes.specs.Columns.{key_byte, unmixed_key_byte};
 ghost use Rattle.luks_aes.specs.Schedule.{IsSchedule};

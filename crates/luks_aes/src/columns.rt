@@ -2,7 +2,8 @@
 
 ghost use Rattle.std.specs.Prelude.{◌≡◌, ◌+◌, ◌*◌, ◌≤◌, length, slice_index};
 ghost use Rattle.std.specs.Int.{w32, to_le_bytes};
-ghost use Rattle.luks_aes.specs.Aes.{word_of, word_sum, sub_bytes, shift_rows, mix_columns, add_round_key, inv_shift_rows, inv_sub_bytes, inv_mix_columns};
+ghost use Rattle.luks_aes.specs.Aes.{word_of, word_sum, sub_bytes, shift_rows, mix_columns};
+ghost use Rattle.luks_aes.specs.Aes.{add_round_key, inv_shift_rows, inv_sub_bytes, inv_mix_columns};
 ghost use Rattle.luks_aes.specs.Columns.{spelt};
 
 use crate::mixing::{mixed, unmixed};

@@ -1,7 +1,9 @@
 //! The key schedule (FIPS 197, 5.2): a list of words of 4 bytes, of which the first are the key's.
 
 ghost use Rattle.std.specs.Prelude.{◌≡◌, ◌+◌, ◌*◌, ◌/◌, ◌<◌, ◌≤◌, take, length, IsTrue};
-ghost use Rattle.luks_aes.specs.Aes.{word_at, word_sum, rot_word, sub_word, round_constant, next_word, with_next_word, rounds_of, key_expansion, is_aes_key_length};
+ghost use Rattle.luks_aes.specs.Aes.{word_at, word_sum, rot_word, sub_word, round_constant};
+ghost use Rattle.luks_aes.specs.Aes.{next_word, with_next_word, rounds_of, key_expansion};
+ghost use Rattle.luks_aes.specs.Aes.{is_aes_key_length};
 
 use crate::field::power_of_x;
 use crate::sbox::sbox;

@@ -2,7 +2,8 @@
 //! stands in row `i % 4` and column `i / 4`.
 
 ghost use Rattle.std.specs.Prelude.{◌≡◌, ◌+◌, ◌*◌, ◌<◌, ◌≤◌, [], ◌∷◌, length};
-ghost use Rattle.luks_aes.specs.Aes.{sub_bytes, shift_rows, add_round_key, inv_shift_rows, inv_sub_bytes};
+ghost use Rattle.luks_aes.specs.Aes.{sub_bytes, shift_rows, add_round_key, inv_shift_rows};
+ghost use Rattle.luks_aes.specs.Aes.{inv_sub_bytes};
 
 use crate::sbox::{inv_sbox, sbox};
 

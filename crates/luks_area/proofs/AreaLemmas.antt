@@ -1,5 +1,6 @@
 -- An area that takes further bytes: room is made behind those that it holds, and a source fills its front.
-use Rattle.std.proofs.Common.{◌≡◌, ℕ, ◌+◌, ◌-◌, ◌≤◌, List, ◌++◌, Option, ◌∙◌, ap, subst, take, drop, length, min, arith, length-append, length-drop, take_all}
+use Rattle.std.proofs.Common.{◌≡◌, ℕ, ◌+◌, ◌-◌, ◌≤◌, List, ◌++◌, Option, ◌∙◌, ap, subst, take, drop, length, min, arith}
+use Rattle.std.proofs.Common.{length-append, length-drop, take_all}
 use Rattle.std.proofs.lemmas.List.{take-append-le, take-take, length-replicate}
 use Rattle.std.proofs.Math.ListN.{replicate}
 use Rattle.std.proofs.Math.Seq.{take-append_seam, take-append-add}

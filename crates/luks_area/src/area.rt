@@ -1,6 +1,8 @@
 //! The front of an image, where its headers and key areas are.
 
-ghost use Rattle.std.specs.Prelude.{◌≡◌, ◌-◌, ◌<◌, ◌≤◌, ◌↔◌, ◌++◌, ◌⊎◌, true, List, ℕ, [], Some, IsTrue, IfOk, IfErr, OnOk, OnErr, Ok, Err, length, max, min, replicate, take, vec_capacity, vec_len};
+ghost use Rattle.std.specs.Prelude.{◌≡◌, ◌-◌, ◌<◌, ◌≤◌, ◌↔◌, ◌++◌, ◌⊎◌, true, List, ℕ, [], Some};
+ghost use Rattle.std.specs.Prelude.{IsTrue, IfOk, IfErr, OnOk, OnErr, Ok, Err, length, max, min};
+ghost use Rattle.std.specs.Prelude.{replicate, take, vec_capacity, vec_len};
 ghost use Rattle.luks_io.specs.Bytes.{WhereKnown, counted};
 ghost use Rattle.luks_area.specs.Area.{BreaksTaking, TookBehind, is_read, is_short, longest_area};
 

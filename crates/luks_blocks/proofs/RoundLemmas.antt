@@ -1,8 +1,10 @@
 -- Rounds of the equivalent inverse cipher on rows.
-use Rattle.std.proofs.Common.{◌≡◌, ℕ, zero, suc, ◌+◌, ◌-◌, ◌*◌, ◌/◌, ◌%◌, ◌<◌, List, [], ◌∷◌, arith, refl, sym, ap, subst, ◌∙◌}
+use Rattle.std.proofs.Common.{◌≡◌, ℕ, zero, suc, ◌+◌, ◌-◌, ◌*◌, ◌/◌, ◌%◌, ◌<◌, List, [], ◌∷◌, arith, refl, sym, ap}
+use Rattle.std.proofs.Common.{subst, ◌∙◌}
 use Rattle.std.specs.Int.Bits.{xor_zero_r, xor_assoc}
 use Rattle.luks_aes.specs.Field.{◌⊕◌}
-use Rattle.luks_aes.specs.Aes.{inv_sbox, cell, multiplied_columns, inv_mix_columns, add_round_key, inv_sub_bytes, inv_shift_rows, inv_state_after}
+use Rattle.luks_aes.specs.Aes.{inv_sbox, cell, multiplied_columns, inv_mix_columns, add_round_key, inv_sub_bytes}
+use Rattle.luks_aes.specs.Aes.{inv_shift_rows, inv_state_after}
 use Rattle.luks_aes.specs.Bytes.{IsBytes}
 use Rattle.luks_aes.specs.Columns.{key_byte, unmixed_key_byte}
 use Rattle.luks_aes.proofs.Bytes.{same_below}

@@ -2,10 +2,12 @@
 
 ghost use Rattle.std.specs.Prelude.{◌≡◌, ◌+◌, ◌<◌, ◌≤◌, List, ℕ, length, Some, None, if◌then◌else◌};
 ghost use Rattle.luks_aes.specs.Field.{◌⊕◌};
-ghost use Rattle.luks_aes.specs.Aes.{cell, state_of, decrypted, is_aes_key_length, rounds_of, key_expansion};
+ghost use Rattle.luks_aes.specs.Aes.{cell, state_of, decrypted, is_aes_key_length, rounds_of};
+ghost use Rattle.luks_aes.specs.Aes.{key_expansion};
 ghost use Rattle.luks_aes.specs.Bytes.{IsBytes};
 ghost use Rattle.luks_blocks.specs.States.{block_in, HoldStates};
-ghost use Rattle.luks_blocks.specs.RoundKeys.{rows_of, HasRoundKey, HasUnmixedKey, HasUnmixedKeys, IsSliceKey};
+ghost use Rattle.luks_blocks.specs.RoundKeys.{rows_of, HasRoundKey, HasUnmixedKey, HasUnmixedKeys};
+ghost use Rattle.luks_blocks.specs.RoundKeys.{IsSliceKey};
 
 use crate::rows::Rows;
 use crate::states::{last_round, turned, unmixed_round, with_key};

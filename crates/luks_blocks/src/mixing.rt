@@ -3,7 +3,8 @@
 ghost use Rattle.std.specs.Prelude.{◌≡◌, ◌+◌, ◌%◌, ◌<◌, ℕ};
 ghost use Rattle.luks_aes.specs.Field.{◌⊕◌, ◌•◌, times_x};
 ghost use Rattle.luks_planes.specs.Planes.{IsPlane, turned_place};
-ghost use Rattle.luks_blocks.specs.Mixing.{sum_of, even_of, next_of, AreBytes, IsOfPlane, HasSums, HasDoubled, unmixed_row};
+ghost use Rattle.luks_blocks.specs.Mixing.{sum_of, even_of, next_of, AreBytes, IsOfPlane, HasSums};
+ghost use Rattle.luks_blocks.specs.Mixing.{HasDoubled, unmixed_row};
 ghost use Rattle.luks_blocks.specs.RoundKeys.{rows_of};
 ghost use Rattle.luks_blocks.specs.States.{StandAll};
 

@@ -2,7 +2,8 @@
 
 ghost use Rattle.std.specs.Prelude.{◌≡◌, ◌+◌, ◌%◌, ℕ, List};
 ghost use Rattle.luks_aes.specs.Field.{◌⊕◌, ◌•◌};
-ghost use Rattle.luks_aes.specs.Aes.{inv_sbox, inv_shift_rows, inv_sub_bytes, inv_mix_columns, add_round_key};
+ghost use Rattle.luks_aes.specs.Aes.{inv_sbox, inv_shift_rows, inv_sub_bytes, inv_mix_columns};
+ghost use Rattle.luks_aes.specs.Aes.{add_round_key};
 ghost use Rattle.luks_aes.specs.Bytes.{IsBytes};
 ghost use Rattle.luks_aes.specs.Columns.{key_byte, unmixed_key_byte};
 ghost use Rattle.luks_planes.specs.Planes.{column_of, turned_place};

@@ -1,5 +1,6 @@
 -- Decryption and encryption of a chain undo each other.
-use Rattle.std.proofs.Common.{◌≡◌, ℕ, zero, suc, ◌*◌, ◌%◌, ◌/◌, ◌<◌, ◌≤◌, List, length, arith, refl, sym, ap, subst, ◌∙◌}
+use Rattle.std.proofs.Common.{◌≡◌, ℕ, zero, suc, ◌*◌, ◌%◌, ◌/◌, ◌<◌, ◌≤◌, List, length, arith, refl, sym, ap, subst}
+use Rattle.std.proofs.Common.{◌∙◌}
 use Rattle.std.proofs.lemmas.List.{take_all}
 use Rattle.luks_aes.specs.Aes.{encrypted, decrypted}
 use Rattle.luks_aes.specs.Bytes.{IsBytes}
@@ -8,7 +9,8 @@ use Rattle.luks_aes.proofs.Undone.{decrypted-encrypted}
 use Rattle.luks_aes.proofs.Redone.{decrypted_state, encrypted-decrypted}
 use Rattle.luks_cipher.specs.Xts.{block_sum, block_at, joined}
 use Rattle.luks_cipher.specs.Cbc.{block_before, chained, cbc_encrypted, cbc_decrypted}
-use Rattle.luks_cipher.proofs.UnitsUndone.{sum_state, sum_twice, joined_same, joined_length, joined_at, joined_count, joined_blocks, block_state}
+use Rattle.luks_cipher.proofs.UnitsUndone.{sum_state, sum_twice, joined_same, joined_length, joined_at, joined_count}
+use Rattle.luks_cipher.proofs.UnitsUndone.{joined_blocks, block_state}
 
 chained_state : (key vector unit : List ℕ) (n j : ℕ) → IsBytes key → IsState vector → length unit ≡ 16 * n
     → IsBytes unit → j ≤ n

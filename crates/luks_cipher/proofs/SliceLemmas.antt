@@ -1,5 +1,6 @@
 -- Slices of a unit, of 32 blocks each.
-use Rattle.std.proofs.Common.{◌≡◌, ℕ, zero, suc, ◌+◌, ◌-◌, ◌*◌, ◌^◌, ◌<◌, ◌≤◌, List, ◌++◌, length, take, drop, append_assoc, arith, refl, sym, ap, subst, ◌∙◌}
+use Rattle.std.proofs.Common.{◌≡◌, ℕ, zero, suc, ◌+◌, ◌-◌, ◌*◌, ◌^◌, ◌<◌, ◌≤◌, List, ◌++◌, length, take, drop}
+use Rattle.std.proofs.Common.{append_assoc, arith, refl, sym, ap, subst, ◌∙◌}
 use Rattle.std.specs.Int.Bits.{bit_xor}
 use Rattle.std.specs.Int.{w128, to_le_bytes, from_le_bytes}
 use Rattle.std.specs.Simd.Lanes.{zip2, put_chunk}
@@ -11,7 +12,8 @@ use Rattle.luks_aes.specs.Field.{◌⊕◌}
 use Rattle.luks_aes.specs.Aes.{cell, decrypted}
 use Rattle.luks_aes.proofs.Undone.{whole_state}
 use Rattle.luks_aes.proofs.UnmixedLemmas.{same_cells}
-use Rattle.luks_cipher.specs.Xts.{data_key, doubled_number, doubled, tweak_of, block_sum, block_at, block_decrypted, joined}
+use Rattle.luks_cipher.specs.Xts.{data_key, doubled_number, doubled, tweak_of, block_sum, block_at, block_decrypted}
+use Rattle.luks_cipher.specs.Xts.{joined}
 use Rattle.luks_cipher.specs.Slices.{tweak_after, with_tweaks}
 use Rattle.luks_cipher.specs.Cbc.{block_before}
 use Rattle.luks_cipher.proofs.NumberLemmas.{number_back}

@@ -1,5 +1,6 @@
 -- A tweak doubled, and the blocks of a data unit.
-use Rattle.std.proofs.Common.{◌≡◌, ℕ, ◌-◌, ◌*◌, ◌/◌, ◌%◌, ◌^◌, ◌<◌, ◌≤◌, true, false, ltb, List, ◌+◌, ◌++◌, length, take, drop, length-append, add-one, arith, refl, sym, ap, ◌∙◌}
+use Rattle.std.proofs.Common.{◌≡◌, ℕ, ◌-◌, ◌*◌, ◌/◌, ◌%◌, ◌^◌, ◌<◌, ◌≤◌, true, false, ltb, List, ◌+◌, ◌++◌, length}
+use Rattle.std.proofs.Common.{take, drop, length-append, add-one, arith, refl, sym, ap, ◌∙◌}
 use Rattle.std.specs.Int.Bits.{bit_xor, xor_zero_r}
 use Rattle.std.proofs.lemmas.Bool.{lt-ltb, le-ltb}
 use Rattle.std.specs.Int.{w128, to_le_bytes}
@@ -7,7 +8,8 @@ use Rattle.std.proofs.lemmas.List.{take_at, drop_at, take_all, drop-drop}
 use Rattle.std.proofs.lemmas.Slice.{take-put_mid, drop-put_mid}
 use borrow.Rule.Slice.PartMut.{put_mid}
 use Rattle.luks_aes.specs.Aes.{encrypted, decrypted}
-use Rattle.luks_cipher.specs.Xts.{data_key, tweak_key, doubled_number, doubled, tweak_of, block_at, joined, block_sum, block_encrypted, block_decrypted, xts_encrypted, xts_decrypted}
+use Rattle.luks_cipher.specs.Xts.{data_key, tweak_key, doubled_number, doubled, tweak_of, block_at, joined, block_sum}
+use Rattle.luks_cipher.specs.Xts.{block_encrypted, block_decrypted, xts_encrypted, xts_decrypted}
 
 -- below 2^127 nothing is carried out
 pub doubled_low : (n : ℕ) → n < 2 ^ 127 → bit_xor (n * 2 % 2 ^ 128) 0 ≡ doubled_number n

@@ -1,14 +1,17 @@
 -- Decryption of a data unit undoes its encryption.
-use Rattle.std.proofs.Common.{◌≡◌, ℕ, zero, suc, ◌+◌, ◌*◌, ◌%◌, ◌/◌, ◌<◌, ◌≤◌, List, length, take, drop, length-append, length-drop, inl, inr, arith, refl, sym, ap, ◌∙◌}
+use Rattle.std.proofs.Common.{◌≡◌, ℕ, zero, suc, ◌+◌, ◌*◌, ◌%◌, ◌/◌, ◌<◌, ◌≤◌, List, length, take, drop, length-append}
+use Rattle.std.proofs.Common.{length-drop, inl, inr, arith, refl, sym, ap, ◌∙◌}
 use Rattle.std.specs.Int.{w128, to_le_bytes, from_le_bytes}
 use Rattle.std.proofs.lemmas.Bool.{cases_lt}
 use Rattle.std.proofs.lemmas.List.{length-take-le, take-append-le, drop-append-le, take_all, drop_at}
 use Rattle.std.proofs.Math.Seq.{take-add}
 use Rattle.luks_aes.specs.Field.{◌⊕◌}
 use Rattle.luks_aes.specs.Aes.{cell, encrypted, decrypted}
-use Rattle.luks_cipher.specs.Xts.{data_key, doubled_number, doubled, tweak_of, block_sum, block_at, block_encrypted, block_decrypted, joined, xts_encrypted, xts_decrypted}
+use Rattle.luks_cipher.specs.Xts.{data_key, doubled_number, doubled, tweak_of, block_sum, block_at, block_encrypted}
+use Rattle.luks_cipher.specs.Xts.{block_decrypted, joined, xts_encrypted, xts_decrypted}
 use Rattle.luks_aes.specs.Bytes.{IsBytes}
-use Rattle.luks_aes.proofs.ByteLists.{IsState, made_state, xor_byte, bytes_nil, bytes_cons, bytes_take, bytes_drop, encrypted_state}
+use Rattle.luks_aes.proofs.ByteLists.{IsState, made_state, xor_byte, bytes_nil, bytes_cons, bytes_take, bytes_drop}
+use Rattle.luks_aes.proofs.ByteLists.{encrypted_state}
 use Rattle.luks_aes.proofs.Undone.{whole_state, same_states, xor_twice, decrypted-encrypted}
 use Rattle.luks_aes.proofs.Redone.{decrypted_state, encrypted-decrypted}
 

@@ -1,9 +1,12 @@
 //! A key for the sectors of a disk, in one of the modes.
 
-ghost use Rattle.std.specs.Prelude.{◌≡◌, ◌%◌, ◌≤◌, ◌==◌, ◌||◌, List, ℕ, length, Some, None, if◌then◌else◌};
+ghost use Rattle.std.specs.Prelude.{◌≡◌, ◌%◌, ◌≤◌, ◌==◌, ◌||◌, List, ℕ, length, Some, None};
+ghost use Rattle.std.specs.Prelude.{if◌then◌else◌};
 ghost use Rattle.luks_cipher.specs.declared.mode.Mode.{Mode};
-ghost use Rattle.luks_cipher.specs.declared.mode.Mode.TheVariants.{XtsPlain64, XtsPlain, CbcEssivSha256, CbcPlain64};
-ghost use Rattle.luks_cipher.specs.Sector.{is_mode_key_length, sector_encrypted, sector_decrypted, essiv_vector};
+ghost use Rattle.luks_cipher.specs.declared.mode.Mode.TheVariants.{XtsPlain64, XtsPlain};
+ghost use Rattle.luks_cipher.specs.declared.mode.Mode.TheVariants.{CbcEssivSha256, CbcPlain64};
+ghost use Rattle.luks_cipher.specs.Sector.{is_mode_key_length, sector_encrypted, sector_decrypted};
+ghost use Rattle.luks_cipher.specs.Sector.{essiv_vector};
 ghost use Rattle.luks_cipher.specs.SectorKey.{mode_of, key_of, IsSectorKey};
 ghost use Rattle.sha2.specs.Sha256.{sha256};
 ghost use Rattle.std.specs.Int.{w128, to_le_bytes};

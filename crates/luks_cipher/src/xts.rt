@@ -1,7 +1,10 @@
 //! XTS-AES (IEEE 1619) over data units of whole blocks.
 
-ghost use Rattle.std.specs.Prelude.{◌≡◌, ◌+◌, ◌*◌, ◌%◌, ◌≤◌, List, ℕ, ◌++◌, length, Some, None, if◌then◌else◌};
-ghost use Rattle.luks_cipher.specs.Xts.{doubled_number, doubled, tweak_of, block_at, joined, block_encrypted, block_decrypted, xts_encrypted, xts_decrypted, is_xts_key_length};
+ghost use Rattle.std.specs.Prelude.{◌≡◌, ◌+◌, ◌*◌, ◌%◌, ◌≤◌, List, ℕ, ◌++◌, length, Some, None};
+ghost use Rattle.std.specs.Prelude.{if◌then◌else◌};
+ghost use Rattle.luks_cipher.specs.Xts.{doubled_number, doubled, tweak_of, block_at, joined};
+ghost use Rattle.luks_cipher.specs.Xts.{block_encrypted, block_decrypted, xts_encrypted};
+ghost use Rattle.luks_cipher.specs.Xts.{xts_decrypted, is_xts_key_length};
 ghost use Rattle.luks_aes.specs.Bytes.{IsBytes};
 ghost use Rattle.luks_cipher.specs.Slices.{tweak_after, with_tweaks};
 ghost use Rattle.luks_cipher.specs.KeyPair.{IsKeyPair};

@@ -1,5 +1,6 @@
 -- How the commands end whose header stands in a file of its own.
-use Rattle.std.proofs.Common.{◌≡◌, ◌≢◌, ℕ, ◌+◌, ◌*◌, ◌≤◌, inl, inr, List, Option, Result, Ok, Err, Bool, true, false, ap, sym, refl, subst, length, max, arith}
+use Rattle.std.proofs.Common.{◌≡◌, ◌≢◌, ℕ, ◌+◌, ◌*◌, ◌≤◌, inl, inr, List, Option, Result, Ok, Err, Bool, true, false}
+use Rattle.std.proofs.Common.{ap, sym, refl, subst, length, max, arith}
 use Rattle.std.proofs.Math.Nat.{mul-le-mul_right}
 use Rattle.luks_cli.proofs.OpenedRuns.{stands_within}
 use Rattle.std.specs.Prelude.{MatchBool, if◌then◌else◌, nat_lt}
@@ -13,12 +14,14 @@ use Rattle.luks_open.specs.declared.fault.OpenFault.{OpenFault}
 use Rattle.luks_open.specs.declared.opening.Opened.{Opened}
 use Rattle.luks_volume.specs.Plain.{ending_of, payload_end_of, sector_len, sector_start, sectors_of}
 use Rattle.luks_volume.specs.declared.fault.VolumeFault.{VolumeFault}
-use Rattle.luks_volume.specs.declared.fault.VolumeFault.TheVariants.{CutBeforePayload as IsCutBefore, Tail as HasTail, Short as IsShort, Read, Write}
+use Rattle.luks_volume.specs.declared.fault.VolumeFault.TheVariants.{CutBeforePayload as IsCutBefore, Tail as HasTail}
+use Rattle.luks_volume.specs.declared.fault.VolumeFault.TheVariants.{Short as IsShort, Read, Write}
 use Rattle.luks_volume.specs.declared.state.Step.{Step}
 use Rattle.luks_command.specs.Request.{OpeningRequest}
 use Rattle.luks_report.specs.Faults.{message_at_end}
 use Rattle.luks_report.specs.declared.message.Message.{Message}
-use Rattle.luks_report.specs.declared.message.Message.TheVariants.{Done, Cut, KeyFileLength, CutBeforePayload, Tail, Short, OutOfMemory, ReadFailed, WriteFailed}
+use Rattle.luks_report.specs.declared.message.Message.TheVariants.{Done, Cut, KeyFileLength, CutBeforePayload, Tail}
+use Rattle.luks_report.specs.declared.message.Message.TheVariants.{Short, OutOfMemory, ReadFailed, WriteFailed}
 use Rattle.luks_runs.proofs.PayloadLemmas.{plain_len}
 use Rattle.luks_cli.proofs.PromptLemmas.{same_segment_by}
 use Rattle.luks_cli.specs.Detached.{CountsDetached, EndsWithoutKey}
@@ -27,9 +30,11 @@ use Rattle.luks_runs.specs.Header.{is_luks_outcome, print_outcome_by}
 use Rattle.luks_cli.specs.MayEnd.{OpeningMessage}
 use Rattle.luks_runs.specs.MayEnd.{PayloadMessage}
 use Rattle.luks_runs.specs.Reading.{Reading, detached_header_of}
-use Rattle.luks_runs.specs.Run.{BreaksOff, Completes, Counts, Failures, Promptness, Runs, RunsApart, TookNone, breaks_off, failures_of, is_failed_read, is_failed_write}
+use Rattle.luks_runs.specs.Run.{BreaksOff, Completes, Counts, Failures, Promptness, Runs, RunsApart, TookNone}
+use Rattle.luks_runs.specs.Run.{breaks_off, failures_of, is_failed_read, is_failed_write}
 use Rattle.luks_cli.specs.Unlocking.{Unlocks, opens_promptly}
-use Rattle.luks_cli.specs.Volume.{OnOpened, Volume, detached_payload_outcome, found_outcome, opened_outcome, outcome_after, slot_outcome, volume_by, volume_outcome_by}
+use Rattle.luks_cli.specs.Volume.{OnOpened, Volume, detached_payload_outcome, found_outcome, opened_outcome}
+use Rattle.luks_cli.specs.Volume.{outcome_after, slot_outcome, volume_by, volume_outcome_by}
 use Rattle.luks_runs.specs.Secret.{longest_key_file}
 use Rattle.luks_runs.specs.Payload.{PassesPayload}
 use Rattle.luks_cli.specs.VolumeParts.{TakesHeld, detached_cat_promptly}

@@ -1,5 +1,6 @@
 -- Of an honestly sealed volume the payload is the plain text, and ends well.
-use Rattle.std.proofs.Common.{◌≡◌, ◌∙◌, ℕ, ◌+◌, ◌-◌, ◌/◌, ◌%◌, ◌≤◌, false, List, length, Option, None, Some, Ok, refl, ap, arith}
+use Rattle.std.proofs.Common.{◌≡◌, ◌∙◌, ℕ, ◌+◌, ◌-◌, ◌/◌, ◌%◌, ◌≤◌, false, List, length, Option, None, Some, Ok, refl}
+use Rattle.std.proofs.Common.{ap, arith}
 use Rattle.std.specs.Prelude.{nat_lt}
 use Rattle.std.proofs.lemmas.Bool.{le-ltb}
 use Rattle.luks_aes.specs.Bytes.{IsBytes}
@@ -8,7 +9,8 @@ use Rattle.luks_verdict.specs.declared.sector_size.SectorSize.{SectorSize}
 use Rattle.luks_verdict.specs.declared.sector_size.SectorSize.TheVariants.{B512, B1024, B2048, B4096}
 use Rattle.luks_verdict.specs.declared.segment.Segment.{Segment}
 use Rattle.luks_seal.specs.Sealed.{EndsWith, SealsPlain}
-use Rattle.luks_volume.specs.Plain.{ending_of, ending_within, plain_of, sector_len, sector_of, unit_number, unit_plain, within_size}
+use Rattle.luks_volume.specs.Plain.{ending_of, ending_within, plain_of, sector_len, sector_of, unit_number, unit_plain}
+use Rattle.luks_volume.specs.Plain.{within_size}
 use Rattle.luks_volume.specs.declared.state.Step.TheVariants.{End}
 use Rattle.luks_cipher.specs.Xts.{joined}
 use Rattle.luks_cli.proofs.SealedUnits.{units_undone}

@@ -1,5 +1,6 @@
 -- `luksCat` of an honestly sealed volume writes its plain text.
-use Rattle.std.proofs.Common.{◌≡◌, ◌∙◌, ℕ, ◌≤◌, List, [], ◌∷◌, ◌++◌, length, Option, None, Some, Ok, refl, sym, ap, subst, arith}
+use Rattle.std.proofs.Common.{◌≡◌, ◌∙◌, ℕ, ◌≤◌, List, [], ◌∷◌, ◌++◌, length, Option, None, Some, Ok, refl, sym, ap}
+use Rattle.std.proofs.Common.{subst, arith}
 use Rattle.std.specs.List.{AllByRecursion, Contains}
 use Rattle.std.proofs.lemmas.List.Elements.{All-nil, recursion_from_All}
 use Rattle.luks_header.proofs.KnownLemmas.{is_attached, slot_of_usable}
@@ -19,7 +20,8 @@ use Rattle.luks_runs.specs.Ending.{Outcome}
 use Rattle.luks_cli.specs.Honest.{GivesNoOther, IsHonest, WritesPlain}
 use Rattle.luks_cli.specs.Outcome.{outcome_of}
 use Rattle.luks_cli.specs.Run.{RunsAsStated}
-use Rattle.luks_cli.specs.Volume.{Volume, found_outcome, held_for, opened_outcome, payload_outcome, volume_by, volume_outcome, volume_outcome_by}
+use Rattle.luks_cli.specs.Volume.{Volume, found_outcome, held_for, opened_outcome, payload_outcome, volume_by}
+use Rattle.luks_cli.specs.Volume.{volume_outcome, volume_outcome_by}
 use Rattle.luks_runs.specs.Secret.{longest_key_file}
 use Rattle.luks_cli.proofs.HonestPayload.{ending_again, plain_again}
 use Rattle.luks_cli.proofs.HonestSlots.{first_again, key_again}

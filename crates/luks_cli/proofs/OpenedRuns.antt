@@ -1,5 +1,6 @@
 -- How the commands on volumes end once their volume is opened.
-use Rattle.std.proofs.Common.{◌≡◌, ◌≢◌, inl, ℕ, ◌+◌, ◌*◌, ◌/◌, ◌<◌, ◌≤◌, List, Option, None, Some, Result, Ok, Err, IfErr, Bool, true, false, ◌∙◌, ap, refl, take, length, max, arith}
+use Rattle.std.proofs.Common.{◌≡◌, ◌≢◌, inl, ℕ, ◌+◌, ◌*◌, ◌/◌, ◌<◌, ◌≤◌, List, Option, None, Some, Result, Ok, Err}
+use Rattle.std.proofs.Common.{IfErr, Bool, true, false, ◌∙◌, ap, refl, take, length, max, arith}
 use Rattle.std.proofs.Math.Nat.{div-eq_of_lt-le, mul-le-mul_right}
 use Rattle.std.specs.Prelude.{MatchBool, if◌then◌else◌}
 use Rattle.luks_cipher.specs.Sector.{Cipher, is_mode_key_length}
@@ -20,7 +21,8 @@ use Rattle.luks_runs.specs.declared.standing.Standing.TheVariants.{Attached}
 use Rattle.luks_runs.specs.Payload.{PassesPayload}
 use Rattle.luks_cli.specs.VolumeParts.{cat_promptly}
 use Rattle.luks_command.specs.Request.{OpeningRequest}
-use Rattle.luks_runs.specs.Run.{BreaksOff, Completes, Counts, Failures, Promptness, Runs, at_any_pace, breaks_off, is_failed_read, is_failed_write, message_of}
+use Rattle.luks_runs.specs.Run.{BreaksOff, Completes, Counts, Failures, Promptness, Runs, at_any_pace, breaks_off}
+use Rattle.luks_runs.specs.Run.{is_failed_read, is_failed_write, message_of}
 use Rattle.luks_cli.specs.VolumeParts.{TakesHeld}
 use Rattle.luks_cli.specs.Unlocking.{Unlocks}
 use Rattle.luks_report.specs.Texts.{opened_line}

@@ -1,5 +1,6 @@
 -- Finding the volume of an image.
-use Rattle.std.proofs.Common.{◌≡◌, ◌∙◌, ℕ, ◌⊎◌, inl, inr, List, Option, Ok, Err, false, ap, refl, length, length-take-le, take, arith}
+use Rattle.std.proofs.Common.{◌≡◌, ◌∙◌, ℕ, ◌⊎◌, inl, inr, List, Option, Ok, Err, false, ap, refl, length}
+use Rattle.std.proofs.Common.{length-take-le, take, arith}
 use Rattle.std.specs.Prelude.{is_err}
 use Rattle.luks_io.specs.Bytes.{Took}
 use Rattle.luks_header.specs.Header.{BreaksReading, cost_of, header_of}
@@ -7,12 +8,14 @@ use Rattle.luks_header.proofs.HeaderLemmas.{memory_below}
 use Rattle.luks_header.specs.Segment.{segment_of}
 use Rattle.luks_header.specs.declared.header.Header.{Header}
 use Rattle.luks_area.specs.declared.fault.HeaderFault.{HeaderFault}
-use Rattle.luks_area.specs.declared.fault.HeaderFault.TheVariants.{NotLuks as NoLuks, Cut as IsCut, Json as NoJson, Read as LostRead, Memory as NoMemory}
+use Rattle.luks_area.specs.declared.fault.HeaderFault.TheVariants.{NotLuks as NoLuks, Cut as IsCut, Json as NoJson}
+use Rattle.luks_area.specs.declared.fault.HeaderFault.TheVariants.{Read as LostRead, Memory as NoMemory}
 use Rattle.luks_verdict.specs.declared.refusal.SegmentFault.{SegmentFault}
 use Rattle.luks_verdict.specs.declared.segment.Segment.{Segment}
 use Rattle.luks_open.specs.Order.{Tries, order_of}
 use Rattle.luks_open.specs.declared.fault.OpenFault.{OpenFault}
-use Rattle.luks_open.specs.declared.fault.OpenFault.TheVariants.{NoSuchSlot as NotThere, Disabled, NamedSkipped, NothingTried as NoneTried, NoKey as NoneOpens, Memory}
+use Rattle.luks_open.specs.declared.fault.OpenFault.TheVariants.{NoSuchSlot as NotThere, Disabled, NamedSkipped}
+use Rattle.luks_open.specs.declared.fault.OpenFault.TheVariants.{NothingTried as NoneTried, NoKey as NoneOpens, Memory}
 use Rattle.luks_report.specs.Faults.{message_for_header}
 use Rattle.luks_command.specs.Request.{OpeningRequest}
 use Rattle.luks_runs.proofs.HeaderTaking.{cost_there}

@@ -1,5 +1,6 @@
 -- How the commands on volumes end before their volume is opened.
-use Rattle.std.proofs.Common.{◌≡◌, ℕ, ◌+◌, ◌-◌, ◌<◌, ◌≤◌, inl, inr, List, ◌++◌, Option, Some, Result, Ok, Err, ◌∙◌, ap, sym, refl, take, drop, length, length-drop, length-take-le, max, min, arith, true, false}
+use Rattle.std.proofs.Common.{◌≡◌, ℕ, ◌+◌, ◌-◌, ◌<◌, ◌≤◌, inl, inr, List, ◌++◌, Option, Some, Result, Ok, Err, ◌∙◌, ap}
+use Rattle.std.proofs.Common.{sym, refl, take, drop, length, length-drop, length-take-le, max, min, arith, true, false}
 use Rattle.std.proofs.lemmas.Bool.{cases_lt}
 use Rattle.std.proofs.lemmas.Bool.Decides.{nat_tests}
 use Rattle.std.proofs.lemmas.List.{drop-drop}
@@ -16,7 +17,8 @@ use Rattle.luks_open.proofs.CallerLemmas.{opening_beginning}
 use Rattle.luks_open.specs.Opening.{opening_of}
 use Rattle.luks_open.specs.Order.{Tries, held_of, order_of}
 use Rattle.luks_open.specs.declared.fault.OpenFault.{OpenFault}
-use Rattle.luks_open.specs.declared.fault.OpenFault.TheVariants.{NoSuchSlot as NotThere, Disabled, NamedSkipped, NothingTried as NoneTried, NoKey as NoneOpens, Memory}
+use Rattle.luks_open.specs.declared.fault.OpenFault.TheVariants.{NoSuchSlot as NotThere, Disabled, NamedSkipped}
+use Rattle.luks_open.specs.declared.fault.OpenFault.TheVariants.{NothingTried as NoneTried, NoKey as NoneOpens, Memory}
 use Rattle.luks_open.specs.declared.opening.Opened.{Opened}
 use Rattle.luks_cli.proofs.PromptLemmas.{held_early, prompt_before_payload, prompt_in_header, prompt_refused}
 use Rattle.luks_cli.proofs.VolumeLemmas.{cost_held, volume_is}
@@ -39,7 +41,8 @@ use Rattle.luks_runs.specs.declared.standing.Standing.{Standing}
 use Rattle.luks_runs.specs.declared.standing.Standing.TheVariants.{Attached}
 use Rattle.luks_report.specs.Faults.{message_for_opening}
 use Rattle.luks_report.specs.declared.message.Message.{Message}
-use Rattle.luks_report.specs.declared.message.Message.TheVariants.{Cut, KeyFileLength, OutOfMemory, ReadFailed, WriteFailed}
+use Rattle.luks_report.specs.declared.message.Message.TheVariants.{Cut, KeyFileLength, OutOfMemory, ReadFailed}
+use Rattle.luks_report.specs.declared.message.Message.TheVariants.{WriteFailed}
 
 -- ---- runs without output
 

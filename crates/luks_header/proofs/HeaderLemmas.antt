@@ -1,5 +1,7 @@
 -- Reading a header.
-use Rattle.std.proofs.Common.{◌≡◌, ℕ, ◌+◌, ◌-◌, ◌<◌, ◌≤◌, List, [], ◌++◌, Option, Some, None, Result, Ok, Err, Bool, true, false, ◌∙◌, ap, sym, subst, refl, inl, inr, lit≤, take, drop, length, min, take_all, arith}
+use Rattle.std.proofs.Common.{◌≡◌, ℕ, ◌+◌, ◌-◌, ◌<◌, ◌≤◌, List, [], ◌++◌, Option, Some, None, Result, Ok, Err, Bool}
+use Rattle.std.proofs.Common.{true, false, ◌∙◌, ap, sym, subst, refl, inl, inr, lit≤, take, drop, length, min, take_all}
+use Rattle.std.proofs.Common.{arith}
 use Rattle.std.specs.Prelude.{nat_lt, IsTrue, ◌↔◌}
 use Rattle.std.proofs.lemmas.Bool.{cases_lt, le-ltb, lt-ltb}
 use Rattle.std.proofs.lemmas.List.{length-take, take-append-drop, take-take, take_min}
@@ -19,7 +21,8 @@ use Rattle.luks2_header.specs.Text2.{json_text_of}
 use Rattle.luks2_header.specs.declared.header.Header2.{Header2}
 use Rattle.luks2_members.specs.Tree.{tree_of}
 use Rattle.serde_json.specs.Data.{Data}
-use Rattle.luks_header.specs.Header.{BreaksHeld, BreaksReading, TookCostly, cost_of, falls_short, header_of, reach_of, with_metadata, with_text}
+use Rattle.luks_header.specs.Header.{BreaksHeld, BreaksReading, TookCostly, cost_of, falls_short, header_of, reach_of}
+use Rattle.luks_header.specs.Header.{with_metadata, with_text}
 use Rattle.luks_header.specs.declared.header.Header.{Header}
 use Rattle.luks_header.specs.declared.header.Header.TheVariants.{V1}
 use Rattle.luks_header.proofs.HeldLemmas.{cost_other, header_missing, reach_other}

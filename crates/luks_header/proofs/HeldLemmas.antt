@@ -1,5 +1,6 @@
 -- Reading the header of LUKS2 of an image whose first bytes are held.
-use Rattle.std.proofs.Common.{◌≡◌, ◌∙◌, ℕ, ◌≤◌, ◌⊎◌, inl, inr, List, ◌++◌, Option, Some, None, Ok, Err, false, ap, sym, refl, take, length}
+use Rattle.std.proofs.Common.{◌≡◌, ◌∙◌, ℕ, ◌≤◌, ◌⊎◌, inl, inr, List, ◌++◌, Option, Some, None, Ok, Err, false, ap, sym}
+use Rattle.std.proofs.Common.{refl, take, length}
 use Rattle.std.proofs.lemmas.List.{take-append-le, take-take}
 use Rattle.std.specs.Prelude.{nat_lt}
 use Rattle.luks_io.specs.Bytes.{counted}

@@ -1,5 +1,6 @@
 -- Which header an image has, and how many of its bytes are read for it.
-use Rattle.std.specs.Prelude.{◌≡◌, ◌⊎◌, ℕ, Bool, true, false, List, Option, Some, None, Result, Ok, Err, length, min, nat_lt, if◌then◌else◌}
+use Rattle.std.specs.Prelude.{◌≡◌, ◌⊎◌, ℕ, Bool, true, false, List, Option, Some, None, Result, Ok, Err, length, min}
+use Rattle.std.specs.Prelude.{nat_lt, if◌then◌else◌}
 use Rattle.luks_io.specs.Bytes.{Took, TookFewer, TookUpTo, counted}
 use Rattle.luks_area.specs.Field.{at}
 use Rattle.luks1_header.specs.Header1.{header1_len, header1_of, is_luks1}

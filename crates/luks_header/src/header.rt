@@ -1,11 +1,13 @@
 //! Which header an image has.
 
-ghost use Rattle.std.specs.Prelude.{◌≡◌, ◌++◌, Bool, List, ℕ, Some, Ok, Err, IfOk, IfErr, drop, length, take, true, false};
+ghost use Rattle.std.specs.Prelude.{◌≡◌, ◌++◌, Bool, List, ℕ, Some, Ok, Err, IfOk, IfErr, drop};
+ghost use Rattle.std.specs.Prelude.{length, take, true, false};
 ghost use Rattle.luks_io.specs.Bytes.{Took, WhereKnown, counted};
 ghost use Rattle.luks_area.specs.Area.{is_read};
 ghost use Rattle.luks1_header.specs.Header1.{is_luks1};
 ghost use Rattle.luks2_header.specs.Front2.{TookCost};
-ghost use Rattle.luks_header.specs.Header.{BreaksHeld, BreaksReading, bounds2_of, cost_of, detached_of, falls_short, header_of};
+ghost use Rattle.luks_header.specs.Header.{BreaksHeld, BreaksReading, bounds2_of, cost_of};
+ghost use Rattle.luks_header.specs.Header.{detached_of, falls_short, header_of};
 
 use luks_area::area::HeaderArea;
 use luks_area::fault::HeaderFault;

@@ -1,5 +1,6 @@
 -- The steps of the loops that move bytes piece by piece.
-use Rattle.std.proofs.Common.{◌≡◌, ◌==◌, ◌&&◌, ℕ, ◌+◌, ◌-◌, ◌≤◌, nat_lt, refl, List, ◌++◌, Option, ◌∙◌, ap, sym, subst, take, drop, length, take_all, length-drop, length-take-le, arith}
+use Rattle.std.proofs.Common.{◌≡◌, ◌==◌, ◌&&◌, ℕ, ◌+◌, ◌-◌, ◌≤◌, nat_lt, refl, List, ◌++◌, Option, ◌∙◌, ap, sym, subst}
+use Rattle.std.proofs.Common.{take, drop, length, take_all, length-drop, length-take-le, arith}
 use Rattle.std.specs.Io.KnownBytes.{Appends, Consumes}
 use Rattle.std.proofs.KnownBytes.{Consumes-trans, Appends-trans}
 use Rattle.std.proofs.Math.Seq.{take-add, take-append-add}

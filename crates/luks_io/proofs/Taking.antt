@@ -1,5 +1,6 @@
 -- Bytes that are taken from a source, call after call.
-use Rattle.std.proofs.Common.{◌≡◌, ℕ, ◌+◌, ◌<◌, ◌≤◌, List, [], ◌++◌, Option, Some, ◌∙◌, ap, sym, subst, min, drop, length, length-drop, append-nil, append_assoc, nat_lt, refl, arith}
+use Rattle.std.proofs.Common.{◌≡◌, ℕ, ◌+◌, ◌<◌, ◌≤◌, List, [], ◌++◌, Option, Some, ◌∙◌, ap, sym, subst, min, drop}
+use Rattle.std.proofs.Common.{length, length-drop, append-nil, append_assoc, nat_lt, refl, arith}
 use Rattle.std.proofs.lemmas.Bool.{le-ltb, lt-ltb}
 use Rattle.std.proofs.lemmas.List.{drop-drop, drop_all}
 use Rattle.luks_io.specs.Bytes.{Adds, Took, WhereKnown, counted, raised}

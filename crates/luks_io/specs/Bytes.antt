@@ -1,7 +1,8 @@
 -- What calls do to one device: which bytes a source gave, which bytes a sink took, and what is counted.
 -- A device may know its bytes: `Some` of a list, or `None` where it doesn't. std's words `Consumes`, `Appends` and
 -- `IsAtEnd` say what one call does to them, and claim nothing at `None`.
-use Rattle.std.specs.Prelude.{◌≡◌, ℕ, ◌+◌, ◌-◌, ◌^◌, ◌<◌, ◌≤◌, ◌++◌, ◌==◌, ◌&&◌, min, nat_lt, Bool, true, false, List, drop, length, take, MatchResult, Result, Ok, Err, Option, Some}
+use Rattle.std.specs.Prelude.{◌≡◌, ℕ, ◌+◌, ◌-◌, ◌^◌, ◌<◌, ◌≤◌, ◌++◌, ◌==◌, ◌&&◌, min, nat_lt, Bool, true, false, List}
+use Rattle.std.specs.Prelude.{drop, length, take, MatchResult, Result, Ok, Err, Option, Some}
 
 -- where a device knows its bytes, this holds of them
 abbrev pub WhereKnown : Option (List ℕ) → (List ℕ → Type 0) → Type 0

@@ -1,6 +1,8 @@
 -- What stripes are made of, and that merging what was split gives the key.
-use Rattle.std.proofs.Common.{◌≡◌, ◌∙◌, ℕ, zero, suc, ◌+◌, ◌-◌, ◌*◌, ◌/◌, ◌<◌, ◌≤◌, List, [], ◌++◌, length, take, drop, min, replicate, refl, sym, ap, arith, add-one, length-append, length-drop}
-use Rattle.std.proofs.lemmas.List.{append-nil, drop-append-le, take-append-le, length-replicate, length-take, length-take-le, take_all}
+use Rattle.std.proofs.Common.{◌≡◌, ◌∙◌, ℕ, zero, suc, ◌+◌, ◌-◌, ◌*◌, ◌/◌, ◌<◌, ◌≤◌, List, [], ◌++◌, length, take, drop}
+use Rattle.std.proofs.Common.{min, replicate, refl, sym, ap, arith, add-one, length-append, length-drop}
+use Rattle.std.proofs.lemmas.List.{append-nil, drop-append-le, take-append-le, length-replicate, length-take}
+use Rattle.std.proofs.lemmas.List.{length-take-le, take_all}
 use Rattle.std.proofs.Math.ListN.{drop_of_length-le}
 use Rattle.std.proofs.Math.Nat.{min-eq_left, mul-le-mul_right, mul-div_cancel}
 use Rattle.std.proofs.lemmas.Grind.{div_ceil_times}
@@ -8,7 +10,8 @@ use Rattle.std.specs.Int.{div_ceil, to_be_bytes, w32}
 use Rattle.luks_kdf.specs.declared.hash.Hash.{Hash}
 use Rattle.luks_kdf.specs.Bytes.{joined, xor}
 use Rattle.luks_kdf.specs.Hash.{hash_of, size_of}
-use Rattle.luks_kdf.specs.Stripes.{AreStripes, Chain, IsSplit, chain_after, chain_of, diffused, diffused_piece, extended, merged, piece_of, stripe_at}
+use Rattle.luks_kdf.specs.Stripes.{AreStripes, Chain, IsSplit, chain_after, chain_of, diffused, diffused_piece}
+use Rattle.luks_kdf.specs.Stripes.{extended, merged, piece_of, stripe_at}
 use Rattle.luks_kdf.proofs.BytesLemmas.{cut_part, drop_front, joined_more, length-xor, xor-undone}
 use Rattle.luks_kdf.proofs.HashLemmas.{length-hash_of, sizes}
 

@@ -4,7 +4,8 @@ ghost use Rattle.std.specs.Prelude.{◌≡◌, ◌+◌, ◌*◌, ◌≤◌, ◌+
 ghost use Rattle.std.specs.Int.{to_be_bytes, w32};
 ghost use Rattle.luks_kdf.specs.Bytes.{xor};
 ghost use Rattle.luks_kdf.specs.Hash.{hash_of, size_of};
-ghost use Rattle.luks_kdf.specs.Stripes.{AreStripes, Chain, IsSplit, chain_after, diffused, extended, merged};
+ghost use Rattle.luks_kdf.specs.Stripes.{AreStripes, Chain, IsSplit, chain_after, diffused};
+ghost use Rattle.luks_kdf.specs.Stripes.{extended, merged};
 
 use crate::Hash;
 use crate::bytes::xor_into;

@@ -1,5 +1,7 @@
 -- Key material that is decrypted a sector at a time, and merged a stripe at a time.
-use Rattle.std.proofs.Common.{◌≡◌, ◌∙◌, ℕ, zero, suc, ◌+◌, ◌-◌, ◌*◌, ◌/◌, ◌%◌, ◌<◌, ◌≤◌, ◌⊎◌, inl, inr, true, List, [], ◌++◌, length, replicate, take, drop, refl, sym, ap, subst, append_assoc, mul_assoc, arith, length-append, length-drop, add-one}
+use Rattle.std.proofs.Common.{◌≡◌, ◌∙◌, ℕ, zero, suc, ◌+◌, ◌-◌, ◌*◌, ◌/◌, ◌%◌, ◌<◌, ◌≤◌, ◌⊎◌, inl, inr, true, List, []}
+use Rattle.std.proofs.Common.{◌++◌, length, replicate, take, drop, refl, sym, ap, subst, append_assoc, mul_assoc, arith}
+use Rattle.std.proofs.Common.{length-append, length-drop, add-one}
 use Rattle.std.proofs.Math.Seq.{take-add, take-append-add}
 use Rattle.std.proofs.lemmas.Bool.Decides.{nat_tests}
 use Rattle.std.proofs.lemmas.List.{append-nil, length-take-le, take-append-le, take_all}

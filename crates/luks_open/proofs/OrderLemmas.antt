@@ -1,5 +1,6 @@
 -- What holds of the key slots that are tried, and where the last of their key material ends.
-use Rattle.std.proofs.Common.{◌≡◌, ◌∙◌, ℕ, ◌+◌, ◌==◌, ◌<◌, ◌≤◌, max, Bool, true, false, List, [], ◌∷◌, length, drop, get_or, Option, Some, None, Ok, IsOk, IsSome, refl, sym, ap, subst, arith}
+use Rattle.std.proofs.Common.{◌≡◌, ◌∙◌, ℕ, ◌+◌, ◌==◌, ◌<◌, ◌≤◌, max, Bool, true, false, List, [], ◌∷◌, length, drop}
+use Rattle.std.proofs.Common.{get_or, Option, Some, None, Ok, IsOk, IsSome, refl, sym, ap, subst, arith}
 use Rattle.std.specs.Prelude.{if◌then◌else◌, option_map}
 use Rattle.std.specs.List.{AllByRecursion}
 use Rattle.std.proofs.lemmas.Bool.{eq-eqb}
@@ -21,7 +22,8 @@ use Rattle.luks_header.specs.Digest.{digest_for}
 use Rattle.luks_header.specs.Slot.{slot_at, verdict_at}
 use Rattle.luks_header.specs.declared.header.Header.{Header}
 use Rattle.luks_header.proofs.KnownLemmas.{digest_of_usable, slot_of_usable}
-use Rattle.luks_open.specs.Order.{Tries, entry_at, entry_of, held_of, order_of, skipped_at, tried_alone, tries_of_all, tries_of_named, unless_none, usable_at, where_usable}
+use Rattle.luks_open.specs.Order.{Tries, entry_at, entry_of, held_of, order_of, skipped_at, tried_alone, tries_of_all}
+use Rattle.luks_open.specs.Order.{tries_of_named, unless_none, usable_at, where_usable}
 use Rattle.luks_open.specs.declared.entry.Entry.{Entry}
 
 -- what is tried of a key slot is of this header: it can be tried, and this is its digest

@@ -1,5 +1,6 @@
 -- Which key slot opens a volume, and how many evaluations of HMAC it takes.
-use Rattle.std.specs.Prelude.{ℕ, ◌+◌, ◌*◌, sum_by, if◌then◌else◌, List, [], ◌∷◌, Option, Some, None, Result, Ok, Err, length, is_some}
+use Rattle.std.specs.Prelude.{ℕ, ◌+◌, ◌*◌, sum_by, if◌then◌else◌, List, [], ◌∷◌, Option, Some, None, Result, Ok, Err}
+use Rattle.std.specs.Prelude.{length, is_some}
 use Rattle.std.specs.Int.{div_ceil}
 use Rattle.luks_kdf.specs.Hash.{size_of}
 use Rattle.luks_kdf.specs.declared.hash.Hash.{Hash}

@@ -1,5 +1,6 @@
 -- Which key slots are tried, and in which order.
-use Rattle.std.specs.Prelude.{◌≡◌, ℕ, ◌==◌, ◌⊎◌, max, MatchResult, if◌then◌else◌, List, [], ◌∷◌, ◌++◌, Option, Some, None, Result, Ok, Err}
+use Rattle.std.specs.Prelude.{◌≡◌, ℕ, ◌==◌, ◌⊎◌, max, MatchResult, if◌then◌else◌, List, [], ◌∷◌, ◌++◌, Option, Some}
+use Rattle.std.specs.Prelude.{None, Result, Ok, Err}
 use Rattle.luks_verdict.specs.Rule.{most_slots}
 use Rattle.luks_verdict.specs.Slot.{end_of}
 use Rattle.luks_verdict.specs.Table.{rising}
@@ -15,7 +16,8 @@ use Rattle.luks_header.specs.Slot.{slot_at, verdict_at}
 use Rattle.luks_header.specs.declared.header.Header.{Header}
 use Rattle.luks_open.specs.declared.entry.Entry.{Entry}
 use Rattle.luks_open.specs.declared.fault.OpenFault.{OpenFault}
-use Rattle.luks_open.specs.declared.fault.OpenFault.TheVariants.{NoSuchSlot, Disabled, NamedSkipped, NothingTried, Memory}
+use Rattle.luks_open.specs.declared.fault.OpenFault.TheVariants.{NoSuchSlot, Disabled, NamedSkipped, NothingTried}
+use Rattle.luks_open.specs.declared.fault.OpenFault.TheVariants.{Memory}
 
 -- what is tried
 pub record Tries : Type 0 where

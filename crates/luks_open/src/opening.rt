@@ -1,13 +1,15 @@
 //! Opening a volume by a passphrase.
 
-ghost use Rattle.std.specs.Prelude.{◌≡◌, ◌+◌, ◌≤◌, ℕ, Option, Ok, All, IfOk, IfSome, IsSome, true, length, sum_by};
+ghost use Rattle.std.specs.Prelude.{◌≡◌, ◌+◌, ◌≤◌, ℕ, Option, Ok, All, IfOk, IfSome, IsSome, true};
+ghost use Rattle.std.specs.Prelude.{length, sum_by};
 ghost use Rattle.luks_cipher.specs.Sector.{is_mode_key_length};
 ghost use Rattle.luks_cipher.specs.declared.mode.Mode.{Mode};
 ghost use Rattle.luks_kdf.specs.Pbkdf2.{capped};
 ghost use Rattle.luks_header.specs.Segment.{segment_of};
 ghost use Rattle.luks_verdict.specs.declared.segment.Segment.{Segment};
 ghost use Rattle.luks_open.specs.Candidate.{candidate_of};
-ghost use Rattle.luks_open.specs.Opening.{evaluations, evaluations_of, first_opening, key_of, opening_of, tried_of, work_of};
+ghost use Rattle.luks_open.specs.Opening.{evaluations, evaluations_of, first_opening, key_of};
+ghost use Rattle.luks_open.specs.Opening.{opening_of, tried_of, work_of};
 ghost use Rattle.luks_open.specs.Order.{held_of, order_of};
 ghost use Rattle.luks_open.specs.Trial.{IsTriable};
 

@@ -1,9 +1,11 @@
 //! In which order key slots are tried.
 
-ghost use Rattle.std.specs.Prelude.{◌≡◌, ◌++◌, Err, IfOk, IsOk, IsSome, OnOk, OnErr, option_map, [], ◌∷◌, ◌≤◌, length};
+ghost use Rattle.std.specs.Prelude.{◌≡◌, ◌++◌, Err, IfOk, IsOk, IsSome, OnOk, OnErr, option_map};
+ghost use Rattle.std.specs.Prelude.{[], ◌∷◌, ◌≤◌, length};
 ghost use Rattle.luks_verdict.specs.Rule.{most_slots};
 ghost use Rattle.luks_verdict.specs.Table.{rising};
-ghost use Rattle.luks_open.specs.Order.{IsOrMemory, order_of, skipped_at, entry_at, tried_alone, tries_of_all, tries_of_named, usable_at};
+ghost use Rattle.luks_open.specs.Order.{IsOrMemory, order_of, skipped_at, entry_at, tried_alone};
+ghost use Rattle.luks_open.specs.Order.{tries_of_all, tries_of_named, usable_at};
 ghost use Rattle.luks_header.specs.Slot.{verdict_at};
 
 use crate::entry::{Entry, entry_at};

@@ -1,5 +1,6 @@
 -- What is amiss with a header: a finding a line, in a fixed order.
-use Rattle.std.specs.Prelude.{ℕ, ◌∷◌, ◌++◌, [], Bool, false, true, List, None, Result, Ok, Err, codes, flat_map, if◌then◌else◌, max, min, nat_lt}
+use Rattle.std.specs.Prelude.{ℕ, ◌∷◌, ◌++◌, [], Bool, false, true, List, None, Result, Ok, Err, codes, flat_map}
+use Rattle.std.specs.Prelude.{if◌then◌else◌, max, min, nat_lt}
 use Rattle.std.specs.Fmt.{decimal}
 use Rattle.luks_header.specs.Segment.{segment_of}
 use Rattle.luks_header.specs.SegmentFault.{fault_text}
@@ -10,7 +11,9 @@ use Rattle.luks_header.specs.declared.header.Header.TheVariants.{V1, V2}
 use Rattle.luks_verdict.specs.Slot.{end_of}
 use Rattle.luks_verdict.specs.declared.refusal.SegmentFault.{SegmentFault}
 use Rattle.luks_verdict.specs.declared.refusal.SkipReason.{SkipReason}
-use Rattle.luks_verdict.specs.declared.refusal.SkipReason.TheVariants.{State, Kind, Member, Argon2i, Argon2id, Kdf, Hash, Encryption, KeySize, Stripes, Iterations, Area, Digest}
+use Rattle.luks_verdict.specs.declared.refusal.SkipReason.TheVariants.{State, Kind, Member, Argon2i, Argon2id, Kdf}
+use Rattle.luks_verdict.specs.declared.refusal.SkipReason.TheVariants.{Hash, Encryption, KeySize, Stripes, Iterations}
+use Rattle.luks_verdict.specs.declared.refusal.SkipReason.TheVariants.{Area, Digest}
 use Rattle.luks_verdict.specs.declared.segment.Segment.{Segment}
 use Rattle.luks_verdict.specs.declared.slot.Slot.{Slot}
 use Rattle.luks_verdict.specs.declared.slot.Verdict.{Verdict}

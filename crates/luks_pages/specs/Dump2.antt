@@ -1,5 +1,6 @@
 -- What is printed of a LUKS2 header: the fields of its binary header, its key slots, its segment and its digests.
-use Rattle.std.specs.Prelude.{ℕ, ◌∷◌, ◌++◌, [], zero, suc, List, Option, Some, None, Result, Ok, Err, codes, flat_map, length}
+use Rattle.std.specs.Prelude.{ℕ, ◌∷◌, ◌++◌, [], zero, suc, List, Option, Some, None, Result, Ok, Err, codes, flat_map}
+use Rattle.std.specs.Prelude.{length}
 use Rattle.std.specs.Fmt.{decimal}
 use Rattle.luks_cipher.specs.Sector.{name_of as mode_name}
 use Rattle.luks_kdf.specs.Hash.{name_of}

@@ -2,7 +2,9 @@
 
 ghost use Rattle.std.specs.Prelude.{◌≡◌, ◌++◌, IfOk, OnOk, string_bytes};
 ghost use Rattle.luks_header.specs.Segment.{segment_of};
-ghost use Rattle.luks_pages.specs.Check.{do_overlap, findings_of, header_findings, is_amiss, overlap, overlaps, overlaps_with, segment_finding, skip_finding, slot_finding, slot_findings};
+ghost use Rattle.luks_pages.specs.Check.{do_overlap, findings_of, header_findings, is_amiss};
+ghost use Rattle.luks_pages.specs.Check.{overlap, overlaps, overlaps_with, segment_finding};
+ghost use Rattle.luks_pages.specs.Check.{skip_finding, slot_finding, slot_findings};
 
 use crate::field::push_field;
 use luks_header::header::Header;

@@ -1,9 +1,11 @@
 //! Four blocks and four rows of bytes, exchanged.
 
-ghost use Rattle.std.specs.Prelude.{◌≡◌, ◌+◌, ◌*◌, ◌/◌, ◌%◌, ◌<◌, ℕ, List, [], ◌∷◌, slice_index, slice_index_or};
+ghost use Rattle.std.specs.Prelude.{◌≡◌, ◌+◌, ◌*◌, ◌/◌, ◌%◌, ◌<◌, ℕ, List, [], ◌∷◌, slice_index};
+ghost use Rattle.std.specs.Prelude.{slice_index_or};
 ghost use Rattle.std.specs.Int.{bit_at};
 ghost use Rattle.luks_planes.specs.Planes.{ordered, Shows};
-ghost use Rattle.luks_planes.specs.Lanes.{words_low, words_high, firsts, lasts, by_rows, by_columns};
+ghost use Rattle.luks_planes.specs.Lanes.{words_low, words_high, firsts, lasts, by_rows};
+ghost use Rattle.luks_planes.specs.Lanes.{by_columns};
 
 use std::simd::prelude::*;
 

@@ -3,10 +3,15 @@ use Rattle.std.proofs.Common.{◌≤◌, length, arith}
 use Rattle.luks_header.specs.SegmentFault.{fault_text}
 use Rattle.luks_header.specs.SkipReason.{reason_text}
 use Rattle.luks_verdict.specs.declared.refusal.SkipReason.{SkipReason}
-use Rattle.luks_verdict.specs.declared.refusal.SkipReason.TheVariants.{State, Kind, Member, Argon2i, Argon2id, Kdf, Hash, Encryption, KeySize, Stripes, Iterations, Area, Digest}
+use Rattle.luks_verdict.specs.declared.refusal.SkipReason.TheVariants.{State, Kind, Member, Argon2i, Argon2id, Kdf}
+use Rattle.luks_verdict.specs.declared.refusal.SkipReason.TheVariants.{Hash, Encryption, KeySize, Stripes, Iterations}
+use Rattle.luks_verdict.specs.declared.refusal.SkipReason.TheVariants.{Area, Digest}
 use Rattle.luks_verdict.specs.declared.refusal.SegmentFault.{SegmentFault}
-use Rattle.luks_verdict.specs.declared.refusal.SegmentFault.TheVariants.{Requirement, Segments, Integrity, KeyBytes, SectorSize, Offset, Size}
-use Rattle.luks_verdict.specs.declared.refusal.SegmentFault.TheVariants.{Member as BadMember, Kind as OtherKind, Encryption as OtherEncryption, Hash as OtherHash}
+use Rattle.luks_verdict.specs.declared.refusal.SegmentFault.TheVariants.{Requirement, Segments, Integrity, KeyBytes}
+use Rattle.luks_verdict.specs.declared.refusal.SegmentFault.TheVariants.{SectorSize, Offset, Size}
+use Rattle.luks_verdict.specs.declared.refusal.SegmentFault.TheVariants.{Member as BadMember, Kind as OtherKind}
+use Rattle.luks_verdict.specs.declared.refusal.SegmentFault.TheVariants.{Encryption as OtherEncryption}
+use Rattle.luks_verdict.specs.declared.refusal.SegmentFault.TheVariants.{Hash as OtherHash}
 
 pub reason_len : (reason : SkipReason) → length (reason_text reason) ≤ 10
 reason_len State = omega arith

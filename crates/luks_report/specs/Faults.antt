@@ -1,17 +1,23 @@
 -- Which message a fault of the layers below has.
 use Rattle.std.specs.Prelude.{ℕ, Option, Some, None, Result, Ok, Err}
 use Rattle.luks_area.specs.declared.fault.HeaderFault.{HeaderFault}
-use Rattle.luks_area.specs.declared.fault.HeaderFault.TheVariants.{NotLuks as NoLuks, Cut as IsCut, Json as NoJson, Read as HeaderRead, Memory as NoMemory}
+use Rattle.luks_area.specs.declared.fault.HeaderFault.TheVariants.{NotLuks as NoLuks, Cut as IsCut, Json as NoJson}
+use Rattle.luks_area.specs.declared.fault.HeaderFault.TheVariants.{Read as HeaderRead, Memory as NoMemory}
 use Rattle.luks_open.specs.declared.fault.OpenFault.{OpenFault}
-use Rattle.luks_open.specs.declared.fault.OpenFault.TheVariants.{NoSuchSlot as NotThere, Disabled, NamedSkipped, NothingTried as NoneTried, NoKey as NoneOpens, Memory as NoRoom}
+use Rattle.luks_open.specs.declared.fault.OpenFault.TheVariants.{NoSuchSlot as NotThere, Disabled, NamedSkipped}
+use Rattle.luks_open.specs.declared.fault.OpenFault.TheVariants.{NothingTried as NoneTried, NoKey as NoneOpens}
+use Rattle.luks_open.specs.declared.fault.OpenFault.TheVariants.{Memory as NoRoom}
 use Rattle.luks_volume.specs.declared.fault.VolumeFault.{VolumeFault}
-use Rattle.luks_volume.specs.declared.fault.VolumeFault.TheVariants.{CutBeforePayload as IsCutBefore, Tail as HasTail, Short as IsShort, Read, Write}
+use Rattle.luks_volume.specs.declared.fault.VolumeFault.TheVariants.{CutBeforePayload as IsCutBefore, Tail as HasTail}
+use Rattle.luks_volume.specs.declared.fault.VolumeFault.TheVariants.{Short as IsShort, Read, Write}
 use Rattle.luks_volume.specs.declared.state.Step.{Step}
 use Rattle.luks_command.specs.declared.planning.PlanFault.{PlanFault}
 use Rattle.luks_command.specs.declared.planning.PlanFault.TheVariants.{Memory as NoPlan, Usage as NoCommand}
 use Rattle.luks_report.specs.declared.message.Message.{Message}
-use Rattle.luks_report.specs.declared.message.Message.TheVariants.{Done, Usage, NotLuks, Cut, Json, OutOfMemory, ReadFailed, WriteFailed}
-use Rattle.luks_report.specs.declared.message.Message.TheVariants.{NoSuchSlot, SlotDisabled, SlotSkipped, NothingTried, NoKey}
+use Rattle.luks_report.specs.declared.message.Message.TheVariants.{Done, Usage, NotLuks, Cut, Json, OutOfMemory}
+use Rattle.luks_report.specs.declared.message.Message.TheVariants.{ReadFailed, WriteFailed}
+use Rattle.luks_report.specs.declared.message.Message.TheVariants.{NoSuchSlot, SlotDisabled, SlotSkipped, NothingTried}
+use Rattle.luks_report.specs.declared.message.Message.TheVariants.{NoKey}
 use Rattle.luks_report.specs.declared.message.Message.TheVariants.{CutBeforePayload, Tail, Short}
 
 -- the words give no command

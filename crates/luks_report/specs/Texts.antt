@@ -5,8 +5,11 @@ use Rattle.luks_header.specs.SegmentFault.{fault_text}
 use Rattle.luks_header.specs.SkipReason.{reason_text}
 use Rattle.luks_verdict.specs.declared.refusal.SkipReason.{SkipReason}
 use Rattle.luks_report.specs.declared.message.Message.{Message}
-use Rattle.luks_report.specs.declared.message.Message.TheVariants.{Done, No, Usage, NotLuks, Cut, Json, KeyLength, FewRandomBytes, FewStripes, OutOfMemory, ReadFailed, WriteFailed}
-use Rattle.luks_report.specs.declared.message.Message.TheVariants.{SegmentRefused, NoSuchSlot, SlotDisabled, SlotSkipped, NothingTried, KeyFileLength, NoKey}
+use Rattle.luks_report.specs.declared.message.Message.TheVariants.{Done, No, Usage, NotLuks, Cut, Json, KeyLength}
+use Rattle.luks_report.specs.declared.message.Message.TheVariants.{FewRandomBytes, FewStripes, OutOfMemory, ReadFailed}
+use Rattle.luks_report.specs.declared.message.Message.TheVariants.{WriteFailed}
+use Rattle.luks_report.specs.declared.message.Message.TheVariants.{SegmentRefused, NoSuchSlot, SlotDisabled}
+use Rattle.luks_report.specs.declared.message.Message.TheVariants.{SlotSkipped, NothingTried, KeyFileLength, NoKey}
 use Rattle.luks_report.specs.declared.message.Message.TheVariants.{CutBeforePayload, Tail, Short, Findings}
 use Rattle.luks_command.specs.Usage.{usage_text}
 

@@ -1,6 +1,7 @@
 //! The lines that messages are told as.
 
-ghost use Rattle.std.specs.Prelude.{◌≡◌, ◌+◌, ◌<◌, ◌≤◌, ◌++◌, OnOk, IfErr, codes, decimal, is_err, length, take};
+ghost use Rattle.std.specs.Prelude.{◌≡◌, ◌+◌, ◌<◌, ◌≤◌, ◌++◌, OnOk, IfErr, codes, decimal, is_err};
+ghost use Rattle.std.specs.Prelude.{length, take};
 ghost use Rattle.luks_io.specs.Bytes.{Adds, counted};
 ghost use Rattle.luks_report.specs.Texts.{line, line_of, more_skips_text, skip_text, skips_text};
 

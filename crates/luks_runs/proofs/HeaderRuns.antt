@@ -1,13 +1,15 @@
 -- How the commands on headers end.
 use Rattle.std.specs.Prelude.{◌==◌}
-use Rattle.std.proofs.Common.{◌≡◌, ℕ, ◌<◌, ◌≤◌, Bool, true, false, List, Option, Result, Ok, Err, ap, refl, take, length, arith}
+use Rattle.std.proofs.Common.{◌≡◌, ℕ, ◌<◌, ◌≤◌, Bool, true, false, List, Option, Result, Ok, Err, ap, refl, take}
+use Rattle.std.proofs.Common.{length, arith}
 use Rattle.luks_io.specs.Bytes.{Adds, Took}
 use Rattle.luks_io.proofs.Taking.{adds-none}
 use Rattle.luks_header.specs.Header.{BreaksReading, cost_of, header_of}
 use Rattle.luks_header.proofs.HeaderLemmas.{memory_below}
 use Rattle.luks_header.specs.declared.header.Header.{Header}
 use Rattle.luks_area.specs.declared.fault.HeaderFault.{HeaderFault}
-use Rattle.luks_area.specs.declared.fault.HeaderFault.TheVariants.{NotLuks as NoLuks, Cut as IsCut, Json as NoJson, Read, Memory}
+use Rattle.luks_area.specs.declared.fault.HeaderFault.TheVariants.{NotLuks as NoLuks, Cut as IsCut, Json as NoJson}
+use Rattle.luks_area.specs.declared.fault.HeaderFault.TheVariants.{Read, Memory}
 use Rattle.luks_report.specs.declared.message.Message.{Message}
 use Rattle.luks_report.specs.declared.message.Message.TheVariants.{Done, OutOfMemory, ReadFailed, WriteFailed}
 use Rattle.luks_runs.specs.Header.{answer_to_is_luks}
@@ -21,7 +23,8 @@ use Rattle.luks_runs.proofs.HeaderTaking.{reading_fault}
 use Rattle.luks_runs.specs.declared.headers.Page.{Page}
 use Rattle.luks_runs.specs.declared.headers.Page.TheVariants.{Uuid, Dump, Check}
 use Rattle.luks_report.specs.Check.{findings_of, message_for_check}
-use Rattle.luks_runs.specs.Run.{Counts, Failures, IsBeginning, IsSilent, Runs, BreaksOff, TookNone, at_any_pace, breaks_off}
+use Rattle.luks_runs.specs.Run.{Counts, Failures, IsBeginning, IsSilent, Runs, BreaksOff, TookNone, at_any_pace}
+use Rattle.luks_runs.specs.Run.{breaks_off}
 
 -- a run that ended before any output
 early : (o : Outcome) (image : List ℕ) (message : Message) (i w : Option (List ℕ)) (count : ℕ) → IsSilent message 0

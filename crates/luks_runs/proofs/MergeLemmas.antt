@@ -1,5 +1,6 @@
 -- Taking stripes one at a time, and how merging them ends.
-use Rattle.std.proofs.Common.{◌≡◌, ℕ, ◌+◌, ◌-◌, ◌*◌, ◌<◌, ◌≤◌, List, [], ◌++◌, true, false, suc, length-take-le, Option, Some, ◌∙◌, ap, sym, refl, take, drop, length, take_all, min, arith, zero-mul}
+use Rattle.std.proofs.Common.{◌≡◌, ℕ, ◌+◌, ◌-◌, ◌*◌, ◌<◌, ◌≤◌, List, [], ◌++◌, true, false, suc, length-take-le, Option}
+use Rattle.std.proofs.Common.{Some, ◌∙◌, ap, sym, refl, take, drop, length, take_all, min, arith, zero-mul}
 use Rattle.std.proofs.lemmas.List.{take-append-drop}
 use Rattle.luks_io.proofs.Taking.{adds-none, took-none, took_all, took_more, took_sum}
 use Rattle.luks_io.specs.Bytes.{Adds, Took, TookInto, WhereKnown}

@@ -1,5 +1,6 @@
 -- Reading a key file by pieces.
-use Rattle.std.proofs.Common.{◌≡◌, ℕ, ◌+◌, ◌<◌, ◌≤◌, ◌⊎◌, inl, inr, List, ◌++◌, Option, ◌∙◌, ap, sym, take, drop, length, take_all, length-drop, min, arith}
+use Rattle.std.proofs.Common.{◌≡◌, ℕ, ◌+◌, ◌<◌, ◌≤◌, ◌⊎◌, inl, inr, List, ◌++◌, Option, ◌∙◌, ap, sym, take, drop}
+use Rattle.std.proofs.Common.{length, take_all, length-drop, min, arith}
 use Rattle.std.proofs.Math.Seq.{take-add}
 use Rattle.luks_io.proofs.Taking.{took-all, took_behind, took_more}
 use Rattle.luks_io.specs.Bytes.{Took, TookUpTo, WhereKnown}

@@ -1,5 +1,7 @@
 -- How splitting a key ends.
-use Rattle.std.proofs.Common.{◌≡◌, ℕ, ◌+◌, ◌-◌, ◌*◌, ◌/◌, ◌<◌, ◌≤◌, ◌⊎◌, inl, inr, List, [], ◌++◌, Option, Some, ◌∙◌, ap, sym, refl, take, drop, length, take-take, length-take-le, length-append, min, arith, true, false}
+use Rattle.std.proofs.Common.{◌≡◌, ℕ, ◌+◌, ◌-◌, ◌*◌, ◌/◌, ◌<◌, ◌≤◌, ◌⊎◌, inl, inr, List, [], ◌++◌, Option, Some, ◌∙◌}
+use Rattle.std.proofs.Common.{ap, sym, refl, take, drop, length, take-take, length-take-le, length-append, min, arith}
+use Rattle.std.proofs.Common.{true, false}
 use Rattle.std.proofs.lemmas.List.{take-append-drop, take-append-le}
 use Rattle.std.proofs.Math.Seq.{take-append-add}
 use Rattle.std.proofs.lemmas.Bool.{cases_lt}
@@ -14,7 +16,8 @@ use Rattle.luks_kdf.proofs.StripesLemmas.{chain_of-append}
 use Rattle.luks_io.proofs.Taking.{adds-more, adds-none, took-none}
 use Rattle.luks_io.specs.Bytes.{Adds, Took}
 use Rattle.luks_report.specs.declared.message.Message.{Message}
-use Rattle.luks_report.specs.declared.message.Message.TheVariants.{Done, KeyLength, FewRandomBytes, ReadFailed, WriteFailed}
+use Rattle.luks_report.specs.declared.message.Message.TheVariants.{Done, KeyLength, FewRandomBytes, ReadFailed}
+use Rattle.luks_report.specs.declared.message.Message.TheVariants.{WriteFailed}
 use Rattle.luks_runs.specs.Ending.{Outcome}
 use Rattle.luks_runs.specs.Stripe.{split_key_outcome, split_outcome, stripes_of}
 use Rattle.luks_runs.specs.Run.{IsBeginning, IsSilent, Runs, BreaksOff, Completes}

@@ -1,5 +1,6 @@
 -- Passing on random stripes one at a time.
-use Rattle.std.proofs.Common.{◌≡◌, ℕ, ◌+◌, ◌*◌, ◌<◌, List, ◌++◌, Option, Some, ◌∙◌, ap, sym, subst, take, drop, length, take-take, take_all, min, arith, zero-mul}
+use Rattle.std.proofs.Common.{◌≡◌, ℕ, ◌+◌, ◌*◌, ◌<◌, List, ◌++◌, Option, Some, ◌∙◌, ap, sym, subst, take, drop, length}
+use Rattle.std.proofs.Common.{take-take, take_all, min, arith, zero-mul}
 use Rattle.std.proofs.Math.Seq.{take-add}
 use Rattle.luks_io.proofs.Taking.{adds-more, adds-none, took-none, took_all, took_more}
 use Rattle.luks_io.specs.Bytes.{Adds, Took, TookInto, WhereKnown}

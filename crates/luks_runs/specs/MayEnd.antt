@@ -2,7 +2,8 @@
 use Rattle.luks_runs.specs.declared.headers.Page.{Page}
 use Rattle.luks_runs.specs.declared.headers.Page.TheVariants.{Uuid, Dump, Check}
 use Rattle.luks_report.specs.declared.message.Message.{Message}
-use Rattle.luks_report.specs.declared.message.Message.TheVariants.{Done, No, Findings, NotLuks, Cut, Json, OutOfMemory, ReadFailed, WriteFailed}
+use Rattle.luks_report.specs.declared.message.Message.TheVariants.{Done, No, Findings, NotLuks, Cut, Json, OutOfMemory}
+use Rattle.luks_report.specs.declared.message.Message.TheVariants.{ReadFailed, WriteFailed}
 use Rattle.luks_report.specs.declared.message.Message.TheVariants.{CutBeforePayload, Tail, Short}
 use Rattle.luks_report.specs.declared.message.Message.TheVariants.{KeyLength, FewRandomBytes, FewStripes}
 

@@ -2,7 +2,8 @@
 use Rattle.std.specs.Prelude.{◌≡◌, ℕ, ◌+◌, ◌*◌, ◌/◌, ◌<◌, ◌≤◌, ◌⊎◌, List, length, take, min, Option}
 use Rattle.luks_io.specs.Bytes.{Adds, Took, TookUpTo}
 use Rattle.luks_report.specs.declared.message.Message.{Message}
-use Rattle.luks_report.specs.declared.message.Message.TheVariants.{KeyLength, FewRandomBytes, FewStripes, ReadFailed, WriteFailed}
+use Rattle.luks_report.specs.declared.message.Message.TheVariants.{KeyLength, FewRandomBytes, FewStripes, ReadFailed}
+use Rattle.luks_report.specs.declared.message.Message.TheVariants.{WriteFailed}
 use Rattle.luks_runs.specs.Stripe.{longest_key}
 
 -- how reading a key failed: of one that is too long one byte more is taken than the longest has

@@ -2,7 +2,8 @@
 
 ghost use Rattle.std.specs.Prelude.{◌≡◌, List, ℕ, IfOk, Option, string_bytes};
 ghost use Rattle.luks_io.specs.Bytes.{Adds, Took, WhereKnown};
-ghost use Rattle.luks_runs.specs.Header.{answer_to_is_luks, is_luks_outcome, print_outcome_by, text_of, told_of};
+ghost use Rattle.luks_runs.specs.Header.{answer_to_is_luks, is_luks_outcome, print_outcome_by};
+ghost use Rattle.luks_runs.specs.Header.{text_of, told_of};
 ghost use Rattle.luks_runs.specs.Run.{Counts, failures_of, Runs, TookNone, at_any_pace, message_of};
 ghost use Rattle.luks_runs.specs.MayEnd.{IsLuksMessage, PageMessage};
 ghost use Rattle.luks_runs.specs.Standing.{reading_of};

@@ -1,6 +1,7 @@
 //! The payload on its way from the image to the output.
 
-ghost use Rattle.std.specs.Prelude.{◌≡◌, ◌≢◌, ◌<◌, ◌≤◌, ◌⊎◌, ◌^◌, List, [], ℕ, Option, IfErr, true, length, take};
+ghost use Rattle.std.specs.Prelude.{◌≡◌, ◌≢◌, ◌<◌, ◌≤◌, ◌⊎◌, ◌^◌, List, [], ℕ, Option, IfErr, true};
+ghost use Rattle.std.specs.Prelude.{length, take};
 ghost use Rattle.luks_runs.specs.Payload.{PassesHeld};
 ghost use Rattle.luks_runs.specs.MayEnd.{PayloadMessage};
 ghost use Rattle.luks_runs.specs.Run.{is_failed_read, is_failed_write, message_of};

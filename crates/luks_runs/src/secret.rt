@@ -1,6 +1,7 @@
 //! The key file, whose bytes are the passphrase.
 
-ghost use Rattle.std.specs.Prelude.{◌≡◌, ◌+◌, ◌<◌, ◌≤◌, ◌⊎◌, ◌++◌, List, ℕ, IfOk, IfErr, length, min, take, vec_len};
+ghost use Rattle.std.specs.Prelude.{◌≡◌, ◌+◌, ◌<◌, ◌≤◌, ◌⊎◌, ◌++◌, List, ℕ, IfOk, IfErr, length};
+ghost use Rattle.std.specs.Prelude.{min, take, vec_len};
 ghost use Rattle.luks_io.specs.Bytes.{Took, TookUpTo, WhereKnown, counted};
 ghost use Rattle.luks_runs.specs.Run.{is_failed_read, message_of};
 ghost use Rattle.luks_runs.specs.Secret.{NoSecretRead};

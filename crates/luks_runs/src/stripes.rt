@@ -1,12 +1,15 @@
 //! `afSplit` and `afMerge`: keys and the stripes that hold them.
 
-ghost use Rattle.std.specs.Prelude.{◌≡◌, ◌≢◌, ◌*◌, ◌<◌, ◌≤◌, ◌⊎◌, ◌+◌, ℕ, IfOk, IfErr, OnOk, length, take};
+ghost use Rattle.std.specs.Prelude.{◌≡◌, ◌≢◌, ◌*◌, ◌<◌, ◌≤◌, ◌⊎◌, ◌+◌, ℕ, IfOk, IfErr, OnOk};
+ghost use Rattle.std.specs.Prelude.{length, take};
 ghost use Rattle.luks_kdf.specs.Stripes.{chain_after};
 ghost use Rattle.luks_io.specs.Bytes.{Adds, Took, WhereKnown, counted};
-ghost use Rattle.luks_runs.specs.Run.{Counts, failures_of, Runs, TookNone, at_any_pace, is_failed_read, is_failed_write, message_of};
+ghost use Rattle.luks_runs.specs.Run.{Counts, failures_of, Runs, TookNone, at_any_pace};
+ghost use Rattle.luks_runs.specs.Run.{is_failed_read, is_failed_write, message_of};
 ghost use Rattle.luks_runs.specs.MayEnd.{MergeMessage, SplitMessage};
 ghost use Rattle.luks_runs.specs.Stripe.{merge_outcome, split_outcome};
-ghost use Rattle.luks_runs.specs.StripeParts.{NoKeyRead, Passed, StopsAtStripe, StopsTaking, split_promptly};
+ghost use Rattle.luks_runs.specs.StripeParts.{NoKeyRead, Passed, StopsAtStripe, StopsTaking};
+ghost use Rattle.luks_runs.specs.StripeParts.{split_promptly};
 ghost use Rattle.luks_runs.specs.Stripe.{longest_key};
 
 use luks_command::command::{Merging, Splitting};

@@ -1,5 +1,7 @@
 -- The metadata of a sealed volume of LUKS2 does not nest deeply, so that its text can be read.
-use Rattle.std.proofs.Common.{◌≡◌, ◌∙◌, ◌≤◌, ℕ, zero, suc, Bool, true, false, List, [], ◌∷◌, ◌++◌, Option, Some, None, Ordering, Less, Equal, Greater, nat_cmp, Result, Ok, Err, Vec, Global, arith, refl, ap, sym, subst}
+use Rattle.std.proofs.Common.{◌≡◌, ◌∙◌, ◌≤◌, ℕ, zero, suc, Bool, true, false, List, [], ◌∷◌, ◌++◌, Option, Some, None}
+use Rattle.std.proofs.Common.{Ordering, Less, Equal, Greater, nat_cmp, Result, Ok, Err, Vec, Global, arith, refl, ap}
+use Rattle.std.proofs.Common.{sym, subst}
 use Rattle.std.specs.Prelude.{IfOk, IsUtf8, decimal}
 use Rattle.std.specs.Cmp.Lexicographic.{slice_cmp}
 use Rattle.std.specs.Option.{option_map_or}
@@ -7,7 +9,9 @@ use Rattle.std.specs.Ordering.{match_ordering}
 use Rattle.serde_json.specs.Data.{Data, Members, depth, items_depth, member, members_depth, no_members, put}
 use Rattle.serde_json.specs.Read.{read}
 use Rattle.serde_json.specs.View.{items_of}
-use Rattle.luks_seal.specs.Metadata2.{ReadsBack, af_object, area_object, config_object, decimal_text, digest_object, json_of, kdf_object, keyslot_object, keyslots_below, metadata_of, names_below, segment_object, size_text}
+use Rattle.luks_seal.specs.Metadata2.{ReadsBack, af_object, area_object, config_object, decimal_text, digest_object}
+use Rattle.luks_seal.specs.Metadata2.{json_of, kdf_object, keyslot_object, keyslots_below, metadata_of, names_below}
+use Rattle.luks_seal.specs.Metadata2.{segment_object, size_text}
 use Rattle.luks_seal.specs.Numbered.{slot_numbered}
 use Rattle.luks_seal.specs.declared.parameters.Seal2.{Seal2}
 use Rattle.luks_seal.specs.declared.parameters.Slot2.{Slot2}

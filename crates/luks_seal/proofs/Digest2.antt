@@ -17,7 +17,8 @@ use Rattle.luks2_members.specs.List.{has_texts, lists}
 use Rattle.luks2_members.specs.Member.{base64_text, is_named, text, whole_number}
 use Rattle.luks2_members.specs.Numbered.{numbered}
 use Rattle.luks2_members.proofs.NumberedLemmas.{lowest_found, lowest_none}
-use Rattle.luks2_metadata.specs.Digest2.{digest2_for, digest2_of, digest_parts2_of, is_digest2, is_of_slot, own_digest, own_digest_at, value_in}
+use Rattle.luks2_metadata.specs.Digest2.{digest2_for, digest2_of, digest_parts2_of, is_digest2, is_of_slot, own_digest}
+use Rattle.luks2_metadata.specs.Digest2.{own_digest_at, value_in}
 use Rattle.luks_seal.specs.Metadata2.{digest_object, metadata_of}
 use Rattle.luks_seal.specs.Numbered.{slot_numbered}
 use Rattle.luks_seal.specs.Ranges2.{AreParameters2}

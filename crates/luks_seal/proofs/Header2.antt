@@ -1,5 +1,6 @@
 -- A binary header of LUKS2 that was put together is read again, and its checksum agrees.
-use Rattle.std.proofs.Common.{◌≡◌, ◌≢◌, ◌∙◌, ◌+◌, ◌-◌, ◌≤◌, ◌==◌, ℕ, Bool, true, false, List, [], ◌++◌, Some, length, take, drop, ap, arith, refl, sym, append_assoc, length-append}
+use Rattle.std.proofs.Common.{◌≡◌, ◌≢◌, ◌∙◌, ◌+◌, ◌-◌, ◌≤◌, ◌==◌, ℕ, Bool, true, false, List, [], ◌++◌, Some, length}
+use Rattle.std.proofs.Common.{take, drop, ap, arith, refl, sym, append_assoc, length-append}
 use Rattle.std.specs.Prelude.{◌||◌, codes}
 use Rattle.std.specs.Int.{to_be_bytes, w64}
 use Rattle.std.specs.List.{list_any}
@@ -15,7 +16,8 @@ use Rattle.luks_kdf.proofs.HashLemmas.{length-hash_of}
 use Rattle.luks2_header.specs.Checksum2.{is_intact, no_checksum, without_checksum}
 use Rattle.luks2_header.specs.Choice2.{beginning_at, is_binary_of}
 use Rattle.luks2_header.specs.Header2.{hash_in, place_in, sequence_in, size_in, sizes}
-use Rattle.luks_seal.specs.Layout2.{end_of, fields_of, header_of, middle_of, primary_magic, rest_of, secondary_magic, start_of}
+use Rattle.luks_seal.specs.Layout2.{end_of, fields_of, header_of, middle_of, primary_magic, rest_of, secondary_magic}
+use Rattle.luks_seal.specs.Layout2.{start_of}
 use Rattle.luks_seal.specs.Metadata2.{FitsJson, json_of}
 use Rattle.luks_seal.specs.Pieces.{padded}
 use Rattle.luks_seal.specs.Ranges2.{AreParameters2, is_header_size}

@@ -1,15 +1,19 @@
 -- Where the parts of a sealed volume of LUKS1 stand in its image.
-use Rattle.std.proofs.Common.{◌≡◌, ◌∙◌, ℕ, ◌+◌, ◌-◌, ◌*◌, ◌/◌, ◌<◌, ◌≤◌, ◌++◌, length, Some, sym, ap, arith, length-append}
+use Rattle.std.proofs.Common.{◌≡◌, ◌∙◌, ℕ, ◌+◌, ◌-◌, ◌*◌, ◌/◌, ◌<◌, ◌≤◌, ◌++◌, length, Some, sym, ap, arith}
+use Rattle.std.proofs.Common.{length-append}
 use Rattle.std.proofs.lemmas.List.{take_all}
 use Rattle.std.proofs.Math.Nat.{mul-le-mul_right}
 use Rattle.luks_area.specs.Field.{at}
-use Rattle.luks_seal.specs.Layout1.{area1_of, area_sectors_of, areas1_below, header1_of, image1_of, material1_of, payload1_of, slot1_numbered}
+use Rattle.luks_seal.specs.Layout1.{area1_of, area_sectors_of, areas1_below, header1_of, image1_of, material1_of}
+use Rattle.luks_seal.specs.Layout1.{payload1_of, slot1_numbered}
 use Rattle.luks_seal.specs.Pieces.{padded}
 use Rattle.luks_seal.specs.Ranges1.{AreParameters, FitsSlot}
 use Rattle.luks_seal.specs.Typed1.{AreTyped1}
 use Rattle.luks_seal.specs.declared.parameters.Seal1.{Seal1}
 use Rattle.luks_seal.specs.declared.parameters.Slot1.{Slot1}
-use Rattle.luks_seal.proofs.Layout1Lemmas.{areas_fit, areas_joined, length-area1, length-areas1, length-before_payload, length-front1, length-header1, length-image1, length-material1, length-payload1}
+use Rattle.luks_seal.proofs.Layout1Lemmas.{areas_fit, areas_joined, length-area1, length-areas1, length-before_payload}
+use Rattle.luks_seal.proofs.Layout1Lemmas.{length-front1, length-header1, length-image1, length-material1}
+use Rattle.luks_seal.proofs.Layout1Lemmas.{length-payload1}
 use Rattle.luks_seal.proofs.Read1.{front1_of}
 use Rattle.luks_seal.proofs.SectorLemmas.{piece_at}
 use Rattle.luks_seal.proofs.SlicingLemmas.{at_at, at_behind, at_first, at_padded, at_second}

@@ -1,5 +1,7 @@
 -- Where the parts of a sealed volume of LUKS2 stand in its image.
-use Rattle.std.proofs.Common.{◌≡◌, ◌∙◌, ℕ, zero, suc, ◌+◌, ◌-◌, ◌*◌, ◌/◌, ◌%◌, ◌<◌, ◌≤◌, ◌==◌, Bool, true, false, List, [], ◌∷◌, ◌++◌, length, Option, Some, None, inl, inr, refl, sym, subst, ap, arith, length-append}
+use Rattle.std.proofs.Common.{◌≡◌, ◌∙◌, ℕ, zero, suc, ◌+◌, ◌-◌, ◌*◌, ◌/◌, ◌%◌, ◌<◌, ◌≤◌, ◌==◌, Bool, true, false, List}
+use Rattle.std.proofs.Common.{[], ◌∷◌, ◌++◌, length, Option, Some, None, inl, inr, refl, sym, subst, ap, arith}
+use Rattle.std.proofs.Common.{length-append}
 use Rattle.std.specs.Prelude.{All, if◌then◌else◌}
 use Rattle.std.specs.Option.{option_map_or}
 use Rattle.std.proofs.lemmas.Bool.{cases_lt}
@@ -11,7 +13,8 @@ use Rattle.luks_verdict.specs.Rule.{need_of}
 use Rattle.luks_verdict.specs.SectorSize.{bytes_of}
 use Rattle.luks_verdict.specs.declared.sector_size.SectorSize.{SectorSize}
 use Rattle.luks_verdict.specs.declared.sector_size.SectorSize.TheVariants.{B512, B1024, B2048, B4096}
-use Rattle.luks_seal.specs.Layout2.{area_key_of, area_of, areas_below, header_of, headers_of, image2_of, payload_of, primary_magic, secondary_magic}
+use Rattle.luks_seal.specs.Layout2.{area_key_of, area_of, areas_below, header_of, headers_of, image2_of, payload_of}
+use Rattle.luks_seal.specs.Layout2.{primary_magic, secondary_magic}
 use Rattle.luks_seal.specs.Metadata2.{FitsJson}
 use Rattle.luks_seal.specs.Numbered.{area_size, area_start, slot_numbered}
 use Rattle.luks_seal.specs.Pieces.{material_of, padded, stripes_of}

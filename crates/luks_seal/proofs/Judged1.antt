@@ -1,5 +1,6 @@
 -- What becomes of the segment, the key slots and the digest of a sealed volume of LUKS1.
-use Rattle.std.proofs.Common.{◌≡◌, ◌∙◌, ℕ, ◌+◌, ◌*◌, ◌^◌, ◌<◌, ◌≤◌, true, false, length, Some, None, Ok, refl, ap, arith}
+use Rattle.std.proofs.Common.{◌≡◌, ◌∙◌, ℕ, ◌+◌, ◌*◌, ◌^◌, ◌<◌, ◌≤◌, true, false, length, Some, None, Ok, refl, ap}
+use Rattle.std.proofs.Common.{arith}
 use Rattle.std.proofs.Math.Nat.{mul-le-mul_right}
 use Rattle.std.proofs.lemmas.Bool.{le-ltb}
 use Rattle.std.proofs.lemmas.Bool.Decides.{nat_tests}
@@ -18,7 +19,8 @@ use Rattle.luks_verdict.specs.declared.sector_size.SectorSize.TheVariants.{B512}
 use Rattle.luks_verdict.specs.declared.slot.Verdict.TheVariants.{Usable}
 use Rattle.luks_verdict.proofs.MadeLemmas.{digest_from-yes, undigested-yes}
 use Rattle.luks1_header.specs.Segment1.{fault1_of, segment1_of, starts_inside}
-use Rattle.luks1_header.specs.Slot1.{digest1_of, digest_parts1_of, hash1_of, is_damaged, is_disabled, is_misplaced1, mode1_of, payload1_of, reason1_of, slot_parts1_of, verdict1_of}
+use Rattle.luks1_header.specs.Slot1.{digest1_of, digest_parts1_of, hash1_of, is_damaged, is_disabled, is_misplaced1}
+use Rattle.luks1_header.specs.Slot1.{mode1_of, payload1_of, reason1_of, slot_parts1_of, verdict1_of}
 use Rattle.luks1_header.specs.declared.header.Header1.{Header1}
 use Rattle.luks1_header.specs.declared.header.KeySlot.{KeySlot}
 use Rattle.luks1_header.proofs.SlotLemmas.{slot_there}

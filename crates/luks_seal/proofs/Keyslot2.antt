@@ -5,7 +5,8 @@ use Rattle.std.proofs.lemmas.Bool.{le-leb}
 use Rattle.luks_verdict.specs.declared.slot.SlotParts.{SlotParts}
 use Rattle.luks2_members.specs.Derivation.{hash_in, iterations_in, salt_in}
 use Rattle.luks2_members.specs.Member.{base64_text, decimal_text, is_named, text, whole_number}
-use Rattle.luks2_metadata.specs.Slot2.{af_hash_of, area_mode_of, has_members, is_af, is_area, is_kdf, is_pbkdf2, kdf_hash_of, priority_of, slot_parts2_of}
+use Rattle.luks2_metadata.specs.Slot2.{af_hash_of, area_mode_of, has_members, is_af, is_area, is_kdf, is_pbkdf2}
+use Rattle.luks2_metadata.specs.Slot2.{kdf_hash_of, priority_of, slot_parts2_of}
 use Rattle.luks_seal.specs.Metadata2.{af_object, area_object, kdf_object, keyslot_object}
 use Rattle.luks_seal.specs.Numbered.{area_size, area_start, slot_numbered}
 use Rattle.luks_seal.specs.Ranges2.{FitsSlot2}

@@ -1,5 +1,6 @@
 -- How long the parts of a volume of LUKS1 are.
-use Rattle.std.proofs.Common.{◌≡◌, ◌∙◌, ℕ, zero, suc, ◌+◌, ◌-◌, ◌*◌, ◌/◌, ◌≤◌, [], ◌++◌, length, Option, Some, None, refl, ap, arith, length-append, lit≤}
+use Rattle.std.proofs.Common.{◌≡◌, ◌∙◌, ℕ, zero, suc, ◌+◌, ◌-◌, ◌*◌, ◌/◌, ◌≤◌, [], ◌++◌, length, Option, Some, None}
+use Rattle.std.proofs.Common.{refl, ap, arith, length-append, lit≤}
 use Rattle.std.specs.Prelude.{codes}
 use Rattle.std.specs.Int.{to_be_bytes, w32}
 use Rattle.std.specs.Option.{option_map_or}
@@ -13,7 +14,9 @@ use Rattle.luks_kdf.specs.Pbkdf2.{derived_key}
 use Rattle.luks_kdf.specs.declared.hash.Hash.{Hash}
 use Rattle.luks_kdf.specs.declared.hash.Hash.TheVariants.{Sha1, Sha224, Sha256, Sha384, Sha512}
 use Rattle.luks_kdf.proofs.Pbkdf2Lemmas.{length-derived_key}
-use Rattle.luks_seal.specs.Layout1.{area1_of, area_key1_of, area_sectors_of, areas1_below, digest1_of, fields1_of, header1_of, image1_of, key_slot1_of, key_slots1_below, material1_of, middle1_of, payload1_of, slot1_numbered, start1_of, state1_of}
+use Rattle.luks_seal.specs.Layout1.{area1_of, area_key1_of, area_sectors_of, areas1_below, digest1_of, fields1_of}
+use Rattle.luks_seal.specs.Layout1.{header1_of, image1_of, key_slot1_of, key_slots1_below, material1_of, middle1_of}
+use Rattle.luks_seal.specs.Layout1.{payload1_of, slot1_numbered, start1_of, state1_of}
 use Rattle.luks_seal.specs.Pieces.{padded, stripes_of}
 use Rattle.luks_seal.specs.Ranges1.{AreParameters, FitsSlot}
 use Rattle.luks_seal.specs.Typed1.{AreTyped1, IsTypedSlot1}

@@ -1,5 +1,6 @@
 -- What a reader finds in the header of a sealed volume of LUKS1.
-use Rattle.std.proofs.Common.{◌≡◌, ◌∙◌, ℕ, zero, suc, ◌+◌, ◌*◌, ◌^◌, ◌<◌, ◌≤◌, false, List, ◌++◌, length, Some, refl, sym, ap, arith, length-append}
+use Rattle.std.proofs.Common.{◌≡◌, ◌∙◌, ℕ, zero, suc, ◌+◌, ◌*◌, ◌^◌, ◌<◌, ◌≤◌, false, List, ◌++◌, length, Some, refl}
+use Rattle.std.proofs.Common.{sym, ap, arith, length-append}
 use Rattle.std.specs.Prelude.{codes, slice_get}
 use Rattle.std.specs.Int.{to_be_bytes, w32}
 use Rattle.std.proofs.lemmas.List.{take_all}
@@ -20,13 +21,16 @@ use Rattle.luks1_header.specs.Header1.{header1_of as read_header1}
 use Rattle.luks1_header.specs.declared.header.Header1.{Header1}
 use Rattle.luks1_header.specs.declared.header.KeySlot.{KeySlot}
 use Rattle.luks1_header.specs.declared.header.SlotState.TheVariants.{Enabled}
-use Rattle.luks_seal.specs.Layout1.{area_sectors_of, digest1_of, fields1_of, key_slot1_of, key_slots1_below, middle1_of, slot1_numbered, start1_of, state1_of}
+use Rattle.luks_seal.specs.Layout1.{area_sectors_of, digest1_of, fields1_of, key_slot1_of, key_slots1_below, middle1_of}
+use Rattle.luks_seal.specs.Layout1.{slot1_numbered, start1_of, state1_of}
 use Rattle.luks_seal.specs.Pieces.{padded}
 use Rattle.luks_seal.specs.Ranges1.{AreParameters}
 use Rattle.luks_seal.specs.Typed1.{AreTyped1}
 use Rattle.luks_seal.specs.declared.parameters.Seal1.{Seal1}
 use Rattle.luks_seal.specs.declared.parameters.Slot1.{Slot1}
-use Rattle.luks_seal.proofs.Layout1Lemmas.{key_slots_joined, length-cipher_name, length-digest1, length-fields1, length-hash_name, length-key_slot1, length-middle1, length-mode_name, length-start1}
+use Rattle.luks_seal.proofs.Layout1Lemmas.{key_slots_joined, length-cipher_name, length-digest1, length-fields1}
+use Rattle.luks_seal.proofs.Layout1Lemmas.{length-hash_name, length-key_slot1, length-middle1, length-mode_name}
+use Rattle.luks_seal.proofs.Layout1Lemmas.{length-start1}
 use Rattle.luks_seal.proofs.SectorLemmas.{piece_at}
 use Rattle.luks_seal.proofs.SlicingLemmas.{at_behind, at_first, at_second}
 

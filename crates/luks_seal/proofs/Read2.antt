@@ -1,5 +1,6 @@
 -- The header of a sealed volume of LUKS2 is read again: it is the primary one, and its text is the metadata.
-use Rattle.std.proofs.Common.{◌≡◌, ◌≢◌, ◌∙◌, ℕ, zero, suc, ◌+◌, ◌-◌, ◌*◌, ◌<◌, ◌≤◌, ◌==◌, List, ◌++◌, length, take, replicate, Some, None, Ok, true, false, refl, sym, ap, arith, get_or, length-append}
+use Rattle.std.proofs.Common.{◌≡◌, ◌≢◌, ◌∙◌, ℕ, zero, suc, ◌+◌, ◌-◌, ◌*◌, ◌<◌, ◌≤◌, ◌==◌, List, ◌++◌, length, take}
+use Rattle.std.proofs.Common.{replicate, Some, None, Ok, true, false, refl, sym, ap, arith, get_or, length-append}
 use Rattle.std.specs.Prelude.{slice_index}
 use Rattle.std.specs.Int.{to_be_bytes, w64}
 use Rattle.std.specs.List.{position_or_len}
@@ -10,7 +11,8 @@ use Rattle.std.proofs.lemmas.Str.{is_utf8-from_IsUtf8}
 use Rattle.luks_area.specs.Field.{at, be64, text_of}
 use Rattle.luks_kdf.specs.declared.hash.Hash.TheVariants.{Sha256}
 use Rattle.luks1_header.specs.Header1.{is_luks1}
-use Rattle.luks2_header.specs.Choice2.{beginning_at, beside_primary, binary_at, chosen2_of, fits, header2_of, is_valid, size_at}
+use Rattle.luks2_header.specs.Choice2.{beginning_at, beside_primary, binary_at, chosen2_of, fits, header2_of, is_valid}
+use Rattle.luks2_header.specs.Choice2.{size_at}
 use Rattle.luks2_header.specs.Header2.{hash_in, header_in, sequence_in, size_in}
 use Rattle.luks2_header.specs.Text2.{json_area_of, json_text_of}
 use Rattle.luks2_header.specs.declared.header.Header2.{Header2}
@@ -26,7 +28,8 @@ use Rattle.luks_seal.specs.Pieces.{padded}
 use Rattle.luks_seal.specs.Ranges2.{AreParameters2}
 use Rattle.luks_seal.specs.Typed2.{AreTyped2}
 use Rattle.luks_seal.specs.declared.parameters.Seal2.{Seal2}
-use Rattle.luks_seal.proofs.Header2.{IsStart, binary_begins, binary_hash, binary_sequence, binary_size, intact, is_binary, json_there, primary_start, secondary_start, size_range}
+use Rattle.luks_seal.proofs.Header2.{IsStart, binary_begins, binary_hash, binary_sequence, binary_size, intact}
+use Rattle.luks_seal.proofs.Header2.{is_binary, json_there, primary_start, secondary_start, size_range}
 use Rattle.luks_seal.proofs.Image2.{image_primary, image_secondary, length-image}
 use Rattle.luks_seal.proofs.Slots2.{start_rises}
 use Rattle.luks_seal.proofs.Segment2.{bounds_of}

@@ -1,5 +1,6 @@
 -- The image of a volume of LUKS1 is a sealed volume of its key, its passphrases and its plain text.
-use Rattle.std.proofs.Common.{◌≡◌, ◌∙◌, ℕ, ◌+◌, ◌-◌, ◌*◌, ◌<◌, true, List, [], ◌∷◌, length, Some, None, Ok, refl, ap, arith, get_or}
+use Rattle.std.proofs.Common.{◌≡◌, ◌∙◌, ℕ, ◌+◌, ◌-◌, ◌*◌, ◌<◌, true, List, [], ◌∷◌, length, Some, None, Ok, refl, ap}
+use Rattle.std.proofs.Common.{arith, get_or}
 use Rattle.std.specs.Prelude.{bytes_eq, option_map}
 use Rattle.std.proofs.lemmas.Bool.{le-ltb}
 use Rattle.std.proofs.lemmas.List.{take_all}
@@ -20,7 +21,8 @@ use Rattle.luks_header.specs.Header.{header_of}
 use Rattle.luks_header.specs.Segment.{segment_of}
 use Rattle.luks_header.specs.Slot.{verdict_at}
 use Rattle.luks_header.specs.declared.header.Header.TheVariants.{V1}
-use Rattle.luks_seal.specs.Layout1.{area_key1_of, area_sectors_of, image1_of, key_slot1_of, material1_of, payload1_of, slot1_numbered, start1_of}
+use Rattle.luks_seal.specs.Layout1.{area_key1_of, area_sectors_of, image1_of, key_slot1_of, material1_of, payload1_of}
+use Rattle.luks_seal.specs.Layout1.{slot1_numbered, start1_of}
 use Rattle.luks_seal.specs.Passphrases.{passphrases1_of}
 use Rattle.luks_seal.specs.Ranges1.{AreParameters, FitsSlot}
 use Rattle.luks_seal.specs.Sealed.{GivesKey, Sealed, SealsKey, SealsPlain}
@@ -28,7 +30,8 @@ use Rattle.luks_seal.specs.Typed1.{AreTyped1, IsTypedSlot1}
 use Rattle.luks_seal.specs.declared.parameters.Seal1.{Seal1}
 use Rattle.luks_seal.specs.declared.parameters.Slot1.{Slot1}
 use Rattle.luks_seal.proofs.Image1.{image_header, image_material, image_payload, material_within}
-use Rattle.luks_seal.proofs.Judged1.{digest1_is, digest1_of_key, digest_usable, hash1_is, mode1_is, payload_starts, ranged, segment1_is, verdict1_is}
+use Rattle.luks_seal.proofs.Judged1.{digest1_is, digest1_of_key, digest_usable, hash1_is, mode1_is, payload_starts}
+use Rattle.luks_seal.proofs.Judged1.{ranged, segment1_is, verdict1_is}
 use Rattle.luks_seal.proofs.Layout1Lemmas.{drawn1, length-front1, length-image1}
 use Rattle.luks_seal.proofs.MaterialLemmas.{gives_key}
 use Rattle.luks_seal.proofs.Read1.{IsKeySlot, IsRead1, front1_of, header1_is, in_start, key_slot1_is}

@@ -1,5 +1,6 @@
 -- The image of a volume of LUKS2 is a sealed volume of its key, its passphrases and its plain text.
-use Rattle.std.proofs.Common.{◌≡◌, ◌∙◌, ℕ, ◌+◌, Bool, true, false, List, length, Some, None, refl, sym, subst, ap, arith, get_or, ◌/◌}
+use Rattle.std.proofs.Common.{◌≡◌, ◌∙◌, ℕ, ◌+◌, Bool, true, false, List, length, Some, None, refl, sym, subst, ap}
+use Rattle.std.proofs.Common.{arith, get_or, ◌/◌}
 use Rattle.std.proofs.lemmas.List.Elements.{All-map}
 use Rattle.luks_verdict.specs.SectorSize.{bytes_of}
 use Rattle.luks_verdict.specs.Segment.{segment_by}
@@ -21,7 +22,8 @@ use Rattle.luks_seal.specs.Typed2.{AreTyped2, IsTypedSlot2}
 use Rattle.luks_seal.specs.declared.parameters.Seal2.{Seal2}
 use Rattle.luks_seal.specs.declared.parameters.Slot2.{Slot2}
 use Rattle.luks_seal.proofs.Digest2.{digest_is, digest_read, of_key}
-use Rattle.luks_seal.proofs.Image2.{area_before, area_behind, drawn, image_material, image_payload, length-image, whole_blocks}
+use Rattle.luks_seal.proofs.Image2.{area_before, area_behind, drawn, image_material, image_payload, length-image}
+use Rattle.luks_seal.proofs.Image2.{whole_blocks}
 use Rattle.luks_seal.proofs.Keyslot2.{IsPlaced, parts_of}
 use Rattle.luks_seal.proofs.MaterialLemmas.{gives_key}
 use Rattle.luks_seal.proofs.Slots2.{numbered_each}

@@ -1,5 +1,6 @@
 -- What the metadata says of the segment is read again: it is not refused.
-use Rattle.std.proofs.Common.{◌≡◌, ◌∙◌, ◌*◌, ◌%◌, ◌<◌, ◌≤◌, ◌^◌, ℕ, Bool, true, false, Option, Some, None, Ok, length, ap, arith, refl, sym, true≢false}
+use Rattle.std.proofs.Common.{◌≡◌, ◌∙◌, ◌*◌, ◌%◌, ◌<◌, ◌≤◌, ◌^◌, ℕ, Bool, true, false, Option, Some, None, Ok, length}
+use Rattle.std.proofs.Common.{ap, arith, refl, sym, true≢false}
 use Rattle.std.specs.Prelude.{bytes_eq, codes, decimal, if◌then◌else◌, option_and_then, option_map, unwrap_or}
 use Rattle.std.specs.Char.{is_ascii_digit}
 use Rattle.std.specs.List.{list_all}
@@ -12,7 +13,10 @@ use Rattle.luks_verdict.specs.declared.sector_size.SectorSize.TheVariants.{B512,
 use Rattle.luks_verdict.specs.declared.segment.Segment.{Segment}
 use Rattle.luks_verdict.proofs.MadeLemmas.{segment_of_all-yes}
 use Rattle.luks2_members.specs.Member.{decimal_of, decimal_text, is_named, text, whole_number}
-use Rattle.luks2_metadata.specs.Segment2.{fault2_of, has_requirement, has_segment_members, is_segment, is_torn, iv_tweak_of, mode2_of, offset_of, sector_size_of, sector_size_with, segment2_of, segment_parts2_of, size_of, starts_inside, starts_wrong, the_segment}
+use Rattle.luks2_metadata.specs.Segment2.{fault2_of, has_requirement, has_segment_members, is_segment, is_torn}
+use Rattle.luks2_metadata.specs.Segment2.{iv_tweak_of, mode2_of, offset_of, sector_size_of, sector_size_with}
+use Rattle.luks2_metadata.specs.Segment2.{segment2_of, segment_parts2_of, size_of, starts_inside, starts_wrong}
+use Rattle.luks2_metadata.specs.Segment2.{the_segment}
 use Rattle.luks2_metadata.specs.declared.bounds.Bounds.{Bounds}
 use Rattle.serde_json.specs.Find.{as_str}
 use Rattle.luks_seal.specs.Metadata2.{config_object, metadata_of, segment_object, size_text}

@@ -9,7 +9,9 @@ use Rattle.std.specs.Option.{option_map_or}
 use Rattle.serde_json.specs.Data.{Data, Members, member, no_members, put}
 use Rattle.serde_json.specs.View.{items_of}
 use Rattle.serde_json.specs.Written.{has_float, items_have_float, members_have_float}
-use Rattle.luks_seal.specs.Metadata2.{af_object, area_object, config_object, decimal_text, digest_object, kdf_object, keyslot_object, keyslots_below, metadata_of, names_below, segment_object, size_text}
+use Rattle.luks_seal.specs.Metadata2.{af_object, area_object, config_object, decimal_text, digest_object, kdf_object}
+use Rattle.luks_seal.specs.Metadata2.{keyslot_object, keyslots_below, metadata_of, names_below, segment_object}
+use Rattle.luks_seal.specs.Metadata2.{size_text}
 use Rattle.luks_seal.specs.Numbered.{slot_numbered}
 use Rattle.luks_seal.specs.declared.parameters.Seal2.{Seal2}
 use Rattle.luks_seal.specs.declared.parameters.Slot2.{Slot2}

@@ -1,7 +1,8 @@
 -- What it means that an image is an honestly sealed volume: of the keys, the passphrases and the plain text that went
 -- into it, in the words of both formats (LUKS1 On-Disk Format Specification 1.2.3, sections 2 to 4; LUKS2 On-Disk
 -- Format Specification 1.1, sections 2 to 4). Nothing is said here of how an image is made, or of how it is opened.
-use Rattle.std.specs.Prelude.{◌≡◌, ℕ, ◌+◌, ◌*◌, ◌/◌, ◌%◌, ◌^◌, ◌<◌, ◌≤◌, All, List, length, take, Option, None, Some, Ok}
+use Rattle.std.specs.Prelude.{◌≡◌, ℕ, ◌+◌, ◌*◌, ◌/◌, ◌%◌, ◌^◌, ◌<◌, ◌≤◌, All, List, length, take, Option, None, Some}
+use Rattle.std.specs.Prelude.{Ok}
 use Rattle.luks_aes.specs.Bytes.{IsBytes}
 use Rattle.luks_cipher.specs.Sector.{Cipher, sector_encrypted}
 use Rattle.luks_cipher.specs.declared.mode.Mode.{Mode}

@@ -1,6 +1,7 @@
 //! The key slots of a volume of LUKS2 by their numbers, and their areas.
 
-ghost use Rattle.std.specs.Prelude.{◌≡◌, ◌*◌, ◌≤◌, ◌++◌, All, IfOk, OnOk, IfSome, length, option_copied};
+ghost use Rattle.std.specs.Prelude.{◌≡◌, ◌*◌, ◌≤◌, ◌++◌, All, IfOk, OnOk, IfSome, length};
+ghost use Rattle.std.specs.Prelude.{option_copied};
 ghost use Rattle.std.specs.Option.{option_map_or};
 ghost use Rattle.luks_seal.specs.Layout2.{area_key_of, area_of, areas_below};
 ghost use Rattle.luks_seal.specs.Numbered.{area_size, area_size_at, area_start, slot_numbered};

@@ -3,7 +3,8 @@
 ghost use Rattle.std.specs.Prelude.{◌≡◌, ◌++◌, [], IfOk, OnOk};
 ghost use Rattle.luks_kdf.specs.Hash.{hash_of};
 ghost use Rattle.luks_kdf.specs.declared.hash.Hash.TheVariants.{Sha256};
-ghost use Rattle.luks_seal.specs.Layout2.{end_of, fields_of, header_of, headers_of, middle_of, rest_of, start_of};
+ghost use Rattle.luks_seal.specs.Layout2.{end_of, fields_of, header_of, headers_of, middle_of};
+ghost use Rattle.luks_seal.specs.Layout2.{rest_of, start_of};
 ghost use Rattle.luks_seal.specs.Metadata2.{json_of};
 ghost use Rattle.luks_seal.specs.Pieces.{padded};
 ghost use Rattle.luks_seal.specs.Ranges2.{AreParameters2};

@@ -1,7 +1,10 @@
 //! The header of LUKS1 with its key slots (LUKS1 On-Disk Format Specification 1.2.3, section 4.1).
 
-ghost use Rattle.std.specs.Prelude.{◌≡◌, ◌-◌, ◌*◌, ◌<◌, ◌++◌, IfOk, IfSome, OnOk, length, option_copied};
-ghost use Rattle.luks_seal.specs.Layout1.{digest1_of, fields1_of, header1_of, key_slot1_of, key_slots1_below, middle1_of, slot1_numbered, start1_of, state1_of};
+ghost use Rattle.std.specs.Prelude.{◌≡◌, ◌-◌, ◌*◌, ◌<◌, ◌++◌, IfOk, IfSome, OnOk, length};
+ghost use Rattle.std.specs.Prelude.{option_copied};
+ghost use Rattle.luks_seal.specs.Layout1.{digest1_of, fields1_of, header1_of, key_slot1_of};
+ghost use Rattle.luks_seal.specs.Layout1.{key_slots1_below, middle1_of, slot1_numbered, start1_of};
+ghost use Rattle.luks_seal.specs.Layout1.{state1_of};
 ghost use Rattle.luks_seal.specs.Ranges1.{AreParameters, FitsSlot};
 
 use crate::parameters::{Seal1, Slot1};

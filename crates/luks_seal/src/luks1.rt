@@ -2,7 +2,8 @@
 
 ghost use Rattle.std.specs.Prelude.{◌≡◌, ◌-◌, ◌*◌, ◌++◌, [], IfOk, OnOk, length};
 ghost use Rattle.std.specs.Option.{option_map_or};
-ghost use Rattle.luks_seal.specs.Layout1.{area1_of, area_key1_of, areas1_below, image1_of, material1_of, payload1_of, slot1_numbered};
+ghost use Rattle.luks_seal.specs.Layout1.{area1_of, area_key1_of, areas1_below, image1_of};
+ghost use Rattle.luks_seal.specs.Layout1.{material1_of, payload1_of, slot1_numbered};
 ghost use Rattle.luks_seal.specs.Ranges.{SealsOrSays};
 ghost use Rattle.luks_seal.specs.Passphrases.{passphrases1_of};
 ghost use Rattle.luks_seal.specs.Ranges1.{AreParameters, FitsSlot};

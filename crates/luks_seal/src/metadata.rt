@@ -4,7 +4,11 @@ ghost use Rattle.std.specs.Prelude.{◌≡◌, IfOk, length, map};
 ghost use Rattle.base64.specs.Engines.{standard};
 ghost use Rattle.luks_kdf.specs.Hash.{size_of};
 ghost use Rattle.luks_kdf.specs.Pbkdf2.{derived_key};
-ghost use Rattle.luks_seal.specs.Metadata2.{ReadsBack, af_object, area_object, base64_text, config_object, decimal_text, digest_object, encryption_text, json_of, kdf_object, keyslot_object, keyslots_below, metadata_of, names_below, segment_object, size_text};
+ghost use Rattle.luks_seal.specs.Metadata2.{ReadsBack, af_object, area_object, base64_text};
+ghost use Rattle.luks_seal.specs.Metadata2.{config_object, decimal_text, digest_object};
+ghost use Rattle.luks_seal.specs.Metadata2.{encryption_text, json_of, kdf_object, keyslot_object};
+ghost use Rattle.luks_seal.specs.Metadata2.{keyslots_below, metadata_of, names_below};
+ghost use Rattle.luks_seal.specs.Metadata2.{segment_object, size_text};
 ghost use Rattle.luks_seal.specs.Ranges2.{AreParameters2, FitsSlot2};
 ghost use Rattle.serde_json.specs.View.{members_view, view};
 

@@ -3,7 +3,8 @@
 
 ghost use Rattle.std.specs.Prelude.{◌≡◌, ◌-◌, ◌*◌, ◌%◌, ◌≤◌, ◌++◌, IfOk, OnOk, length};
 ghost use Rattle.luks_cipher.specs.Sector.{sector_encrypted};
-ghost use Rattle.luks_seal.specs.Pieces.{material_of, padded, sectors_encrypted, stripes_of, unit_number, whole_sectors};
+ghost use Rattle.luks_seal.specs.Pieces.{material_of, padded, sectors_encrypted, stripes_of};
+ghost use Rattle.luks_seal.specs.Pieces.{unit_number, whole_sectors};
 ghost use Rattle.luks_seal.specs.Ranges.{FitsKey};
 ghost use Rattle.luks_verdict.specs.SectorSize.{bytes_of};
 

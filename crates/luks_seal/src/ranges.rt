@@ -2,7 +2,8 @@
 
 ghost use Rattle.std.specs.Prelude.{◌≡◌, ◌≢◌, ◌*◌, ◌-◌, ◌<◌, ◌≤◌, ◌↔◌, ℕ, All, length, IsTrue};
 ghost use Rattle.luks_seal.specs.Ranges.{FitsText};
-ghost use Rattle.luks_seal.specs.Ranges1.{AreDistinct, AreParameters, FitsCounts, FitsPlain, FitsSlot, area_sectors};
+ghost use Rattle.luks_seal.specs.Ranges1.{AreDistinct, AreParameters, FitsCounts, FitsPlain};
+ghost use Rattle.luks_seal.specs.Ranges1.{FitsSlot, area_sectors};
 
 use super::parameters::{Seal1, Slot1};
 

@@ -2,7 +2,8 @@
 
 ghost use Rattle.std.specs.Prelude.{◌≡◌, ◌≢◌, ◌≤◌, ◌↔◌, All, length, IsTrue};
 ghost use Rattle.luks_verdict.specs.SectorSize.{bytes_of};
-ghost use Rattle.luks_seal.specs.Ranges2.{AreDistinct2, AreParameters2, FitKeys, FitTexts, FitsOffset, FitsPlain2, FitsSlot2, is_header_size};
+ghost use Rattle.luks_seal.specs.Ranges2.{AreDistinct2, AreParameters2, FitKeys, FitTexts};
+ghost use Rattle.luks_seal.specs.Ranges2.{FitsOffset, FitsPlain2, FitsSlot2, is_header_size};
 
 use crate::areas::area_start;
 use crate::parameters::{Seal2, Slot2};

@@ -1,7 +1,9 @@
 -- Why a segment is refused, in the words of dumps and messages.
 use Rattle.std.specs.Prelude.{ℕ, List, codes}
 use Rattle.luks_verdict.specs.declared.refusal.SegmentFault.{SegmentFault}
-use Rattle.luks_verdict.specs.declared.refusal.SegmentFault.TheVariants.{Requirement, Segments, Member, Kind, Integrity, Encryption, Hash, KeyBytes, SectorSize, Offset, Size}
+use Rattle.luks_verdict.specs.declared.refusal.SegmentFault.TheVariants.{Requirement, Segments, Member, Kind, Integrity}
+use Rattle.luks_verdict.specs.declared.refusal.SegmentFault.TheVariants.{Encryption, Hash, KeyBytes, SectorSize, Offset}
+use Rattle.luks_verdict.specs.declared.refusal.SegmentFault.TheVariants.{Size}
 
 -- the text of a fault
 abbrev pub fault_text : SegmentFault → List ℕ

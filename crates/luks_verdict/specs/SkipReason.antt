@@ -1,7 +1,9 @@
 -- Why a key slot is skipped, in the words of dumps and messages.
 use Rattle.std.specs.Prelude.{ℕ, List, codes}
 use Rattle.luks_verdict.specs.declared.refusal.SkipReason.{SkipReason}
-use Rattle.luks_verdict.specs.declared.refusal.SkipReason.TheVariants.{State, Kind, Member, Argon2i, Argon2id, Kdf, Hash, Encryption, KeySize, Stripes, Iterations, Area, Digest}
+use Rattle.luks_verdict.specs.declared.refusal.SkipReason.TheVariants.{State, Kind, Member, Argon2i, Argon2id, Kdf}
+use Rattle.luks_verdict.specs.declared.refusal.SkipReason.TheVariants.{Hash, Encryption, KeySize, Stripes, Iterations}
+use Rattle.luks_verdict.specs.declared.refusal.SkipReason.TheVariants.{Area, Digest}
 
 -- the text of a reason
 abbrev pub reason_text : SkipReason → List ℕ

@@ -1,7 +1,8 @@
 //! Rules over numbers, which hold for both formats.
 
 ghost use Rattle.std.specs.Prelude.{◌≡◌, ◌+◌, ◌<◌, ◌^◌};
-ghost use Rattle.luks_verdict.specs.Rule.{is_beyond, is_digest, is_in_range, is_misplaced, is_unstriped, need_of};
+ghost use Rattle.luks_verdict.specs.Rule.{is_beyond, is_digest, is_in_range, is_misplaced};
+ghost use Rattle.luks_verdict.specs.Rule.{is_unstriped, need_of};
 
 use luks_area::area::HeaderArea;
 

@@ -1,5 +1,7 @@
 -- What a step does, from what its parts do.
-use Rattle.std.proofs.Common.{◌≡◌, ℕ, ◌+◌, ◌-◌, ◌*◌, ◌^◌, ◌<◌, ◌≤◌, ◌⊎◌, inl, inr, List, [], ◌++◌, Option, None, Some, Result, Ok, Err, true, false, ◌∙◌, ap, sym, subst, refl, take, drop, length, length-append, length-drop, max, min, arith}
+use Rattle.std.proofs.Common.{◌≡◌, ℕ, ◌+◌, ◌-◌, ◌*◌, ◌^◌, ◌<◌, ◌≤◌, ◌⊎◌, inl, inr, List, [], ◌++◌, Option, None, Some}
+use Rattle.std.proofs.Common.{Result, Ok, Err, true, false, ◌∙◌, ap, sym, subst, refl, take, drop, length}
+use Rattle.std.proofs.Common.{length-append, length-drop, max, min, arith}
 use Rattle.std.specs.Prelude.{nat_lt, OnOk, IfErr}
 use Rattle.std.proofs.lemmas.Bool.{le-ltb, lt-ltb}
 use Rattle.std.proofs.lemmas.List.{drop-drop, take-append-drop}
@@ -7,16 +9,21 @@ use Rattle.luks_verdict.specs.declared.segment.Segment.{Segment}
 use Rattle.luks_cipher.specs.Sector.{Cipher}
 use Rattle.luks_io.specs.Bytes.{Adds, Took, WhereKnown, counted, raised}
 use Rattle.luks_io.proofs.Taking.{took_behind, took_sum}
-use Rattle.luks_volume.specs.Passing.{StandsAt, StopsDiscarding, StopsInSector, is_failed_read, is_failed_write, limit_of}
-use Rattle.luks_volume.specs.Plain.{end_within, ending_within, payload_end_of, payload_len, sector_len, sector_of, sector_start, unit_number, unit_plain}
-use Rattle.luks_volume.specs.Pumped.{Ends, EndsAt, MayAnswer, Pumped, Skips, SkipsAgain, StandsIn, Steps, TakesSector, is_found_end, is_running, reach_of}
+use Rattle.luks_volume.specs.Passing.{StandsAt, StopsDiscarding, StopsInSector, is_failed_read, is_failed_write}
+use Rattle.luks_volume.specs.Passing.{limit_of}
+use Rattle.luks_volume.specs.Plain.{end_within, ending_within, payload_end_of, payload_len, sector_len, sector_of}
+use Rattle.luks_volume.specs.Plain.{sector_start, unit_number, unit_plain}
+use Rattle.luks_volume.specs.Pumped.{Ends, EndsAt, MayAnswer, Pumped, Skips, SkipsAgain, StandsIn, Steps, TakesSector}
+use Rattle.luks_volume.specs.Pumped.{is_found_end, is_running, reach_of}
 use Rattle.luks_volume.specs.declared.state.State.{State}
 use Rattle.luks_volume.specs.declared.state.State.TheVariants.{BeforePayload, InPayload, Ended, Faulted}
 use Rattle.luks_volume.specs.declared.fault.VolumeFault.{VolumeFault}
 use Rattle.luks_volume.specs.declared.fault.VolumeFault.TheVariants.{CutBeforePayload, Tail, Short, Read, Write}
 use Rattle.luks_volume.specs.declared.state.Step.{Step}
 use Rattle.luks_volume.specs.declared.state.Step.TheVariants.{Sector, End}
-use Rattle.luks_volume.proofs.SectorLemmas.{all_whole, at_least_512, at_limit, at_limit_end, before_end, ending_is_ending, ends_at_end, ends_before, is_ending, is_whole, is_within, none_whole}
+use Rattle.luks_volume.proofs.SectorLemmas.{all_whole, at_least_512, at_limit, at_limit_end, before_end}
+use Rattle.luks_volume.proofs.SectorLemmas.{ending_is_ending, ends_at_end, ends_before, is_ending, is_whole, is_within}
+use Rattle.luks_volume.proofs.SectorLemmas.{none_whole}
 
 module _ (s : Segment) (image : List ℕ) (count : ℕ) where
   -- a stated end is what a step did

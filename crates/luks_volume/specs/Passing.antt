@@ -1,5 +1,6 @@
 -- What the parts of a pump leave in its source and its sink.
-use Rattle.std.specs.Prelude.{◌≡◌, ℕ, ◌+◌, ◌-◌, ◌/◌, ◌^◌, ◌<◌, ◌++◌, min, Bool, true, false, List, drop, length, take, Option, None, Some, Result, Err}
+use Rattle.std.specs.Prelude.{◌≡◌, ℕ, ◌+◌, ◌-◌, ◌/◌, ◌^◌, ◌<◌, ◌++◌, min, Bool, true, false, List, drop, length, take}
+use Rattle.std.specs.Prelude.{Option, None, Some, Result, Err}
 use Rattle.luks_cipher.specs.Sector.{Cipher}
 use Rattle.luks_io.specs.Bytes.{Adds, Took, TookFewer}
 use Rattle.luks_verdict.specs.declared.segment.Segment.{Segment}

@@ -1,5 +1,6 @@
 -- The plain text of a payload, over the whole image as one list of bytes.
-use Rattle.std.specs.Prelude.{ℕ, ◌+◌, ◌-◌, ◌*◌, ◌/◌, ◌%◌, ◌^◌, ◌==◌, min, nat_lt, if◌then◌else◌, List, length, take, drop, Option, None, Some, Result, Ok, Err}
+use Rattle.std.specs.Prelude.{ℕ, ◌+◌, ◌-◌, ◌*◌, ◌/◌, ◌%◌, ◌^◌, ◌==◌, min, nat_lt, if◌then◌else◌, List, length, take}
+use Rattle.std.specs.Prelude.{drop, Option, None, Some, Result, Ok, Err}
 use Rattle.luks_cipher.specs.Sector.{Cipher, sector_decrypted}
 use Rattle.luks_cipher.specs.Xts.{joined}
 use Rattle.luks_header.specs.SectorSize.{bytes_of}

@@ -1,10 +1,12 @@
 -- What a pump is to its caller, and what its calls do.
-use Rattle.std.specs.Prelude.{◌≡◌, ℕ, ◌+◌, ◌*◌, ◌<◌, ◌⊎◌, max, min, nat_lt, List, drop, length, take, Option, Result, Ok, Err, Bool, true, false, IsTrue}
+use Rattle.std.specs.Prelude.{◌≡◌, ℕ, ◌+◌, ◌*◌, ◌<◌, ◌⊎◌, max, min, nat_lt, List, drop, length, take, Option, Result}
+use Rattle.std.specs.Prelude.{Ok, Err, Bool, true, false, IsTrue}
 use Rattle.luks_cipher.specs.Sector.{Cipher}
 use Rattle.luks_io.specs.Bytes.{Adds, Took, TookBetween}
 use Rattle.luks_verdict.specs.declared.segment.Segment.{Segment}
 use Rattle.luks_volume.specs.Passing.{StandsAt, limit_of}
-use Rattle.luks_volume.specs.Plain.{ending_of, ending_within, payload_end_of, sector_len, sector_of, sector_start, sectors_of}
+use Rattle.luks_volume.specs.Plain.{ending_of, ending_within, payload_end_of, sector_len, sector_of, sector_start}
+use Rattle.luks_volume.specs.Plain.{sectors_of}
 use Rattle.luks_volume.specs.declared.fault.VolumeFault.{VolumeFault}
 use Rattle.luks_volume.specs.declared.fault.VolumeFault.TheVariants.{CutBeforePayload, Tail, Short, Read, Write}
 use Rattle.luks_volume.specs.declared.state.State.{State}

@@ -1,8 +1,10 @@
 //! Bytes on their way from a source: those before the payload, and those of one sector.
 
-ghost use Rattle.std.specs.Prelude.{◌≡◌, ◌-◌, ◌%◌, ◌<◌, ◌≤◌, ◌⊎◌, ◌++◌, List, ℕ, Some, IfOk, IfErr, OnOk, length, take, min};
+ghost use Rattle.std.specs.Prelude.{◌≡◌, ◌-◌, ◌%◌, ◌<◌, ◌≤◌, ◌⊎◌, ◌++◌, List, ℕ, Some, IfOk, IfErr};
+ghost use Rattle.std.specs.Prelude.{OnOk, length, take, min};
 ghost use Rattle.luks_io.specs.Bytes.{Adds, Took, TookFewer, WhereKnown, counted, is_short};
-ghost use Rattle.luks_volume.specs.Passing.{AddsUnit, BeginsWith, Gathers, StopsDiscarding, StopsInSector};
+ghost use Rattle.luks_volume.specs.Passing.{AddsUnit, BeginsWith, Gathers, StopsDiscarding};
+ghost use Rattle.luks_volume.specs.Passing.{StopsInSector};
 ghost use Rattle.luks_volume.specs.Passing.{is_cut, is_failed_read, is_failed_write};
 ghost use Rattle.luks_volume.specs.Plain.{unit_plain};
 

@@ -1,11 +1,15 @@
 //! The sector stream: an image's payload in, its plain text out, one sector at a time.
 
-ghost use Rattle.std.specs.Prelude.{◌≡◌, ◌+◌, ◌^◌, ◌<◌, ◌≤◌, ◌⊎◌, List, [], ℕ, Some, Ok, IfErr, true, drop, length};
+ghost use Rattle.std.specs.Prelude.{◌≡◌, ◌+◌, ◌^◌, ◌<◌, ◌≤◌, ◌⊎◌, List, [], ℕ, Some, Ok, IfErr};
+ghost use Rattle.std.specs.Prelude.{true, drop, length};
 ghost use Rattle.luks_io.specs.Bytes.{counted};
-ghost use Rattle.luks_volume.specs.Passing.{AddsUnit, StandsAt, is_cut, is_failed_read, is_failed_write, limit_of};
+ghost use Rattle.luks_volume.specs.Passing.{AddsUnit, StandsAt, is_cut, is_failed_read};
+ghost use Rattle.luks_volume.specs.Passing.{is_failed_write, limit_of};
 ghost use Rattle.luks_volume.specs.Plain.{sector_len, sector_start, unit_number};
-ghost use Rattle.luks_volume.specs.Pumped.{MayAnswer, SkipsAgain, Skips, StandsIn, Steps, StepsAgain, WritesSectors};
-ghost use Rattle.luks_volume.specs.Pumped.{after_step, is_found_end, is_running, reach_of, state_after_skip};
+ghost use Rattle.luks_volume.specs.Pumped.{MayAnswer, SkipsAgain, Skips, StandsIn, Steps};
+ghost use Rattle.luks_volume.specs.Pumped.{StepsAgain, WritesSectors};
+ghost use Rattle.luks_volume.specs.Pumped.{after_step, is_found_end, is_running, reach_of};
+ghost use Rattle.luks_volume.specs.Pumped.{state_after_skip};
 
 use crate::fault::VolumeFault;
 use crate::passing::{discard, pass_sector};

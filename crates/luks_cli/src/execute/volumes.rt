@@ -1,16 +1,19 @@
 //! `testPassphrase` and `luksCat`: volumes that a passphrase opens.
 
-ghost use Rattle.std.specs.Prelude.{◌≡◌, ◌≢◌, ◌<◌, ◌≤◌, ◌⊎◌, ◌^◌, List, ℕ, Option, Ok, IfOk, IfErr, false, is_err, length, take, true};
+ghost use Rattle.std.specs.Prelude.{◌≡◌, ◌≢◌, ◌<◌, ◌≤◌, ◌⊎◌, ◌^◌, List, ℕ, Option, Ok, IfOk, IfErr};
+ghost use Rattle.std.specs.Prelude.{false, is_err, length, take, true};
 ghost use Rattle.luks_cipher.specs.Sector.{is_mode_key_length};
 ghost use Rattle.luks_io.specs.Bytes.{Adds, Took, WhereKnown, counted};
 ghost use Rattle.luks_header.specs.Header.{cost_of, header_of};
 ghost use Rattle.luks_header.specs.Segment.{segment_of};
 ghost use Rattle.luks_open.specs.Order.{order_of};
-ghost use Rattle.luks_cli.specs.Volume.{OnOpened, detached_payload_outcome, payload_outcome, slot_outcome, volume_by, volume_outcome, volume_outcome_by};
+ghost use Rattle.luks_cli.specs.Volume.{OnOpened, detached_payload_outcome, payload_outcome};
+ghost use Rattle.luks_cli.specs.Volume.{slot_outcome, volume_by, volume_outcome, volume_outcome_by};
 ghost use Rattle.luks_cli.specs.VolumeParts.{cat_promptly};
 ghost use Rattle.luks_command.specs.Request.{opening_request};
 ghost use Rattle.luks_cli.specs.Detached.{CountsDetached, EndsWithoutKey};
-ghost use Rattle.luks_runs.specs.Run.{Counts, failures_of, Runs, RunsApart, at_any_pace, is_failed_read, is_failed_write, message_of};
+ghost use Rattle.luks_runs.specs.Run.{Counts, failures_of, Runs, RunsApart, at_any_pace};
+ghost use Rattle.luks_runs.specs.Run.{is_failed_read, is_failed_write, message_of};
 ghost use Rattle.luks_cli.specs.MayEnd.{OpeningMessage};
 ghost use Rattle.luks_runs.specs.MayEnd.{PayloadMessage};
 ghost use Rattle.luks_runs.specs.Reading.{detached_header_of};

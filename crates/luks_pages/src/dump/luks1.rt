@@ -1,7 +1,8 @@
 //! What is printed of a LUKS1 header.
 
 ghost use Rattle.std.specs.Prelude.{◌≡◌, ◌++◌, IfOk, OnOk, length, string_bytes, ◌≤◌};
-ghost use Rattle.luks_pages.specs.Dump1.{dump1_of, enabled_text, number_lines, slot_line, slot_lines};
+ghost use Rattle.luks_pages.specs.Dump1.{dump1_of, enabled_text, number_lines, slot_line};
+ghost use Rattle.luks_pages.specs.Dump1.{slot_lines};
 ghost use Rattle.luks_pages.specs.Dump1.{slot_text, text_lines, uuid_line};
 
 use crate::escaping::escape;

@@ -2,7 +2,9 @@ use Rattle.std.proofs.Common.{◌∙◌, ◌*◌, ap, sym, arith}
 use Rattle.std.proofs.lemmas.Result.{err_from_is_err_and}
 use Rattle.luks2_header.specs.Choice2.{beside_primary}
 use Rattle.luks2_header.specs.Cost2.{reach2_of, reach_at}
-use Rattle.luks2_header.proofs.ChoiceLemmas.{beside_same, chosen_primary, found_chosen, found_early, found_over, found_settled, no_size_valid, primary_within, reach_first, reach_other, reach_primary, size_valid}
+use Rattle.luks2_header.proofs.ChoiceLemmas.{beside_same, chosen_primary, found_chosen, found_early, found_over}
+use Rattle.luks2_header.proofs.ChoiceLemmas.{found_settled, no_size_valid, primary_within, reach_first, reach_other}
+use Rattle.luks2_header.proofs.ChoiceLemmas.{reach_primary, size_valid}
 use Rattle.luks2_header.proofs.FrontLemmas.{not_ended, over_joined}
 use Rattle.luks2_header.proofs.reading.choose.Goals as goal
 

@@ -2,7 +2,8 @@ use Rattle.std.proofs.Common.{◌∙◌, ◌+◌, ◌≤◌, ap, length, arith}
 use Rattle.std.specs.Bool.{then_some}
 use Rattle.std.proofs.lemmas.Result.{err_from_is_err_and}
 use Rattle.luks2_header.specs.Cost2.{reach_at}
-use Rattle.luks2_header.proofs.AgreeLemmas.{fit_here, no_size, reach_fit, reach_least, reach_unfit, short-valid, unfit_here, valid_here, whole_image}
+use Rattle.luks2_header.proofs.AgreeLemmas.{fit_here, no_size, reach_fit, reach_least, reach_unfit, short-valid}
+use Rattle.luks2_header.proofs.AgreeLemmas.{unfit_here, valid_here, whole_image}
 use Rattle.luks2_header.proofs.FrontLemmas.{over_joined}
 use Rattle.luks2_header.proofs.ValidLemmas.{short-fits, unfit-is_valid}
 use Rattle.luks2_header.proofs.reading.header_at.Goals as goal

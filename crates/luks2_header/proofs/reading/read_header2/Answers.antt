@@ -2,7 +2,8 @@ use Rattle.std.proofs.Common.{◌∙◌, ◌++◌, subst, sym}
 use Rattle.std.proofs.lemmas.Result.{err_from_is_err_and}
 use Rattle.luks2_header.specs.Front2.{IsFront}
 use Rattle.luks2_header.proofs.FrontLemmas.{front_self}
-use Rattle.luks2_header.proofs.SeekingLemmas.{answer_is, below_cost, breaks_seeking, cost_held, header_taken, holds_start, if_answered, if_header, none_taken, took_cost}
+use Rattle.luks2_header.proofs.SeekingLemmas.{answer_is, below_cost, breaks_seeking, cost_held, header_taken}
+use Rattle.luks2_header.proofs.SeekingLemmas.{holds_start, if_answered, if_header, none_taken, took_cost}
 use Rattle.luks2_header.proofs.reading.read_header2.Goals as goal
 
 pub returns-in_err-header-clause-broken : goal.returns-in_err-header-clause-broken

@@ -4,7 +4,9 @@ use Rattle.std.proofs.lemmas.Result.{err_from_is_err_and}
 use Rattle.luks2_header.specs.Choice2.{found_at}
 use Rattle.luks2_header.specs.Header2.{sizes}
 use Rattle.luks2_header.proofs.FrontLemmas.{front_self, grew_more, grew_none}
-use Rattle.luks2_header.proofs.SearchLemmas.{found_least, least_is, none_valid, over_here, place_range, reach_below, search_reach_is, searched_all, searched_none, searched_on, searched_place, searched_settled, searched_within, some_valid}
+use Rattle.luks2_header.proofs.SearchLemmas.{found_least, least_is, none_valid, over_here, place_range, reach_below}
+use Rattle.luks2_header.proofs.SearchLemmas.{search_reach_is, searched_all, searched_none, searched_on, searched_place}
+use Rattle.luks2_header.proofs.SearchLemmas.{searched_settled, searched_within, some_valid}
 use Rattle.luks2_header.proofs.reading.search.Goals as goal
 
 pub loop-place-init : goal.loop-place-init

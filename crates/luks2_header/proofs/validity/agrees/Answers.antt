@@ -1,4 +1,5 @@
-use Rattle.std.proofs.Common.{◌≡◌, ◌-◌, ◌++◌, ◌∙◌, ap, arith, drop, take, take_all, length, length-drop, length-take-le, sym}
+use Rattle.std.proofs.Common.{◌≡◌, ◌-◌, ◌++◌, ◌∙◌, ap, arith, drop, take, take_all, length, length-drop, length-take-le}
+use Rattle.std.proofs.Common.{sym}
 use Rattle.std.specs.Prelude.{bytes_eq, nat_eq}
 use Rattle.std.specs.List.{starts_with}
 use Rattle.luks_kdf.specs.Hash.{hash_of, size_of}

@@ -1,6 +1,7 @@
 use Rattle.std.proofs.Common.{◌≡◌, ℕ, ◌+◌, ◌-◌, List, arith, refl, sym, ap, subst, ◌∙◌}
 use Rattle.luks_aes.specs.Field.{◌⊕◌}
-use Rattle.luks_aes.specs.Aes.{key_expansion, rounds_of, inv_state_after, inv_cipher, decrypted, add_round_key, inv_sub_bytes, inv_shift_rows}
+use Rattle.luks_aes.specs.Aes.{key_expansion, rounds_of, inv_state_after, inv_cipher, decrypted, add_round_key}
+use Rattle.luks_aes.specs.Aes.{inv_sub_bytes, inv_shift_rows}
 use Rattle.luks_aes.specs.Columns.{key_byte}
 use Rattle.luks_aes.proofs.ByteLists.{expansion_bytes}
 use Rattle.luks_aes.proofs.CipherLemmas.{inv_round_after}

@@ -5,7 +5,9 @@ use Rattle.luks_planes.proofs.Tables.{eight}
 use Rattle.luks_blocks.specs.Mixing.{unmixed_row}
 use Rattle.luks_blocks.specs.RoundKeys.{row_0_of, row_1_of, row_2_of, row_3_of, rows_of}
 use Rattle.luks_blocks.proofs.StateLemmas.{four}
-use Rattle.luks_blocks.proofs.PlaneLemmas.{all_bytes, row_byte, plane_0_of, plane_1_of, plane_2_of, plane_3_of, plane_4_of, plane_5_of, plane_6_of, plane_7_of, doubled_0, doubled_2, doubled_5, doubled_6, doubled_7}
+use Rattle.luks_blocks.proofs.PlaneLemmas.{all_bytes, row_byte, plane_0_of, plane_1_of, plane_2_of, plane_3_of}
+use Rattle.luks_blocks.proofs.PlaneLemmas.{plane_4_of, plane_5_of, plane_6_of, plane_7_of, doubled_0, doubled_2}
+use Rattle.luks_blocks.proofs.PlaneLemmas.{doubled_5, doubled_6, doubled_7}
 use Rattle.luks_blocks.proofs.mixing.unmix.Goals as goal
 
 pub returns : goal.returns

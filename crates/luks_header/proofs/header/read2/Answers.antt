@@ -4,7 +4,8 @@ use Rattle.std.specs.Prelude.{nat_lt}
 use Rattle.luks_io.specs.Bytes.{counted}
 use Rattle.luks2_header.specs.Text2.{json_text_of}
 use Rattle.luks2_members.specs.Tree.{tree_of}
-use Rattle.luks_header.proofs.HeldLemmas.{begins_behind, begins_longer, cost_other, header_read, reach_other, reading_broken, seeking_broken, text_held}
+use Rattle.luks_header.proofs.HeldLemmas.{begins_behind, begins_longer, cost_other, header_read, reach_other}
+use Rattle.luks_header.proofs.HeldLemmas.{reading_broken, seeking_broken, text_held}
 use Rattle.luks_header.proofs.header.read2.Goals as goal
 
 pub returns-in_err-header-clause-broken : goal.returns-in_err-header-clause-broken

@@ -5,7 +5,9 @@ use Rattle.luks_header.specs.Header.{falls_short}
 use Rattle.luks1_header.specs.Header1.{header1_of, is_luks1}
 use Rattle.luks_header.specs.declared.header.Header.TheVariants.{V1}
 use Rattle.luks_area.specs.declared.fault.HeaderFault.TheVariants.{Cut}
-use Rattle.luks_header.proofs.HeaderLemmas.{all_cost, area_is, breaks_reading, header_of-cut, header_of-whole, image_other, left_is, none_read, one_read, rest_broken, rest_read, short_from_not_whole, short_read, whole_falls}
+use Rattle.luks_header.proofs.HeaderLemmas.{all_cost, area_is, breaks_reading, header_of-cut, header_of-whole}
+use Rattle.luks_header.proofs.HeaderLemmas.{image_other, left_is, none_read, one_read, rest_broken, rest_read}
+use Rattle.luks_header.proofs.HeaderLemmas.{short_from_not_whole, short_read, whole_falls}
 use Rattle.luks_header.proofs.header.read_header.Goals as goal
 
 pub returns-in_err-whole-clause-broken : goal.returns-in_err-whole-clause-broken

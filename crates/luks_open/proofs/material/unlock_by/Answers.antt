@@ -1,7 +1,8 @@
 use Rattle.std.proofs.Common.{◌≡◌, ◌∙◌, ◌+◌, ◌-◌, ◌*◌, ◌/◌, ◌%◌, refl, ap, arith, length, take, drop}
 use Rattle.luks_cipher.specs.Xts.{joined}
 use Rattle.luks_open.specs.Candidate.{material_sector}
-use Rattle.luks_open.proofs.MaterialLemmas.{in_sectors, length-joined_more, length-joined_none, sector_more, sectors_none, unlocked_by_last, whole_sectors}
+use Rattle.luks_open.proofs.MaterialLemmas.{in_sectors, length-joined_more, length-joined_none, sector_more}
+use Rattle.luks_open.proofs.MaterialLemmas.{sectors_none, unlocked_by_last, whole_sectors}
 use Rattle.luks_open.proofs.material.unlock_by.Goals as goal
 
 pub sectors-init : goal.sectors-init

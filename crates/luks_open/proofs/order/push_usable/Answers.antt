@@ -1,4 +1,5 @@
-use Rattle.std.proofs.Common.{rules, ◌≡◌, ◌∙◌, ◌≤◌, ◌∷◌, ◌++◌, [], List, Some, None, IsSome, ap, sym, refl, length, append_assoc, arith}
+use Rattle.std.proofs.Common.{rules, ◌≡◌, ◌∙◌, ◌≤◌, ◌∷◌, ◌++◌, [], List, Some, None, IsSome, ap, sym, refl, length}
+use Rattle.std.proofs.Common.{append_assoc, arith}
 use Rattle.std.proofs.lemmas.List.{append-nil}
 use Rattle.luks_verdict.specs.Table.{rising}
 use Rattle.luks_verdict.proofs.TableLemmas.{rising_none, rising_not, rising_one, some_rising}

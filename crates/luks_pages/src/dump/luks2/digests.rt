@@ -1,7 +1,8 @@
 //! The lines of digests.
 
 ghost use Rattle.std.specs.Prelude.{◌≡◌, ◌++◌, IfOk, OnOk, codes, map, string_bytes};
-ghost use Rattle.luks_pages.specs.Dump2.{digest_line, digest_lines, digest_text, listed_text, more_names, names_text};
+ghost use Rattle.luks_pages.specs.Dump2.{digest_line, digest_lines, digest_text, listed_text};
+ghost use Rattle.luks_pages.specs.Dump2.{more_names, names_text};
 ghost use Rattle.luks_pages.specs.Escaping.{escaped};
 ghost use Rattle.luks2_metadata.specs.Digest2.{digests2_of};
 

@@ -1,7 +1,8 @@
 //! The lines of key slots.
 
 ghost use Rattle.std.specs.Prelude.{◌≡◌, ◌++◌, None, Some, IfOk, OnOk, string_bytes};
-ghost use Rattle.luks_pages.specs.Dump2.{hash_text, slot_line, slot_line_at, slot_lines, usable_text, verdict_text};
+ghost use Rattle.luks_pages.specs.Dump2.{hash_text, slot_line, slot_line_at, slot_lines};
+ghost use Rattle.luks_pages.specs.Dump2.{usable_text, verdict_text};
 ghost use Rattle.luks2_metadata.specs.Slot2.{verdict2_at};
 
 use crate::field::push_field;

@@ -1,4 +1,5 @@
-use Rattle.luks_planes.proofs.Tables.{planes_carried, sum_carried, both_carried, either_carried, other_carried, stands_unsubstituted}
+use Rattle.luks_planes.proofs.Tables.{planes_carried, sum_carried, both_carried, either_carried, other_carried}
+use Rattle.luks_planes.proofs.Tables.{stands_unsubstituted}
 use Rattle.luks_planes.proofs.circuit.unsubstituted.Goals as goal
 
 pub returns : goal.returns

@@ -1,7 +1,8 @@
 use Rattle.std.proofs.Common.{◌∙◌, refl, sym}
 use Rattle.std.proofs.lemmas.Result.{err_from_is_err_and}
 use Rattle.luks_runs.specs.Header.{text_of, told_of}
-use Rattle.luks_runs.proofs.HeaderRuns.{runs_to_end, runs_without_header, runs_without_rest, runs_without_text, told_counts, told_may_end, told_no_read, told_well}
+use Rattle.luks_runs.proofs.HeaderRuns.{runs_to_end, runs_without_header, runs_without_rest, runs_without_text}
+use Rattle.luks_runs.proofs.HeaderRuns.{told_counts, told_may_end, told_no_read, told_well}
 use Rattle.luks_runs.proofs.headers.print.Goals as goal
 
 pub returns-in_err-header-clause-run : goal.returns-in_err-header-clause-run

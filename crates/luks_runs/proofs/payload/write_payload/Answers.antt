@@ -1,6 +1,7 @@
 use Rattle.std.proofs.Common.{◌+◌, ◌∙◌, ap, refl, arith}
 use Rattle.std.proofs.lemmas.Result.{err_from_is_err_and}
-use Rattle.luks_runs.proofs.PayloadLemmas.{few_sectors, never_memory, passing_breaks, passing_ends, passing_more, passing_start, reads_are, writes_are}
+use Rattle.luks_runs.proofs.PayloadLemmas.{few_sectors, never_memory, passing_breaks, passing_ends, passing_more}
+use Rattle.luks_runs.proofs.PayloadLemmas.{passing_start, reads_are, writes_are}
 use Rattle.luks_report.specs.Faults.{message_for_payload}
 use Rattle.luks_io.specs.Bytes.{counted}
 use Rattle.luks_runs.specs.Run.{is_failed_read, is_failed_write}

@@ -1,7 +1,8 @@
 use Rattle.std.proofs.Common.{◌≡◌, ◌≤◌, ◌<◌, ◌+◌, ◌-◌, ◌∙◌, length, length-take-le, arith}
 use Rattle.std.proofs.lemmas.Result.{err_from_is_err_and}
 use Rattle.std.proofs.Math.Nat.{mul-le-mul_right}
-use Rattle.luks_runs.proofs.MergeLemmas.{key_merged, runs_to_end, runs_without_key, runs_without_stripes, stops_before, stops_reading, stops_short, stripe_more}
+use Rattle.luks_runs.proofs.MergeLemmas.{key_merged, runs_to_end, runs_without_key, runs_without_stripes, stops_before}
+use Rattle.luks_runs.proofs.MergeLemmas.{stops_reading, stops_short, stripe_more}
 use Rattle.luks_report.specs.declared.message.Message.TheVariants.{FewStripes, ReadFailed}
 use Rattle.luks_runs.proofs.stripes.merge.Goals as goal
 

@@ -1,6 +1,7 @@
 use Rattle.std.proofs.Common.{◌≡◌, ◌∙◌, sym, ap, length, length-take-le, arith}
 use Rattle.std.proofs.lemmas.Result.{err_from_is_err_and}
-use Rattle.luks_runs.proofs.SplitLemmas.{last_stripe, runs_to_end, runs_without_key, runs_without_last, runs_without_stripes}
+use Rattle.luks_runs.proofs.SplitLemmas.{last_stripe, runs_to_end, runs_without_key, runs_without_last}
+use Rattle.luks_runs.proofs.SplitLemmas.{runs_without_stripes}
 use Rattle.luks_runs.proofs.stripes.split.Goals as goal
 
 pub returns-in_err-len-clause-run : goal.returns-in_err-len-clause-run

@@ -5,7 +5,8 @@ use Rattle.luks_volume.specs.Passing.{limit_of}
 use Rattle.luks_volume.specs.declared.state.State.TheVariants.{InPayload}
 use Rattle.luks_volume.specs.Plain.{sector_len}
 use Rattle.luks_volume.proofs.SectorLemmas.{at_most_4096}
-use Rattle.luks_volume.proofs.StepLemmas.{adds_sector, found_torn, may_be_torn, steps_at_limit, steps_broken, steps_torn, takes_sector, torn_fails_nothing, torn_is_no_sector}
+use Rattle.luks_volume.proofs.StepLemmas.{adds_sector, found_torn, may_be_torn, steps_at_limit, steps_broken}
+use Rattle.luks_volume.proofs.StepLemmas.{steps_torn, takes_sector, torn_fails_nothing, torn_is_no_sector}
 use Rattle.luks_volume.proofs.pump.next_sector.Goals as goal
 
 pub returns-then-count-limit-clause-run : goal.returns-then-count-limit-clause-run

@@ -2,7 +2,8 @@ use Rattle.luks_runs.specs.Header.{text_of, told_of}
 use Rattle.luks_runs.specs.Reading.{detached_header_of}
 use Rattle.luks_runs.specs.Run.{at_any_pace}
 use Rattle.luks_runs.specs.declared.headers.Page.TheVariants.{Uuid, Dump, Check}
-use Rattle.luks_cli.proofs.DetachedRuns.{counts_apart, no_payload_for_answer, no_payload_for_page, no_payload_for_slot, runs_apart}
+use Rattle.luks_cli.proofs.DetachedRuns.{counts_apart, no_payload_for_answer, no_payload_for_page, no_payload_for_slot}
+use Rattle.luks_cli.proofs.DetachedRuns.{runs_apart}
 use Rattle.luks_cli.proofs.execute.detached.perform_detached.Goals as goal
 
 pub returns-in-IsLuks-clause-run : goal.returns-in-IsLuks-clause-run

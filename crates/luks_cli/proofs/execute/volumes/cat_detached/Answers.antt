@@ -4,7 +4,8 @@ use Rattle.luks_io.proofs.Taking.{took-none}
 use Rattle.luks_command.specs.Request.{opening_request}
 use Rattle.luks_runs.specs.Run.{message_of}
 use Rattle.luks_cli.specs.Volume.{detached_payload_outcome}
-use Rattle.luks_cli.proofs.DetachedRuns.{counts_passed_apart, counts_apart, runs_passed_apart, runs_unopened_apart, takes_detached_payload, with_key}
+use Rattle.luks_cli.proofs.DetachedRuns.{counts_passed_apart, counts_apart, runs_passed_apart, runs_unopened_apart}
+use Rattle.luks_cli.proofs.DetachedRuns.{takes_detached_payload, with_key}
 use Rattle.luks_cli.proofs.OpenedRuns.{never_memory}
 use Rattle.luks_cli.proofs.execute.volumes.cat_detached.Goals as goal
 
