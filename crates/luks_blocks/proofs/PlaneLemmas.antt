@@ -71,7 +71,8 @@ reduced f j k {v} {w} {r} law bytes first second is = record {
 
 sum_bytes : (y : ℕ → ℕ → ℕ) → AreBytes y → (q : ℕ) → sum_of (y 0 q) (y 1 q) (y 2 q) (y 3 q) < 256
 sum_bytes y all q =
-    xor_byte _ (y 3 q) (xor_byte _ (y 1 q) (xor_byte (y 0 q) (y 2 q) (all.at 0 q (omega arith)) (all.at 2 q (omega arith)))
+    xor_byte _ (y 3 q)
+    (xor_byte _ (y 1 q) (xor_byte (y 0 q) (y 2 q) (all.at 0 q (omega arith)) (all.at 2 q (omega arith)))
     (all.at 1 q (omega arith))) (all.at 3 q (omega arith))
 
 even_bytes : (y : ℕ → ℕ → ℕ) → AreBytes y → (q : ℕ) → even_of (y 0 q) (y 1 q) (y 2 q) (y 3 q) < 256

@@ -86,7 +86,8 @@ first_again (other ∷ before) entry after image passphrase key no_other gives =
     of_first (first_again before entry after image passphrase key no_other.1 gives) (key_of other image passphrase) refl
   where
     of_first : ((number : ℕ) × (first_opening (before ++ entry ∷ after) image passphrase
-        ≡ Some (record { slot = number; key = key }))) → (found : Option (List ℕ)) → key_of other image passphrase ≡ found
+        ≡ Some (record { slot = number; key = key })))
+        → (found : Option (List ℕ)) → key_of other image passphrase ≡ found
         → (number : ℕ) × (first_opening (other ∷ before ++ entry ∷ after) image passphrase
         ≡ Some (record { slot = number; key = key }))
     of_first rest None e = (rest.0, rw e rest.1)

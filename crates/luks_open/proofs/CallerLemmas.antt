@@ -7,7 +7,7 @@ use Rattle.luks_cipher.specs.Sector.{Cipher, sector_decrypted}
 use Rattle.luks_cipher.specs.Xts.{joined}
 use Rattle.luks_cipher.specs.declared.mode.Mode.{Mode}
 use Rattle.luks_kdf.specs.Pbkdf2.{derived_key}
-use Rattle.luks_kdf.specs.Stripes.{merged}
+use Rattle.luks_stripes.specs.Stripes.{merged}
 use Rattle.luks_kdf.specs.declared.hash.Hash.{Hash}
 use Rattle.luks_area.specs.Field.{at}
 use Rattle.luks_header.specs.Header.{is_detached}

@@ -4,12 +4,13 @@
 ghost use Rattle.std.specs.Prelude.{◌≡◌, ◌+◌, ◌*◌, ◌≤◌, ◌++◌, List, ℕ, true, length, take};
 ghost use Rattle.luks_cipher.specs.Sector.{is_key_length};
 ghost use Rattle.luks_kdf.specs.declared.hash.Hash.{Hash as AnyHash};
-ghost use Rattle.luks_kdf.specs.Stripes.{chain_after};
+ghost use Rattle.luks_stripes.specs.Stripes.{chain_after};
 ghost use Rattle.luks_verdict.specs.Rule.{most_stripes, need_of};
 ghost use Rattle.luks_open.specs.Candidate.{material_sector, unlocked};
 
 use luks_cipher::SectorCipher;
-use luks_kdf::{AfSplitter, Hash};
+use luks_kdf::Hash;
+use luks_stripes::AfSplitter;
 
 /// The length of a sector of key material.
 const SECTOR: usize = 512;

@@ -51,8 +51,10 @@ byte_in a b h i all also low small =
     let lanes = half a h ∷ half b h ∷ [] in
     let x = half_low a h low in
     let y = half_low b h low in (
-      get_or_narrower (2 ^ 64) 8 256 16 lanes 0 i refl (x, (y, tt)) small (omega arith) ∙ half_byte a h i all low small,
-      get_or_narrower (2 ^ 64) 8 256 16 lanes 1 i refl (x, (y, tt)) small (omega arith) ∙ half_byte b h i also low small,
+      get_or_narrower (2 ^ 64) 8 256 16 lanes 0 i refl (x, (y, tt)) small (omega arith)
+          ∙ half_byte a h i all low small,
+      get_or_narrower (2 ^ 64) 8 256 16 lanes 1 i refl (x, (y, tt)) small (omega arith)
+          ∙ half_byte b h i also low small,
     )
 
 pub firsts_joined : (a b : List ℕ) → Each1 (λ x. x < 256) a → Each1 (λ x. x < 256) b → length a ≡ 16

@@ -9,8 +9,8 @@ use Rattle.std.proofs.Math.Nat.{mul-le-mul_right}
 use Rattle.std.specs.Prelude.{nat_le}
 use Rattle.luks_kdf.specs.declared.hash.Hash.{Hash}
 use Rattle.luks_kdf.specs.Bytes.{xor}
-use Rattle.luks_kdf.specs.Stripes.{Chain, chain_after, chain_of, merged, stripe_at}
-use Rattle.luks_kdf.proofs.StripesLemmas.{chain_of-append, merged_by_number, stripe_at-append}
+use Rattle.luks_stripes.specs.Stripes.{Chain, chain_after, chain_of, merged, stripe_at}
+use Rattle.luks_stripes.proofs.StripesLemmas.{chain_of-append, merged_by_number, stripe_at-append}
 use Rattle.luks_report.specs.declared.message.Message.{Message}
 use Rattle.luks_report.specs.declared.message.Message.TheVariants.{Done, FewStripes, ReadFailed, WriteFailed}
 use Rattle.luks_runs.specs.Stripe.{merge_outcome}

@@ -11,8 +11,8 @@ use Rattle.std.proofs.lemmas.Nat.{le-div}
 use Rattle.std.specs.Prelude.{◌&&◌, nat_lt, nat_le}
 use Rattle.luks_kdf.specs.declared.hash.Hash.{Hash}
 use Rattle.luks_kdf.specs.Bytes.{xor}
-use Rattle.luks_kdf.specs.Stripes.{Chain, chain_after, chain_of}
-use Rattle.luks_kdf.proofs.StripesLemmas.{chain_of-append}
+use Rattle.luks_stripes.specs.Stripes.{Chain, chain_after, chain_of}
+use Rattle.luks_stripes.proofs.StripesLemmas.{chain_of-append}
 use Rattle.luks_io.proofs.Taking.{adds-more, adds-none, took-none}
 use Rattle.luks_io.specs.Bytes.{Adds, Took}
 use Rattle.luks_report.specs.declared.message.Message.{Message}

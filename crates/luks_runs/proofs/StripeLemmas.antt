@@ -4,7 +4,7 @@ use Rattle.std.proofs.Common.{take-take, take_all, min, arith, zero-mul}
 use Rattle.std.proofs.Math.Seq.{take-add}
 use Rattle.luks_io.proofs.Taking.{adds-more, adds-none, took-none, took_all, took_more}
 use Rattle.luks_io.specs.Bytes.{Adds, Took, TookInto, WhereKnown}
-use Rattle.luks_kdf.specs.Stripes.{stripe_at}
+use Rattle.luks_stripes.specs.Stripes.{stripe_at}
 use Rattle.luks_runs.specs.StripeParts.{Passed, StopsAtStripe}
 use Rattle.luks_report.specs.declared.message.Message.TheVariants.{FewRandomBytes, ReadFailed, WriteFailed}
 

@@ -2,7 +2,7 @@
 
 ghost use Rattle.std.specs.Prelude.{◌≡◌, ◌≢◌, ◌*◌, ◌<◌, ◌≤◌, ◌⊎◌, ◌+◌, ℕ, IfOk, IfErr, OnOk};
 ghost use Rattle.std.specs.Prelude.{length, take};
-ghost use Rattle.luks_kdf.specs.Stripes.{chain_after};
+ghost use Rattle.luks_stripes.specs.Stripes.{chain_after};
 ghost use Rattle.luks_io.specs.Bytes.{Adds, Took, WhereKnown, counted};
 ghost use Rattle.luks_runs.specs.Run.{Counts, failures_of, Runs, TookNone, at_any_pace};
 ghost use Rattle.luks_runs.specs.Run.{is_failed_read, is_failed_write, message_of};
@@ -15,8 +15,9 @@ ghost use Rattle.luks_runs.specs.Stripe.{longest_key};
 use luks_command::command::{Merging, Splitting};
 use luks_io::sink::{Sink, put_all};
 use luks_io::source::{Source, fill};
-use luks_kdf::{AfSplitter, Hash};
+use luks_kdf::Hash;
 use luks_report::message::Message;
+use luks_stripes::AfSplitter;
 
 /// The length of the longest key.
 const LONGEST_KEY: usize = 512;

@@ -9,10 +9,10 @@ use Rattle.luks_area.specs.Field.{at}
 use Rattle.luks_cipher.specs.declared.mode.Mode.{Mode}
 use Rattle.luks_kdf.specs.Bytes.{xor}
 use Rattle.luks_kdf.specs.Pbkdf2.{derived_key}
-use Rattle.luks_kdf.specs.Stripes.{chain_of}
+use Rattle.luks_stripes.specs.Stripes.{chain_of}
 use Rattle.luks_kdf.specs.declared.hash.Hash.{Hash}
 use Rattle.luks_kdf.proofs.BytesLemmas.{length-xor}
-use Rattle.luks_kdf.proofs.StripesLemmas.{length-chain_of}
+use Rattle.luks_stripes.proofs.StripesLemmas.{length-chain_of}
 use Rattle.luks_verdict.specs.Rule.{need_of}
 use Rattle.luks_verdict.specs.declared.slot.SlotParts.{SlotParts}
 use Rattle.luks_seal.specs.Pieces.{material_of, stripes_of, unit_number, whole_sectors}

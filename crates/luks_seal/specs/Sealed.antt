@@ -7,7 +7,7 @@ use Rattle.luks_aes.specs.Bytes.{IsBytes}
 use Rattle.luks_cipher.specs.Sector.{Cipher, sector_encrypted}
 use Rattle.luks_cipher.specs.declared.mode.Mode.{Mode}
 use Rattle.luks_kdf.specs.Pbkdf2.{derived_key}
-use Rattle.luks_kdf.specs.Stripes.{IsSplit}
+use Rattle.luks_stripes.specs.Stripes.{IsSplit}
 use Rattle.luks_kdf.specs.declared.hash.Hash.{Hash}
 use Rattle.luks_area.specs.Field.{at}
 use Rattle.luks_verdict.specs.Rule.{need_of}

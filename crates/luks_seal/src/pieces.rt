@@ -9,7 +9,8 @@ ghost use Rattle.luks_seal.specs.Ranges.{FitsKey};
 ghost use Rattle.luks_verdict.specs.SectorSize.{bytes_of};
 
 use luks_cipher::{Mode, SectorCipher};
-use luks_kdf::{Hash, af_split};
+use luks_kdf::Hash;
+use luks_stripes::af_split;
 use luks_verdict::sector_size::SectorSize;
 use std::alloc::{AllocError, Global};
 

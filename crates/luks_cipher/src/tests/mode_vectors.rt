@@ -1,8 +1,9 @@
 //! Units of CBC under AES, and sectors in the modes.
 
-// A line is a key, an initialization vector, the unit and the unit encrypted. The first two are the examples of NIST SP
-// 800-38A (F.2.1 and F.2.5); the others are the CAVP's sets CBCMMT (128 and 256, whole) and the first 8 of CBCGFSbox and
-// CBCKeySbox, as Debian's package python3-cryptography-vectors has them.
+// A line is a key, an initialization vector, the unit and the unit encrypted. The first two are the
+// examples of NIST SP 800-38A (F.2.1 and F.2.5); the others are the CAVP's sets CBCMMT (128 and
+// 256, whole) and the first 8 of CBCGFSbox and CBCKeySbox, as Debian's package
+// python3-cryptography-vectors has them.
 pub const CHAINS: &str = "\
 2b7e151628aed2a6abf7158809cf4f3c 000102030405060708090a0b0c0d0e0f 6bc1bee22e409f96e93d7e117393172aae2d8a571e03ac9c9eb76fac45af8e5130c81c46a35ce411e5fbc1191a0a52eff69f2445df4f9b17ad2b417be66c3710 7649abac8119b246cee98e9b12e9197d5086cb9b507219ee95db113a917678b273bed6b8e3c1743b7116e69e222295163ff1caa1681fac09120eca307586e1a7
 603deb1015ca71be2b73aef0857d77811f352c073b6108d72d9810a30914dff4 000102030405060708090a0b0c0d0e0f 6bc1bee22e409f96e93d7e117393172aae2d8a571e03ac9c9eb76fac45af8e5130c81c46a35ce411e5fbc1191a0a52eff69f2445df4f9b17ad2b417be66c3710 f58c4c04d6e5f1ba779eabfb5f7bfbd69cfc4e967edb808d679f777bc6702c7d39f23369a9d9bacfa530e26304231461b2eb05e2c39be9fcda6c19078c6a9d1b
@@ -48,8 +49,8 @@ dc0eba1f2232a7879ded34ed8428eeb8769b056bbaf8ad77cb65c3541430b4cf 000000000000000
 f8be9ba615c5a952cabbca24f68f8593039624d524c816acda2c9183bd917cb9 00000000000000000000000000000000 00000000000000000000000000000000 a3944b95ca0b52043584ef02151926a8
 ";
 
-// A line is a mode, a key, the sector's number, the sector and the sector encrypted, as OpenSSL's command encrypts it under the
-// vector that its `dgst` and ECB mode give.
+// A line is a mode, a key, the sector's number, the sector and the sector encrypted, as OpenSSL's
+// command encrypts it under the vector that its `dgst` and ECB mode give.
 pub const SECTORS: &str = "\
 cbc-essiv:sha256 030a11181f262d343b424950575e656c 0 00010409101924314051647990a9c4e10021446990b9e4114071a4d9104984c1004184c91059a4f14091e43990e944a1 8c106c324baaab2304c5108b843039cb1972fb3cd5427e57d65b5395833d1cfacb0ed0386533b3a708032dd74f1c5846
 cbc-plain64 030a11181f262d343b424950575e656c 0 00010409101924314051647990a9c4e10021446990b9e4114071a4d9104984c1004184c91059a4f14091e43990e944a1 4b2b223826e819fca52c9427d35e9ed4389cb1823fde63092c8d9473a35a14812176f6cee8bcf8d73e316e1969fd4c79

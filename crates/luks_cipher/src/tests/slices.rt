@@ -6,9 +6,9 @@ use sha2::{Digest, Sha256};
 use std::alloc::Global;
 use std::test::Fail;
 
-// A line is a mode, the bytes of a key, a sector's number, its bytes, and the SHA-256 digest of the sector of
-// `plain_byte` encrypted under the key of `key_byte`. The digests are of what OpenSSL encrypts, by Python's
-// cryptography 48.0.0.
+// A line is a mode, the bytes of a key, a sector's number, its bytes, and the SHA-256 digest of the
+// sector of `plain_byte` encrypted under the key of `key_byte`. The digests are of what OpenSSL
+// encrypts, by Python's cryptography 48.0.0.
 const SECTORS: &str = "\
 xts-plain64 32 81985529216486895 16 dc32fded8f6f2c2df391682af1b1a160c002c76f145714c22c4569ee74b6c46a
 xts-plain64 32 81985529216486895 496 5ccba59a04ae0c36e863e3f604daf5ce613285eb4680461e20d413855588f950

@@ -1,7 +1,8 @@
 //! Data units of XTS-AES. A line is a key, the unit's number, the unit and the unit encrypted.
 
-// NIST's vectors with data unit numbers (the CAVP's XTSGenAES128 and XTSGenAES256, the first 8 of each
-// length that is a multiple of 128 bits), as Debian's package python3-cryptography-vectors has them.
+// NIST's vectors with data unit numbers (the CAVP's XTSGenAES128 and XTSGenAES256, the first 8 of
+// each length that is a multiple of 128 bits), as Debian's package python3-cryptography-vectors has
+// them.
 pub const NIST: &str = "\
 a3e40d5bd4b6bbedb2d18c700ad2db2210c81190646d673cbca53f133eab373c 141 20e0719405993f09a66ae5bb500e562c 74623551210216ac926b9650b6d3fa52
 a2ed35e8d082f5e13e78c1d42acf33cf70e82821a666b2a7606542e43a631226 75 2d81dcdec507845dcac4af1594aac844 050dc32995cf6cd87224dfa2572709f4
@@ -55,9 +56,9 @@ bd9905f6cfbf1d2b8df04b8a5d51dab41a39d749e295d8f253846e16744c5a21 184467440737095
 95d5f5f2fd69311cf7ed8d944f6a4b721a01470a317de23543433e0180838952 18446744073709551615 6b4ef0918c75f1e7eac381c6174326ca 06fa07700205c972a2d936d2d7be9928
 ";
 
-// The keys of vectors 4 to 9 and of 10 to 14 of annex B. The first plain unit, of 512 bytes, is 00 to ff
-// twice. Vectors 4 to 9 come of encrypting it under the numbers from 0 to ff in turn, each time what the last
-// number left. The answers below were computed by OpenSSL.
+// The keys of vectors 4 to 9 and of 10 to 14 of annex B. The first plain unit, of 512 bytes, is 00
+// to ff twice. Vectors 4 to 9 come of encrypting it under the numbers from 0 to ff in turn, each
+// time what the last number left. The answers below were computed by OpenSSL.
 pub const KEY_256: &str = "2718281828459045235360287471352631415926535897932384626433832795";
 
 pub const KEY_512: &str =

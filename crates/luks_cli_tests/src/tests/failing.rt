@@ -100,8 +100,8 @@ fn check_device(
     Err("a run without a failure".into())
 }
 
-/// Runs with one failing call each, of each device in turn. Each is told as what failed, and what it
-/// wrote is a beginning of the whole.
+/// Runs with one failing call each, of each device in turn. Each is told as what failed, and what
+/// it wrote is a beginning of the whole.
 pub(super) fn check_failures(
     rt: &(impl Abort + AllocGlobal),
     line: &str,

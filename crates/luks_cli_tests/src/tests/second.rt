@@ -1,5 +1,5 @@
-//! The commands on headers of LUKS2, over devices that move a few bytes a call, fail, or are refused
-//! memory.
+//! The commands on headers of LUKS2, over devices that move a few bytes a call, fail, or are
+//! refused memory.
 
 use super::failing::check_failures;
 use super::headers::check_refusals;

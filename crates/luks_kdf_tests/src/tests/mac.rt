@@ -169,8 +169,8 @@ fn check_about_a_block(rt: &impl Abort, hash: Hash, key: &[u8; 129], wants: [&[u
     check_hmac(rt, hash, b"", b"", nothing);
 }
 
-// Keys of one byte less than a block, of a block and of one byte more, 5, 12, 19 and so on, and then
-// no key and no message. Python's `hmac` gave the values.
+// Keys of one byte less than a block, of a block and of one byte more, 5, 12, 19 and so on, and
+// then no key and no message. Python's `hmac` gave the values.
 #[test]
 fn keys_about_a_block(rt: HostRuntime) {
     let mut key = [0; 129];

@@ -2,7 +2,8 @@ ghost use Rattle.std.specs.Prelude.{◌≡◌, length};
 
 use super::mac::check_digest;
 use super::{HASHES, assert_hex, number};
-use luks_kdf::{AfSplitter, Hash, af_merge, af_split, digest};
+use luks_kdf::{Hash, digest, xor_into};
+use luks_stripes::{AfSplitter, af_merge, af_split};
 use luks_testing::same::same;
 use std::process::Abort;
 
@@ -33,6 +34,13 @@ fn merge(rt: &impl Abort, hash: Hash, stripes: &[u8], merged: &mut [u8]) {
     assert!(rt; 1 <= count && count <= 4000);
     assert!(rt; stripes.len() == count * merged.len());
     af_merge(hash, stripes, merged);
+}
+
+#[test]
+fn bytes_are_xored(rt: HostRuntime) {
+    let mut bytes = [0x0F, 0xF0, 0xFF];
+    xor_into(&mut bytes, &[0xFF, 0xFF, 0x01]);
+    same(bytes, [0xF0, 0x0F, 0xFE]).expect(&rt, "the same");
 }
 
 #[test]

@@ -1,6 +1,6 @@
 //! Whole images of sealed volumes, held against those that a Python program made of the same
-//! parameters by the LUKS2 On-Disk Format Specification, with hashlib, json and the AES, XTS and CBC
-//! of `cryptography`.
+//! parameters by the LUKS2 On-Disk Format Specification, with hashlib, json and the AES, XTS and
+//! CBC of `cryptography`.
 
 use super::fixture::{at, check_image, counted, parameters2, slot2};
 use luks_cipher::Mode;

@@ -10,7 +10,8 @@ use Rattle.luks_blocks.proofs.states.last_round.Goals as goal
 pub returns : goal.returns
 returns c = λ t w n all keys hold kept.
     let circuit = c.unsubstitute.ensures (λ r q. laid t 0x63 r (turned_place r q)) hold.stand in
-    let substituted = subst (λ (x : List (List (List ℕ))). StandAll (cells (λ m. inv_sub_bytes (inv_shift_rows (t m)))) x)
+    let substituted =
+    subst (λ (x : List (List (List ℕ))). StandAll (cells (λ m. inv_sub_bytes (inv_shift_rows (t m)))) x)
     (sym c.rows.ensures) (rows_substituted t _ all circuit) in
     let key = subst (λ (x : List (List (List ℕ))). StandAll (λ r q. key_byte w n r (column_of q) ⊕ 0) x)
     (sym c.rows-2.ensures) kept in

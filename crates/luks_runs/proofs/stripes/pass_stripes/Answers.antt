@@ -1,6 +1,6 @@
 use Rattle.std.proofs.Common.{◌≡◌, ◌<◌, ◌∙◌, sym, length, arith, refl}
 use Rattle.std.proofs.lemmas.Result.{err_from_is_err_and}
-use Rattle.luks_kdf.proofs.StripesLemmas.{chain_more, chain_start}
+use Rattle.luks_stripes.proofs.StripesLemmas.{chain_more, chain_start}
 use Rattle.luks_runs.proofs.StripeLemmas.{passed_more, passed_none, stops_reading, stops_short, stops_writing}
 use Rattle.luks_runs.proofs.StripeLemmas.{stripe_taken}
 use Rattle.luks_runs.proofs.stripes.pass_stripes.Goals as goal

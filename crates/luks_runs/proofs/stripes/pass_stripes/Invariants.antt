@@ -1,6 +1,6 @@
 use Rattle.std.proofs.Common.{◌≡◌, ◌*◌, length}
 use Rattle.luks_io.specs.Bytes.{WhereKnown}
-use Rattle.luks_kdf.specs.Stripes.{chain_after}
+use Rattle.luks_stripes.specs.Stripes.{chain_after}
 use Rattle.luks_runs.specs.StripeParts.{Passed}
 use Rattle.luks_runs.proofs.stripes.pass_stripes.Given as goal
 

@@ -1,7 +1,7 @@
 use Rattle.std.proofs.Common.{◌≡◌, ◌+◌, ◌<◌, ◌≤◌, ◌∙◌, sym, length, refl, arith}
 use Rattle.std.proofs.Math.Nat.{mul-le-mul_right}
 use Rattle.std.proofs.lemmas.Result.{err_from_is_err_and}
-use Rattle.luks_kdf.proofs.StripesLemmas.{chain_more, chain_start}
+use Rattle.luks_stripes.proofs.StripesLemmas.{chain_more, chain_start}
 use Rattle.luks_runs.proofs.MergeLemmas.{stops_reading, stops_short, stripe_more, taken_none}
 use Rattle.luks_runs.proofs.stripes.take_stripes.Goals as goal
 

@@ -1,6 +1,6 @@
 use Rattle.std.proofs.Common.{◌≡◌, ◌*◌, length}
 use Rattle.luks_io.specs.Bytes.{Took, WhereKnown}
-use Rattle.luks_kdf.specs.Stripes.{chain_after}
+use Rattle.luks_stripes.specs.Stripes.{chain_after}
 use Rattle.luks_runs.proofs.stripes.take_stripes.Given as goal
 
 -- the stripes so far were taken and chained

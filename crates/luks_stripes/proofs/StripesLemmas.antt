@@ -10,8 +10,8 @@ use Rattle.std.specs.Int.{div_ceil, to_be_bytes, w32}
 use Rattle.luks_kdf.specs.declared.hash.Hash.{Hash}
 use Rattle.luks_kdf.specs.Bytes.{joined, xor}
 use Rattle.luks_kdf.specs.Hash.{hash_of, size_of}
-use Rattle.luks_kdf.specs.Stripes.{AreStripes, Chain, IsSplit, chain_after, chain_of, diffused, diffused_piece}
-use Rattle.luks_kdf.specs.Stripes.{extended, merged, piece_of, stripe_at}
+use Rattle.luks_stripes.specs.Stripes.{AreStripes, Chain, IsSplit, chain_after, chain_of, diffused, diffused_piece}
+use Rattle.luks_stripes.specs.Stripes.{extended, merged, piece_of, stripe_at}
 use Rattle.luks_kdf.proofs.BytesLemmas.{cut_part, drop_front, joined_more, length-xor, xor-undone}
 use Rattle.luks_kdf.proofs.HashLemmas.{length-hash_of, sizes}
 
@@ -57,14 +57,6 @@ diffuse_start h block size = ap (λ n. drop n block) (no_pieces size)
   where
     no_pieces : (size : ℕ) → 0 ≡ 0 * size
     no_pieces size = omega arith
-
--- the numbers of the pieces are those below `count`, so each begins within the block
-pub piece_begins : (len size count j : ℕ) → 0 < size → count ≡ div_ceil len size → j < count
-    → j * size < len
-piece_begins len size count j some is_count below =
-    let bounds = div_ceil_times len size some in
-    let all = ap (λ n. n * size) is_count in
-    omega (arith, bounds.1, all, mul-le-mul_right {m = j + 1} {n = count} size (omega arith))
 
 -- one piece more is diffused, where the block before was `before` and is `now`
 pub diffuse_step : (h : Hash) (before now new : List ℕ) (size j end : ℕ)
