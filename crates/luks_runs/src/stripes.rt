@@ -12,11 +12,11 @@ ghost use Rattle.luks_runs.specs.StripeParts.{NoKeyRead, Passed, StopsAtStripe, 
 ghost use Rattle.luks_runs.specs.StripeParts.{split_promptly};
 ghost use Rattle.luks_runs.specs.Stripe.{longest_key};
 
-use luks_command::command::{Merging, Splitting};
 use luks_io::sink::{Sink, put_all};
 use luks_io::source::{Source, fill};
 use luks_kdf::{AfSplitter, Hash};
 use luks_report::message::Message;
+use luks_request::command::{Merging, Splitting};
 
 /// The length of the longest key.
 const LONGEST_KEY: usize = 512;
