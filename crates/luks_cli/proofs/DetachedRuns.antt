@@ -17,7 +17,7 @@ use Rattle.luks_volume.specs.declared.fault.VolumeFault.{VolumeFault}
 use Rattle.luks_volume.specs.declared.fault.VolumeFault.TheVariants.{CutBeforePayload as IsCutBefore, Tail as HasTail}
 use Rattle.luks_volume.specs.declared.fault.VolumeFault.TheVariants.{Short as IsShort, Read, Write}
 use Rattle.luks_volume.specs.declared.state.Step.{Step}
-use Rattle.luks_command.specs.Request.{OpeningRequest}
+use Rattle.luks_request.specs.Request.{OpeningRequest}
 use Rattle.luks_report.specs.Faults.{message_at_end}
 use Rattle.luks_report.specs.declared.message.Message.{Message}
 use Rattle.luks_report.specs.declared.message.Message.TheVariants.{Done, Cut, KeyFileLength, CutBeforePayload, Tail}

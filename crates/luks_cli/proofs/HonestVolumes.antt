@@ -12,7 +12,7 @@ use Rattle.luks_open.proofs.CallerLemmas.{held_before_payload}
 use Rattle.luks_open.proofs.OrderLemmas.{All-tries, IsOf}
 use Rattle.luks_seal.specs.Sealed.{Sealed, SealsKey}
 use Rattle.luks_io.specs.Bytes.{Adds}
-use Rattle.luks_command.specs.Request.{OpeningRequest, Request, luks_cat}
+use Rattle.luks_request.specs.Request.{OpeningRequest, Request, luks_cat}
 use Rattle.luks_report.specs.Faults.{message_at_end}
 use Rattle.luks_report.specs.declared.message.Message.{Message}
 use Rattle.luks_report.specs.declared.message.Message.TheVariants.{Done}

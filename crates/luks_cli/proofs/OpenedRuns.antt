@@ -20,7 +20,7 @@ use Rattle.luks_runs.specs.declared.standing.Standing.{Standing}
 use Rattle.luks_runs.specs.declared.standing.Standing.TheVariants.{Attached}
 use Rattle.luks_runs.specs.Payload.{PassesPayload}
 use Rattle.luks_cli.specs.VolumeParts.{cat_promptly}
-use Rattle.luks_command.specs.Request.{OpeningRequest}
+use Rattle.luks_request.specs.Request.{OpeningRequest}
 use Rattle.luks_runs.specs.Run.{BreaksOff, Completes, Counts, Failures, Promptness, Runs, at_any_pace, breaks_off}
 use Rattle.luks_runs.specs.Run.{is_failed_read, is_failed_write, message_of}
 use Rattle.luks_cli.specs.VolumeParts.{TakesHeld}

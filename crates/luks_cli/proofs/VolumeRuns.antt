@@ -25,7 +25,7 @@ use Rattle.luks_cli.proofs.VolumeLemmas.{cost_held, volume_is}
 use Rattle.luks_report.specs.Faults.{message_for_header}
 use Rattle.luks_cli.specs.Volume.{OnOpened, found_outcome, opened_outcome, outcome_after, volume_outcome_by}
 use Rattle.luks_runs.specs.Ending.{Outcome, unwritten}
-use Rattle.luks_command.specs.Request.{OpeningRequest}
+use Rattle.luks_request.specs.Request.{OpeningRequest}
 use Rattle.luks_runs.specs.Run.{BreaksOff, IsBeginning, IsSilent, Runs}
 use Rattle.luks_io.proofs.Taking.{adds-none, took-none}
 use Rattle.luks_io.specs.Bytes.{Adds, Took}

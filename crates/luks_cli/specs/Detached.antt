@@ -2,7 +2,7 @@
 -- image, at the segment's own place.
 use Rattle.std.specs.Prelude.{◌≡◌, ◌⊎◌, ℕ, List, Option, Some, is_err, true}
 use Rattle.luks_io.specs.Bytes.{Adds, Took, WhereKnown, raised}
-use Rattle.luks_command.specs.Request.{Request, is_luks, luks_uuid, luks_dump, luks_check, test_passphrase, luks_cat}
+use Rattle.luks_request.specs.Request.{Request, is_luks, luks_uuid, luks_dump, luks_check, test_passphrase, luks_cat}
 use Rattle.luks_report.specs.Check.{check_of, message_for_check}
 use Rattle.luks_report.specs.Dump.{dump_of, uuid_of}
 use Rattle.luks_report.specs.declared.message.Message.{Message}

@@ -5,7 +5,7 @@ use Rattle.luks_open.specs.Opening.{key_of}
 use Rattle.luks_open.specs.Order.{Tries, order_of}
 use Rattle.luks_open.specs.declared.entry.Entry.{Entry}
 use Rattle.luks_seal.specs.Sealed.{Sealed}
-use Rattle.luks_command.specs.Request.{OpeningRequest, Request, luks_cat}
+use Rattle.luks_request.specs.Request.{OpeningRequest, Request, luks_cat}
 use Rattle.luks_report.specs.declared.message.Message.{Message}
 use Rattle.luks_report.specs.declared.message.Message.TheVariants.{Done}
 use Rattle.luks_runs.specs.Run.{breaks_off}

@@ -1,7 +1,7 @@
 -- With which messages each command may end, whatever its devices do.
 use Rattle.std.specs.Prelude.{◌≡◌, ◌⊎◌}
-use Rattle.luks_command.specs.Request.{Request, is_luks, luks_uuid, luks_dump, luks_check, test_passphrase, luks_cat}
-use Rattle.luks_command.specs.Request.{af_split, af_merge}
+use Rattle.luks_request.specs.Request.{Request, is_luks, luks_uuid, luks_dump, luks_check, test_passphrase, luks_cat}
+use Rattle.luks_request.specs.Request.{af_split, af_merge}
 use Rattle.luks_runs.specs.MayEnd.{CheckMessage, IsLuksMessage, MergeMessage, PayloadMessage, PrintMessage}
 use Rattle.luks_runs.specs.MayEnd.{SplitMessage}
 use Rattle.luks_report.specs.declared.message.Message.{Message}

@@ -1,7 +1,7 @@
 -- What a run of luksrd comes to: a function of the command and the bytes of both inputs.
 use Rattle.std.specs.Prelude.{ℕ, List}
-use Rattle.luks_command.specs.Request.{Request, is_luks, luks_uuid, luks_dump, luks_check, test_passphrase, luks_cat}
-use Rattle.luks_command.specs.Request.{af_split, af_merge}
+use Rattle.luks_request.specs.Request.{Request, is_luks, luks_uuid, luks_dump, luks_check, test_passphrase, luks_cat}
+use Rattle.luks_request.specs.Request.{af_split, af_merge}
 use Rattle.luks_report.specs.Check.{check_of, message_for_check}
 use Rattle.luks_report.specs.Dump.{dump_of, uuid_of}
 use Rattle.luks_runs.specs.Ending.{Outcome}

@@ -2,8 +2,8 @@
 use Rattle.std.specs.Prelude.{◌≡◌, ℕ, ◌<◌, ◌^◌, List, length, Option, Some, true, ◌⊎◌, is_err}
 use Rattle.luks_io.specs.Bytes.{Adds, Took, WhereKnown}
 use Rattle.luks_cli.specs.VolumeParts.{cat_promptly}
-use Rattle.luks_command.specs.Request.{Request, is_luks, luks_uuid, luks_dump, luks_check, test_passphrase, luks_cat}
-use Rattle.luks_command.specs.Request.{af_split, af_merge}
+use Rattle.luks_request.specs.Request.{Request, is_luks, luks_uuid, luks_dump, luks_check, test_passphrase, luks_cat}
+use Rattle.luks_request.specs.Request.{af_split, af_merge}
 use Rattle.luks_cli.specs.Outcome.{outcome_of}
 use Rattle.luks_runs.specs.Run.{Promptness, Runs, TookNone, at_any_pace}
 use Rattle.luks_runs.specs.Stripe.{longest_key}

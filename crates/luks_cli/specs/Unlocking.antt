@@ -4,7 +4,7 @@ use Rattle.luks_io.specs.Bytes.{Took}
 use Rattle.luks_header.specs.Header.{cost_of}
 use Rattle.luks_verdict.specs.declared.segment.Segment.{Segment}
 use Rattle.luks_open.specs.declared.opening.Opened.{Opened}
-use Rattle.luks_command.specs.Request.{OpeningRequest}
+use Rattle.luks_request.specs.Request.{OpeningRequest}
 use Rattle.luks_report.specs.declared.message.Message.{Message}
 use Rattle.luks_runs.specs.Standing.{reading_of}
 use Rattle.luks_cli.specs.Volume.{OnOpened, volume_outcome_by}

@@ -10,7 +10,7 @@ use Rattle.luks_verdict.specs.declared.segment.Segment.{Segment}
 use Rattle.luks_open.specs.Order.{Tries, held_of, order_of}
 use Rattle.luks_open.specs.declared.fault.OpenFault.{OpenFault}
 use Rattle.luks_report.specs.Faults.{message_for_header, message_for_opening}
-use Rattle.luks_command.specs.Request.{OpeningRequest}
+use Rattle.luks_request.specs.Request.{OpeningRequest}
 use Rattle.luks_open.specs.Opening.{opening_of}
 use Rattle.luks_open.specs.declared.opening.Opened.{Opened}
 use Rattle.luks_volume.specs.Plain.{ending_of, payload_end_of, plain_of}

@@ -7,7 +7,7 @@ use Rattle.luks_header.specs.declared.header.Header.{Header}
 use Rattle.luks_verdict.specs.declared.segment.Segment.{Segment}
 use Rattle.luks_open.specs.declared.opening.Opened.{Opened}
 use Rattle.luks_volume.specs.Plain.{sector_len, sector_start}
-use Rattle.luks_command.specs.Request.{OpeningRequest}
+use Rattle.luks_request.specs.Request.{OpeningRequest}
 use Rattle.luks_report.specs.declared.message.Message.{Message}
 use Rattle.luks_report.specs.declared.message.Message.TheVariants.{OutOfMemory, ReadFailed, WriteFailed}
 use Rattle.luks_runs.specs.Reading.{Reading, detached_header_of}

@@ -3,18 +3,18 @@
 ghost use Rattle.std.specs.Prelude.{◌≡◌, ◌≢◌, IfErr, None, false};
 ghost use Rattle.luks_io.specs.Bytes.{WhereKnown};
 ghost use Rattle.luks_report.specs.Report.{report_of};
-ghost use Rattle.luks_command.specs.Request.{is_detached, request_of, secret_of};
+ghost use Rattle.luks_request.specs.Request.{is_detached, request_of, secret_of};
 ghost use Rattle.luks_runs.specs.Run.{Counts, failures_of, message_of};
 ghost use Rattle.luks_cli.specs.Run.{NeedsNoSecret, ReadsFirst, RunsAsStated, TakesNoMemory};
 ghost use Rattle.luks_cli.specs.Honest.{WritesPlain};
 ghost use Rattle.luks_cli.specs.MayEnd.{MayTell};
 
 pub use detached::execute_detached;
-use luks_command::command::Command;
 use luks_io::sink::Sink;
 use luks_io::source::Source;
 use luks_report::message::Message;
 use luks_report::report::Report;
+use luks_request::command::Command;
 use luks_runs::headers::{self, Page};
 use luks_runs::standing::Standing;
 use luks_runs::stripes;

@@ -3,11 +3,11 @@
 //! With what the program needs of the layers beneath: the command line and the report of a run.
 #![tactic(auto)]
 
-pub use luks_command::command::{Command, Merging, Opening, Splitting};
-pub use luks_command::number::{IterationLimit, KeyBytes, SlotNumber, StripeCount};
 pub use luks_command::planning::{PlanFault, plan};
 pub use luks_report::input::{NOT_OPENED, not_opened_page};
 pub use luks_report::message::Message;
 pub use luks_report::report::Report;
+pub use luks_request::command::{Command, Merging, Opening, Splitting};
+pub use luks_request::number::{IterationLimit, KeyBytes, SlotNumber, StripeCount};
 
 pub mod execute;

@@ -19,16 +19,16 @@ mod volumes;
 mod volumes2;
 
 ghost use Rattle.std.specs.Prelude.{◌≡◌, IfOk, false};
-ghost use Rattle.luks_command.specs.Request.{is_detached, request_of};
+ghost use Rattle.luks_request.specs.Request.{is_detached, request_of};
 
 use crate::tests::same::{assert_in, assert_same, assert_same_in};
 use failing::check_failures;
 use luks_cli::execute::execute;
-use luks_command::command::Command;
 use luks_command::planning::{PlanFault, plan};
 use luks_io::memory::{MemSink, MemSource};
 use luks_report::message::Message;
 use luks_report::report::Report;
+use luks_request::command::Command;
 use std::alloc::{AllocError, Global};
 use std::process::Abort;
 use std::test::Fail;

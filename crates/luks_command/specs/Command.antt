@@ -1,17 +1,16 @@
 -- What a command line asks for.
-use Rattle.std.specs.Prelude.{◌&&◌, ◌||◌, ◌∷◌, [], ℕ, Bool, false, List, Option, Some, None, bytes_eq}
-use Rattle.std.specs.Prelude.{codes, if◌then◌else◌, option_and_then, option_map}
-use Rattle.std.specs.Option.{option_map_or}
+use Rattle.std.specs.Prelude.{◌∷◌, [], ℕ, List, Option, Some, None, bytes_eq, codes}
+use Rattle.std.specs.Prelude.{if◌then◌else◌, option_and_then, option_map}
 use Rattle.clap.specs.Words.{Kinds, Row, Text, fault_of, first_of, subcommand_of}
 use Rattle.clap.specs.declared.error.ErrorKind.{ErrorKind}
 use Rattle.clap.specs.declared.error.ErrorKind.TheVariants.{OutOfMemory}
 use Rattle.luks_kdf.specs.Hash.{hash_named}
 use Rattle.luks_kdf.specs.declared.Hash.{Hash}
+use Rattle.luks_request.specs.Number.{number_within, optional_within}
+use Rattle.luks_request.specs.Request.{MergingRequest, OpeningRequest, ReadingRequest, Request, SplittingRequest}
+use Rattle.luks_request.specs.Request.{af_merge, af_split, is_luks, luks_cat, luks_check, luks_dump, luks_uuid}
+use Rattle.luks_request.specs.Request.{reads_standard_twice, test_passphrase}
 use Rattle.luks_command.specs.Grammar.{luksrd}
-use Rattle.luks_command.specs.Number.{number_within, optional_within}
-use Rattle.luks_command.specs.Request.{MergingRequest, OpeningRequest, ReadingRequest, Request, SplittingRequest}
-use Rattle.luks_command.specs.Request.{af_merge, af_split, header_file_of, image_of, is_luks, luks_cat, luks_check}
-use Rattle.luks_command.specs.Request.{luks_dump, luks_uuid, secret_of, test_passphrase}
 use Rattle.luks_command.specs.declared.planning.PlanFault.{PlanFault}
 use Rattle.luks_command.specs.declared.planning.PlanFault.TheVariants.{Memory, Usage}
 
@@ -108,22 +107,6 @@ request_in (name, rows) =
     else (if bytes_eq name (codes "afSplit") then option_map af_split (splitting_in rows)
     else (if bytes_eq name (codes "afMerge") then option_map af_merge (merging_in rows)
     else header_request_in name rows)))
-
--- the input is there and is standard input
-abbrev pub is_standard : Option Text → Bool
-is_standard input = option_map_or (λ name. bytes_eq name (codes "-")) input false
-
--- at least two of the three hold
-abbrev pub two_of : Bool → Bool → Bool → Bool
-two_of a b c = (a && b) || ((a && c) || (b && c))
-
--- at least two of IMAGE, FILE of `--header` and the second input, of those that there are, are standard input, which
--- can be read once
-abbrev pub reads_standard_twice : Request → Bool
-reads_standard_twice request = two_of
-    (is_standard (Some (image_of request)))
-    (is_standard (header_file_of request))
-    (is_standard (secret_of request))
 
 abbrev pub with_distinct_inputs : Request → Option Request
 with_distinct_inputs request = if reads_standard_twice request then None else Some request

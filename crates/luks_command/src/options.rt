@@ -5,9 +5,9 @@ ghost use Rattle.clap.specs.Words.{found_of, rows_of};
 ghost use Rattle.luks_command.specs.Command.{hash_in, key_bytes_in, key_slot_in, max_iterations_in};
 ghost use Rattle.luks_command.specs.Command.{stripes_in, text_in};
 
-use crate::number::{IterationLimit, KeyBytes, SlotNumber, StripeCount};
 use clap::ArgMatches;
 use luks_kdf::Hash;
+use luks_request::number::{IterationLimit, KeyBytes, SlotNumber, StripeCount};
 
 // The text of the option or input.
 pub(super) fn text<'a>(options: &ArgMatches<'a>, name: &str) -> Option<&'a str>

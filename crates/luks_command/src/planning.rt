@@ -5,14 +5,14 @@ ghost use Rattle.clap.specs.Words.{found_of, kind_of, rows_of, subcommand_rows_o
 ghost use Rattle.luks_command.specs.Command.{command_of, fault_for, header_request_in, merging_in};
 ghost use Rattle.luks_command.specs.Command.{opening_in, reading_in, request_in, splitting_in};
 ghost use Rattle.luks_command.specs.Command.{subcommand_in};
-ghost use Rattle.luks_command.specs.Request.{merging_request, opening_request, reading_request};
-ghost use Rattle.luks_command.specs.Request.{request_of, splitting_request};
+ghost use Rattle.luks_request.specs.Request.{merging_request, opening_request, reading_request};
+ghost use Rattle.luks_request.specs.Request.{request_of, splitting_request};
 
-use crate::command::{Command, Merging, Opening, Reading, Splitting};
 use crate::grammar::grammar;
 use crate::options::{hash, key_bytes, key_slot, max_iterations, stripes, text};
 use clap::ArgMatches;
 use clap::error::ErrorKind;
+use luks_request::command::{Command, Merging, Opening, Reading, Splitting};
 use std::alloc::{AllocError, Global};
 use std::convert::AsStr;
 
@@ -58,7 +58,7 @@ pub fn plan<'a, S: AsStr>(alloc: Global, words: &'a [S]) -> Result<Command<'a>, 
     ensures usage { result ≡ Err PlanFault.Usage → command_of (map S.text words.entry.now) ≡ None }
 {
     let matches = matches_of(alloc, words)?;
-    match Command::read(&matches) {
+    match read(&matches) {
         Some(command) if !command.reads_standard_twice() => Ok(command),
         _ => Err(PlanFault::Usage),
     }
@@ -75,99 +75,89 @@ fn matches_of<'a, S: AsStr>(alloc: Global, words: &'a [S]) -> Result<ArgMatches<
     Ok(program.try_get_matches_from(words)?)
 }
 
-impl<'a> Command<'a> {
-    // The command that was named, with its options.
-    fn read(matches: &ArgMatches<'a>) -> Option<Command<'a>>
-        ensures { option_map request_of result
-            ≡ option_and_then request_in (subcommand_rows_of matches.now) }
-    {
-        let (name, options) = matches.subcommand()?;
-        if name == "testPassphrase" {
-            Some(Command::TestPassphrase(Opening::read(options)?))
-        } else if name == "luksCat" {
-            Some(Command::LuksCat(Opening::read(options)?))
-        } else if name == "afSplit" {
-            Some(Command::AfSplit(Splitting::read(options)?))
-        } else if name == "afMerge" {
-            Some(Command::AfMerge(Merging::read(options)?))
-        } else {
-            Command::read_on_header(name, options)
-        }
-    }
-
-    // The command on headers of that name.
-    #[tactic(auto, unfolding(crate::specs::Command::header_request_in))]
-    fn read_on_header(name: &str, options: &ArgMatches<'a>) -> Option<Command<'a>>
-        ensures { option_map request_of result
-            ≡ header_request_in name.now (rows_of (found_of options.now)) }
-    {
-        if name == "isLuks" {
-            Some(Command::IsLuks(Reading::read(options)?))
-        } else if name == "luksUUID" {
-            Some(Command::LuksUuid(Reading::read(options)?))
-        } else if name == "luksDump" {
-            Some(Command::LuksDump(Reading::read(options)?))
-        } else if name == "luksCheck" {
-            Some(Command::LuksCheck(Reading::read(options)?))
-        } else {
-            None
-        }
+// The command that was named, with its options.
+fn read<'a>(matches: &ArgMatches<'a>) -> Option<Command<'a>>
+    ensures { option_map request_of result
+        ≡ option_and_then request_in (subcommand_rows_of matches.now) }
+{
+    let (name, options) = matches.subcommand()?;
+    if name == "testPassphrase" {
+        Some(Command::TestPassphrase(opening(options)?))
+    } else if name == "luksCat" {
+        Some(Command::LuksCat(opening(options)?))
+    } else if name == "afSplit" {
+        Some(Command::AfSplit(splitting(options)?))
+    } else if name == "afMerge" {
+        Some(Command::AfMerge(merging(options)?))
+    } else {
+        read_on_header(name, options)
     }
 }
 
-impl<'a> Reading<'a> {
-    fn read(options: &ArgMatches<'a>) -> Option<Reading<'a>>
-        ensures { option_map reading_request result ≡ reading_in (rows_of (found_of options.now)) }
-    {
-        Some(Reading {
-            image: text(options, "input")?,
-            header: text(options, "header"),
-        })
+// The command on headers of that name.
+#[tactic(auto, unfolding(crate::specs::Command::header_request_in))]
+fn read_on_header<'a>(name: &str, options: &ArgMatches<'a>) -> Option<Command<'a>>
+    ensures { option_map request_of result
+        ≡ header_request_in name.now (rows_of (found_of options.now)) }
+{
+    if name == "isLuks" {
+        Some(Command::IsLuks(reading(options)?))
+    } else if name == "luksUUID" {
+        Some(Command::LuksUuid(reading(options)?))
+    } else if name == "luksDump" {
+        Some(Command::LuksDump(reading(options)?))
+    } else if name == "luksCheck" {
+        Some(Command::LuksCheck(reading(options)?))
+    } else {
+        None
     }
 }
 
-impl<'a> Opening<'a> {
-    fn read(options: &ArgMatches<'a>) -> Option<Opening<'a>>
-        ensures { option_map opening_request result ≡ opening_in (rows_of (found_of options.now)) }
-    {
-        let key_file = text(options, "key-file")?;
-        let key_slot = key_slot(options)?;
-        let max_iterations = max_iterations(options)?;
-        let header = text(options, "header");
-        let image = text(options, "input")?;
-        Some(Opening {
-            image,
-            header,
-            key_file,
-            key_slot,
-            max_iterations,
-        })
-    }
+fn reading<'a>(options: &ArgMatches<'a>) -> Option<Reading<'a>>
+    ensures { option_map reading_request result ≡ reading_in (rows_of (found_of options.now)) }
+{
+    Some(Reading {
+        image: text(options, "input")?,
+        header: text(options, "header"),
+    })
 }
 
-impl<'a> Splitting<'a> {
-    fn read(options: &ArgMatches<'a>) -> Option<Splitting<'a>>
-        ensures { option_map splitting_request result
-            ≡ splitting_in (rows_of (found_of options.now)) }
-    {
-        Some(Splitting {
-            hash: hash(options)?,
-            stripes: stripes(options)?,
-            random: text(options, "random")?,
-            key: text(options, "input")?,
-        })
-    }
+fn opening<'a>(options: &ArgMatches<'a>) -> Option<Opening<'a>>
+    ensures { option_map opening_request result ≡ opening_in (rows_of (found_of options.now)) }
+{
+    let key_file = text(options, "key-file")?;
+    let key_slot = key_slot(options)?;
+    let max_iterations = max_iterations(options)?;
+    let header = text(options, "header");
+    let image = text(options, "input")?;
+    Some(Opening {
+        image,
+        header,
+        key_file,
+        key_slot,
+        max_iterations,
+    })
 }
 
-impl<'a> Merging<'a> {
-    fn read(options: &ArgMatches<'a>) -> Option<Merging<'a>>
-        ensures { option_map merging_request result ≡ merging_in (rows_of (found_of options.now)) }
-    {
-        Some(Merging {
-            hash: hash(options)?,
-            stripes: stripes(options)?,
-            key_bytes: key_bytes(options)?,
-            stripes_file: text(options, "input")?,
-        })
-    }
+fn splitting<'a>(options: &ArgMatches<'a>) -> Option<Splitting<'a>>
+    ensures { option_map splitting_request result
+        ≡ splitting_in (rows_of (found_of options.now)) }
+{
+    Some(Splitting {
+        hash: hash(options)?,
+        stripes: stripes(options)?,
+        random: text(options, "random")?,
+        key: text(options, "input")?,
+    })
+}
+
+fn merging<'a>(options: &ArgMatches<'a>) -> Option<Merging<'a>>
+    ensures { option_map merging_request result ≡ merging_in (rows_of (found_of options.now)) }
+{
+    Some(Merging {
+        hash: hash(options)?,
+        stripes: stripes(options)?,
+        key_bytes: key_bytes(options)?,
+        stripes_file: text(options, "input")?,
+    })
 }

@@ -1,4 +1,4 @@
-//! Tests of `luks_command`: command lines, through its public calls.
+//! Tests of `luks_command` and `luks_request`: command lines, through their public calls.
 //!
 //! A crate of their own: what they stand on is not proved once more with them.
 #![tactic(auto)]

@@ -1,8 +1,8 @@
-use luks_command::command::{Command, Merging, Opening, Reading, Splitting};
-use luks_command::number::{IterationLimit, KeyBytes, SlotNumber, StripeCount};
 use luks_command::planning::{PlanFault, plan};
 use luks_command::usage::usage;
 use luks_kdf::Hash;
+use luks_request::command::{Command, Merging, Opening, Reading, Splitting};
+use luks_request::number::{IterationLimit, KeyBytes, SlotNumber, StripeCount};
 use luks_testing::same::{holds_in, same, same_in};
 use std::alloc::{AllocError, Global};
 use std::process::Abort;

@@ -12,11 +12,11 @@ ghost use Rattle.luks_runs.specs.StripeParts.{NoKeyRead, Passed, StopsAtStripe, 
 ghost use Rattle.luks_runs.specs.StripeParts.{split_promptly};
 ghost use Rattle.luks_runs.specs.Stripe.{longest_key};
 
-use luks_command::command::{Merging, Splitting};
 use luks_io::sink::{Sink, put_all};
 use luks_io::source::{Source, fill};
 use luks_kdf::Hash;
 use luks_report::message::Message;
+use luks_request::command::{Merging, Splitting};
 use luks_stripes::AfSplitter;
 
 /// The length of the longest key.

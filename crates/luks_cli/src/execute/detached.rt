@@ -3,7 +3,7 @@
 ghost use Rattle.std.specs.Prelude.{◌≡◌, None, true};
 ghost use Rattle.luks_io.specs.Bytes.{WhereKnown};
 ghost use Rattle.luks_report.specs.Report.{report_of};
-ghost use Rattle.luks_command.specs.Request.{is_detached, request_of, secret_of};
+ghost use Rattle.luks_request.specs.Request.{is_detached, request_of, secret_of};
 ghost use Rattle.luks_cli.specs.Detached.{CountsDetached, EndsWithoutKey, NeedsNoPayload};
 ghost use Rattle.luks_cli.specs.Detached.{NeedsNoSecretDetached, RunsDetached};
 ghost use Rattle.luks_cli.specs.Run.{ReadsFirst};
@@ -11,11 +11,11 @@ ghost use Rattle.luks_runs.specs.Run.{failures_of, message_of};
 ghost use Rattle.luks_cli.specs.MayEnd.{MayTell};
 
 use super::volumes;
-use luks_command::command::Command;
 use luks_io::sink::Sink;
 use luks_io::source::Source;
 use luks_report::message::Message;
 use luks_report::report::Report;
+use luks_request::command::Command;
 use luks_runs::headers::{self, Page};
 use luks_runs::standing::Standing;
 use std::alloc::Global;

@@ -1,7 +1,7 @@
 //! Whole runs over a header in a file of its own.
 
 ghost use Rattle.std.specs.Prelude.{◌≡◌, IfOk, true};
-ghost use Rattle.luks_command.specs.Request.{is_detached, request_of};
+ghost use Rattle.luks_request.specs.Request.{is_detached, request_of};
 
 use super::volume2::header2;
 use super::{line_of, run};
@@ -9,9 +9,9 @@ use crate::tests::same::{assert_same, assert_same_in};
 use crate::tests::volume::{KEY, PASSPHRASE, Size, USUAL, changed, plain_bytes, sealed_in};
 use luks_cipher::Mode;
 use luks_cli::execute::execute_detached;
-use luks_command::command::Command;
 use luks_command::planning::plan;
 use luks_io::memory::{MemSink, MemSource};
+use luks_request::command::Command;
 use std::alloc::Global;
 use std::process::Abort;
 use std::test::Fail;

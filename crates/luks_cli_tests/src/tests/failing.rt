@@ -1,14 +1,14 @@
 //! Runs in which one call of one device fails.
 
 ghost use Rattle.std.specs.Prelude.{◌≡◌, false};
-ghost use Rattle.luks_command.specs.Request.{is_detached, request_of};
+ghost use Rattle.luks_request.specs.Request.{is_detached, request_of};
 
 use super::attached;
 use crate::tests::same::assert_in;
 use luks_cli::execute::execute;
-use luks_command::command::Command;
 use luks_report::message::Message;
 use luks_report::report::Report;
+use luks_request::command::Command;
 use luks_testing::devices::{Flaky, Leaky};
 use std::process::Abort;
 use std::test::Fail;

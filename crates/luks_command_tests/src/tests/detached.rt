@@ -1,8 +1,8 @@
 //! Headers that stand apart from the image.
 
 use super::{NONE, check_inputs, check_plan};
-use luks_command::command::{Command, Opening, Reading};
-use luks_command::number::{IterationLimit, SlotNumber};
+use luks_request::command::{Command, Opening, Reading};
+use luks_request::number::{IterationLimit, SlotNumber};
 use std::process::Abort;
 use std::test::Fail;
 

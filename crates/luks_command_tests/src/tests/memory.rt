@@ -1,8 +1,8 @@
 //! What is answered where memory is refused.
 
 use super::words_of;
-use luks_command::command::Command;
 use luks_command::planning::{PlanFault, plan};
+use luks_request::command::Command;
 use luks_testing::same::{holds_in, same_in};
 use luks_testing::scarce::Scarcity;
 use std::alloc::{AllocError, Global};

@@ -1,4 +1,4 @@
-use Rattle.luks_command.specs.Request.{request_of}
+use Rattle.luks_request.specs.Request.{request_of}
 use Rattle.luks_report.specs.declared.message.Message.TheVariants.{Done}
 use Rattle.luks_cli.proofs.HonestVolumes.{writes_plain}
 use Rattle.luks_cli.proofs.execute.execute.Goals as goal

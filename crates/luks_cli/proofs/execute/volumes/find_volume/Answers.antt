@@ -1,6 +1,6 @@
 use Rattle.std.proofs.lemmas.Result.{err_from_is_err_and}
 use Rattle.std.proofs.Common.{None, sym}
-use Rattle.luks_command.specs.Request.{opening_request}
+use Rattle.luks_request.specs.Request.{opening_request}
 use Rattle.luks_cli.proofs.VolumeLemmas.{stops_without_header, stops_without_order, stops_without_segment, volume_found}
 use Rattle.luks_cli.proofs.execute.volumes.find_volume.Goals as goal
 

@@ -1,7 +1,7 @@
 use Rattle.std.proofs.lemmas.Result.{err_from_is_err_and}
 use Rattle.std.proofs.Common.{◌≤◌, [], Some, ap, sym, length, arith}
 use Rattle.luks_header.proofs.HeaderLemmas.{short_from_not_whole}
-use Rattle.luks_command.specs.Request.{opening_request}
+use Rattle.luks_request.specs.Request.{opening_request}
 use Rattle.luks_runs.specs.Secret.{longest_key_file}
 use Rattle.luks_cli.proofs.VolumeRuns.{runs_cut, runs_unopened, runs_without_area, runs_without_secret}
 use Rattle.luks_cli.proofs.VolumeRuns.{runs_without_volume, unlocks}

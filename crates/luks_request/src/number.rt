@@ -3,7 +3,7 @@
 ghost use Rattle.std.specs.Prelude.{◌≡◌, ◌≤◌, option_map};
 ghost use Rattle.std.specs.Char.{is_ascii_digit};
 ghost use Rattle.std.specs.List.{list_all};
-ghost use Rattle.luks_command.specs.Number.{is_number, number_of, number_within, within};
+ghost use Rattle.luks_request.specs.Number.{is_number, number_of, number_within, within};
 
 /// A number of stripes: 1 to 4000.
 #[derive(Clone, Copy, PartialEq, Eq, Debug)]
@@ -34,8 +34,8 @@ impl StripeCount {
         self.count
     }
 
-    // The number of stripes that the text writes.
-    pub(super) fn read(text: &str) -> Option<StripeCount>
+    /// The number of stripes that the text writes in 1 to 10 digits, or `None` for any other text.
+    pub fn read(text: &str) -> Option<StripeCount>
         ensures { option_map (λ stripes. stripes.count) result ≡ number_within 1 4000 text.now }
     {
         StripeCount::new(number(text)?)
@@ -71,8 +71,8 @@ impl KeyBytes {
         self.bytes
     }
 
-    // The number of bytes that the text writes.
-    pub(super) fn read(text: &str) -> Option<KeyBytes>
+    /// The number of bytes that the text writes in 1 to 10 digits, or `None` for any other text.
+    pub fn read(text: &str) -> Option<KeyBytes>
         ensures { option_map (λ key. key.bytes) result ≡ number_within 1 512 text.now }
     {
         KeyBytes::new(number(text)?)
@@ -108,8 +108,8 @@ impl SlotNumber {
         self.number
     }
 
-    // The slot that the text numbers.
-    pub(super) fn read(text: &str) -> Option<SlotNumber>
+    /// The slot that the text numbers in 1 to 10 digits, or `None` for any other text.
+    pub fn read(text: &str) -> Option<SlotNumber>
         ensures { option_map (λ slot. slot.number) result ≡ number_within 0 31 text.now }
     {
         SlotNumber::new(number(text)?)
@@ -145,8 +145,8 @@ impl IterationLimit {
         self.iterations
     }
 
-    // The limit that the text writes.
-    pub(super) fn read(text: &str) -> Option<IterationLimit>
+    /// The limit that the text writes in 1 to 10 digits, or `None` for any other text.
+    pub fn read(text: &str) -> Option<IterationLimit>
         ensures { option_map (λ limit. limit.iterations) result
             ≡ number_within 1 4294967295 text.now }
     {

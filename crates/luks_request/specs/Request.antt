@@ -1,14 +1,19 @@
 -- What luksrd can be asked for: a command with its options, each text by its bytes.
-use Rattle.std.specs.Prelude.{ℕ, Bool, Option, Some, None, is_some, option_map}
-use Rattle.clap.specs.Words.{Text}
+use Rattle.std.specs.Prelude.{◌&&◌, ◌||◌, ℕ, Bool, false, List, Option, Some, None, bytes_eq, codes, is_some}
+use Rattle.std.specs.Prelude.{option_map}
+use Rattle.std.specs.Option.{option_map_or}
 use Rattle.luks_kdf.specs.declared.Hash.{Hash}
-use Rattle.luks_command.specs.declared.command.Command.{Command}
-use Rattle.luks_command.specs.declared.command.Command.TheVariants.{AfMerge, AfSplit, IsLuks, LuksCat}
-use Rattle.luks_command.specs.declared.command.Command.TheVariants.{LuksCheck, LuksDump, LuksUuid, TestPassphrase}
-use Rattle.luks_command.specs.declared.command.Reading.{Reading}
-use Rattle.luks_command.specs.declared.command.Opening.{Opening}
-use Rattle.luks_command.specs.declared.command.Splitting.{Splitting}
-use Rattle.luks_command.specs.declared.command.Merging.{Merging}
+use Rattle.luks_request.specs.declared.command.Command.{Command}
+use Rattle.luks_request.specs.declared.command.Command.TheVariants.{AfMerge, AfSplit, IsLuks, LuksCat}
+use Rattle.luks_request.specs.declared.command.Command.TheVariants.{LuksCheck, LuksDump, LuksUuid, TestPassphrase}
+use Rattle.luks_request.specs.declared.command.Reading.{Reading}
+use Rattle.luks_request.specs.declared.command.Opening.{Opening}
+use Rattle.luks_request.specs.declared.command.Splitting.{Splitting}
+use Rattle.luks_request.specs.declared.command.Merging.{Merging}
+
+-- a text, by its bytes
+abbrev pub Text : Type 0
+Text = List ℕ
 
 pub record ReadingRequest : Type 0 where
   pub image : Text
@@ -74,6 +79,22 @@ secret_of (test_passphrase o) = Some o.key_file
 secret_of (luks_cat o) = Some o.key_file
 secret_of (af_split s) = Some s.random
 secret_of _ = None
+
+-- the input is there and is standard input
+abbrev pub is_standard : Option Text → Bool
+is_standard input = option_map_or (λ name. bytes_eq name (codes "-")) input false
+
+-- at least two of the three hold
+abbrev pub two_of : Bool → Bool → Bool → Bool
+two_of a b c = (a && b) || ((a && c) || (b && c))
+
+-- at least two of IMAGE, FILE of `--header` and the second input, of those that there are, are standard input, which
+-- can be read once
+abbrev pub reads_standard_twice : Request → Bool
+reads_standard_twice request = two_of
+    (is_standard (Some (image_of request)))
+    (is_standard (header_file_of request))
+    (is_standard (secret_of request))
 
 -- ---- the request that a `Command` is
 

@@ -1,9 +1,8 @@
 //! What luksrd can be asked for.
 
 ghost use Rattle.std.specs.Prelude.{◌≡◌, option_map};
-ghost use Rattle.luks_command.specs.Command.{is_standard, reads_standard_twice};
-ghost use Rattle.luks_command.specs.Request.{header_file_of, image_of, is_detached, request_of};
-ghost use Rattle.luks_command.specs.Request.{secret_of};
+ghost use Rattle.luks_request.specs.Request.{header_file_of, image_of, is_detached, is_standard};
+ghost use Rattle.luks_request.specs.Request.{reads_standard_twice, request_of, secret_of};
 
 use crate::number::{IterationLimit, KeyBytes, SlotNumber, StripeCount};
 use luks_kdf::Hash;
@@ -132,8 +131,8 @@ impl<'a> Command<'a> {
         }
     }
 
-    // Whether two of the inputs that there are would be standard input, which can be read once.
-    pub(crate) fn reads_standard_twice(&self) -> bool
+    /// Whether two of the inputs that there are would be standard input, which can be read once.
+    pub fn reads_standard_twice(&self) -> bool
         ensures { result ≡ reads_standard_twice (request_of self.now) }
     {
         let image = is_standard(Some(self.image()));

@@ -1,6 +1,6 @@
 use Rattle.std.proofs.Common.{rules, ◌∙◌}
-use Rattle.luks_command.proofs.NumberLemmas.{parse-number}
-use Rattle.luks_command.proofs.number.number.Goals as goal
+use Rattle.luks_request.proofs.NumberLemmas.{parse-number}
+use Rattle.luks_request.proofs.number.number.Goals as goal
 
 pub returns-then-is_number : goal.returns-then-is_number
 returns-then-is_number c = c.ok.ensures.value

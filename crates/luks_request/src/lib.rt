@@ -1,0 +1,5 @@
+//! What luksrd can be asked for: a command with its options, and the numbers among them.
+#![tactic(auto)]
+
+pub mod command;
+pub mod number;
