@@ -20,12 +20,12 @@ use Rattle.luks_verdict.specs.declared.slot.Judgement.TheVariants.{Usable as Ope
 use Rattle.luks_kdf.specs.declared.hash.Hash.{Hash}
 use Rattle.luks_cipher.specs.Sector.{is_mode_key_length}
 use Rattle.luks2_members.specs.Numbered.{numbered}
-use Rattle.luks2_metadata.proofs.SegmentLemmas.{none_holds}
+use Rattle.luks2_segment.proofs.SegmentLemmas.{none_holds}
 use Rattle.luks2_members.specs.Encryption.{is_length_for}
 use Rattle.luks2_members.specs.Member.{is_type}
 use Rattle.luks2_metadata.specs.Digest2.{digest2_for}
-use Rattle.luks2_metadata.specs.declared.bounds.Bounds.{Bounds}
-use Rattle.luks2_metadata.specs.Segment2.{payload2_of, payload_mode2_of}
+use Rattle.luks2_segment.specs.declared.bounds.Bounds.{Bounds}
+use Rattle.luks2_segment.specs.Segment2.{payload2_of, payload_mode2_of}
 use Rattle.luks2_metadata.specs.Slot2.{slot_reasons, af_hash_of, are_key_sizes, area_key_size_of, area_mode_of}
 use Rattle.luks2_metadata.specs.Slot2.{area_offset_of, area_size_of, has_members, has_unknown_hash, is_kdf_type}
 use Rattle.luks2_metadata.specs.Slot2.{is_misplaced2, iterations_of, kdf_hash_of, key_size_of, priority_of, reason2_of}
@@ -166,12 +166,12 @@ iterations_few : (limit : Option ℕ) (iterations : ℕ) → is_beyond limit ite
 unfolding is_beyond
 iterations_few limit iterations is = grind (arith, nat_tests)
 
-pub small_of : (tree : Data) (bounds : Bounds) (number : ℕ) (slot : Data) → reason2_of tree bounds None number slot ≡ None
-    → IsSmall slot
+pub small_of : (tree : Data) (bounds : Bounds) (number : ℕ) (slot : Data)
+    → reason2_of tree bounds None number slot ≡ None → IsSmall slot
 small_of tree bounds number slot none =
     let no = no_reason tree bounds None number slot none in
-    let keys = key_sizes_few (payload_mode2_of tree bounds) slot (not_not (are_key_sizes (payload_mode2_of tree bounds) slot)
-    no.key_size) in
+    let keys = key_sizes_few (payload_mode2_of tree bounds) slot
+    (not_not (are_key_sizes (payload_mode2_of tree bounds) slot) no.key_size) in
     record {
       iterations = iterations_few None (iterations_of slot) no.iterations;
       stripes = stripes_few (stripes_of slot) no.stripes;

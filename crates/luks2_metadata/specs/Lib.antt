@@ -1,3 +1,2 @@
 pub mod Digest2
-pub mod Segment2
 pub mod Slot2

@@ -19,8 +19,8 @@ use Rattle.luks2_members.specs.Derivation.{hash_in, iterations_in, salt_in}
 use Rattle.luks2_metadata.specs.Digest2.{digest2_for}
 use Rattle.luks2_members.specs.Encryption.{is_length_for, mode_of}
 use Rattle.luks2_members.specs.Numbered.{numbered}
-use Rattle.luks2_metadata.specs.declared.bounds.Bounds.{Bounds}
-use Rattle.luks2_metadata.specs.Segment2.{payload2_of, payload_mode2_of}
+use Rattle.luks2_segment.specs.declared.bounds.Bounds.{Bounds}
+use Rattle.luks2_segment.specs.Segment2.{payload2_of, payload_mode2_of}
 use Rattle.serde_json.specs.Data.{Data}
 use Rattle.serde_json.specs.Find.{get}
 

@@ -15,9 +15,7 @@ ghost use Rattle.serde_json.specs.View.{view as data_of};
 
 mod members;
 
-use crate::bounds::Bounds;
 use crate::digest::iterations_for;
-use crate::payload::{payload, payload_mode};
 use luks_cipher::Mode;
 use luks_kdf::Hash;
 use luks_verdict::bytes::HeaderBytes;
@@ -29,6 +27,8 @@ use luks2_members::encryption::{is_length_for, mode_of};
 use luks2_members::member::{decimal_text, is_type, text, whole_number};
 use luks2_members::numbered::numbered;
 use luks2_members::tree::Metadata;
+use luks2_segment::bounds::Bounds;
+use luks2_segment::payload::{payload, payload_mode};
 use members::{has_members, priority};
 use serde_json::Value;
 use std::alloc::{AllocError, Global};

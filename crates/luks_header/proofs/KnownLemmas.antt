@@ -27,9 +27,9 @@ use Rattle.luks2_header.proofs.JsonLemmas.{read_attached}
 use Rattle.luks2_members.specs.Encryption.{is_length_for}
 use Rattle.luks2_members.specs.Tree.{tree_of}
 use Rattle.serde_json.specs.Data.{Data}
-use Rattle.luks2_metadata.specs.Segment2.{payload2_of, payload_mode2_of}
+use Rattle.luks2_segment.specs.Segment2.{payload2_of, payload_mode2_of}
 use Rattle.luks2_metadata.proofs.DigestLemmas.{digest2_hash}
-use Rattle.luks2_metadata.proofs.SegmentLemmas.{segment2-ok}
+use Rattle.luks2_segment.proofs.SegmentLemmas.{segment2-ok}
 use Rattle.luks2_metadata.proofs.SlotLemmas.{usable2_at}
 use Rattle.luks_verdict.specs.Rule.{exceeds}
 use Rattle.luks_header.specs.Digest.{digest_for}

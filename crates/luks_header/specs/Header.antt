@@ -11,7 +11,7 @@ use Rattle.luks2_header.specs.Header2.{end2_of}
 use Rattle.luks2_header.specs.Text2.{json_text_of}
 use Rattle.luks2_header.specs.declared.header.Header2.{Header2}
 use Rattle.luks2_members.specs.Tree.{tree_of}
-use Rattle.luks2_metadata.specs.declared.bounds.Bounds.{Bounds}
+use Rattle.luks2_segment.specs.declared.bounds.Bounds.{Bounds}
 use Rattle.serde_json.specs.Data.{Data}
 use Rattle.luks_header.specs.declared.header.Header.{Header}
 use Rattle.luks_header.specs.declared.header.Header.TheVariants.{V1, V2}

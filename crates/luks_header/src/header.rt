@@ -17,7 +17,7 @@ pub use luks1_header::header::{Header1, KeySlot, SlotState};
 pub use luks2_header::header::{Finding, Header2, Place};
 use luks2_header::reading::read_header2;
 pub use luks2_members::tree::Metadata;
-pub use luks2_metadata::bounds::Bounds;
+pub use luks2_segment::bounds::Bounds;
 use std::alloc::Global;
 
 /// A header, by the version of its format.

@@ -1,5 +1,3 @@
-pub mod Check
-pub mod Check2
 pub mod Dump
 pub mod Dump1
 pub mod Dump2

@@ -11,7 +11,7 @@ use std::alloc::{AllocError, Global};
 
 /// Adds one line: a name, and what is said under it.
 #[tactic(auto, unfolding(crate::specs::Field::field))]
-pub(crate) fn push_field(page: &mut String, name: &str, value: &str) -> Result<(), AllocError>
+pub fn push_field(page: &mut String, name: &str, value: &str) -> Result<(), AllocError>
     ensures { OnOk result
         (string_bytes page.new ≡ string_bytes page.old ++ field name.now value.now) }
 {

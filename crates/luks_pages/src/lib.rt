@@ -1,7 +1,6 @@
-//! What is printed of a header: its UUID, its dump, and what is amiss with it.
+//! What is printed of a header: its UUID, and its dump.
 #![tactic(auto)]
 
-pub mod check;
 pub mod dump;
 mod escaping;
-mod field;
+pub mod field;

@@ -4,8 +4,8 @@ ghost use Rattle.std.specs.Prelude.{◌≡◌, IfOk, string_bytes};
 ghost use Rattle.luks_report.specs.Check.{check_of, message_for_check};
 
 use crate::message::Message;
+use luks_findings::check::findings;
 use luks_header::header::Header;
-use luks_pages::check::findings;
 use std::alloc::{AllocError, Global};
 
 /// What `luksCheck` prints, and how it ends: each finding on a line of its own and

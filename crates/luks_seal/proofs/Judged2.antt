@@ -16,10 +16,10 @@ use Rattle.luks2_members.specs.Encryption.{is_length_for}
 use Rattle.luks2_members.specs.Member.{is_named, text}
 use Rattle.luks2_members.specs.Numbered.{numbered}
 use Rattle.luks2_metadata.specs.Digest2.{digest2_for}
-use Rattle.luks2_metadata.specs.Segment2.{payload2_of, payload_mode2_of}
+use Rattle.luks2_segment.specs.Segment2.{payload2_of, payload_mode2_of}
 use Rattle.luks2_metadata.specs.Slot2.{are_key_sizes, area_mode_of, has_unknown_hash, is_misplaced2, iterations_of}
 use Rattle.luks2_metadata.specs.Slot2.{reason2_of, slot2_of, slot_parts2_of, stripes_of, verdict2_at, verdict2_of}
-use Rattle.luks2_metadata.proofs.SegmentLemmas.{segment2-ok}
+use Rattle.luks2_segment.proofs.SegmentLemmas.{segment2-ok}
 use Rattle.luks2_metadata.proofs.SlotLemmas.{no_reason, range_of}
 use Rattle.luks_seal.specs.Metadata2.{kdf_object, keyslot_object, metadata_of}
 use Rattle.luks_seal.specs.Numbered.{area_size, area_start}

@@ -5,7 +5,7 @@ use Rattle.std.proofs.lemmas.List.Elements.{All-map}
 use Rattle.luks_verdict.specs.SectorSize.{bytes_of}
 use Rattle.luks_verdict.specs.Segment.{segment_by}
 use Rattle.luks_verdict.specs.declared.slot.SlotParts.{SlotParts}
-use Rattle.luks2_metadata.specs.Segment2.{segment2_of}
+use Rattle.luks2_segment.specs.Segment2.{segment2_of}
 use Rattle.luks2_metadata.specs.Slot2.{verdict2_at}
 use Rattle.luks_header.specs.Digest.{digest_for}
 use Rattle.luks_header.specs.Segment.{segment_of}

@@ -13,11 +13,11 @@ use Rattle.luks_verdict.specs.declared.sector_size.SectorSize.TheVariants.{B512,
 use Rattle.luks_verdict.specs.declared.segment.Segment.{Segment}
 use Rattle.luks_verdict.proofs.MadeLemmas.{segment_of_all-yes}
 use Rattle.luks2_members.specs.Member.{decimal_of, decimal_text, is_named, text, whole_number}
-use Rattle.luks2_metadata.specs.Segment2.{fault2_of, has_requirement, has_segment_members, is_segment, is_torn}
-use Rattle.luks2_metadata.specs.Segment2.{iv_tweak_of, mode2_of, offset_of, sector_size_of, sector_size_with}
-use Rattle.luks2_metadata.specs.Segment2.{segment2_of, segment_parts2_of, size_of, starts_inside, starts_wrong}
-use Rattle.luks2_metadata.specs.Segment2.{the_segment}
-use Rattle.luks2_metadata.specs.declared.bounds.Bounds.{Bounds}
+use Rattle.luks2_segment.specs.Segment2.{fault2_of, has_requirement, has_segment_members, is_segment, is_torn}
+use Rattle.luks2_segment.specs.Segment2.{iv_tweak_of, mode2_of, offset_of, sector_size_of, sector_size_with}
+use Rattle.luks2_segment.specs.Segment2.{segment2_of, segment_parts2_of, size_of, starts_inside, starts_wrong}
+use Rattle.luks2_segment.specs.Segment2.{the_segment}
+use Rattle.luks2_segment.specs.declared.bounds.Bounds.{Bounds}
 use Rattle.serde_json.specs.Find.{as_str}
 use Rattle.luks_seal.specs.Metadata2.{config_object, metadata_of, segment_object, size_text}
 use Rattle.luks_seal.specs.Numbered.{area_start}

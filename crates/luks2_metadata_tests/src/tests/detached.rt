@@ -4,9 +4,9 @@ use super::fixture::{ATTACHED, DETACHED, metadata};
 use super::{segments, slots};
 use luks_testing::same::{same, same_in};
 use luks2_members::tree::Metadata;
-use luks2_metadata::bounds::Bounds;
-use luks2_metadata::payload::segment;
 use luks2_metadata::slot::{judge, slot};
+use luks2_segment::bounds::Bounds;
+use luks2_segment::payload::segment;
 use std::process::Abort;
 use std::test::Fail;
 

@@ -1,7 +1,7 @@
 //! A JSON area, and how it is changed.
 
 use luks2_members::tree::Metadata;
-use luks2_metadata::bounds::Bounds;
+use luks2_segment::bounds::Bounds;
 use std::alloc::{AllocError, Global};
 use std::process::Abort;
 use std::test::Fail;

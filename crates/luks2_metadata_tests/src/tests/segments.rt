@@ -6,7 +6,7 @@ use luks_testing::same::{same, same_in};
 use luks_verdict::refusal::SegmentFault;
 use luks_verdict::sector_size::SectorSize;
 use luks_verdict::segment::Segment;
-use luks2_metadata::payload::segment;
+use luks2_segment::payload::segment;
 use std::process::Abort;
 use std::test::Fail;
 

@@ -1,7 +1,7 @@
 //! What is found in headers.
 
 use super::fixture::{enable, header_bytes, header_from, patch, patch_number, place_of};
-use luks_pages::check::findings;
+use luks_findings::check::findings;
 use luks_testing::same::same;
 use std::process::Abort;
 use std::test::Fail;

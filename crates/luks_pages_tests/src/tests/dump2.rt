@@ -1,7 +1,7 @@
 //! What is printed of LUKS2 headers.
 
 use super::fixture2::read;
-use luks_pages::check::findings;
+use luks_findings::check::findings;
 use luks_pages::dump::{dump_page, uuid_page};
 use luks_testing::header2::{SIZE, empty_image, image_of, write_header};
 use luks_testing::same::same;

@@ -3,14 +3,14 @@
 ghost use Rattle.std.specs.Prelude.{◌≡◌, ◌++◌, IfOk, OnOk, codes, string_bytes};
 ghost use Rattle.luks_pages.specs.Dump2.{segment_line, segment_text, size_text};
 ghost use Rattle.luks_verdict.specs.SegmentFault.{fault_text};
-ghost use Rattle.luks2_metadata.specs.Segment2.{segment2_of};
+ghost use Rattle.luks2_segment.specs.Segment2.{segment2_of};
 
 use crate::field::push_field;
 use luks_header::header::Bounds;
 use luks_verdict::refusal::SegmentFault;
 use luks_verdict::segment::Segment;
 use luks2_members::tree::Metadata;
-use luks2_metadata::payload::segment;
+use luks2_segment::payload::segment;
 use std::alloc::{AllocError, Global};
 
 /// Adds the line of the segment of a header with these bounds, or of its fault.

@@ -1,6 +1,6 @@
 use Rattle.std.proofs.Common.{◌≡◌, ◌++◌, take, string_bytes}
-use Rattle.luks_pages.specs.Check.{slot_findings}
-use Rattle.luks_pages.proofs.check.push_slots.Given as goal
+use Rattle.luks_findings.specs.Check.{slot_findings}
+use Rattle.luks_findings.proofs.check.push_slots.Given as goal
 
 -- the findings so far
 abbrev pub invariant-loop-verdict : goal.invariant-loop-verdict

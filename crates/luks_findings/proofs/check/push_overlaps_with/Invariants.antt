@@ -1,6 +1,6 @@
 use Rattle.std.proofs.Common.{◌≡◌, ◌++◌, take, string_bytes}
-use Rattle.luks_pages.specs.Check.{overlaps_with}
-use Rattle.luks_pages.proofs.check.push_overlaps_with.Given as goal
+use Rattle.luks_findings.specs.Check.{overlaps_with}
+use Rattle.luks_findings.proofs.check.push_overlaps_with.Given as goal
 
 -- the findings so far
 abbrev pub invariant-loop-second : goal.invariant-loop-second

@@ -2,12 +2,12 @@
 
 ghost use Rattle.std.specs.Prelude.{◌≡◌, option_map};
 ghost use Rattle.luks_verdict.specs.Table.{first_holding};
-ghost use Rattle.luks2_metadata.specs.Segment2.{has_none_of, has_requirement, has_segment_members};
-ghost use Rattle.luks2_metadata.specs.Segment2.{is_empty_list, is_segment, is_torn, mode2_of};
-ghost use Rattle.luks2_metadata.specs.Segment2.{payload2_of, payload_mode2_of, requires_nothing};
-ghost use Rattle.luks2_metadata.specs.Segment2.{sector_size_of, sector_size_with, segment2_of};
-ghost use Rattle.luks2_metadata.specs.Segment2.{segment_faults, segment_parts2_of, size_of};
-ghost use Rattle.luks2_metadata.specs.Segment2.{starts_inside, starts_wrong, the_segment};
+ghost use Rattle.luks2_segment.specs.Segment2.{has_none_of, has_requirement, has_segment_members};
+ghost use Rattle.luks2_segment.specs.Segment2.{is_empty_list, is_segment, is_torn, mode2_of};
+ghost use Rattle.luks2_segment.specs.Segment2.{payload2_of, payload_mode2_of, requires_nothing};
+ghost use Rattle.luks2_segment.specs.Segment2.{sector_size_of, sector_size_with, segment2_of};
+ghost use Rattle.luks2_segment.specs.Segment2.{segment_faults, segment_parts2_of, size_of};
+ghost use Rattle.luks2_segment.specs.Segment2.{starts_inside, starts_wrong, the_segment};
 ghost use Rattle.serde_json.specs.View.{view as data_of};
 
 use crate::bounds::Bounds;
@@ -236,7 +236,7 @@ pub fn segment(metadata: &Metadata, bounds: Bounds) -> Result<Segment, SegmentFa
 
 /// Where the payload starts, if it stands in the header's image and the segment is not refused.
 #[tactic(auto, unfolding(crate::specs::Segment2::payload2_of))]
-pub(crate) fn payload(tree: &Value, bounds: Bounds) -> Option<u64>
+pub fn payload(tree: &Value, bounds: Bounds) -> Option<u64>
     ensures { result ≡ payload2_of (data_of tree.now) bounds }
 {
     if bounds.detached {
@@ -250,7 +250,7 @@ pub(crate) fn payload(tree: &Value, bounds: Bounds) -> Option<u64>
 
 /// The mode of the payload, if the segment is not refused.
 #[tactic(auto, unfolding(crate::specs::Segment2::payload_mode2_of))]
-pub(crate) fn payload_mode(tree: &Value, bounds: Bounds) -> Option<Mode>
+pub fn payload_mode(tree: &Value, bounds: Bounds) -> Option<Mode>
     ensures { result ≡ payload_mode2_of (data_of tree.now) bounds }
 {
     match segment_in(tree, bounds) {

@@ -8,10 +8,10 @@ use Rattle.std.specs.Ordering.{match_ordering}
 use Rattle.std.specs.Result.{result_ok}
 use Rattle.std.proofs.lemmas.Map.Text.{is_eq-slice_cmp}
 use Rattle.std.proofs.lemmas.Bool.{ne_eqb}
-use Rattle.luks2_metadata.specs.Segment2.{are_none, fault2_of, has_requirement, is_empty_list, offset_of, only_member}
-use Rattle.luks2_metadata.specs.Segment2.{payload2_of, payload_mode2_of, segment2_of, segment_faults, segment_parts2_of}
-use Rattle.luks2_metadata.specs.Segment2.{segment_said, starts_inside, starts_wrong, the_segment}
-use Rattle.luks2_metadata.specs.declared.bounds.Bounds.{Bounds}
+use Rattle.luks2_segment.specs.Segment2.{are_none, fault2_of, has_requirement, is_empty_list, offset_of, only_member}
+use Rattle.luks2_segment.specs.Segment2.{payload2_of, payload_mode2_of, segment2_of, segment_faults, segment_parts2_of}
+use Rattle.luks2_segment.specs.Segment2.{segment_said, starts_inside, starts_wrong, the_segment}
+use Rattle.luks2_segment.specs.declared.bounds.Bounds.{Bounds}
 use Rattle.luks_cipher.specs.declared.mode.Mode.{Mode}
 use Rattle.luks_verdict.proofs.TableLemmas.{first_not}
 use Rattle.luks_verdict.specs.Evidence.{where_true}
@@ -132,7 +132,8 @@ payload_starts : (tree : Data) (bounds : Bounds) (segment : Segment) → segment
     → bounds.detached ≡ false → payload2_of tree bounds ≡ Some segment.offset
 unfolding payload2_of
 payload_starts tree bounds segment is attached =
-    let offset_in : Result Segment SegmentFault → Option ℕ = λ read. option_map (λ (s : Segment). s.offset) (result_ok read) in
+    let offset_in : Result Segment SegmentFault → Option ℕ =
+    λ read. option_map (λ (s : Segment). s.offset) (result_ok read) in
     subst (λ detached. (if detached then None else offset_in (segment2_of tree bounds)) ≡ Some segment.offset)
     (sym attached) (ap offset_in is)
 

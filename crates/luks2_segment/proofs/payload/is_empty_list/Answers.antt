@@ -1,6 +1,6 @@
 use Rattle.std.proofs.Common.{arith, ◌∙◌}
-use Rattle.luks2_metadata.proofs.SegmentLemmas.{empty_viewed}
-use Rattle.luks2_metadata.proofs.payload.is_empty_list.Goals as goal
+use Rattle.luks2_segment.proofs.SegmentLemmas.{empty_viewed}
+use Rattle.luks2_segment.proofs.payload.is_empty_list.Goals as goal
 use Rattle.serde_json.specs.View.{view}
 
 pub returns-in-Some : goal.returns-in-Some

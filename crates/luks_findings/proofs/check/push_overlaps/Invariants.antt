@@ -1,6 +1,6 @@
 use Rattle.std.proofs.Common.{◌≡◌, ◌++◌, drop, string_bytes}
-use Rattle.luks_pages.specs.Check.{overlaps}
-use Rattle.luks_pages.proofs.check.push_overlaps.Given as goal
+use Rattle.luks_findings.specs.Check.{overlaps}
+use Rattle.luks_findings.proofs.check.push_overlaps.Given as goal
 
 -- the findings so far and those of the key slots that are left are those of all
 abbrev pub invariant-loop-index : goal.invariant-loop-index

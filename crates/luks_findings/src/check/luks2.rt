@@ -1,9 +1,9 @@
 //! What is amiss with the two headers of LUKS2 and with the names of their key slots.
 
 ghost use Rattle.std.specs.Prelude.{◌≡◌, ◌++◌, OnOk, string_bytes};
-ghost use Rattle.luks_pages.specs.Check2.{header2_findings, header_finding, name_finding};
+ghost use Rattle.luks_findings.specs.Check2.{header2_findings, header_finding, name_finding};
 
-use crate::field::push_field;
+use luks_pages::field::push_field;
 use luks2_header::header::{Finding, Header2};
 use luks2_members::numbered::passes_over;
 use luks2_members::tree::Metadata;

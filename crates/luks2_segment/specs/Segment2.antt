@@ -15,7 +15,7 @@ use Rattle.luks_verdict.specs.declared.sector_size.SectorSize.{SectorSize as Sec
 use Rattle.luks_verdict.specs.declared.sector_size.SectorSize.TheVariants.{B512, B1024, B2048, B4096}
 use Rattle.luks_verdict.specs.declared.segment.Segment.{Segment}
 use Rattle.luks_verdict.specs.declared.segment.SegmentParts.{SegmentParts}
-use Rattle.luks2_metadata.specs.declared.bounds.Bounds.{Bounds}
+use Rattle.luks2_segment.specs.declared.bounds.Bounds.{Bounds}
 use Rattle.luks2_members.specs.Member.{decimal_text, has, is_named, is_type, text, whole_number, within}
 use Rattle.luks2_members.specs.Encryption.{mode_of}
 use Rattle.serde_json.specs.Data.{Data, null, Items, no_items, item, Members, no_members, member}

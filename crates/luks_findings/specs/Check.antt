@@ -18,7 +18,7 @@ use Rattle.luks_verdict.specs.declared.segment.Segment.{Segment}
 use Rattle.luks_verdict.specs.declared.slot.Slot.{Slot}
 use Rattle.luks_verdict.specs.declared.slot.Verdict.{Verdict}
 use Rattle.luks_verdict.specs.declared.slot.Verdict.TheVariants.{Usable, Disabled, Skipped}
-use Rattle.luks_pages.specs.Check2.{header2_findings}
+use Rattle.luks_findings.specs.Check2.{header2_findings}
 use Rattle.luks_pages.specs.Field.{field}
 
 -- what is found in the header itself, by its version. A LUKS1 header stands alone, and its key slots have no names

@@ -2,15 +2,15 @@
 
 ghost use Rattle.std.specs.Prelude.{◌≡◌, ◌++◌, IfOk, OnOk, string_bytes};
 ghost use Rattle.luks_header.specs.Segment.{segment_of};
-ghost use Rattle.luks_pages.specs.Check.{do_overlap, findings_of, header_findings, is_amiss};
-ghost use Rattle.luks_pages.specs.Check.{overlap, overlaps, overlaps_with, segment_finding};
-ghost use Rattle.luks_pages.specs.Check.{skip_finding, slot_finding, slot_findings};
+ghost use Rattle.luks_findings.specs.Check.{do_overlap, findings_of, header_findings, is_amiss};
+ghost use Rattle.luks_findings.specs.Check.{overlap, overlaps, overlaps_with, segment_finding};
+ghost use Rattle.luks_findings.specs.Check.{skip_finding, slot_finding, slot_findings};
 
-use crate::field::push_field;
 use luks_header::header::Header;
 use luks_header::payload::segment;
 use luks_header::refusal::SkipReason;
 use luks_header::slot::{Slot, Verdict, slots};
+use luks_pages::field::push_field;
 use std::alloc::{AllocError, Global};
 
 pub(crate) mod luks2;

@@ -1,6 +1,6 @@
 use Rattle.std.proofs.Common.{arith}
-use Rattle.luks2_metadata.proofs.SegmentLemmas.{segment_none, segment_only}
-use Rattle.luks2_metadata.proofs.payload.the_segment.Goals as goal
+use Rattle.luks2_segment.proofs.SegmentLemmas.{segment_none, segment_only}
+use Rattle.luks2_segment.proofs.payload.the_segment.Goals as goal
 use Rattle.serde_json.specs.View.{view}
 
 pub returns-then-len-eq1 : goal.returns-then-len-eq1
