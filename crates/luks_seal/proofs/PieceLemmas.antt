@@ -33,7 +33,8 @@ module _ (cipher : Cipher) (first step size : ℕ) (bytes : List ℕ) where
   pub sectors_more : (i number : ℕ) (before after : List ℕ)
       → before ≡ joined (encrypted_sector cipher first step size bytes) i
       → number ≡ unit_number first step i
-      → after ≡ before ++ sector_encrypted cipher.0 cipher.1 number (take (i * size + size - i * size) (drop (i * size) bytes))
+      → after ≡ before
+      ++ sector_encrypted cipher.0 cipher.1 number (take (i * size + size - i * size) (drop (i * size) bytes))
       → after ≡ joined (encrypted_sector cipher first step size bytes) (i + 1)
   unfolding joined encrypted_sector
   sectors_more i number before after is numbered next =

@@ -1,12 +1,3 @@
-pub mod Layout1
-pub mod Layout2
-pub mod Metadata2
-pub mod Numbered
-pub mod Passphrases
 pub mod Pieces
 pub mod Ranges
-pub mod Ranges1
-pub mod Ranges2
 pub mod Sealed
-pub mod Typed1
-pub mod Typed2

@@ -1,19 +1,12 @@
-//! Volumes made from values that are all handed in, for tests and for what is proved of honest
-//! volumes.
+//! What volumes of both formats are made from, for tests and for what is proved of honest volumes:
+//! their parameters, the ranges that both share, and the pieces that their images are put together
+//! from.
 //!
-//! [`seal1`](luks1::seal1) makes one of LUKS1, [`seal2`](luks2::seal2) one of LUKS2. Nothing is
-//! drawn: each salt and each random stripe comes from the caller.
+//! `seal1` of the crate `luks1_seal` makes a volume of LUKS1, `seal2` of `luks2_seal` one of LUKS2.
+//! Nothing is drawn: each salt and each random stripe comes from the caller.
 #![tactic(auto)]
 
-mod areas;
-mod headers;
-mod headers1;
-pub mod luks1;
-pub mod luks2;
-mod metadata;
 pub mod parameters;
-mod pieces;
-mod ranges;
-mod ranges2;
-mod typed;
-mod typed2;
+pub mod pieces;
+pub mod ranges;
+pub mod typed;

@@ -16,7 +16,7 @@ use std::alloc::{AllocError, Global};
 
 /// Some bytes, and zeros behind them up to this length.
 #[tactic(auto, unfolding(crate::specs::Pieces::padded))]
-pub(crate) fn padded(alloc: Global, bytes: &[u8], room: usize) -> Result<Vec<u8>, AllocError>
+pub fn padded(alloc: Global, bytes: &[u8], room: usize) -> Result<Vec<u8>, AllocError>
     ensures { IfOk result (λ all. all.items ≡ padded room bytes.now) }
 {
     let mut all = Vec::from_slice(alloc, bytes)?;
@@ -25,7 +25,7 @@ pub(crate) fn padded(alloc: Global, bytes: &[u8], room: usize) -> Result<Vec<u8>
 }
 
 /// Adds some bytes, and zeros behind them up to this length.
-pub(crate) fn push_padded(
+pub fn push_padded(
     alloc: Global,
     image: &mut Vec<u8>,
     bytes: &[u8],
@@ -38,7 +38,7 @@ pub(crate) fn push_padded(
 }
 
 /// A cipher of this mode and key.
-pub(crate) fn cipher_of(mode: Mode, key: &[u8]) -> SectorCipher
+pub fn cipher_of(mode: Mode, key: &[u8]) -> SectorCipher
     requires { FitsKey mode (length key.now) }
     ensures { result ≡ (mode, key.now) }
 {
@@ -76,7 +76,7 @@ fn push_sector(
 
 /// Whole sectors of this size, each encrypted. The first has the number `first`, and each `step`
 /// more than the one before.
-pub(crate) fn encrypted(
+pub fn encrypted(
     alloc: Global,
     cipher: &SectorCipher,
     first: u64,
@@ -103,7 +103,7 @@ pub(crate) fn encrypted(
 }
 
 /// The stripes of a key: the random ones, and one more that makes them merge to the key.
-pub(crate) fn stripes_of(
+pub fn stripes_of(
     alloc: Global,
     hash: Hash,
     key: &[u8],
@@ -126,7 +126,7 @@ pub(crate) fn stripes_of(
 
 /// Key material: these stripes in whole sectors of 512 bytes, encrypted and numbered from 0.
 #[tactic(auto, unfolding(crate::specs::Pieces::material_of, crate::specs::Pieces::whole_sectors))]
-pub(crate) fn material_of(
+pub fn material_of(
     alloc: Global,
     mode: Mode,
     key: &[u8],

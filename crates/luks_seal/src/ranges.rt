@@ -1,36 +1,10 @@
-//! Whether the parameters of a volume of LUKS1 are in their ranges.
+//! Ranges that volumes of both formats share.
 
-ghost use Rattle.std.specs.Prelude.{◌≡◌, ◌≢◌, ◌*◌, ◌-◌, ◌<◌, ◌≤◌, ◌↔◌, ℕ, All, length, IsTrue};
+ghost use Rattle.std.specs.Prelude.{◌≡◌, ◌≢◌, ◌<◌, ◌≤◌, ◌↔◌, ℕ, length, IsTrue};
 ghost use Rattle.luks_seal.specs.Ranges.{FitsText};
-ghost use Rattle.luks_seal.specs.Ranges1.{AreDistinct, AreParameters, FitsCounts, FitsPlain};
-ghost use Rattle.luks_seal.specs.Ranges1.{FitsSlot, area_sectors};
-
-use super::parameters::{Seal1, Slot1};
-
-/// The sectors of 512 bytes that a slot's stripes take, rounded up to a multiple of 8.
-pub(super) fn area_of(key: usize, stripes: u32) -> u32
-    requires key { key ≤ 64 }
-    requires stripes { stripes ≤ 4000 }
-    ensures value { result ≡ area_sectors key stripes }
-    ensures most { result ≤ 504 }
-{
-    (key as u32 * stripes + 4095) / 4096 * 8
-}
-
-/// The counts are in their ranges, and the payload begins behind the areas of eight slots.
-pub(super) fn fits_counts(seal: &Seal1<'_>) -> bool
-    requires { length seal.now.key.now ≤ 64 }
-    ensures { IsTrue result ↔ FitsCounts seal.now }
-{
-    if seal.stripes < 1 || seal.stripes > 4000 {
-        return false;
-    }
-    let start = 8 + 8 * area_of(seal.key.len(), seal.stripes);
-    seal.digest_iterations >= 1 && start <= seal.payload_sectors && seal.payload_sectors <= 65536
-}
 
 /// A text of at most so many bytes, none of them zero.
-pub(super) fn fits_text(most: usize, text: &[u8]) -> bool
+pub fn fits_text(most: usize, text: &[u8]) -> bool
     ensures { IsTrue result ↔ FitsText most text.now }
 {
     if text.len() > most {
@@ -42,57 +16,4 @@ pub(super) fn fits_text(most: usize, text: &[u8]) -> bool
         }
     }
     true
-}
-
-/// Whole sectors, and not too many.
-pub(super) fn fits_plain(len: usize) -> bool
-    ensures { IsTrue result ↔ FitsPlain len }
-{
-    len % 512 == 0 && len <= 8_388_608
-}
-
-/// One slot of a volume with so many random bytes for each.
-pub(super) fn fits_slot(random: usize, slot: &Slot1<'_>) -> bool
-    ensures { IsTrue result ↔ FitsSlot random slot.now }
-{
-    slot.number <= 7 && slot.iterations >= 1 && slot.random.len() == random
-}
-
-/// Each of these slots fits.
-fn fit_slots(random: usize, slots: &[Slot1<'_>]) -> bool
-    ensures { IsTrue result ↔ All (FitsSlot random) slots.now }
-{
-    slots.iter().all(|slot| fits_slot(random, slot))
-}
-
-/// No slot has this number.
-fn is_free(number: u32, slots: &[Slot1<'_>]) -> bool
-    ensures { IsTrue result ↔ All (λ slot. slot.number ≢ number) slots.now }
-{
-    slots.iter().all(|slot| slot.number != number)
-}
-
-/// No slot has the number of one before it.
-fn are_distinct(slots: &[Slot1<'_>]) -> bool
-    ensures { IsTrue result ↔ AreDistinct slots.now }
-{
-    match slots {
-        [] => true,
-        [slot, rest @ ..] => is_free(slot.number, rest) && are_distinct(rest),
-    }
-}
-
-/// All parameters are in their ranges.
-#[tactic(auto, using(luks_cipher::proofs::ModeLemmas::longest_key))]
-pub(super) fn are_parameters(seal: &Seal1<'_>) -> bool
-    ensures { IsTrue result ↔ AreParameters seal.now }
-{
-    if !seal.mode.has_key_length(seal.key.len()) || !fits_counts(seal) {
-        return false;
-    }
-    let random = (seal.stripes - 1) as usize * seal.key.len();
-    fits_text(40, seal.uuid)
-        && fits_plain(seal.plain.len())
-        && fit_slots(random, seal.slots)
-        && are_distinct(seal.slots)
 }

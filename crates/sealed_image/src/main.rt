@@ -7,10 +7,10 @@
 
 use luks_cipher::Mode;
 use luks_kdf::Hash;
-use luks_seal::luks1::seal1;
-use luks_seal::luks2::seal2;
 use luks_seal::parameters::{Seal1, Seal2, SealFault, Slot1, Slot2};
 use luks_verdict::sector_size::SectorSize;
+use luks1_seal::seal1;
+use luks2_seal::seal2;
 use std::alloc::{AllocError, Global};
 use std::io::Write;
 use std::{env, io};

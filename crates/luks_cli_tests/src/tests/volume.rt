@@ -2,8 +2,8 @@
 
 use luks_cipher::Mode;
 use luks_kdf::Hash;
-use luks_seal::luks1::seal1;
 use luks_seal::parameters::{Seal1, Slot1};
+use luks1_seal::seal1;
 use std::alloc::{AllocError, Global};
 use std::test::Fail;
 

@@ -4,9 +4,9 @@
 use super::fixture::slot1 as slot;
 use luks_cipher::Mode;
 use luks_kdf::Hash;
-use luks_seal::luks1::seal1;
 use luks_seal::parameters::{Seal1, Slot1};
 use luks_testing::same::holds_in;
+use luks1_seal::seal1;
 use std::test::Fail;
 
 /// How many are drawn.

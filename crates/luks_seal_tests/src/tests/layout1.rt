@@ -6,8 +6,8 @@
 use super::fixture::{at, check_image, counted, parameters1 as parameters, slot1 as slot};
 use luks_cipher::Mode;
 use luks_kdf::Hash;
-use luks_seal::luks1::seal1;
 use luks_seal::parameters::{Seal1, Slot1};
+use luks1_seal::seal1;
 use std::process::Abort;
 use std::test::Fail;
 

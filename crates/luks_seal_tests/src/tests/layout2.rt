@@ -5,9 +5,9 @@
 use super::fixture::{at, check_image, counted, parameters2, slot2};
 use luks_cipher::Mode;
 use luks_kdf::Hash;
-use luks_seal::luks2::seal2;
 use luks_seal::parameters::{Seal2, Slot2};
 use luks_verdict::sector_size::SectorSize;
+use luks2_seal::seal2;
 use std::process::Abort;
 use std::test::Fail;
 

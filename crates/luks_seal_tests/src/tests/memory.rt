@@ -2,11 +2,11 @@
 //! that does answers want of memory, and never anything else.
 
 use super::fixture::{counted, parameters1, parameters2, slot1, slot2};
-use luks_seal::luks1::seal1;
-use luks_seal::luks2::seal2;
 use luks_seal::parameters::SealFault;
 use luks_testing::same::same;
 use luks_testing::scarce::Scarcity;
+use luks1_seal::seal1;
+use luks2_seal::seal2;
 use std::process::Abort;
 use std::test::Fail;
 

@@ -3,8 +3,8 @@
 use super::fixture::{
     KEY_LENGTHS, at, check_fits, counted, parameters1 as parameters, slot1 as slot,
 };
-use luks_seal::luks1::seal1;
 use luks_seal::parameters::{Seal1, Slot1};
+use luks1_seal::seal1;
 use std::process::Abort;
 use std::test::Fail;
 

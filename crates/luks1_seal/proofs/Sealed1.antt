@@ -1,0 +1,151 @@
+-- The image of a volume of LUKS1 is a sealed volume of its key, its passphrases and its plain text.
+use Rattle.std.proofs.Common.{◌≡◌, ◌∙◌, ℕ, ◌+◌, ◌-◌, ◌*◌, ◌<◌, true, List, [], ◌∷◌, length, Some, None, Ok, refl, ap}
+use Rattle.std.proofs.Common.{arith, get_or}
+use Rattle.std.specs.Prelude.{bytes_eq, option_map}
+use Rattle.std.proofs.lemmas.Bool.{le-ltb}
+use Rattle.std.proofs.lemmas.List.{take_all}
+use Rattle.std.proofs.lemmas.List.Elements.{All-map}
+use Rattle.luks_area.specs.Field.{at}
+use Rattle.luks_verdict.specs.Digest.{digest_of}
+use Rattle.luks_verdict.specs.Rule.{need_of}
+use Rattle.luks_verdict.specs.Segment.{segment_by}
+use Rattle.luks_verdict.specs.Slot.{slot_of}
+use Rattle.luks_verdict.specs.declared.sector_size.SectorSize.TheVariants.{B512}
+use Rattle.luks1_header.specs.Header1.{is_luks1, key_slot_of}
+use Rattle.luks1_header.specs.Header1.{header1_of as read_header1}
+use Rattle.luks1_header.specs.Slot1.{digest_parts1_of, slot_parts1_of, verdict1_at, verdict1_of}
+use Rattle.luks1_header.specs.declared.header.Header1.{Header1}
+use Rattle.luks1_header.specs.declared.header.KeySlot.{KeySlot}
+use Rattle.luks_header.specs.Digest.{digest_for}
+use Rattle.luks_header.specs.Header.{header_of}
+use Rattle.luks_header.specs.Segment.{segment_of}
+use Rattle.luks_header.specs.Slot.{verdict_at}
+use Rattle.luks_header.specs.declared.header.Header.TheVariants.{V1}
+use Rattle.luks_seal.specs.Sealed.{GivesKey, Sealed, SealsKey, SealsPlain}
+use Rattle.luks_seal.specs.declared.parameters.Seal1.{Seal1}
+use Rattle.luks_seal.specs.declared.parameters.Slot1.{Slot1}
+use Rattle.luks_seal.proofs.MaterialLemmas.{gives_key}
+use Rattle.luks_seal.proofs.SectorLemmas.{sectors_stand}
+use Rattle.luks1_seal.specs.Layout1.{area_key1_of, area_sectors_of, image1_of, key_slot1_of, material1_of, payload1_of}
+use Rattle.luks1_seal.specs.Layout1.{slot1_numbered, start1_of}
+use Rattle.luks1_seal.specs.Passphrases.{passphrases1_of}
+use Rattle.luks1_seal.specs.Ranges1.{AreParameters, FitsSlot}
+use Rattle.luks1_seal.specs.Typed1.{AreTyped1, IsTypedSlot1}
+use Rattle.luks1_seal.proofs.Image1.{image_header, image_material, image_payload, material_within}
+use Rattle.luks1_seal.proofs.Judged1.{digest1_is, digest1_of_key, digest_usable, hash1_is, mode1_is, payload_starts}
+use Rattle.luks1_seal.proofs.Judged1.{ranged, segment1_is, verdict1_is}
+use Rattle.luks1_seal.proofs.Layout1Lemmas.{drawn1, length-front1, length-image1}
+use Rattle.luks1_seal.proofs.Read1.{IsKeySlot, IsRead1, front1_of, header1_is, in_start, key_slot1_is}
+use Rattle.luks1_seal.proofs.Slots1.{numbered_itself}
+
+module _ (p : Seal1) (fits : AreParameters p) (typed : AreTyped1 p) where
+  -- ---- the header
+
+  begins : is_luks1 (image1_of p) ≡ true
+  unfolding is_luks1 start1_of
+  begins =
+      ap (λ (b : List ℕ). bytes_eq b (0x4c ∷ 0x55 ∷ 0x4b ∷ 0x53 ∷ 0xba ∷ 0xbe ∷ 0x00 ∷ 0x01 ∷ []))
+      (image_header p fits typed 0 8 (omega arith) ∙ in_start p fits typed 0 8 (omega arith))
+
+  whole_header : at 0 592 (image1_of p) ≡ front1_of p
+  whole_header =
+      image_header p fits typed 0 592 (omega arith)
+      ∙ take_all 592 (front1_of p) (omega (arith, length-front1 p fits typed))
+
+  header_is : header_of (image1_of p) ≡ Ok (V1 (read_header1 (front1_of p)))
+  unfolding header_of
+  header_is =
+      let long = length-image1 p fits typed in
+      let room = le-ltb (length (image1_of p)) 592 (omega (arith, long, fits.counts.3)) in
+      rw (begins, room, whole_header) refl
+
+  read : IsRead1 p (read_header1 (front1_of p))
+  read = header1_is p fits typed
+
+  -- ---- a key slot
+
+  module _ (slot : Slot1) (found : slot1_numbered slot.number p.slots.now ≡ Some slot)
+      (of_slot : FitsSlot ((p.stripes - 1) * length p.key.now) slot) (of_types : IsTypedSlot1 slot) where
+    low : slot.number < 8
+    low = omega (arith, of_slot.0)
+
+    stored_is : IsKeySlot slot (8 + slot.number * area_sectors_of p) p.stripes
+        (key_slot_of (key_slot1_of p slot.number))
+    stored_is = key_slot1_is p fits typed slot.number slot found of_types.salt of_types.iterations low
+
+    -- what is read of it gives the key
+    gives1 : (header : Header1) (stored : KeySlot) → IsRead1 p header
+        → IsKeySlot slot (8 + slot.number * area_sectors_of p) p.stripes stored
+        → GivesKey (slot_parts1_of header stored) slot.passphrase.now p.key.now (image1_of p)
+    unfolding slot_parts1_of need_of material1_of area_key1_of
+    gives1 header stored of_header of_stored =
+        let drawn = drawn1 p fits typed slot of_slot in
+        let starts = ap (λ n. 512 * n) of_stored.offset in
+        gives_key (slot_parts1_of header stored) p.hash p.hash p.mode slot.passphrase.now p.key.now slot.random.now
+        (image1_of p)
+        (record {
+          is_kdf = hash1_is p header fits typed of_header;
+          is_af = hash1_is p header fits typed of_header;
+          is_mode = mode1_is p header fits typed of_header;
+          key_bytes = of_header.key_bytes;
+          drawn = rw of_stored.stripes drawn;
+          bytes = typed.key;
+          random_bytes = of_types.random;
+        })
+        (rw of_stored.stripes
+        (material_within p fits typed slot.number slot found low of_slot (512 * stored.offset) starts))
+        (rw (of_stored.stripes, of_stored.salt, of_stored.iterations, of_header.key_bytes)
+        (image_material p fits typed slot.number slot found low of_slot (512 * stored.offset) starts))
+
+    seals_key1 : SealsKey (V1 (read_header1 (front1_of p))) (image1_of p) p.key.now slot.number slot.passphrase.now
+    unfolding verdict_at verdict1_at digest_for slot_of
+    seals_key1 =
+        let header = read_header1 (front1_of p) in
+        let stored = key_slot_of (key_slot1_of p slot.number) in
+        record {
+          slot = slot_of (slot_parts1_of header stored)
+              (ranged p header fits typed read slot slot.number stored stored_is low of_slot.1 of_types.iterations);
+          digest = digest_of (digest_parts1_of header) (digest_usable p header fits typed read);
+          usable = ap (option_map (verdict1_of header None)) (read.slots slot.number low)
+              ∙ ap Some
+              (verdict1_is p header fits typed read slot slot.number stored stored_is low of_slot.1
+              of_types.iterations);
+          gives = gives1 header stored read stored_is;
+          is_digest = digest1_is p header fits typed read;
+          digest_of_key = digest1_of_key p header fits typed read;
+        }
+
+  -- ---- the payload
+
+  seals_plain1 : SealsPlain (segment_by (512 * (read_header1 (front1_of p)).payload_offset) None 0 B512 p.mode refl)
+      (image1_of p) p.key.now p.plain.now
+  unfolding segment_by payload1_of
+  seals_plain1 =
+      let place = 512 * (read_header1 (front1_of p)).payload_offset in
+      let starts = payload_starts p (read_header1 (front1_of p)) fits typed read in
+      let long = length-image1 p fits typed in
+      record {
+        stands = sectors_stand (p.mode, p.key.now) 0 1 512 p.plain.now refl fits.plain.0 place (image1_of p)
+            typed.plain (omega (arith, starts, long)) (image_payload p fits typed place starts);
+        ends = omega (arith, starts, long);
+      }
+
+  -- ---- the volume
+
+  pub sealed1 : Sealed (image1_of p) (passphrases1_of p) p.key.now p.plain.now
+  unfolding segment_of
+  sealed1 =
+      let header = read_header1 (front1_of p) in
+      record {
+        header = V1 header;
+        segment = segment_by (512 * header.payload_offset) None 0 B512 p.mode refl;
+        is_header = header_is;
+        is_segment = segment1_is p header fits typed read;
+        key_bytes = typed.key;
+        slots = All-map (λ slot. SealsKey (V1 header) (image1_of p) p.key.now slot.0 slot.1)
+            (λ slot. (slot.number, slot.passphrase.now)) p.slots.now
+            (λ k d below.
+            seals_key1 (get_or p.slots.now k d) (numbered_itself p.slots.now fits.distinct k d below)
+            (fits.slots k d below) (typed.slots k d below));
+        payload = seals_plain1;
+      }

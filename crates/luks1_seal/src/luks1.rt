@@ -1,0 +1,136 @@
+//! Volumes of LUKS1 (LUKS1 On-Disk Format Specification 1.2.3).
+
+ghost use Rattle.std.specs.Prelude.{◌≡◌, ◌-◌, ◌*◌, ◌++◌, [], IfOk, OnOk, length};
+ghost use Rattle.std.specs.Option.{option_map_or};
+ghost use Rattle.luks_seal.specs.Ranges.{SealsOrSays};
+ghost use Rattle.luks_seal.specs.Sealed.{Sealed};
+ghost use Rattle.luks1_seal.specs.Layout1.{area1_of, area_key1_of, areas1_below, image1_of};
+ghost use Rattle.luks1_seal.specs.Layout1.{material1_of, payload1_of, slot1_numbered};
+ghost use Rattle.luks1_seal.specs.Passphrases.{passphrases1_of};
+ghost use Rattle.luks1_seal.specs.Ranges1.{AreParameters, FitsSlot};
+
+use crate::headers1::{header_of, numbered};
+use crate::ranges::{are_parameters, area_of};
+use crate::typed::typed1;
+use luks_kdf::{Work, pbkdf2};
+use luks_seal::parameters::{Seal1, SealFault, Slot1};
+use luks_seal::pieces::{cipher_of, encrypted, material_of, padded, push_padded, stripes_of};
+use luks_verdict::sector_size::SectorSize;
+use std::alloc::{AllocError, Global};
+
+/// The key that encrypts a slot's area.
+#[tactic(auto, using(luks_cipher::proofs::ModeLemmas::longest_key), unfolding(crate::specs::Layout1::area_key1_of))]
+fn area_key_of(alloc: Global, seal: &Seal1<'_>, slot: &Slot1<'_>) -> Result<Vec<u8>, AllocError>
+    requires fits { AreParameters seal.now }
+    requires slot { FitsSlot ((seal.now.stripes - 1) * length seal.now.key.now) slot.now }
+    ensures value { IfOk result (λ key. key.items ≡ area_key1_of seal.now slot.now) }
+    ensures len { IfOk result (λ key. length key.items ≡ length seal.now.key.now) }
+{
+    let mut key = vec![in alloc; 0; seal.key.len()]?;
+    pbkdf2(
+        seal.hash,
+        slot.passphrase,
+        &slot.salt,
+        slot.iterations,
+        &mut key,
+        &mut Work::new(0),
+    );
+    Ok(key)
+}
+
+/// A slot's key material.
+#[tactic(auto, using(luks_cipher::proofs::ModeLemmas::longest_key), unfolding(crate::specs::Layout1::material1_of))]
+fn slot_material(alloc: Global, seal: &Seal1<'_>, slot: &Slot1<'_>) -> Result<Vec<u8>, AllocError>
+    requires fits { AreParameters seal.now }
+    requires slot { FitsSlot ((seal.now.stripes - 1) * length seal.now.key.now) slot.now }
+    ensures { IfOk result (λ material. material.items ≡ material1_of seal.now slot.now) }
+{
+    let area_key = area_key_of(alloc, seal, slot)?;
+    let stripes = stripes_of(alloc, seal.hash, seal.key, seal.stripes, slot.random)?;
+    material_of(alloc, seal.mode, &area_key, &stripes)
+}
+
+/// The key material of the slot of this number, or no bytes where it is not in use.
+fn material_at(alloc: Global, seal: &Seal1<'_>, number: u32) -> Result<Vec<u8>, AllocError>
+    requires { AreParameters seal.now }
+    ensures { IfOk result (λ material. material.items
+        ≡ option_map_or (material1_of seal.now) (slot1_numbered number seal.now.slots.now) []) }
+{
+    match numbered(seal, number) {
+        Some(slot) => slot_material(alloc, seal, slot),
+        None => Ok(Vec::new(alloc)),
+    }
+}
+
+/// Adds the area of the slot of this number.
+#[tactic(auto, using(luks_cipher::proofs::ModeLemmas::longest_key), unfolding(crate::specs::Layout1::area1_of))]
+fn push_area(
+    alloc: Global,
+    image: &mut Vec<u8>,
+    seal: &Seal1<'_>,
+    number: u32,
+) -> Result<(), AllocError>
+    requires { AreParameters seal.now }
+    ensures { OnOk result (image.new.items ≡ image.old.items ++ area1_of seal.now number) }
+{
+    let material = material_at(alloc, seal, number)?;
+    let sectors = area_of(seal.key.len(), seal.stripes);
+    push_padded(alloc, image, &material, sectors as usize * 512)
+}
+
+/// Adds the areas of all eight slots.
+#[tactic(auto, unfolding(crate::specs::Layout1::areas1_below))]
+fn push_areas(alloc: Global, image: &mut Vec<u8>, seal: &Seal1<'_>) -> Result<(), AllocError>
+    requires { AreParameters seal.now }
+    ensures { OnOk result (image.new.items ≡ image.old.items ++ areas1_below seal.now 8) }
+{
+    'slots: for number in 0..8 {
+        push_area(alloc, image, seal, number)?;
+    }
+    Ok(())
+}
+
+/// The payload.
+#[tactic(auto, unfolding(crate::specs::Layout1::payload1_of))]
+fn payload_of(alloc: Global, seal: &Seal1<'_>) -> Result<Vec<u8>, AllocError>
+    requires { AreParameters seal.now }
+    ensures { IfOk result (λ payload. payload.items ≡ payload1_of seal.now) }
+{
+    let cipher = cipher_of(seal.mode, seal.key);
+    encrypted(alloc, &cipher, 0, 1, SectorSize::B512, seal.plain)
+}
+
+/// The image of a volume whose parameters are in their ranges.
+#[tactic(auto, unfolding(crate::specs::Layout1::image1_of))]
+fn image_of(alloc: Global, seal: &Seal1<'_>) -> Result<Vec<u8>, AllocError>
+    requires { AreParameters seal.now }
+    ensures { IfOk result (λ image. image.items ≡ image1_of seal.now) }
+{
+    let mut front = header_of(alloc, seal)?;
+    push_areas(alloc, &mut front, seal)?;
+    let mut image = padded(alloc, &front, seal.payload_sectors as usize * 512)?;
+    let payload = payload_of(alloc, seal)?;
+    image.extend_from_slice(&payload)?;
+    Ok(image)
+}
+
+/// Makes the image of a volume with the cipher `aes`.
+///
+/// The area of slot i begins at sector `8 + i * a`, where `a` is the length of an area in sectors
+/// of 512 bytes, rounded up to a multiple of 8. The payload ends the image, and bytes that nothing
+/// is said of are zero.
+///
+/// [`Parameters`](SealFault::Parameters) says that a parameter is outside its range, and comes
+/// before any memory is taken.
+pub fn seal1(alloc: Global, seal: &Seal1<'_>) -> Result<Vec<u8>, SealFault>
+    ensures answer { SealsOrSays (AreParameters seal.now) result }
+    ensures image { IfOk result (λ image. image.items ≡ image1_of seal.now) }
+    ensures sealed { IfOk result (λ image.
+        Sealed image.items (passphrases1_of seal.now) seal.now.key.now seal.now.plain.now) }
+{
+    if !are_parameters(seal) {
+        return Err(SealFault::Parameters);
+    }
+    typed1(seal);
+    Ok(image_of(alloc, seal)?)
+}

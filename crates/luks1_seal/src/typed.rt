@@ -1,0 +1,37 @@
+//! What the types of the parameters of LUKS1 say of their values: nothing is done here, the clauses
+//! are for proofs.
+
+ghost use Rattle.luks1_seal.specs.Typed1.{AreTyped1, IsTypedSlot1};
+ghost use Rattle.std.specs.Prelude.{All};
+
+use luks_seal::parameters::{Seal1, Slot1};
+use luks_seal::typed::bytes;
+
+/// What a key slot of LUKS1 has.
+fn slot1(slot: &Slot1<'_>)
+    ensures { IsTypedSlot1 slot.now }
+{
+    // Read, so that its range is known.
+    let _iterations = slot.iterations;
+    bytes(slot.random);
+}
+
+/// What each of these key slots has.
+fn slots1(slots: &[Slot1<'_>])
+    ensures { All IsTypedSlot1 slots.now }
+{
+    'slots: for slot in slots {
+        slot1(slot);
+    }
+}
+
+/// What the parameters of a volume of LUKS1 have.
+pub(crate) fn typed1(seal: &Seal1<'_>)
+    ensures { AreTyped1 seal.now }
+{
+    // Read, so that its range is known.
+    let _iterations = seal.digest_iterations;
+    bytes(seal.key);
+    bytes(seal.plain);
+    slots1(seal.slots);
+}

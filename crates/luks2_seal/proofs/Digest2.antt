@@ -1,0 +1,123 @@
+-- What the metadata says of the key's digest is read again: it is the digest of each key slot.
+use Rattle.std.proofs.Common.{◌≡◌, ◌∙◌, ◌<◌, ◌≤◌, ◌^◌, ℕ, Some, true, ap, arith, refl, sym}
+use Rattle.std.specs.Prelude.{codes}
+use Rattle.std.proofs.lemmas.Bool.Decides.{nat_tests}
+use Rattle.std.proofs.lemmas.Fmt.{decimal_digit}
+use Rattle.luks_kdf.specs.Hash.{size_of}
+use Rattle.luks_kdf.specs.Pbkdf2.{derived_key}
+use Rattle.luks_kdf.proofs.HashLemmas.{sizes}
+use Rattle.luks_kdf.proofs.Pbkdf2Lemmas.{length-derived_key}
+use Rattle.luks_verdict.specs.Digest.{digest_of, is_usable}
+use Rattle.luks_verdict.specs.Rule.{is_beyond, is_digest}
+use Rattle.luks_verdict.specs.declared.digest.DigestParts.{DigestParts}
+use Rattle.luks_verdict.specs.declared.digest.KeyDigest.{KeyDigest}
+use Rattle.luks_verdict.proofs.MadeLemmas.{digest_from-yes}
+use Rattle.luks2_members.specs.Derivation.{hash_in, iterations_in, salt_in}
+use Rattle.luks2_members.specs.List.{has_texts, lists}
+use Rattle.luks2_members.specs.Member.{base64_text, is_named, text, whole_number}
+use Rattle.luks2_members.specs.Numbered.{numbered}
+use Rattle.luks2_members.proofs.NumberedLemmas.{lowest_found, lowest_none}
+use Rattle.luks2_metadata.specs.Digest2.{digest2_for, digest2_of, digest_parts2_of, is_digest2, is_of_slot, own_digest}
+use Rattle.luks2_metadata.specs.Digest2.{own_digest_at, value_in}
+use Rattle.luks_seal.specs.Sealed.{IsDigestOf}
+use Rattle.luks_seal.specs.declared.parameters.Seal2.{Seal2}
+use Rattle.luks_seal.specs.declared.parameters.Slot2.{Slot2}
+use Rattle.luks_seal.proofs.DerivedLemmas.{derived_bytes}
+use Rattle.luks2_seal.specs.Metadata2.{digest_object, metadata_of}
+use Rattle.luks2_seal.specs.Numbered.{slot_numbered}
+use Rattle.luks2_seal.specs.Ranges2.{AreParameters2}
+use Rattle.luks2_seal.specs.Typed2.{AreTyped2}
+use Rattle.luks2_seal.proofs.Slots2.{names_texts, slot_listed}
+use Rattle.luks2_seal.proofs.TextLemmas.{base64_read, hash_read}
+
+-- what it is made of
+abbrev pub digest_parts : Seal2 → DigestParts
+digest_parts p = record {
+  hash = Some p.digest_hash;
+  iterations = p.digest_iterations;
+  salt = p.digest_salt;
+  value = derived_key p.digest_hash p.key.now p.digest_salt p.digest_iterations (size_of p.digest_hash);
+}
+
+in_range : (iterations len : ℕ) → 1 ≤ iterations → iterations < 2 ^ 32 → 20 ≤ len → len ≤ 64
+    → is_digest iterations len ≡ true
+unfolding is_digest is_beyond
+in_range iterations len some few least most = grind (arith, nat_tests)
+
+module _ (p : Seal2) (fits : AreParameters2 p) (typed : AreTyped2 p) where
+  -- ---- members
+
+  hash_said : hash_in (digest_object p) ≡ Some p.digest_hash
+  unfolding hash_in digest_object text
+  hash_said = hash_read p.digest_hash
+
+  salt_said : base64_text (codes "salt") (digest_object p) ≡ Some p.digest_salt
+  unfolding base64_text digest_object text
+  salt_said = base64_read p.digest_salt typed.digest_salt
+
+  value_said : base64_text (codes "digest") (digest_object p)
+      ≡ Some (derived_key p.digest_hash p.key.now p.digest_salt p.digest_iterations (size_of p.digest_hash))
+  unfolding base64_text digest_object text
+  value_said =
+      base64_read _
+      (derived_bytes p.digest_hash p.key.now p.digest_salt p.digest_iterations (size_of p.digest_hash))
+
+  keyslots_said : has_texts (codes "keyslots") (digest_object p) ≡ true
+  unfolding has_texts digest_object
+  keyslots_said = names_texts p 32
+
+  is_said : is_digest2 (digest_object p) ≡ true
+  unfolding is_digest2 has_texts digest_object is_named text whole_number
+  is_said = rw (keyslots_said, hash_said, salt_said, value_said) refl
+
+  parts_said : digest_parts2_of (digest_object p) ≡ digest_parts p
+  unfolding iterations_in salt_in value_in digest_object whole_number
+  parts_said = rw (hash_said, salt_said, value_said) refl
+
+  -- ---- the digest
+
+  pub usable : is_usable (digest_parts p) ≡ true
+  usable =
+      let len = length-derived_key p.digest_hash p.key.now p.digest_salt p.digest_iterations (size_of p.digest_hash) in
+      let size = sizes p.digest_hash in
+      in_range p.digest_iterations _ fits.turns typed.digest_iterations (omega (arith, len, size.least))
+      (omega (arith, len, size.greatest))
+
+  unfoldable pub digest_is : KeyDigest
+  digest_is = digest_of (digest_parts p) usable
+
+  made : digest2_of (digest_object p) ≡ Some digest_is
+  unfolding digest2_of digest_is
+  made = rw (is_said, parts_said) (digest_from-yes (digest_parts p) usable)
+
+  -- it is that of the key
+  pub of_key : IsDigestOf digest_is p.key.now
+  unfolding digest_is digest_of
+  of_key = record {
+    hash = p.digest_hash;
+    is_hash = refl;
+    value = ap (derived_key p.digest_hash p.key.now p.digest_salt p.digest_iterations)
+        (sym (length-derived_key p.digest_hash p.key.now p.digest_salt p.digest_iterations (size_of p.digest_hash)));
+  }
+
+  -- and of each key slot
+  of_slot : (number : ℕ) (slot : Slot2) → slot_numbered number p.slots.now ≡ Some slot → number < 32
+      → is_of_slot number (digest_object p) ≡ true
+  unfolding is_of_slot lists digest_object
+  of_slot number slot is below = rw (slot_listed p number 32 slot is below) refl
+
+  first_there : numbered (codes "digests") (metadata_of p) 0 ≡ Some (digest_object p)
+  unfolding numbered metadata_of
+  first_there = rw (decimal_digit 0 (omega arith)) refl
+
+  own_is : (number : ℕ) (slot : Slot2) → slot_numbered number p.slots.now ≡ Some slot → number < 32
+      → own_digest_at (metadata_of p) number 0 ≡ Some digest_is
+  unfolding own_digest_at own_digest
+  own_is number slot is below = rw (first_there, of_slot number slot is below, made) refl
+
+  pub digest_read : (number : ℕ) (slot : Slot2) → slot_numbered number p.slots.now ≡ Some slot → number < 32
+      → digest2_for (metadata_of p) number ≡ Some digest_is
+  unfolding digest2_for
+  digest_read number slot is below =
+      let own = own_is number slot is below in
+      lowest_found (own_digest_at (metadata_of p) number) 0 32 (lowest_none _) (omega arith) (rw own refl) ∙ own

@@ -1,0 +1,12 @@
+pub mod WholeLemmas
+pub mod TextLemmas
+pub mod Slots2
+pub mod Keyslot2
+pub mod Segment2
+pub mod Digest2
+pub mod Judged2
+pub mod Depth2
+pub mod Header2
+pub mod Image2
+pub mod Read2
+pub mod Sealed2

@@ -1,0 +1,76 @@
+-- The image of a volume of LUKS2 (LUKS2 On-Disk Format Specification 1.1, sections 2 and 4).
+use Rattle.std.specs.Prelude.{ℕ, zero, suc, ◌-◌, ◌/◌, List, [], ◌∷◌, ◌++◌, codes, length}
+use Rattle.std.specs.Int.{to_be_bytes, w16, w64}
+use Rattle.std.specs.Option.{option_map_or}
+use Rattle.luks_kdf.specs.Hash.{hash_of}
+use Rattle.luks_kdf.specs.Pbkdf2.{derived_key}
+use Rattle.luks_kdf.specs.declared.hash.Hash.TheVariants.{Sha256}
+use Rattle.luks_verdict.specs.SectorSize.{bytes_of}
+use Rattle.luks_seal.specs.Pieces.{material_of, padded, sectors_encrypted, stripes_of}
+use Rattle.luks_seal.specs.declared.parameters.Seal2.{Seal2}
+use Rattle.luks_seal.specs.declared.parameters.Slot2.{Slot2}
+use Rattle.luks2_seal.specs.Metadata2.{json_of}
+use Rattle.luks2_seal.specs.Numbered.{area_size, slot_numbered}
+
+-- the first bytes of the primary header, and of the secondary one
+abbrev pub primary_magic : List ℕ
+primary_magic = codes "LUKS" ++ 186 ∷ 190 ∷ []
+
+abbrev pub secondary_magic : List ℕ
+secondary_magic = codes "SKUL" ++ 186 ∷ 190 ∷ []
+
+-- `magic`, `version`, `hdr_size` and `seqid`
+unfoldable pub start_of : Seal2 → List ℕ → List ℕ
+start_of p magic = magic ++ to_be_bytes w16 2 ++ to_be_bytes w64 p.hdr_size ++ to_be_bytes w64 p.seqid
+
+-- `label`, `csum_alg` and `salt`
+unfoldable pub middle_of : Seal2 → List ℕ → List ℕ
+middle_of p salt = padded 48 p.label.now ++ padded 32 (codes "sha256") ++ salt
+
+-- `uuid`, `subsystem` and `hdr_offset`, which is the header's own place in bytes, and the zeros before the checksum
+unfoldable pub end_of : Seal2 → ℕ → List ℕ
+end_of p place = padded 40 p.uuid.now ++ padded 48 p.subsystem.now ++ padded 192 (to_be_bytes w64 place)
+
+-- the bytes before the checksum
+abbrev pub fields_of : Seal2 → List ℕ → List ℕ → ℕ → List ℕ
+fields_of p magic salt place = start_of p magic ++ middle_of p salt ++ end_of p place
+
+-- the bytes behind it: zeros to byte 4096, and the JSON area
+unfoldable pub rest_of : Seal2 → List ℕ
+rest_of p = padded 3584 [] ++ padded (p.hdr_size - 4096) (json_of p)
+
+-- a header with its JSON area. The checksum is the hash of them with zeros in its place
+unfoldable pub header_of : Seal2 → List ℕ → List ℕ → ℕ → List ℕ
+header_of p magic salt place =
+    let fields = fields_of p magic salt place in
+    fields ++ padded 64 (hash_of Sha256 (fields ++ padded 64 [] ++ rest_of p)) ++ rest_of p
+
+-- both headers
+unfoldable pub headers_of : Seal2 → List ℕ
+headers_of p = header_of p primary_magic p.primary_salt 0 ++ header_of p secondary_magic p.secondary_salt p.hdr_size
+
+-- the key that encrypts a slot's area: PBKDF2 of the passphrase
+unfoldable pub area_key_of : Seal2 → Slot2 → List ℕ
+area_key_of p slot = derived_key slot.hash slot.passphrase.now slot.salt slot.iterations p.area_key_size
+
+-- a slot's area: its key material, and zeros
+unfoldable pub area_of : Seal2 → Slot2 → List ℕ
+area_of p slot =
+    padded (area_size (length p.key.now) slot.stripes)
+    (material_of (p.area_mode, area_key_of p slot)
+    (stripes_of slot.af_hash p.key.now slot.stripes slot.random.now))
+
+-- the areas of the slots with numbers below this one
+unfoldable pub areas_below : Seal2 → ℕ → List ℕ
+areas_below p zero = []
+areas_below p (suc n) =
+    areas_below p n ++ option_map_or (area_of p) (slot_numbered n p.slots.now) []
+
+-- the payload: unit numbers count in steps of 512 bytes, whatever the sector's length
+unfoldable pub payload_of : Seal2 → List ℕ
+payload_of p =
+    sectors_encrypted (p.mode, p.key.now) p.iv_tweak (bytes_of p.sector_size / 512) (bytes_of p.sector_size) p.plain.now
+
+-- the whole image
+unfoldable pub image2_of : Seal2 → List ℕ
+image2_of p = padded p.offset (headers_of p ++ areas_below p 32) ++ payload_of p

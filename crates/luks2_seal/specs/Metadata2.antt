@@ -1,0 +1,146 @@
+-- The JSON text of a volume of LUKS2 (LUKS2 On-Disk Format Specification 1.1, section 3). Members stand in the order of
+-- their names.
+use Rattle.std.specs.Prelude.{◌≡◌, ℕ, zero, suc, ◌-◌, ◌*◌, Bool, true, false, List, [], ◌∷◌, ◌++◌, length, codes}
+use Rattle.std.specs.Prelude.{decimal, IsUtf8, Some}
+use Rattle.std.specs.Option.{option_map_or}
+use Rattle.base64.specs.Engines.{standard}
+use Rattle.base64.specs.GeneralPurpose.{encode_of}
+use Rattle.serde_json.specs.Data.{Data, Members, array, member, no_members, number, object, put, string, unsigned}
+use Rattle.serde_json.specs.View.{items_of}
+use Rattle.serde_json.specs.Read.{read}
+use Rattle.serde_json.specs.Written.{compact_text}
+use Rattle.luks_cipher.specs.Sector.{name_of}
+use Rattle.luks_cipher.specs.declared.mode.Mode.{Mode}
+use Rattle.luks_kdf.specs.Hash.{name_of as hash_name, size_of}
+use Rattle.luks_kdf.specs.Pbkdf2.{derived_key}
+use Rattle.luks_verdict.specs.SectorSize.{bytes_of}
+use Rattle.luks_seal.specs.Ranges.{FitsText}
+use Rattle.luks_seal.specs.declared.parameters.Seal2.{Seal2}
+use Rattle.luks_seal.specs.declared.parameters.Slot2.{Slot2}
+use Rattle.luks2_seal.specs.Numbered.{area_size, area_start, slot_numbered}
+
+-- the members of an object, by names and values
+abbrev pub members : List (List ℕ × Data) → Members
+members [] = no_members
+members (m ∷ ms) = member m.0 m.1 (members ms)
+
+-- a number of bytes, which the format writes as a text
+abbrev pub decimal_text : ℕ → Data
+decimal_text n = string (decimal n)
+
+-- bytes in base64
+abbrev pub base64_text : List ℕ → Data
+base64_text bytes = string (encode_of standard bytes)
+
+-- how sectors are encrypted: AES in this mode
+abbrev pub encryption_text : Mode → Data
+encryption_text mode = string (codes "aes-" ++ name_of mode)
+
+-- how the key is split
+unfoldable pub af_object : Slot2 → Data
+af_object slot = object (members (
+    (codes "hash", string (hash_name slot.af_hash))
+    ∷ (codes "stripes", number (unsigned slot.stripes))
+    ∷ (codes "type", string (codes "luks1"))
+    ∷ []))
+
+-- where the key material is, and how it is encrypted
+unfoldable pub area_object : Seal2 → Slot2 → Data
+area_object p slot = object (members (
+    (codes "encryption", encryption_text p.area_mode)
+    ∷ (codes "key_size", number (unsigned p.area_key_size))
+    ∷ (codes "offset", decimal_text (area_start p slot.number))
+    ∷ (codes "size", decimal_text (area_size (length p.key.now) slot.stripes))
+    ∷ (codes "type", string (codes "raw"))
+    ∷ []))
+
+-- how the key of the area comes of the passphrase
+unfoldable pub kdf_object : Slot2 → Data
+kdf_object slot = object (members (
+    (codes "hash", string (hash_name slot.hash))
+    ∷ (codes "iterations", number (unsigned slot.iterations))
+    ∷ (codes "salt", base64_text slot.salt)
+    ∷ (codes "type", string (codes "pbkdf2"))
+    ∷ []))
+
+unfoldable pub keyslot_object : Seal2 → Slot2 → Data
+keyslot_object p slot = object (members (
+    (codes "af", af_object slot)
+    ∷ (codes "area", area_object p slot)
+    ∷ (codes "kdf", kdf_object slot)
+    ∷ (codes "key_size", number (unsigned (length p.key.now)))
+    ∷ (codes "priority", number (unsigned slot.priority))
+    ∷ (codes "type", string (codes "luks2"))
+    ∷ []))
+
+-- the key slots with numbers below this one, each under its number
+unfoldable pub keyslots_below : Seal2 → ℕ → Members
+keyslots_below p zero = no_members
+keyslots_below p (suc n) =
+    option_map_or (λ slot. put (decimal n) (keyslot_object p slot) (keyslots_below p n)) (slot_numbered n p.slots.now)
+    (keyslots_below p n)
+
+-- the numbers of slots that are below this one, as texts, rising
+unfoldable pub names_below : Seal2 → ℕ → List Data
+names_below p zero = []
+names_below p (suc n) =
+    option_map_or (λ slot. names_below p n ++ decimal_text n ∷ []) (slot_numbered n p.slots.now) (names_below p n)
+
+-- the digest of the volume key, which is in all key slots
+unfoldable pub digest_object : Seal2 → Data
+digest_object p = object (members ((
+  codes "digest",
+  base64_text (derived_key p.digest_hash p.key.now p.digest_salt p.digest_iterations
+      (size_of p.digest_hash)),
+)
+    ∷ (codes "hash", string (hash_name p.digest_hash))
+    ∷ (codes "iterations", number (unsigned p.digest_iterations))
+    ∷ (codes "keyslots", array (items_of (names_below p 32)))
+    ∷ (codes "salt", base64_text p.digest_salt)
+    ∷ (codes "segments", array (items_of (string (codes "0") ∷ [])))
+    ∷ (codes "type", string (codes "pbkdf2"))
+    ∷ []))
+
+-- the payload's length, where it is fixed
+abbrev pub size_text : Bool → ℕ → Data
+size_text true len = decimal_text len
+size_text false len = string (codes "dynamic")
+
+-- where the payload is, and how it is encrypted
+unfoldable pub segment_object : Seal2 → Data
+segment_object p = object (members (
+    (codes "encryption", encryption_text p.mode)
+    ∷ (codes "iv_tweak", decimal_text p.iv_tweak)
+    ∷ (codes "offset", decimal_text p.offset)
+    ∷ (codes "sector_size", number (unsigned (bytes_of p.sector_size)))
+    ∷ (codes "size", size_text p.fixed (length p.plain.now))
+    ∷ (codes "type", string (codes "crypt"))
+    ∷ []))
+
+-- the lengths of the JSON area, and of the room for key material
+unfoldable pub config_object : Seal2 → Data
+config_object p = object (members (
+    (codes "json_size", decimal_text (p.hdr_size - 4096))
+    ∷ (codes "keyslots_size", decimal_text (p.offset - 2 * p.hdr_size))
+    ∷ []))
+
+unfoldable pub metadata_of : Seal2 → Data
+metadata_of p = object (members (
+    (codes "config", config_object p)
+    ∷ (codes "digests", object (members ((codes "0", digest_object p) ∷ [])))
+    ∷ (codes "keyslots", object (keyslots_below p 32))
+    ∷ (codes "segments", object (members ((codes "0", segment_object p) ∷ [])))
+    ∷ (codes "tokens", object no_members)
+    ∷ []))
+
+-- the text, with no space in it
+unfoldable pub json_of : Seal2 → List ℕ
+json_of p = compact_text (metadata_of p)
+
+-- the text fits: it holds no zero byte and, with one behind it, is no longer than the JSON area
+abbrev pub FitsJson : Seal2 → Type 0
+FitsJson p = FitsText (p.hdr_size - 4096 - 1) (json_of p)
+
+-- the text is UTF-8, and is read as the metadata
+abbrev pub ReadsBack : Seal2 → Type 0
+ReadsBack p = IsUtf8 (json_of p) × (read (json_of p) ≡ Some (metadata_of p))

@@ -1,0 +1,51 @@
+-- What a volume of LUKS2 may be made from.
+use Rattle.std.specs.Prelude.{◌≡◌, ◌≢◌, ℕ, ◌-◌, ◌*◌, ◌%◌, ◌≤◌, ◌==◌, ◌||◌, Bool, true, List, [], ◌∷◌, All, length}
+use Rattle.luks_verdict.specs.SectorSize.{bytes_of}
+use Rattle.luks_seal.specs.Ranges.{FitsKey, FitsText, longest_plain}
+use Rattle.luks_seal.specs.declared.parameters.Seal2.{Seal2}
+use Rattle.luks_seal.specs.declared.parameters.Slot2.{Slot2}
+use Rattle.luks2_seal.specs.Numbered.{area_start}
+
+-- the lengths in bytes that a header and its JSON area can have together (LUKS2 On-Disk Format Specification 1.1,
+-- section 2.2)
+abbrev pub is_header_size : ℕ → Bool
+is_header_size n =
+    n == 16384 || n == 32768 || n == 65536 || n == 131072 || n == 262144 || n == 524288 || n == 1048576 || n == 2097152
+    || n == 4194304
+
+-- a key of the payload, of a length of its mode, and a length of the keys of the areas, which is one of theirs
+abbrev pub FitKeys : Seal2 → Type 0
+FitKeys p = FitsKey p.mode (length p.key.now) × FitsKey p.area_mode p.area_key_size
+
+-- the texts of the header
+abbrev pub FitTexts : Seal2 → Type 0
+FitTexts p = FitsText 40 p.uuid.now × FitsText 48 p.label.now × FitsText 48 p.subsystem.now
+
+-- whole sectors of this length, and not too many
+abbrev pub FitsPlain2 : ℕ → ℕ → Type 0
+FitsPlain2 sector len = (len % sector ≡ 0) × (len ≤ longest_plain)
+
+-- one slot of a volume whose key has so many bytes
+abbrev pub FitsSlot2 : ℕ → Slot2 → Type 0
+FitsSlot2 key slot = (slot.number ≤ 31) × (slot.priority ≤ 2) × (1 ≤ slot.iterations) × (1 ≤ slot.stripes)
+    × (slot.stripes ≤ 4000) × (length slot.random.now ≡ (slot.stripes - 1) * key)
+
+-- no slot has the number of one before it
+abbrev pub AreDistinct2 : List Slot2 → Type 0
+AreDistinct2 [] = Unit {0}
+AreDistinct2 (slot ∷ slots) = All (λ other. other.number ≢ slot.number) slots × AreDistinct2 slots
+
+-- the payload begins behind all areas, at a multiple of 4096 bytes, and not too late
+abbrev pub FitsOffset : Seal2 → Type 0
+FitsOffset p = (p.offset % 4096 ≡ 0) × (p.offset ≤ 33554432) × (area_start p 32 ≤ p.offset)
+
+-- the parameters are all in their ranges, as far as they can be judged without the JSON text
+pub record AreParameters2 (p : Seal2) : Type 0 where
+  pub size : is_header_size p.hdr_size ≡ true
+  pub keys : FitKeys p
+  pub texts : FitTexts p
+  pub turns : 1 ≤ p.digest_iterations
+  pub plain : FitsPlain2 (bytes_of p.sector_size) (length p.plain.now)
+  pub slots : All (FitsSlot2 (length p.key.now)) p.slots.now
+  pub distinct : AreDistinct2 p.slots.now
+  pub offset : FitsOffset p

@@ -1,0 +1,157 @@
+//! The binary headers of LUKS2 (LUKS2 On-Disk Format Specification 1.1, section 2).
+
+ghost use Rattle.std.specs.Prelude.{◌≡◌, ◌++◌, [], IfOk, OnOk};
+ghost use Rattle.luks_kdf.specs.Hash.{hash_of};
+ghost use Rattle.luks_kdf.specs.declared.hash.Hash.TheVariants.{Sha256};
+ghost use Rattle.luks_seal.specs.Pieces.{padded};
+ghost use Rattle.luks2_seal.specs.Layout2.{end_of, fields_of, header_of, headers_of, middle_of};
+ghost use Rattle.luks2_seal.specs.Layout2.{rest_of, start_of};
+ghost use Rattle.luks2_seal.specs.Metadata2.{json_of};
+ghost use Rattle.luks2_seal.specs.Ranges2.{AreParameters2};
+
+use luks_kdf::{Hash, digest};
+use luks_seal::parameters::Seal2;
+use luks_seal::pieces::{padded, push_padded};
+use std::alloc::{AllocError, Global};
+
+/// How long the checksum's field is.
+const CHECKSUM: usize = 64;
+
+/// Adds `magic`, `version`, `hdr_size` and `seqid`.
+#[tactic(auto, unfolding(crate::specs::Layout2::start_of))]
+fn push_start(header: &mut Vec<u8>, seal: &Seal2<'_>, magic: &[u8]) -> Result<(), AllocError>
+    ensures { OnOk result (header.new.items ≡ header.old.items ++ start_of seal.now magic.now) }
+{
+    header.extend_from_slice(magic)?;
+    header.extend_from_slice(&2u16.to_be_bytes())?;
+    header.extend_from_slice(&seal.hdr_size.to_be_bytes())?;
+    header.extend_from_slice(&seal.seqid.to_be_bytes())
+}
+
+/// Adds `label`, `csum_alg` and `salt`.
+#[tactic(auto, unfolding(crate::specs::Layout2::middle_of))]
+fn push_middle(
+    alloc: Global,
+    header: &mut Vec<u8>,
+    seal: &Seal2<'_>,
+    salt: &[u8],
+) -> Result<(), AllocError>
+    ensures { OnOk result (header.new.items ≡ header.old.items ++ middle_of seal.now salt.now) }
+{
+    push_padded(alloc, header, seal.label, 48)?;
+    push_padded(alloc, header, b"sha256", 32)?;
+    header.extend_from_slice(salt)
+}
+
+/// Adds `uuid`, `subsystem` and `hdr_offset`, and the zeros before the checksum.
+#[tactic(auto, unfolding(crate::specs::Layout2::end_of))]
+fn push_end(
+    alloc: Global,
+    header: &mut Vec<u8>,
+    seal: &Seal2<'_>,
+    place: u64,
+) -> Result<(), AllocError>
+    ensures { OnOk result (header.new.items ≡ header.old.items ++ end_of seal.now place) }
+{
+    push_padded(alloc, header, seal.uuid, 40)?;
+    push_padded(alloc, header, seal.subsystem, 48)?;
+    push_padded(alloc, header, &place.to_be_bytes(), 192)
+}
+
+/// The bytes before the checksum.
+fn fields_of(
+    alloc: Global,
+    seal: &Seal2<'_>,
+    magic: &[u8],
+    salt: &[u8],
+    place: u64,
+) -> Result<Vec<u8>, AllocError>
+    ensures { IfOk result (λ fields. fields.items
+        ≡ fields_of seal.now magic.now salt.now place) }
+{
+    let mut fields = Vec::new(alloc);
+    push_start(&mut fields, seal, magic)?;
+    push_middle(alloc, &mut fields, seal, salt)?;
+    push_end(alloc, &mut fields, seal, place)?;
+    Ok(fields)
+}
+
+/// The bytes behind the checksum: zeros, and the JSON area.
+#[tactic(auto, unfolding(crate::specs::Layout2::rest_of))]
+fn rest_of(alloc: Global, seal: &Seal2<'_>, json: &[u8]) -> Result<Vec<u8>, AllocError>
+    requires fits { AreParameters2 seal.now }
+    requires json { json.now ≡ json_of seal.now }
+    ensures { IfOk result (λ rest. rest.items ≡ rest_of seal.now) }
+{
+    let mut rest = padded(alloc, b"", 3584)?;
+    push_padded(alloc, &mut rest, json, (seal.hdr_size - 4096) as usize)?;
+    Ok(rest)
+}
+
+/// The checksum of a header: the hash of all its bytes, with zeros in the checksum's field.
+fn checksum_of(alloc: Global, fields: &[u8], rest: &[u8]) -> Result<Vec<u8>, AllocError>
+    ensures { IfOk result (λ sum. sum.items
+        ≡ hash_of Sha256 (fields.now ++ padded 64 [] ++ rest.now)) }
+{
+    let zeros = padded(alloc, b"", CHECKSUM)?;
+    let mut sum = vec![in alloc; 0; 32]?;
+    digest(Hash::Sha256, fields, &zeros, rest, &mut sum);
+    Ok(sum)
+}
+
+/// Adds a header with its JSON area, where `rest` is what stands behind the checksum.
+#[tactic(auto, unfolding(crate::specs::Layout2::header_of))]
+fn push_header(
+    alloc: Global,
+    image: &mut Vec<u8>,
+    seal: &Seal2<'_>,
+    rest: &[u8],
+    magic: &[u8],
+    salt: &[u8],
+    place: u64,
+) -> Result<(), AllocError>
+    requires { rest.now ≡ rest_of seal.now }
+    ensures { OnOk result (image.new.items
+        ≡ image.old.items ++ header_of seal.now magic.now salt.now place) }
+{
+    let fields = fields_of(alloc, seal, magic, salt, place)?;
+    let checksum = checksum_of(alloc, &fields, rest)?;
+    image.extend_from_slice(&fields)?;
+    push_padded(alloc, image, &checksum, CHECKSUM)?;
+    image.extend_from_slice(rest)
+}
+
+/// Both headers, with this JSON text.
+#[tactic(auto, unfolding(crate::specs::Layout2::headers_of))]
+pub(crate) fn headers_of(
+    alloc: Global,
+    seal: &Seal2<'_>,
+    json: &[u8],
+) -> Result<Vec<u8>, AllocError>
+    requires fits { AreParameters2 seal.now }
+    requires json { json.now ≡ json_of seal.now }
+    ensures { IfOk result (λ headers. headers.items ≡ headers_of seal.now) }
+{
+    let rest = rest_of(alloc, seal, json)?;
+    let mut headers = Vec::new(alloc);
+    push_header(
+        alloc,
+        &mut headers,
+        seal,
+        &rest,
+        b"LUKS\xba\xbe",
+        &seal.primary_salt,
+        0,
+    )?;
+    let place = seal.hdr_size;
+    push_header(
+        alloc,
+        &mut headers,
+        seal,
+        &rest,
+        b"SKUL\xba\xbe",
+        &seal.secondary_salt,
+        place,
+    )?;
+    Ok(headers)
+}

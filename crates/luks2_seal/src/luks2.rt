@@ -1,0 +1,77 @@
+//! Volumes of LUKS2 (LUKS2 On-Disk Format Specification 1.1).
+
+ghost use Rattle.std.specs.Prelude.{◌≡◌, ◌++◌, IfOk, OnOk};
+ghost use Rattle.luks_seal.specs.Ranges.{SealsOrSaysLate};
+ghost use Rattle.luks_seal.specs.Sealed.{Sealed};
+ghost use Rattle.luks2_seal.specs.Layout2.{image2_of, payload_of};
+ghost use Rattle.luks2_seal.specs.Metadata2.{FitsJson, json_of};
+ghost use Rattle.luks2_seal.specs.Passphrases.{passphrases2_of};
+ghost use Rattle.luks2_seal.specs.Ranges2.{AreParameters2};
+
+use crate::areas::push_areas;
+use crate::headers::headers_of;
+use crate::metadata::json_of;
+use crate::ranges2::are_parameters2;
+use crate::typed2::typed2;
+use luks_seal::parameters::{Seal2, SealFault};
+use luks_seal::pieces::{cipher_of, encrypted, padded};
+use luks_seal::ranges::fits_text;
+use std::alloc::{AllocError, Global};
+
+/// The payload.
+#[tactic(auto, unfolding(crate::specs::Layout2::payload_of))]
+fn payload_of(alloc: Global, seal: &Seal2<'_>) -> Result<Vec<u8>, AllocError>
+    requires { AreParameters2 seal.now }
+    ensures { IfOk result (λ payload. payload.items ≡ payload_of seal.now) }
+{
+    let cipher = cipher_of(seal.mode, seal.key);
+    let step = (seal.sector_size.bytes() / 512) as u64;
+    encrypted(
+        alloc,
+        &cipher,
+        seal.iv_tweak,
+        step,
+        seal.sector_size,
+        seal.plain,
+    )
+}
+
+/// The image of a volume whose parameters are in their ranges, with this JSON text.
+#[tactic(auto, unfolding(crate::specs::Layout2::image2_of))]
+fn image_of(alloc: Global, seal: &Seal2<'_>, json: &[u8]) -> Result<Vec<u8>, AllocError>
+    requires fits { AreParameters2 seal.now }
+    requires json { json.now ≡ json_of seal.now }
+    ensures { IfOk result (λ image. image.items ≡ image2_of seal.now) }
+{
+    let mut front = headers_of(alloc, seal, json)?;
+    push_areas(alloc, &mut front, seal)?;
+    let mut image = padded(alloc, &front, seal.offset as usize)?;
+    let payload = payload_of(alloc, seal)?;
+    image.extend_from_slice(&payload)?;
+    Ok(image)
+}
+
+/// Makes the image of a volume with the cipher `aes` and PBKDF2 in all its key slots.
+///
+/// The areas follow one another by rising number of their slots, right behind both headers. The
+/// payload ends the image, and bytes that nothing is said of are zero.
+///
+/// [`Parameters`](SealFault::Parameters) says that a parameter is outside its range, and comes
+/// before any memory is taken; or that the JSON text does not fit the header, which is known only
+/// once the text is there.
+pub fn seal2(alloc: Global, seal: &Seal2<'_>) -> Result<Vec<u8>, SealFault>
+    ensures answer { SealsOrSaysLate (AreParameters2 seal.now) (FitsJson seal.now) result }
+    ensures image { IfOk result (λ image. image.items ≡ image2_of seal.now) }
+    ensures sealed { IfOk result (λ image. Sealed image.items (passphrases2_of seal.now)
+        seal.now.key.now seal.now.plain.now) }
+{
+    if !are_parameters2(seal) {
+        return Err(SealFault::Parameters);
+    }
+    typed2(seal);
+    let json = json_of(alloc, seal)?;
+    if !fits_text((seal.hdr_size - 4097) as usize, &json) {
+        return Err(SealFault::Parameters);
+    }
+    Ok(image_of(alloc, seal, &json)?)
+}

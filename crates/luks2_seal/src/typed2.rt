@@ -1,0 +1,40 @@
+//! What the types of the parameters of LUKS2 say of their values: nothing is done here, the clauses
+//! are for proofs.
+
+ghost use Rattle.luks2_seal.specs.Typed2.{AreTyped2, IsTypedSlot2};
+ghost use Rattle.std.specs.Prelude.{All};
+
+use luks_seal::parameters::{Seal2, Slot2};
+use luks_seal::typed::bytes;
+
+/// What a key slot has.
+fn slot2(slot: &Slot2<'_>)
+    ensures { IsTypedSlot2 slot.now }
+{
+    // Read, so that its range is known.
+    let _iterations = slot.iterations;
+    bytes(&slot.salt);
+    bytes(slot.random);
+}
+
+/// What each of these key slots has.
+fn slots2(slots: &[Slot2<'_>])
+    ensures { All IsTypedSlot2 slots.now }
+{
+    'slots: for slot in slots {
+        slot2(slot);
+    }
+}
+
+/// What the parameters of a volume have.
+pub(crate) fn typed2(seal: &Seal2<'_>)
+    ensures { AreTyped2 seal.now }
+{
+    // Read, so that their ranges are known.
+    let _iv_tweak = seal.iv_tweak;
+    let _iterations = seal.digest_iterations;
+    bytes(seal.key);
+    bytes(seal.plain);
+    bytes(&seal.digest_salt);
+    slots2(seal.slots);
+}

@@ -1,8 +1,0 @@
-use Rattle.std.proofs.Common.{ℕ, ◌<◌, get_or}
-use Rattle.luks_seal.specs.Typed1.{IsTypedSlot1}
-use Rattle.luks_seal.specs.declared.parameters.Slot1.{Slot1}
-use Rattle.luks_seal.proofs.typed.slots1.Given as goal
-
--- those so far
-abbrev pub invariant-slots : goal.invariant-slots
-invariant-slots l = (k : ℕ) (d : Slot1) → k < l.slot-index → IsTypedSlot1 (get_or l.slots k d)

@@ -1,8 +1,0 @@
-use Rattle.std.proofs.Common.{ℕ, ◌<◌, get_or}
-use Rattle.luks_seal.specs.Typed2.{IsTypedSlot2}
-use Rattle.luks_seal.specs.declared.parameters.Slot2.{Slot2}
-use Rattle.luks_seal.proofs.typed2.slots2.Given as goal
-
--- those so far
-abbrev pub invariant-slots : goal.invariant-slots
-invariant-slots l = (k : ℕ) (d : Slot2) → k < l.slot-index → IsTypedSlot2 (get_or l.slots k d)
