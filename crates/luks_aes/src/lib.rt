@@ -12,8 +12,6 @@ mod mixing;
 mod sbox;
 mod schedule;
 mod state;
-#[cfg(test)]
-mod tests;
 mod unmixed;
 
 pub use aes::AesKey;

@@ -9,8 +9,6 @@ mod key;
 mod mixing;
 mod rows;
 mod states;
-#[cfg(test)]
-mod tests;
 mod ways;
 
 pub use key::SliceKey;

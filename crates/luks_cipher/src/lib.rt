@@ -6,11 +6,9 @@
 #![tactic(auto)]
 
 mod block;
-mod cbc;
+pub mod cbc;
 mod mode;
 mod sector;
-#[cfg(test)]
-mod tests;
 mod xts;
 
 pub use luks_aes::AesKey;

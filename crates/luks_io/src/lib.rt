@@ -13,8 +13,6 @@ pub mod adapters;
 pub mod memory;
 pub mod sink;
 pub mod source;
-#[cfg(test)]
-mod tests;
 
 /// A device did not do what it was asked. The call that answers it has raised the device's count of
 /// failures by one.

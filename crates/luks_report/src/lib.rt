@@ -9,8 +9,6 @@ mod line;
 pub mod message;
 pub mod opened;
 pub mod report;
-#[cfg(test)]
-mod tests;
 mod wording;
 
 pub use luks_pages::dump;

@@ -8,5 +8,3 @@ pub mod devices;
 pub mod header2;
 pub mod same;
 pub mod scarce;
-#[cfg(test)]
-mod tests;

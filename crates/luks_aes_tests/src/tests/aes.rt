@@ -1,6 +1,6 @@
 use super::known_answers::{AES_128, AES_192, AES_256};
 use super::{block, bytes};
-use crate::AesKey;
+use luks_aes::AesKey;
 use std::alloc::Global;
 use std::test::Fail;
 

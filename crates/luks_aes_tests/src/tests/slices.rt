@@ -1,6 +1,7 @@
 //! 32 blocks at once: what another tool made of one slice under a key of each length.
 
-use crate::SliceKey;
+use super::{block, fill};
+use luks_blocks::SliceKey;
 use std::alloc::Global;
 use std::test::Fail;
 
@@ -46,15 +47,6 @@ a5029b0dff2f1fb4b0b2c6045429d9c28814695e97e908c584e7b5dd407a2009c9423e284c752075
 153f1a88ba5a2755b4e4d2a7859d3e8f77208ca1e3390262c25138ec9581a976dce88bbc3f26cb89d4aa90d856aabc2f\
 0b475e139a9ef5453992b556c8fd15d686ffae5dbcac7bd85208d8125d6ee718";
 
-// The value of a hexadecimal digit.
-fn digit(c: u8) -> Result<u8, Fail> {
-    match c {
-        b'0'..=b'9' => Ok(c - b'0'),
-        b'a'..=b'f' => Ok(c - b'a' + 10),
-        _ => Err("no hexadecimal digit".into()),
-    }
-}
-
 // Byte `i` of the plain slice.
 fn plain_byte(i: usize) -> u8 {
     (i.wrapping_mul(7).wrapping_add(i / 256) % 256) as u8
@@ -72,14 +64,8 @@ fn key_of(alloc: Global, length: usize) -> Result<SliceKey, Fail> {
 // The slice that the digits spell is the plain one under the key of this many bytes.
 fn holds(alloc: Global, length: usize, digits: &str) -> Result<bool, Fail> {
     let key = key_of(alloc, length)?;
-    let digits = digits.as_bytes();
-    if digits.len() != 1024 {
-        return Err("no slice".into());
-    }
     let mut slice = [0; 512];
-    for i in 0..512 {
-        slice[i] = (digit(digits[2 * i])? << 4) | digit(digits[2 * i + 1])?;
-    }
+    fill(alloc, digits, &mut slice)?;
     key.decrypt_slice(&mut slice);
     for i in 0..512 {
         if slice[i] != plain_byte(i) {
@@ -100,14 +86,7 @@ fn slices_under_each_length_of_key(rt: HostRuntime) -> Result<(), Fail> {
 #[test]
 fn the_key_for_single_blocks(rt: HostRuntime) -> Result<(), Fail> {
     let key = key_of(rt.alloc(), 32)?;
-    let digits = AES_256.as_bytes();
-    if digits.len() != 1024 {
-        return Err("no slice".into());
-    }
-    let mut block = [0; 16];
-    for i in 0..16 {
-        block[i] = (digit(digits[2 * i])? << 4) | digit(digits[2 * i + 1])?;
-    }
+    let mut block = block(rt.alloc(), &AES_256[..32])?;
     key.key().decrypt_block(&mut block);
     for i in 0..16 {
         assert!(rt; block[i] == plain_byte(i));

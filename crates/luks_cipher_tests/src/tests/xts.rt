@@ -3,7 +3,7 @@ use super::xts_vectors::{
     WIDE_FFFFFFFFFF,
 };
 use super::{assert_in, assert_same_in, bytes};
-use crate::{AesKey, XtsKey};
+use luks_cipher::{AesKey, XtsKey};
 use std::alloc::Global;
 use std::test::Fail;
 

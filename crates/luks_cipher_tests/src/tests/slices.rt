@@ -1,7 +1,7 @@
 //! Sectors of one slice of 512 bytes, of several, of none, and of some blocks more.
 
 use super::{assert_in, bytes};
-use crate::{Mode, SectorCipher};
+use luks_cipher::{Mode, SectorCipher};
 use sha2::{Digest, Sha256};
 use std::alloc::Global;
 use std::test::Fail;

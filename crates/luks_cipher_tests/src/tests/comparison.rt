@@ -1,7 +1,7 @@
 //! Units by tables and slices against units byte by byte.
 
 use super::bytewise::Bytewise;
-use crate::XtsKey;
+use luks_cipher::XtsKey;
 use std::alloc::Global;
 use std::test::Fail;
 

@@ -1,7 +1,7 @@
 //! What no clause says of the devices: how many bytes a call moves, and which call fails.
 
-use crate::devices::{Broken, Flaky, Leaky};
-use crate::same::{holds_in, same, same_in};
+use luks_testing::devices::{Broken, Flaky, Leaky};
+use luks_testing::same::{holds_in, same, same_in};
 use luks_io::DeviceFault;
 use luks_io::sink::Sink;
 use luks_io::source::Source;

@@ -3,11 +3,11 @@
 
 ghost use Rattle.std.specs.Prelude.{◌≤◌, IfOk};
 
-use crate::DeviceFault;
-use crate::adapters::{ReadSource, WriteSink};
-use crate::memory::{MemSink, MemSource};
-use crate::sink::{Sink, WriteFault, put_all};
-use crate::source::{ReadFault, Source, fill};
+use luks_io::DeviceFault;
+use luks_io::adapters::{ReadSource, WriteSink};
+use luks_io::memory::{MemSink, MemSource};
+use luks_io::sink::{Sink, WriteFault, put_all};
+use luks_io::source::{ReadFault, Source, fill};
 use std::fmt::Debug;
 use std::io::{self, ErrorKind, Read, Write};
 use std::process::Abort;

@@ -1,7 +1,7 @@
 use super::mode_vectors::{CHAINS, SECTORS};
 use super::{assert_in, assert_same_in, bytes};
-use crate::cbc::{decrypt_chain, encrypt_chain};
-use crate::{Mode, SectorCipher};
+use luks_cipher::cbc::{decrypt_chain, encrypt_chain};
+use luks_cipher::{Mode, SectorCipher};
 use luks_blocks::SliceKey;
 use std::alloc::Global;
 use std::process::Abort;

@@ -1,0 +1,4 @@
+//! What no clause says: that calls succeed, how many bytes one moves, and which one fails.
+
+mod devices;
+mod testing;
