@@ -32,10 +32,30 @@ pub fn key() -> Result<SectorCipher, Fail> {
 }
 
 // The plain bytes of a sector, which no other sector has.
-fn push_plain(bytes: &mut Vec<u8>, sector: u64, size: usize) -> Result<(), Fail> {
-    for i in 0..size as u64 {
-        bytes.push(((sector % 256 * 89 + i % 256 * 7 + i / 256) % 256) as u8)?;
+fn plain_sector(unit: u64) -> [u8; 4096] {
+    let mut bytes = [0; 4096];
+    for (i, byte) in bytes.iter_mut().enumerate() {
+        let i = i as u64;
+        *byte = ((unit % 256 * 89 + i % 256 * 7 + i / 256) % 256) as u8;
     }
+    bytes
+}
+
+// Appends the sector with this unit number.
+fn push_sector(
+    volume: &mut Volume,
+    key: &SectorCipher,
+    unit: u64,
+    size: usize,
+) -> Result<(), Fail> {
+    let mut bytes = plain_sector(unit);
+    let sector = &mut bytes[..size.min(4096)];
+    volume.plain.extend_from_slice(sector)?;
+    if sector.len() != 512 && sector.len() != 4096 {
+        return Err("no sector".into());
+    }
+    key.encrypt_unit(unit, sector);
+    volume.image.extend_from_slice(sector)?;
     Ok(())
 }
 
@@ -47,29 +67,28 @@ pub fn make_volume(
     units: &[u64],
 ) -> Result<Volume, Fail> {
     let key = key()?;
-    let size = size.bytes();
-    let mut image = vec![in alloc; 0xee; offset]?;
-    let mut plain = Vec::new(alloc);
+    let mut volume = Volume {
+        image: vec![in alloc; 0xee; offset]?,
+        plain: Vec::new(alloc),
+    };
     for unit in units {
-        let mut sector = Vec::new(alloc);
-        push_plain(&mut sector, *unit, size)?;
-        plain.extend_from_slice(&sector)?;
-        if sector.len() != 512 && sector.len() != 4096 {
-            return Err("no sector".into());
-        }
-        key.encrypt_unit(*unit, &mut sector);
-        image.extend_from_slice(&sector)?;
+        push_sector(&mut volume, &key, *unit, size.bytes())?;
     }
-    Ok(Volume { image, plain })
+    Ok(volume)
 }
 
 /// So many bytes, each one more than the one before, and zero behind 250.
-pub fn counted(alloc: Global, len: usize) -> Result<Vec<u8>, Fail> {
-    let mut bytes = Vec::new(alloc);
-    for i in 0..len {
-        bytes.push((i % 251) as u8)?;
+pub fn counted<const N: usize>() -> [u8; N] {
+    let mut bytes = [0; N];
+    for (i, byte) in bytes.iter_mut().enumerate() {
+        *byte = (i % 251) as u8;
     }
-    Ok(bytes)
+    bytes
+}
+
+/// The first bytes, so many of them or all.
+pub fn first_of(bytes: &[u8], len: usize) -> &[u8] {
+    &bytes[..len.min(bytes.len())]
 }
 
 /// A segment without a fixed size.
@@ -106,6 +125,41 @@ pub struct Run {
     pub last: Result<Step, VolumeFault>,
 }
 
+/// What a run came to: how it went, how many bytes it took and wrote, and whether what it wrote is
+/// a beginning of the plain bytes.
+#[derive(Clone, Copy, PartialEq, Eq, Debug)]
+pub struct Outcome {
+    pub run: Run,
+    pub taken: usize,
+    pub written: usize,
+    pub is_plain: bool,
+}
+
+/// What a run came to that wrote these bytes.
+pub fn outcome_of(run: Run, taken: usize, written: &[u8], plain: &[u8]) -> Outcome {
+    Outcome {
+        run,
+        taken,
+        written: written.len(),
+        is_plain: plain.starts_with(written),
+    }
+}
+
+/// What a run comes to that takes and writes so much.
+pub fn expected(
+    sectors: u32,
+    last: Result<Step, VolumeFault>,
+    taken: usize,
+    written: usize,
+) -> Outcome {
+    Outcome {
+        run: Run { sectors, last },
+        taken,
+        written,
+        is_plain: true,
+    }
+}
+
 /// Steps until one answers no sector.
 pub fn run_pump<S: Source, O: Sink>(pump: &mut Pump, source: &mut S, sink: &mut O) -> Run {
     for sectors in 0..100 {
@@ -128,20 +182,18 @@ pub fn taker(alloc: Global, room: usize, piece: usize, bad: u64) -> Result<Leaky
 /// No call fails.
 pub const NEVER: u64 = u64::MAX;
 
-/// A run from the image's first byte, with source and sink in pieces of these sizes: what it gave,
-/// what it wrote, and how many bytes it took.
+/// A run from the image's first byte, with source and sink in pieces of these sizes.
 pub fn whole_run(
     alloc: Global,
     segment: Segment,
     image: &[u8],
     pieces: (usize, usize),
-) -> Result<(Run, Vec<u8>, usize), Fail> {
+    plain: &[u8],
+) -> Result<Outcome, Fail> {
     let mut pump = Pump::new(segment, key()?, 0);
     let mut source = Flaky::new(image, pieces.0, NEVER);
     let mut sink = taker(alloc, 65536, pieces.1, NEVER)?;
     let run = run_pump(&mut pump, &mut source, &mut sink);
-    let mut written = Vec::new(alloc);
-    written.extend_from_slice(sink.as_slice())?;
-    let left = source.left();
-    Ok((run, written, image.len().saturating_sub(left)))
+    let taken = image.len().saturating_sub(source.left());
+    Ok(outcome_of(run, taken, sink.as_slice(), plain))
 }

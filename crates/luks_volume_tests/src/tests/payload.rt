@@ -1,10 +1,13 @@
 //! Payloads of all endings.
 
-use super::fixture::{NEVER, Run, dynamic, fixed, key, make_volume, run_pump, taker, whole_run};
+use super::fixture::{
+    NEVER, Outcome, Run, Volume, dynamic, expected, first_of, fixed, key, make_volume, outcome_of,
+    run_pump, taker, whole_run,
+};
 use luks_header::sector_size::SectorSize;
 use luks_header::segment::Segment;
 use luks_io::memory::{MemSink, MemSource};
-use luks_testing::devices::Flaky;
+use luks_testing::devices::{Flaky, Leaky};
 use luks_testing::same::same;
 use luks_volume::fault::VolumeFault;
 use luks_volume::pump::Pump;
@@ -22,59 +25,66 @@ const WRAPPED_512: [u64; 3] = [18_446_744_073_709_551_615, 0, 1];
 
 const WRAPPED_4096: [u64; 3] = [18_446_744_073_709_551_615, 7, 15];
 
-fn check_run(
+/// How a run over an image's first bytes ends: how many bytes these are, how many sectors are passed
+/// on, the answer that ends it, and how many bytes are taken.
+type Row = (usize, u32, Result<Step, VolumeFault>, usize);
+
+fn check_row(
+    rt: &(impl Abort + AllocGlobal),
+    segment: Segment,
+    volume: &Volume,
+    pieces: (usize, usize),
+    (len, sectors, last, taken): Row,
+) -> Result<(), Fail> {
+    let image = first_of(&volume.image, len);
+    let outcome = whole_run(rt.alloc(), segment, image, pieces, &volume.plain)?;
+    let written = (sectors as usize).saturating_mul(segment.sector_size.bytes());
+    let wanted = expected(sectors, last, taken, written);
+    same((len, outcome), (len, wanted)).expect(rt, "the same");
+    Ok(())
+}
+
+// A payload from byte 1000 on with sectors of these unit numbers, in each of these pieces.
+fn check_rows(
     rt: &(impl Abort + AllocGlobal),
     segment: Segment,
     units: &[u64],
-    len: usize,
     pieces: (usize, usize),
-    sectors: u32,
-    last: Result<Step, VolumeFault>,
-    taken: usize,
+    rows: &[Row],
 ) -> Result<(), Fail> {
-    let alloc = rt.alloc();
-    let size = segment.sector_size.bytes();
-    let volume = make_volume(alloc, 1000, segment.sector_size, units)?;
-    let len = len.min(volume.image.len());
-    let (run, written, took) = whole_run(alloc, segment, &volume.image[..len], pieces)?;
-    same(run, Run { sectors, last }).expect(rt, "the same");
-    same(took, taken).expect(rt, "the same");
-    let plain = (sectors as usize)
-        .saturating_mul(size)
-        .min(volume.plain.len());
-    same(written.as_slice(), &volume.plain[..plain]).expect(rt, "the same");
+    let volume = make_volume(rt.alloc(), 1000, segment.sector_size, units)?;
+    for row in rows {
+        check_row(rt, segment, &volume, pieces, *row)?;
+    }
     Ok(())
 }
 
-fn check_dynamic(rt: &(impl Abort + AllocGlobal), pieces: (usize, usize)) -> Result<(), Fail> {
-    for (len, sectors, last) in [
-        (0, 0, Err(VolumeFault::CutBeforePayload)),
-        (999, 0, Err(VolumeFault::CutBeforePayload)),
-        (1000, 0, Ok(Step::End)),
-        (1001, 0, Err(VolumeFault::Tail(1))),
-        (1511, 0, Err(VolumeFault::Tail(511))),
-        (1512, 1, Ok(Step::End)),
-        (1513, 1, Err(VolumeFault::Tail(1))),
-        (2536, 3, Ok(Step::End)),
-    ] {
-        let small = dynamic(1000, SectorSize::B512, 5);
-        check_run(rt, small, &UNITS_512, len, pieces, sectors, last, len)?;
-    }
-    for (len, sectors, last) in [
-        (5095, 0, Err(VolumeFault::Tail(4095))),
-        (5096, 1, Ok(Step::End)),
-        (13_288, 3, Ok(Step::End)),
-    ] {
-        let large = dynamic(1000, SectorSize::B4096, 5);
-        check_run(rt, large, &UNITS_4096, len, pieces, sectors, last, len)?;
-    }
-    Ok(())
-}
+const PIECES: [(usize, usize); 5] = [(1, 700), (511, 1), (512, 700), (513, 512), (5000, 5000)];
+
+const DYNAMIC_512: [Row; 8] = [
+    (0, 0, Err(VolumeFault::CutBeforePayload), 0),
+    (999, 0, Err(VolumeFault::CutBeforePayload), 999),
+    (1000, 0, Ok(Step::End), 1000),
+    (1001, 0, Err(VolumeFault::Tail(1)), 1001),
+    (1511, 0, Err(VolumeFault::Tail(511)), 1511),
+    (1512, 1, Ok(Step::End), 1512),
+    (1513, 1, Err(VolumeFault::Tail(1)), 1513),
+    (2536, 3, Ok(Step::End), 2536),
+];
+
+const DYNAMIC_4096: [Row; 3] = [
+    (5095, 0, Err(VolumeFault::Tail(4095)), 5095),
+    (5096, 1, Ok(Step::End), 5096),
+    (13_288, 3, Ok(Step::End), 13_288),
+];
 
 #[test]
 fn dynamic_payloads(rt: HostRuntime) -> Result<(), Fail> {
-    for pieces in [(1, 700), (511, 1), (512, 700), (513, 512), (5000, 5000)] {
-        check_dynamic(&rt, pieces)?;
+    let small = dynamic(1000, SectorSize::B512, 5);
+    let large = dynamic(1000, SectorSize::B4096, 5);
+    for pieces in PIECES {
+        check_rows(&rt, small, &UNITS_512, pieces, &DYNAMIC_512)?;
+        check_rows(&rt, large, &UNITS_4096, pieces, &DYNAMIC_4096)?;
     }
     Ok(())
 }
@@ -84,179 +94,161 @@ fn unit_numbers_wrap(rt: HostRuntime) -> Result<(), Fail> {
     let small = dynamic(1000, SectorSize::B512, u64::MAX);
     let large = dynamic(1000, SectorSize::B4096, u64::MAX);
     let pieces = (5000, 5000);
-    check_run(
+    check_rows(
         &rt,
         small,
         &WRAPPED_512,
-        2536,
         pieces,
-        3,
-        Ok(Step::End),
-        2536,
+        &[(2536, 3, Ok(Step::End), 2536)],
     )?;
-    check_run(
+    check_rows(
         &rt,
         large,
         &WRAPPED_4096,
-        13_288,
         pieces,
-        3,
-        Ok(Step::End),
-        13_288,
+        &[(13_288, 3, Ok(Step::End), 13_288)],
     )
 }
+
+const FIXED_512: [Row; 8] = [
+    (999, 0, Err(VolumeFault::CutBeforePayload), 999),
+    (1000, 0, Err(VolumeFault::Short(1024)), 1000),
+    (1001, 0, Err(VolumeFault::Short(1023)), 1001),
+    (1512, 1, Err(VolumeFault::Short(512)), 1512),
+    (2023, 1, Err(VolumeFault::Short(1)), 2023),
+    (2024, 2, Ok(Step::End), 2024),
+    (2025, 2, Ok(Step::End), 2024),
+    (2536, 2, Ok(Step::End), 2024),
+];
+
+const FIXED_EMPTY: [Row; 3] = [
+    (999, 0, Err(VolumeFault::CutBeforePayload), 999),
+    (1000, 0, Ok(Step::End), 1000),
+    (2536, 0, Ok(Step::End), 1000),
+];
+
+const FIXED_4096: [Row; 1] = [(13_288, 2, Ok(Step::End), 9192)];
 
 #[test]
 fn fixed_payloads(rt: HostRuntime) -> Result<(), Fail> {
-    for (len, sectors, last, taken) in [
-        (999, 0, Err(VolumeFault::CutBeforePayload), 999),
-        (1000, 0, Err(VolumeFault::Short(1024)), 1000),
-        (1001, 0, Err(VolumeFault::Short(1023)), 1001),
-        (1512, 1, Err(VolumeFault::Short(512)), 1512),
-        (2023, 1, Err(VolumeFault::Short(1)), 2023),
-        (2024, 2, Ok(Step::End), 2024),
-        (2025, 2, Ok(Step::End), 2024),
-        (2536, 2, Ok(Step::End), 2024),
-    ] {
-        let segment = fixed(1000, SectorSize::B512, 5, 1024);
-        check_run(
-            &rt,
-            segment,
-            &UNITS_512,
-            len,
-            (513, 700),
-            sectors,
-            last,
-            taken,
-        )?;
-    }
-    for (len, last) in [
-        (999, Err(VolumeFault::CutBeforePayload)),
-        (1000, Ok(Step::End)),
-        (2536, Ok(Step::End)),
-    ] {
-        let empty = fixed(1000, SectorSize::B512, 5, 0);
-        check_run(
-            &rt,
-            empty,
-            &UNITS_512,
-            len,
-            (513, 700),
-            0,
-            last,
-            len.min(1000),
-        )?;
-    }
+    let small = fixed(1000, SectorSize::B512, 5, 1024);
+    check_rows(&rt, small, &UNITS_512, (513, 700), &FIXED_512)?;
+    let empty = fixed(1000, SectorSize::B512, 5, 0);
+    check_rows(&rt, empty, &UNITS_512, (513, 700), &FIXED_EMPTY)?;
     let large = fixed(1000, SectorSize::B4096, 5, 8192);
-    check_run(
-        &rt,
-        large,
-        &UNITS_4096,
-        13_288,
-        (5000, 5000),
-        2,
-        Ok(Step::End),
-        9192,
-    )
+    check_rows(&rt, large, &UNITS_4096, (5000, 5000), &FIXED_4096)
 }
 
-fn check_skip(rt: &(impl Abort + AllocGlobal)) -> Result<(), Fail> {
-    let alloc = rt.alloc();
-    let volume = make_volume(alloc, 1000, SectorSize::B512, &UNITS_512)?;
-    let len = volume.image.len().min(592);
-    let mut source = MemSource::new(&volume.image[len..]);
-    let mut sink = MemSink::new(alloc, 4096)?;
-    let mut pump = Pump::new(dynamic(1000, SectorSize::B512, 5), key()?, 592);
+// A second skip takes nothing.
+fn check_skips(rt: &impl Abort, pump: &mut Pump<'_>, source: &mut MemSource<'_>) {
     for _ in 0..2 {
-        same(pump.skip(&mut source), Ok(())).expect(rt, "the same");
+        same(pump.skip(source), Ok(())).expect(rt, "the same");
         same(source.left().len(), 1536).expect(rt, "the same");
     }
-    let ended = Run {
-        sectors: 3,
-        last: Ok(Step::End),
-    };
-    same(run_pump(&mut pump, &mut source, &mut sink), ended).expect(rt, "the same");
-    same(sink.as_slice(), volume.plain.as_slice()).expect(rt, "the same");
-    let mut more = MemSource::new(&volume.image);
-    same(pump.step(&mut more, &mut sink), Ok(Step::End)).expect(rt, "the same");
+}
+
+// After the end neither a step nor a skip takes or writes anything.
+fn check_over(rt: &impl Abort, pump: &mut Pump<'_>, image: &[u8], sink: &mut MemSink) {
+    let mut more = MemSource::new(image);
+    same(pump.step(&mut more, sink), Ok(Step::End)).expect(rt, "the same");
     same(pump.skip(&mut more), Ok(())).expect(rt, "the same");
     same(more.left().len(), 2536).expect(rt, "the same");
     same(sink.as_slice().len(), 1536).expect(rt, "the same");
+}
+
+fn check_skip(rt: &(impl Abort + AllocGlobal), image: &[u8], plain: &[u8]) -> Result<(), Fail> {
+    let mut pump = Pump::new(dynamic(1000, SectorSize::B512, 5), key()?, 592);
+    let mut sink = MemSink::new(rt.alloc(), 4096)?;
+    let mut source = MemSource::new(&image[image.len().min(592)..]);
+    check_skips(rt, &mut pump, &mut source);
+    let run = run_pump(&mut pump, &mut source, &mut sink);
+    let taken = image.len().saturating_sub(source.left().len());
+    let outcome = outcome_of(run, taken, sink.as_slice(), plain);
+    same(outcome, expected(3, Ok(Step::End), 2536, 1536)).expect(rt, "the same");
+    check_over(rt, &mut pump, image, &mut sink);
     Ok(())
 }
 
 #[test]
 fn a_second_skip_and_a_step_after_the_end_touch_nothing(rt: HostRuntime) -> Result<(), Fail> {
-    check_skip(&rt)
+    let volume = make_volume(rt.alloc(), 1000, SectorSize::B512, &UNITS_512)?;
+    check_skip(&rt, &volume.image, &volume.plain)
 }
 
-// A run in which read `bad_read` and write `bad_write` fail: its end, and what was written and
-// taken.
-fn broken_run(
-    alloc: Global,
-    image: &[u8],
-    bad: (u64, u64),
-    written: &mut Vec<u8>,
-) -> Result<(Run, usize, bool), Fail> {
-    let mut pump = Pump::new(dynamic(1000, SectorSize::B512, 5), key()?, 0);
-    let mut source = Flaky::new(image, 200, bad.0);
-    let mut sink = taker(alloc, 65536, 200, bad.1)?;
-    let first = run_pump(&mut pump, &mut source, &mut sink);
-    written.extend_from_slice(sink.as_slice())?;
-    let left = source.left();
+// Whether further steps and skips answer alike, and call no device.
+fn ends_for_good(
+    pump: &mut Pump<'_>,
+    source: &mut Flaky<'_>,
+    sink: &mut Leaky,
+    last: Result<Step, VolumeFault>,
+) -> bool {
     let calls = (source.calls(), sink.calls());
-    let again = run_pump(&mut pump, &mut source, &mut sink);
-    let skipped = pump.skip(&mut source);
-    let for_good = again.last == first.last
-        && again.sectors == 0
+    let again = run_pump(pump, source, sink);
+    let skipped = pump.skip(source);
+    again == Run { sectors: 0, last }
         && (source.calls(), sink.calls()) == calls
-        && skipped.is_err() == first.last.is_err();
-    Ok((first, image.len().saturating_sub(left), for_good))
+        && skipped.is_err() == last.is_err()
 }
 
-fn check_failures(rt: &(impl Abort + AllocGlobal)) -> Result<(), Fail> {
-    let alloc = rt.alloc();
-    let volume = make_volume(alloc, 1000, SectorSize::B512, &UNITS_512)?;
-    // Reads are of 200 bytes: five before the payload, then 200, 200 and 112 for each sector, and
-    // one at the end.
-    for (bad, sectors, last, taken) in [
-        (0, 0, Err(VolumeFault::Read), 0),
-        (4, 0, Err(VolumeFault::Read), 800),
-        (5, 0, Err(VolumeFault::Read), 1000),
-        (7, 0, Err(VolumeFault::Read), 1400),
-        (8, 1, Err(VolumeFault::Read), 1512),
-        (13, 2, Err(VolumeFault::Read), 2424),
-        (14, 3, Err(VolumeFault::Read), 2536),
-        (15, 3, Ok(Step::End), 2536),
-    ] {
-        let mut written = Vec::new(alloc);
-        let (run, took, for_good) = broken_run(alloc, &volume.image, (bad, NEVER), &mut written)?;
-        same(run, Run { sectors, last }).expect(rt, "the same");
-        same(took, taken).expect(rt, "the same");
-        assert!(rt; for_good);
-        let plain = (sectors as usize * 512).min(volume.plain.len());
-        same(written.as_slice(), &volume.plain[..plain]).expect(rt, "the same");
-    }
-    // So are writes.
-    for (bad, sectors, last, taken, plain) in [
-        (0, 0, Err(VolumeFault::Write), 1512, 0),
-        (2, 0, Err(VolumeFault::Write), 1512, 400),
-        (3, 1, Err(VolumeFault::Write), 2024, 512),
-        (8, 2, Err(VolumeFault::Write), 2536, 1424),
-        (9, 3, Ok(Step::End), 2536, 1536),
-    ] {
-        let mut written = Vec::new(alloc);
-        let (run, took, for_good) = broken_run(alloc, &volume.image, (NEVER, bad), &mut written)?;
-        same(run, Run { sectors, last }).expect(rt, "the same");
-        same(took, taken).expect(rt, "the same");
-        assert!(rt; for_good);
-        let plain = volume.plain.len().min(plain);
-        same(written.as_slice(), &volume.plain[..plain]).expect(rt, "the same");
+// A run in which read `bad.0` and write `bad.1` fail: what it came to, and whether for good.
+fn broken_run(alloc: Global, volume: &Volume, bad: (u64, u64)) -> Result<(Outcome, bool), Fail> {
+    let mut pump = Pump::new(dynamic(1000, SectorSize::B512, 5), key()?, 0);
+    let mut source = Flaky::new(&volume.image, 200, bad.0);
+    let mut sink = taker(alloc, 65536, 200, bad.1)?;
+    let run = run_pump(&mut pump, &mut source, &mut sink);
+    let taken = volume.image.len().saturating_sub(source.left());
+    let outcome = outcome_of(run, taken, sink.as_slice(), &volume.plain);
+    let for_good = ends_for_good(&mut pump, &mut source, &mut sink, run.last);
+    Ok((outcome, for_good))
+}
+
+/// Which read or write fails, and what the run comes to: how many sectors are passed on, the answer
+/// that ends it, and how many bytes are taken and written.
+type BadCall = ((u64, u64), u32, Result<Step, VolumeFault>, usize, usize);
+
+// Reads are of 200 bytes: five before the payload, then 200, 200 and 112 for each sector, and one
+// at the end.
+const BAD_READS: [BadCall; 8] = [
+    ((0, NEVER), 0, Err(VolumeFault::Read), 0, 0),
+    ((4, NEVER), 0, Err(VolumeFault::Read), 800, 0),
+    ((5, NEVER), 0, Err(VolumeFault::Read), 1000, 0),
+    ((7, NEVER), 0, Err(VolumeFault::Read), 1400, 0),
+    ((8, NEVER), 1, Err(VolumeFault::Read), 1512, 512),
+    ((13, NEVER), 2, Err(VolumeFault::Read), 2424, 1024),
+    ((14, NEVER), 3, Err(VolumeFault::Read), 2536, 1536),
+    ((15, NEVER), 3, Ok(Step::End), 2536, 1536),
+];
+
+// So are writes.
+const BAD_WRITES: [BadCall; 5] = [
+    ((NEVER, 0), 0, Err(VolumeFault::Write), 1512, 0),
+    ((NEVER, 2), 0, Err(VolumeFault::Write), 1512, 400),
+    ((NEVER, 3), 1, Err(VolumeFault::Write), 2024, 512),
+    ((NEVER, 8), 2, Err(VolumeFault::Write), 2536, 1424),
+    ((NEVER, 9), 3, Ok(Step::End), 2536, 1536),
+];
+
+fn check_bad_call(
+    rt: &(impl Abort + AllocGlobal),
+    volume: &Volume,
+    (bad, sectors, last, taken, written): BadCall,
+) -> Result<(), Fail> {
+    let (outcome, for_good) = broken_run(rt.alloc(), volume, bad)?;
+    let wanted = expected(sectors, last, taken, written);
+    same((bad, outcome, for_good), (bad, wanted, true)).expect(rt, "the same");
+    Ok(())
+}
+
+fn check_bad_calls(rt: &(impl Abort + AllocGlobal), calls: &[BadCall]) -> Result<(), Fail> {
+    let volume = make_volume(rt.alloc(), 1000, SectorSize::B512, &UNITS_512)?;
+    for call in calls {
+        check_bad_call(rt, &volume, *call)?;
     }
     Ok(())
 }
 
 #[test]
 fn failures_are_told_for_good(rt: HostRuntime) -> Result<(), Fail> {
-    check_failures(&rt)
+    check_bad_calls(&rt, &BAD_READS)?;
+    check_bad_calls(&rt, &BAD_WRITES)
 }

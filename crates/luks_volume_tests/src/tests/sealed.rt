@@ -2,7 +2,7 @@
 
 ghost use Rattle.std.specs.Prelude.{◌≡◌, length};
 
-use super::fixture::{NEVER, Run, counted, dynamic, run_pump, taker};
+use super::fixture::{NEVER, counted, dynamic, expected, outcome_of, run_pump, taker};
 use luks_cipher::{Mode, SectorCipher};
 use luks_header::sector_size::SectorSize;
 use luks_kdf::{Hash, Work, pbkdf2};
@@ -121,89 +121,82 @@ fn opened(
     Ok(key)
 }
 
-fn check_header(rt: &(impl Abort + AllocGlobal), image: &[u8]) {
-    same(at(image, 0, 11), b"LUKS\xba\xbe\x00\x01aes".as_slice()).expect(rt, "the same");
-    same(at(image, 40, 12), b"xts-plain64\x00".as_slice()).expect(rt, "the same");
-    same(at(image, 72, 7), b"sha256\x00".as_slice()).expect(rt, "the same");
-    same(
-        at(image, 104, 8),
-        b"\x00\x00\x00\x48\x00\x00\x00\x20".as_slice(),
-    )
-    .expect(rt, "the same");
-    same(at(image, 112, 20), DIGEST).expect(rt, "the same");
-    same(at(image, 132, 32), SALT.as_slice()).expect(rt, "the same");
-    same(at(image, 164, 4), b"\x00\x00\x00\x03".as_slice()).expect(rt, "the same");
-    same(at(image, 168, 7), b"a-uuid\x00".as_slice()).expect(rt, "the same");
+// Texts and numbers of the header, each with its place.
+const HEADER: [(usize, &[u8]); 16] = [
+    (0, b"LUKS\xba\xbe\x00\x01aes"),
+    (40, b"xts-plain64\x00"),
+    (72, b"sha256\x00"),
+    (104, b"\x00\x00\x00\x48\x00\x00\x00\x20"),
+    (112, DIGEST),
+    (132, &SALT),
+    (164, b"\x00\x00\x00\x03"),
+    (168, b"a-uuid\x00"),
     // The slots: state and iterations, then salt, place and stripes.
-    same(
-        at(image, 208, 8),
-        b"\x00\xac\x71\xf3\x00\x00\x00\x02".as_slice(),
-    )
-    .expect(rt, "the same");
-    same(at(image, 216, 32), FIRST_SALT.as_slice()).expect(rt, "the same");
-    same(
-        at(image, 248, 8),
-        b"\x00\x00\x00\x08\x00\x00\x00\x04".as_slice(),
-    )
-    .expect(rt, "the same");
-    same(
-        at(image, 256, 8),
-        b"\x00\x00\xde\xad\x00\x00\x00\x00".as_slice(),
-    )
-    .expect(rt, "the same");
-    same(
-        at(image, 296, 8),
-        b"\x00\x00\x00\x10\x00\x00\x00\x04".as_slice(),
-    )
-    .expect(rt, "the same");
-    same(
-        at(image, 448, 8),
-        b"\x00\xac\x71\xf3\x00\x00\x00\x02".as_slice(),
-    )
-    .expect(rt, "the same");
-    same(
-        at(image, 488, 8),
-        b"\x00\x00\x00\x30\x00\x00\x00\x04".as_slice(),
-    )
-    .expect(rt, "the same");
-    same(
-        at(image, 584, 12),
-        b"\x00\x00\x00\x40\x00\x00\x00\x04\x00\x00\x00\x00".as_slice(),
-    )
-    .expect(rt, "the same");
+    (208, b"\x00\xac\x71\xf3\x00\x00\x00\x02"),
+    (216, &FIRST_SALT),
+    (248, b"\x00\x00\x00\x08\x00\x00\x00\x04"),
+    (256, b"\x00\x00\xde\xad\x00\x00\x00\x00"),
+    (296, b"\x00\x00\x00\x10\x00\x00\x00\x04"),
+    (448, b"\x00\xac\x71\xf3\x00\x00\x00\x02"),
+    (488, b"\x00\x00\x00\x30\x00\x00\x00\x04"),
+    (584, b"\x00\x00\x00\x40\x00\x00\x00\x04\x00\x00\x00\x00"),
+];
+
+fn check_header(rt: &impl Abort, image: &[u8]) {
+    for (place, bytes) in &HEADER {
+        let there = at(image, *place, bytes.len());
+        same((*place, there), (*place, *bytes)).expect(rt, "the same");
+    }
 }
 
-fn check_sealed(rt: &(impl Abort + AllocGlobal)) -> Result<(), Fail> {
-    let alloc = rt.alloc();
-    let plain = counted(alloc, 1024)?;
-    let slots = [slot(5, SIXTH_SALT, b"sixth"), slot(0, FIRST_SALT, b"first")];
-    let Ok(image) = seal1(alloc, &parameters(&slots, &plain)) else {
-        return Err("not sealed".into());
-    };
-    same(image.len(), 37_888).expect(rt, "the same");
-    check_header(rt, &image);
-    let first = opened(alloc, &image, 4096, &FIRST_SALT, b"first")?;
-    same(first.as_slice(), KEY).expect(rt, "the same");
-    let sixth = opened(alloc, &image, 24_576, &SIXTH_SALT, b"sixth")?;
-    same(sixth.as_slice(), KEY).expect(rt, "the same");
-    let wrong = opened(alloc, &image, 4096, &FIRST_SALT, b"sixth")?;
-    assert!(rt; wrong.as_slice() != KEY);
+// Whether the stripes at this place hold the key for a passphrase.
+fn opens(
+    alloc: Global,
+    image: &[u8],
+    place: usize,
+    salt: &[u8],
+    pass: &[u8],
+) -> Result<bool, Fail> {
+    let key = opened(alloc, image, place, salt, pass)?;
+    Ok(key.as_slice() == KEY)
+}
+
+// The payload of 1024 bytes.
+fn check_payload(rt: &(impl Abort + AllocGlobal), image: &[u8], plain: &[u8]) -> Result<(), Fail> {
     let Some(key) = SectorCipher::new(Mode::XtsPlain64, KEY) else {
         return Err("no key".into());
     };
     let mut pump = Pump::new(dynamic(36_864, SectorSize::B512, 0), key, 0);
-    let mut source = Flaky::new(&image, 5000, NEVER);
-    let mut sink = taker(alloc, 4096, 5000, NEVER)?;
-    let ended = Run {
-        sectors: 2,
-        last: Ok(Step::End),
-    };
-    same(run_pump(&mut pump, &mut source, &mut sink), ended).expect(rt, "the same");
-    same(sink.as_slice(), plain.as_slice()).expect(rt, "the same");
+    let mut source = Flaky::new(image, 5000, NEVER);
+    let mut sink = taker(rt.alloc(), 4096, 5000, NEVER)?;
+    let run = run_pump(&mut pump, &mut source, &mut sink);
+    let taken = image.len().saturating_sub(source.left());
+    let outcome = outcome_of(run, taken, sink.as_slice(), plain);
+    same(outcome, expected(2, Ok(Step::End), 37_888, 1024)).expect(rt, "the same");
     Ok(())
+}
+
+fn sealed(alloc: Global, plain: &[u8]) -> Result<Vec<u8>, Fail> {
+    let slots = [slot(5, SIXTH_SALT, b"sixth"), slot(0, FIRST_SALT, b"first")];
+    match seal1(alloc, &parameters(&slots, plain)) {
+        Ok(image) => Ok(image),
+        Err(_) => Err("not sealed".into()),
+    }
+}
+
+fn check_sealed(rt: &(impl Abort + AllocGlobal), image: &[u8], plain: &[u8]) -> Result<(), Fail> {
+    let alloc = rt.alloc();
+    same(image.len(), 37_888).expect(rt, "the same");
+    check_header(rt, image);
+    assert!(rt; opens(alloc, image, 4096, &FIRST_SALT, b"first")?);
+    assert!(rt; opens(alloc, image, 24_576, &SIXTH_SALT, b"sixth")?);
+    assert!(rt; !opens(alloc, image, 4096, &FIRST_SALT, b"sixth")?);
+    check_payload(rt, image, plain)
 }
 
 #[test]
 fn a_sealed_volume_opens(rt: HostRuntime) -> Result<(), Fail> {
-    check_sealed(&rt)
+    let plain: [u8; 1024] = counted();
+    let image = sealed(rt.alloc(), &plain)?;
+    check_sealed(&rt, &image, &plain)
 }

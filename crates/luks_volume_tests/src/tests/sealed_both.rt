@@ -1,7 +1,7 @@
 //! Sealed volumes of both formats, opened by the header's reader, by what tries passphrases, and by
 //! a pump.
 
-use super::fixture::{NEVER, Run, counted, run_pump, taker};
+use super::fixture::{NEVER, counted, first_of, run_pump, taker};
 use luks_cipher::{Mode, SectorCipher};
 use luks_header::header::read_header;
 use luks_header::payload::segment;
@@ -79,6 +79,21 @@ fn opened(
     Ok(Some((Pump::new(payload, cipher, 0), opened)))
 }
 
+// The pump writes this plain text, and ends.
+fn check_plain(
+    rt: &(impl Abort + AllocGlobal),
+    pump: &mut Pump<'_>,
+    image: &[u8],
+    plain: &[u8],
+) -> Result<(), Fail> {
+    let mut source = Flaky::new(image, 0, NEVER);
+    let mut sink = taker(rt.alloc(), 65_536, 65_536, NEVER)?;
+    let run = run_pump(pump, &mut source, &mut sink);
+    same(run.last, Ok(Step::End)).expect(rt, "the same");
+    same(sink.as_slice(), plain).expect(rt, "the same");
+    Ok(())
+}
+
 /// The passphrase opens this slot of the image, and the payload is this plain text.
 fn check_opens(
     rt: &(impl Abort + AllocGlobal),
@@ -88,16 +103,21 @@ fn check_opens(
     slot: u8,
     plain: &[u8],
 ) -> Result<(), Fail> {
-    let alloc = rt.alloc();
-    let Some((mut pump, opened)) = opened(alloc, image, named, pass)? else {
+    let Some((mut pump, opened)) = opened(rt.alloc(), image, named, pass)? else {
         return Err("nothing opens".into());
     };
     same(opened.slot, slot).expect(rt, "the same");
-    let mut source = Flaky::new(image, 0, NEVER);
-    let mut sink = taker(alloc, 65_536, 65_536, NEVER)?;
-    let run = run_pump(&mut pump, &mut source, &mut sink);
-    same(run.last, Ok(Step::End)).expect(rt, "the same");
-    same(sink.as_slice(), plain).expect(rt, "the same");
+    check_plain(rt, &mut pump, image, plain)
+}
+
+// The passphrase opens no slot of the image, or not the named one.
+fn check_opens_none(
+    rt: &(impl Abort + AllocGlobal),
+    image: &[u8],
+    named: Option<u8>,
+    pass: &[u8],
+) -> Result<(), Fail> {
+    assert!(rt; opened(rt.alloc(), image, named, pass)?.is_none());
     Ok(())
 }
 
@@ -165,6 +185,20 @@ fn volume2<'a>(mode: Mode, key: &'a [u8], slots: &'a [Slot2<'a>], plain: &'a [u8
     }
 }
 
+fn sealed1(alloc: Global, seal: &Seal1<'_>) -> Result<Vec<u8>, Fail> {
+    match seal1(alloc, seal) {
+        Ok(image) => Ok(image),
+        Err(_) => Err("not sealed".into()),
+    }
+}
+
+fn sealed2(alloc: Global, seal: &Seal2<'_>) -> Result<Vec<u8>, Fail> {
+    match seal2(alloc, seal) {
+        Ok(image) => Ok(image),
+        Err(_) => Err("not sealed".into()),
+    }
+}
+
 // A volume of LUKS1 with two slots.
 fn check_first(
     rt: &(impl Abort + AllocGlobal),
@@ -174,22 +208,19 @@ fn check_first(
     plain: &[u8],
 ) -> Result<(), Fail> {
     let slots = [slot1(6, SECOND, random), slot1(1, FIRST, random)];
-    let Ok(image) = seal1(rt.alloc(), &volume1(mode, key, &slots, plain)) else {
-        return Err("not sealed".into());
-    };
+    let image = sealed1(rt.alloc(), &volume1(mode, key, &slots, plain))?;
     check_opens(rt, &image, None, FIRST, 1, plain)?;
     check_opens(rt, &image, None, SECOND, 6, plain)?;
     check_opens(rt, &image, Some(6), SECOND, 6, plain)?;
-    assert!(rt; opened(rt.alloc(), &image, Some(1), SECOND)?.is_none());
-    Ok(())
+    check_opens_none(rt, &image, Some(1), SECOND)
 }
 
 #[test]
 fn each_passphrase_opens_a_volume_of_luks1_in_each_mode(rt: HostRuntime) -> Result<(), Fail> {
-    let plain = counted(rt.alloc(), 1536)?;
+    let plain: [u8; 1536] = counted();
+    let random: [u8; 128] = counted();
     for (mode, len) in MODES {
-        let random = counted(rt.alloc(), 2 * len)?;
-        check_first(&rt, mode, &KEY[..len], &random, &plain)?;
+        check_first(&rt, mode, &KEY[..len], first_of(&random, 2 * len), &plain)?;
     }
     Ok(())
 }
@@ -213,28 +244,25 @@ fn check_second(
         slots: &slots,
         ..seal
     };
-    let Ok(image) = seal2(rt.alloc(), &seal) else {
-        return Err("not sealed".into());
-    };
+    let image = sealed2(rt.alloc(), &seal)?;
     check_opens(rt, &image, None, FIRST, 10, seal.plain)?;
     check_opens(rt, &image, None, SECOND, 31, seal.plain)?;
     check_opens(rt, &image, Some(2), UNRANKED, 2, seal.plain)?;
-    assert!(rt; opened(rt.alloc(), &image, None, UNRANKED)?.is_none());
-    assert!(rt; opened(rt.alloc(), &image, Some(2), FIRST)?.is_none());
-    Ok(())
+    check_opens_none(rt, &image, None, UNRANKED)?;
+    check_opens_none(rt, &image, Some(2), FIRST)
 }
 
 #[test]
 fn each_passphrase_opens_a_volume_of_luks2_in_each_mode(rt: HostRuntime) -> Result<(), Fail> {
-    let plain = counted(rt.alloc(), 8192)?;
+    let plain: [u8; 8192] = counted();
+    let random: [u8; 128] = counted();
     for (mode, len) in MODES {
-        let random = counted(rt.alloc(), 2 * len)?;
         for sector_size in SIZES {
             let seal = Seal2 {
                 sector_size,
                 ..volume2(mode, &KEY[..len], &[], &plain)
             };
-            check_second(&rt, seal, &random)?;
+            check_second(&rt, seal, first_of(&random, 2 * len))?;
         }
     }
     Ok(())
@@ -242,8 +270,8 @@ fn each_passphrase_opens_a_volume_of_luks2_in_each_mode(rt: HostRuntime) -> Resu
 
 #[test]
 fn key_material_is_in_a_mode_of_its_own(rt: HostRuntime) -> Result<(), Fail> {
-    let plain = counted(rt.alloc(), 512)?;
-    let random = counted(rt.alloc(), 128)?;
+    let plain: [u8; 512] = counted();
+    let random: [u8; 128] = counted();
     for (area_mode, area_key_size) in MODES {
         let seal = Seal2 {
             area_mode,
@@ -255,24 +283,27 @@ fn key_material_is_in_a_mode_of_its_own(rt: HostRuntime) -> Result<(), Fail> {
     Ok(())
 }
 
+/// Lengths of payloads, none among them, and whether they are fixed.
+const LENGTHS: [(usize, bool); 5] = [
+    (12_288, false),
+    (12_288, true),
+    (4096, true),
+    (0, true),
+    (0, false),
+];
+
 // Unit numbers that wrap at 2^64, and lengths that are fixed, none among them.
 #[test]
 fn unit_numbers_wrap_and_sizes_are_kept(rt: HostRuntime) -> Result<(), Fail> {
-    let bytes = counted(rt.alloc(), 12_288)?;
-    let random = counted(rt.alloc(), 128)?;
-    for (len, fixed) in [
-        (12_288, false),
-        (12_288, true),
-        (4096, true),
-        (0, true),
-        (0, false),
-    ] {
+    let bytes: [u8; 12_288] = counted();
+    let random: [u8; 128] = counted();
+    for (len, fixed) in LENGTHS {
         for sector_size in SIZES {
             let seal = Seal2 {
                 sector_size,
                 fixed,
                 iv_tweak: u64::MAX - 7,
-                plain: &bytes[..len.min(bytes.len())],
+                plain: first_of(&bytes, len),
                 ..volume2(Mode::XtsPlain64, KEY, &[], &[])
             };
             check_second(&rt, seal, &random)?;
@@ -281,51 +312,60 @@ fn unit_numbers_wrap_and_sizes_are_kept(rt: HostRuntime) -> Result<(), Fail> {
     Ok(())
 }
 
-// Bytes behind a fixed size are no part of the payload.
-fn check_fixed(rt: &(impl Abort + AllocGlobal)) -> Result<(), Fail> {
-    let plain = counted(rt.alloc(), 1024)?;
-    let random = counted(rt.alloc(), 128)?;
+// A volume of LUKS2 with one slot, of a fixed size.
+fn fixed_volume(alloc: Global, plain: &[u8]) -> Result<Vec<u8>, Fail> {
+    let random: [u8; 128] = counted();
     let slots = [slot2(0, Hash::Sha256, FIRST, &random)];
     let seal = Seal2 {
         fixed: true,
-        ..volume2(Mode::XtsPlain64, KEY, &slots, &plain)
+        ..volume2(Mode::XtsPlain64, KEY, &slots, plain)
     };
-    let Ok(mut image) = seal2(rt.alloc(), &seal) else {
-        return Err("not sealed".into());
-    };
-    image.extend_from_slice(&plain)?;
-    check_opens(rt, &image, None, FIRST, 0, &plain)
+    sealed2(alloc, &seal)
 }
 
+// Bytes behind a fixed size are no part of the payload.
 #[test]
 fn a_fixed_size_ends_the_payload(rt: HostRuntime) -> Result<(), Fail> {
-    check_fixed(&rt)
+    let plain: [u8; 1024] = counted();
+    let mut image = fixed_volume(rt.alloc(), &plain)?;
+    image.extend_from_slice(&plain)?;
+    check_opens(&rt, &image, None, FIRST, 0, &plain)
+}
+
+// A volume of LUKS2 with one slot, and headers of this size.
+fn volume_under(alloc: Global, hdr_size: u64, plain: &[u8]) -> Result<Vec<u8>, Fail> {
+    let random: [u8; 128] = counted();
+    let slots = [slot2(0, Hash::Sha256, FIRST, &random)];
+    let seal = Seal2 {
+        hdr_size,
+        offset: hdr_size.saturating_mul(2).saturating_add(4096),
+        ..volume2(Mode::XtsPlain64, KEY, &slots, plain)
+    };
+    sealed2(alloc, &seal)
 }
 
 // The secondary header is chosen where the primary one is broken.
-fn check_secondary(rt: &(impl Abort + AllocGlobal)) -> Result<(), Fail> {
-    let plain = counted(rt.alloc(), 1024)?;
-    let random = counted(rt.alloc(), 128)?;
-    let slots = [slot2(0, Hash::Sha256, FIRST, &random)];
-    for hdr_size in [16_384, 32_768, 65_536, 131_072, 262_144, 524_288, 1_048_576] {
-        let seal = Seal2 {
-            hdr_size,
-            offset: 2 * hdr_size + 4096,
-            ..volume2(Mode::XtsPlain64, KEY, &slots, &plain)
-        };
-        let Ok(mut image) = seal2(rt.alloc(), &seal) else {
-            return Err("not sealed".into());
-        };
-        check_opens(rt, &image, None, FIRST, 0, &plain)?;
-        if 4096 < image.len() {
-            image[4096] = b'}';
-        }
-        check_opens(rt, &image, None, FIRST, 0, &plain)?;
+fn check_secondary(
+    rt: &(impl Abort + AllocGlobal),
+    hdr_size: u64,
+    plain: &[u8],
+) -> Result<(), Fail> {
+    let mut image = volume_under(rt.alloc(), hdr_size, plain)?;
+    check_opens(rt, &image, None, FIRST, 0, plain)?;
+    if 4096 < image.len() {
+        image[4096] = b'}';
     }
-    Ok(())
+    check_opens(rt, &image, None, FIRST, 0, plain)
 }
+
+/// The sizes of headers.
+const HEADERS: [u64; 7] = [16_384, 32_768, 65_536, 131_072, 262_144, 524_288, 1_048_576];
 
 #[test]
 fn both_headers_are_valid(rt: HostRuntime) -> Result<(), Fail> {
-    check_secondary(&rt)
+    let plain: [u8; 1024] = counted();
+    for hdr_size in HEADERS {
+        check_secondary(&rt, hdr_size, &plain)?;
+    }
+    Ok(())
 }
