@@ -25,8 +25,8 @@ const WRAPPED_512: [u64; 3] = [18_446_744_073_709_551_615, 0, 1];
 
 const WRAPPED_4096: [u64; 3] = [18_446_744_073_709_551_615, 7, 15];
 
-/// How a run over an image's first bytes ends: how many bytes these are, how many sectors are passed
-/// on, the answer that ends it, and how many bytes are taken.
+/// How a run over an image's first bytes ends: how many bytes these are, how many sectors are
+/// passed on, the answer that ends it, and how many bytes are taken.
 type Row = (usize, u32, Result<Step, VolumeFault>, usize);
 
 fn check_row(
