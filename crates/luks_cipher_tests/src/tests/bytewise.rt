@@ -114,44 +114,69 @@ fn sum(a: State, b: State) -> State {
     next
 }
 
+type Word = [u8; 4];
+
+// SubWord (5.2).
+fn substituted_word(table: &[u8; 256], word: Word) -> Word {
+    let mut next = [0; 4];
+    for k in 0..4 {
+        next[k] = table[word[k] as usize];
+    }
+    next
+}
+
+// Word `i` of the schedule of a key of so many words, from the words before it (5.2).
+fn next_word(boxes: &Boxes, all: &[Word], words: usize, i: usize, constant: u8) -> Option<Word> {
+    let mut word = *all.last()?;
+    if i.checked_rem(words)? == 0 {
+        word = substituted_word(&boxes.there, [word[1], word[2], word[3], word[0]]);
+        word[0] ^= constant;
+    } else if words == 8 && i % 8 == 4 {
+        word = substituted_word(&boxes.there, word);
+    }
+    let first = *all.get(i.checked_sub(words)?)?;
+    for k in 0..4 {
+        word[k] ^= first[k];
+    }
+    Some(word)
+}
+
+// The words of a key.
+fn words_of(alloc: Global, key: &[u8]) -> Result<Vec<Word>, Fail> {
+    let mut all = Vec::new(alloc);
+    for piece in key.chunks_exact(4) {
+        let mut word = [0; 4];
+        word.copy_from_slice(piece);
+        all.push(word)?;
+    }
+    Ok(all)
+}
+
+// The schedule of a key of so many words, 4 or 8 (5.2).
+fn schedule(boxes: &Boxes, alloc: Global, key: &[u8], words: usize) -> Result<Vec<Word>, Fail> {
+    let mut all = words_of(alloc, key)?;
+    let mut constant = 1;
+    for i in words..words.saturating_add(7).saturating_mul(4) {
+        all.push(next_word(boxes, &all, words, i, constant).ok_or("no word before")?)?;
+        if i.checked_rem(words) == Some(0) {
+            constant = times_x(constant);
+        }
+    }
+    Ok(all)
+}
+
 // The round keys of a key of 16 or 32 bytes (5.2).
 fn expanded(boxes: &Boxes, alloc: Global, key: &[u8]) -> Result<Vec<State>, Fail> {
-    let words = key.len() / 4;
-    if words != 4 && words != 8 {
+    if key.len() != 16 && key.len() != 32 {
         return Err("no length of a key".into());
     }
-    let mut bytes = Vec::new(alloc);
-    for b in key {
-        bytes.push(*b)?;
-    }
-    let mut constant = 1;
-    for i in words..4 * (words + 7) {
-        let mut word = [0; 4];
-        for k in 0..4 {
-            word[k] = *bytes.get(4 * (i - 1) + k).ok_or("no word before")?;
-        }
-        if i % words == 0 {
-            word = [
-                boxes.there[word[1] as usize] ^ constant,
-                boxes.there[word[2] as usize],
-                boxes.there[word[3] as usize],
-                boxes.there[word[0] as usize],
-            ];
-            constant = times_x(constant);
-        } else if words == 8 && i % words == 4 {
-            for k in 0..4 {
-                word[k] = boxes.there[word[k] as usize];
-            }
-        }
-        for k in 0..4 {
-            let before = *bytes.get(4 * (i - words) + k).ok_or("no word before")?;
-            bytes.push(before ^ word[k])?;
-        }
-    }
+    let all = schedule(boxes, alloc, key, key.len() / 4)?;
     let mut keys = Vec::new(alloc);
-    for piece in bytes.chunks_exact(16) {
+    for piece in all.chunks_exact(4) {
         let mut state = [0; 16];
-        state.copy_from_slice(piece);
+        for i in 0..16 {
+            state[i] = piece[i / 4][i % 4];
+        }
         keys.push(state)?;
     }
     Ok(keys)

@@ -23,31 +23,30 @@ fn bytes(alloc: Global, seed: u64, length: usize) -> Result<Vec<u8>, Fail> {
     Ok(bytes)
 }
 
-// 1000 units of this length, each under its own number, encrypted and decrypted in both ways.
-fn same(alloc: Global, key_length: usize, length: usize) -> Result<bool, Fail> {
-    if length % 16 != 0 || length < 16 || length > 4096 {
+// A unit of this number is encrypted and decrypted alike in both ways.
+fn agree(key: &XtsKey, other: &Bytewise, number: u64, plain: &Vec<u8>) -> Result<bool, Fail> {
+    let mut unit = plain.clone()?;
+    if unit.len() % 16 != 0 || unit.len() < 16 || unit.len() > 4096 {
         return Err("no data unit".into());
     }
+    let mut bytewise = plain.clone()?;
+    other.unit(true, number, &mut bytewise)?;
+    key.encrypt_unit(number, &mut unit);
+    let is_encrypted = unit == bytewise;
+    other.unit(false, number, &mut bytewise)?;
+    key.decrypt_unit(number, &mut unit);
+    Ok(is_encrypted && unit == bytewise && unit == *plain)
+}
+
+// 1000 units of this length, each under its own number, encrypted and decrypted in both ways.
+fn same(alloc: Global, key_length: usize, length: usize) -> Result<bool, Fail> {
     let key = bytes(alloc, 0x9e37_79b9_7f4a_7c15, key_length)?;
     let other = Bytewise::new(alloc, &key)?;
     let key = XtsKey::new(&key).ok_or("no length of a key")?;
     let mut number = 0x0123_4567_89ab_cdef;
     for _ in 0..1000u32 {
         number = next(number);
-        let plain = bytes(alloc, number, length)?;
-        let mut unit = plain.clone()?;
-        if unit.len() != length {
-            return Err("no data unit".into());
-        }
-        let mut bytewise = plain.clone()?;
-        other.unit(true, number, &mut bytewise)?;
-        key.encrypt_unit(number, &mut unit);
-        if unit != bytewise {
-            return Ok(false);
-        }
-        other.unit(false, number, &mut bytewise)?;
-        key.decrypt_unit(number, &mut unit);
-        if unit != bytewise || unit != plain {
+        if !agree(&key, &other, number, &bytes(alloc, number, length)?)? {
             return Ok(false);
         }
     }

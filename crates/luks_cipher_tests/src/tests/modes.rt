@@ -1,8 +1,8 @@
 use super::mode_vectors::{CHAINS, SECTORS};
 use super::{assert_in, assert_same_in, bytes};
+use luks_blocks::SliceKey;
 use luks_cipher::cbc::{decrypt_chain, encrypt_chain};
 use luks_cipher::{Mode, SectorCipher};
-use luks_blocks::SliceKey;
 use std::alloc::Global;
 use std::process::Abort;
 use std::test::Fail;
@@ -73,13 +73,13 @@ struct Chain<'a> {
     encrypted: &'a str,
 }
 
-fn chain_of(line: &str) -> Result<Chain<'_>, Fail> {
+fn chain_of(line: &str) -> Option<Chain<'_>> {
     let mut words = line.split(' ');
-    Ok(Chain {
-        key: words.next().ok_or("no key")?,
-        vector: words.next().ok_or("no vector")?,
-        plain: words.next().ok_or("no unit")?,
-        encrypted: words.next().ok_or("no answer")?,
+    Some(Chain {
+        key: words.next()?,
+        vector: words.next()?,
+        plain: words.next()?,
+        encrypted: words.next()?,
     })
 }
 
@@ -122,7 +122,11 @@ fn chain_holds(alloc: Global, chain: &Chain<'_>) -> Result<bool, Fail> {
 #[test]
 fn chains(rt: HostRuntime) -> Result<(), Fail> {
     for line in CHAINS.lines() {
-        assert_in(&rt, &line, chain_holds(rt.alloc(), &chain_of(line)?)?);
+        assert_in(
+            &rt,
+            &line,
+            chain_holds(rt.alloc(), &chain_of(line).ok_or("no row")?)?,
+        );
     }
     Ok(())
 }
@@ -157,14 +161,14 @@ struct Sector<'a> {
     encrypted: &'a str,
 }
 
-fn sector_of(line: &str) -> Result<Sector<'_>, Fail> {
+fn sector_of(line: &str) -> Option<Sector<'_>> {
     let mut words = line.split(' ');
-    Ok(Sector {
-        mode: Mode::from_name(words.next().ok_or("no mode")?).ok_or("no mode")?,
-        key: words.next().ok_or("no key")?,
-        number: words.next().ok_or("no number")?.parse()?,
-        plain: words.next().ok_or("no sector")?,
-        encrypted: words.next().ok_or("no answer")?,
+    Some(Sector {
+        mode: Mode::from_name(words.next()?)?,
+        key: words.next()?,
+        number: words.next()?.parse().ok()?,
+        plain: words.next()?,
+        encrypted: words.next()?,
     })
 }
 
@@ -179,7 +183,11 @@ fn sector_holds(alloc: Global, sector: &Sector<'_>) -> Result<bool, Fail> {
 #[test]
 fn sectors(rt: HostRuntime) -> Result<(), Fail> {
     for line in SECTORS.lines() {
-        assert_in(&rt, &line, sector_holds(rt.alloc(), &sector_of(line)?)?);
+        assert_in(
+            &rt,
+            &line,
+            sector_holds(rt.alloc(), &sector_of(line).ok_or("no row")?)?,
+        );
     }
     Ok(())
 }
@@ -197,7 +205,11 @@ xts-plain64 0000000000000000000000000000000000000000000000000000000000000000 0 0
 #[test]
 fn worked_sectors(rt: HostRuntime) -> Result<(), Fail> {
     for line in WORKED.lines() {
-        assert_in(&rt, &line, sector_holds(rt.alloc(), &sector_of(line)?)?);
+        assert_in(
+            &rt,
+            &line,
+            sector_holds(rt.alloc(), &sector_of(line).ok_or("no row")?)?,
+        );
     }
     Ok(())
 }

@@ -90,14 +90,14 @@ struct Row<'a> {
     digest: &'a str,
 }
 
-fn row_of(line: &str) -> Result<Row<'_>, Fail> {
+fn row_of(line: &str) -> Option<Row<'_>> {
     let mut words = line.split(' ');
-    Ok(Row {
-        mode: Mode::from_name(words.next().ok_or("no mode")?).ok_or("no mode of this name")?,
-        key_length: words.next().ok_or("no key")?.parse()?,
-        number: words.next().ok_or("no number")?.parse()?,
-        length: words.next().ok_or("no length")?.parse()?,
-        digest: words.next().ok_or("no digest")?,
+    Some(Row {
+        mode: Mode::from_name(words.next()?)?,
+        key_length: words.next()?.parse().ok()?,
+        number: words.next()?.parse().ok()?,
+        length: words.next()?.parse().ok()?,
+        digest: words.next()?,
     })
 }
 
@@ -125,7 +125,11 @@ fn holds(alloc: Global, row: &Row<'_>) -> Result<bool, Fail> {
 #[test]
 fn sectors_of_slices_and_blocks(rt: HostRuntime) -> Result<(), Fail> {
     for line in SECTORS.lines() {
-        assert_in(&rt, &line, holds(rt.alloc(), &row_of(line)?)?);
+        assert_in(
+            &rt,
+            &line,
+            holds(rt.alloc(), &row_of(line).ok_or("no row")?)?,
+        );
     }
     Ok(())
 }

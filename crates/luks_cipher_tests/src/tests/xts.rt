@@ -34,13 +34,13 @@ struct Row<'a> {
     encrypted: &'a str,
 }
 
-fn row_of(line: &str) -> Result<Row<'_>, Fail> {
+fn row_of(line: &str) -> Option<Row<'_>> {
     let mut words = line.split(' ');
-    Ok(Row {
-        key: words.next().ok_or("no key")?,
-        number: words.next().ok_or("no number")?.parse()?,
-        plain: words.next().ok_or("no unit")?,
-        encrypted: words.next().ok_or("no answer")?,
+    Some(Row {
+        key: words.next()?,
+        number: words.next()?.parse().ok()?,
+        plain: words.next()?,
+        encrypted: words.next()?,
     })
 }
 
@@ -56,9 +56,13 @@ fn is_decrypted(alloc: Global, key: &XtsKey, row: &Row<'_>) -> Result<bool, Fail
     Ok(unit == bytes(alloc, row.plain)?)
 }
 
+fn key_of(alloc: Global, digits: &str) -> Result<XtsKey, Fail> {
+    Ok(XtsKey::new(&bytes(alloc, digits)?).ok_or("no length of a key")?)
+}
+
 // The row's key takes its plain unit to its encrypted one, and back.
 fn holds(alloc: Global, row: &Row<'_>) -> Result<bool, Fail> {
-    let key = XtsKey::new(&bytes(alloc, row.key)?).ok_or("no length of a key")?;
+    let key = key_of(alloc, row.key)?;
     Ok(is_encrypted(alloc, &key, row)? && is_decrypted(alloc, &key, row)?)
 }
 
@@ -66,7 +70,11 @@ fn holds(alloc: Global, row: &Row<'_>) -> Result<bool, Fail> {
 fn published_units(rt: HostRuntime) -> Result<(), Fail> {
     for table in [NIST, SHORT, LARGE_NUMBERS] {
         for line in table.lines() {
-            assert_in(&rt, &line, holds(rt.alloc(), &row_of(line)?)?);
+            assert_in(
+                &rt,
+                &line,
+                holds(rt.alloc(), &row_of(line).ok_or("no row")?)?,
+            );
         }
     }
     Ok(())
@@ -91,18 +99,22 @@ fn published_under(number: u64) -> Option<&'static str> {
     }
 }
 
+// Whether the unit is what the standard publishes of this number, where it publishes any.
+fn is_as_published(alloc: Global, number: u64, unit: &[u8]) -> Result<bool, Fail> {
+    match published_under(number) {
+        Some(published) => Ok(bytes(alloc, published)?.as_slice() == unit),
+        None => Ok(true),
+    }
+}
+
 #[test]
 fn units_of_512_bytes(rt: HostRuntime) -> Result<(), Fail> {
     let alloc = rt.alloc();
-    let key = XtsKey::new(&bytes(alloc, KEY_256)?).ok_or("no length of a key")?;
+    let key = key_of(alloc, KEY_256)?;
     let mut unit = rising(alloc, 512)?;
     for number in 0..=255u64 {
         encrypt(&key, number, &mut unit)?;
-        let Some(published) = published_under(number) else {
-            continue;
-        };
-        let published = bytes(alloc, published)?;
-        assert_in(&rt, &number, unit == published);
+        assert_in(&rt, &number, is_as_published(alloc, number, &unit)?);
     }
     for number in (0..=255u64).rev() {
         decrypt(&key, number, &mut unit)?;
@@ -114,7 +126,7 @@ fn units_of_512_bytes(rt: HostRuntime) -> Result<(), Fail> {
 #[test]
 fn units_of_512_bytes_under_long_keys(rt: HostRuntime) -> Result<(), Fail> {
     let alloc = rt.alloc();
-    let key = XtsKey::new(&bytes(alloc, KEY_512)?).ok_or("no length of a key")?;
+    let key = key_of(alloc, KEY_512)?;
     for (number, published) in [(0xff, WIDE_FF), (0xff_ffff_ffff, WIDE_FFFFFFFFFF)] {
         let mut unit = rising(alloc, 512)?;
         encrypt(&key, number, &mut unit)?;
@@ -125,10 +137,14 @@ fn units_of_512_bytes_under_long_keys(rt: HostRuntime) -> Result<(), Fail> {
     Ok(())
 }
 
-// The keys for the data and for the tweaks.
-fn halves(key: &[u8]) -> Option<(AesKey, AesKey)> {
+// A key of XTS, and its halves: the keys for the data and for the tweaks.
+fn keys_of(key: &[u8]) -> Option<(XtsKey, AesKey, AesKey)> {
     let (data_key, tweak_key) = key.split_at(key.len() / 2);
-    Some((AesKey::new(data_key)?, AesKey::new(tweak_key)?))
+    Some((
+        XtsKey::new(key)?,
+        AesKey::new(data_key)?,
+        AesKey::new(tweak_key)?,
+    ))
 }
 
 // The tweak of block `j`, doubled byte by byte from the first one on.
@@ -176,9 +192,7 @@ fn masked(block: [u8; 16], mask: [u8; 16]) -> [u8; 16] {
 #[test]
 fn a_unit_of_4096_bytes(rt: HostRuntime) -> Result<(), Fail> {
     let alloc = rt.alloc();
-    let key = bytes(alloc, KEY_512)?;
-    let (data_key, tweak_key) = halves(&key).ok_or("no length of a key")?;
-    let key = XtsKey::new(&key).ok_or("no length of a key")?;
+    let (key, data_key, tweak_key) = keys_of(&bytes(alloc, KEY_512)?).ok_or("no length of a key")?;
     let number = 0xfedc_ba98_7654_3210;
     let plain = rising(alloc, 4096)?;
     let mut unit = plain.clone()?;
