@@ -3,7 +3,6 @@
 use luks2_members::tree::Metadata;
 use luks2_segment::bounds::Bounds;
 use std::alloc::{AllocError, Global};
-use std::process::Abort;
 use std::test::Fail;
 
 /// The bounds of a header of twice 16,384 bytes in the payload's image.
@@ -100,14 +99,17 @@ pub fn changed(alloc: Global, text: &[u8], part: &str, other: &str) -> Result<Ve
     Ok(bytes)
 }
 
-/// What the text says with each of these parts changed.
-pub fn metadata(
-    rt: &(impl Abort + AllocGlobal),
-    changes: &[(&str, &str)],
-) -> Result<Metadata, Fail> {
-    let mut bytes = text(rt.alloc())?;
+// The text with each of these parts changed, one after the other.
+fn text_with(alloc: Global, changes: &[(&str, &str)]) -> Result<Vec<u8>, Fail> {
+    let mut bytes = text(alloc)?;
     for (part, other) in changes {
-        bytes = changed(rt.alloc(), bytes.as_slice(), part, other)?;
+        bytes = changed(alloc, bytes.as_slice(), part, other)?;
     }
-    Ok(Metadata::read(rt.alloc(), bytes.as_slice())?)
+    Ok(bytes)
+}
+
+/// What the text says with each of these parts changed.
+pub fn metadata(alloc: Global, changes: &[(&str, &str)]) -> Result<Metadata, Fail> {
+    let bytes = text_with(alloc, changes)?;
+    Ok(Metadata::read(alloc, bytes.as_slice())?)
 }

@@ -4,10 +4,11 @@ use super::fixture::{ATTACHED, joined, metadata};
 use luks_cipher::Mode;
 use luks_kdf::Hash;
 use luks_testing::same::{same, same_in};
-use luks_verdict::refusal::SkipReason;
 use luks_verdict::slot::{Judgement, SlotParts};
 use luks2_members::tree::Metadata;
 use luks2_metadata::slot::{judge, slot};
+use luks2_segment::bounds::Bounds;
+use std::alloc::{AllocError, Global};
 use std::process::Abort;
 use std::test::Fail;
 
@@ -26,24 +27,46 @@ pub(super) fn word(judgement: Option<Judgement>) -> &'static str {
     }
 }
 
+// Whether there is something of slot 2 to open.
+fn is_there(alloc: Global, metadata: &Metadata, bounds: Bounds) -> Result<bool, AllocError> {
+    Ok(slot(alloc, metadata, bounds, 2)?.is_some())
+}
+
+// Slot 2 is judged so.
+pub(super) fn check_word(
+    rt: &impl Abort,
+    metadata: &Metadata,
+    bounds: Bounds,
+    why: &str,
+    want: &str,
+) {
+    let word = word(judge(metadata, bounds, None, 2));
+    same_in(&(why, bounds.detached), word, want).expect(rt, "the same");
+}
+
 // Slot 2 is judged so, and where it is skipped for another reason than a limit, there is nothing
 // to open.
-pub(super) fn check_metadata(
+pub(super) fn check_judged(
     rt: &(impl Abort + AllocGlobal),
     metadata: &Metadata,
-    want: &str,
+    bounds: Bounds,
     why: &str,
+    want: &str,
 ) -> Result<(), Fail> {
-    let judgement = judge(metadata, ATTACHED, None, 2);
-    same_in(&why, word(judgement), want).expect(rt, "the same");
-    let usable = slot(rt.alloc(), metadata, ATTACHED, 2)?;
-    same_in(
-        &why,
-        usable.is_some(),
-        matches!(judgement, Some(Judgement::Usable(_))),
-    )
-    .expect(rt, "the same");
+    check_word(rt, metadata, bounds, why, want);
+    let there = is_there(rt.alloc(), metadata, bounds)?;
+    same_in(&(why, bounds.detached), there, want.starts_with("usable")).expect(rt, "the same");
     Ok(())
+}
+
+// So is that of the text with these changes.
+pub(super) fn check_changed(
+    rt: &(impl Abort + AllocGlobal),
+    changes: &[(&str, &str)],
+    why: &str,
+    want: &str,
+) -> Result<(), Fail> {
+    check_judged(rt, &metadata(rt.alloc(), changes)?, ATTACHED, why, want)
 }
 
 pub(super) fn check(
@@ -52,7 +75,19 @@ pub(super) fn check(
     other: &str,
     want: &str,
 ) -> Result<(), Fail> {
-    check_metadata(rt, &metadata(rt, &[(part, other)])?, want, other)
+    check_changed(rt, &[(part, other)], other, want)
+}
+
+// Each row is what stands in place of the part, and what becomes of the slot.
+pub(super) fn check_rows(
+    rt: &(impl Abort + AllocGlobal),
+    part: &str,
+    rows: &[(&str, &str)],
+) -> Result<(), Fail> {
+    for (other, want) in rows {
+        check(rt, part, other, want)?;
+    }
+    Ok(())
 }
 
 // The numbers of slot 2.
@@ -70,66 +105,77 @@ fn check_parts(rt: &impl Abort, parts: &SlotParts) {
     same(parts.area_mode, Some(Mode::XtsPlain64)).expect(rt, "the same");
 }
 
-#[test]
-fn the_slots_as_they_are(rt: HostRuntime) -> Result<(), Fail> {
-    let metadata = metadata(&rt, &[])?;
-    for (number, want) in [
-        (0, "argon2id"),
-        (1, "not there"),
-        (2, "usable 1"),
-        (32, "not there"),
-    ] {
-        same_in(
-            &number,
-            word(judge(&metadata, ATTACHED, None, number)),
-            want,
-        )
-        .expect(&rt, "the same");
+static WORDS: [(u8, &str); 4] = [
+    (0, "argon2id"),
+    (1, "not there"),
+    (2, "usable 1"),
+    (32, "not there"),
+];
+
+fn check_words(rt: &impl Abort, metadata: &Metadata) {
+    for (number, want) in &WORDS {
+        let word = word(judge(metadata, ATTACHED, None, *number));
+        same_in(number, word, *want).expect(rt, "the same");
     }
-    let Some(slot) = slot(rt.alloc(), &metadata, ATTACHED, 2)? else {
+}
+
+fn check_numbers(rt: &(impl Abort + AllocGlobal), metadata: &Metadata) -> Result<(), Fail> {
+    let Some(slot) = slot(rt.alloc(), metadata, ATTACHED, 2)? else {
         return Err(Fail::new("no slot"));
     };
-    check_parts(&rt, &slot.parts);
-    same(slot.need(), 256_000).expect(&rt, "the same");
+    check_parts(rt, &slot.parts);
+    same(slot.need(), 256_000).expect(rt, "the same");
     Ok(())
 }
 
 #[test]
+fn the_slots_as_they_are(rt: HostRuntime) -> Result<(), Fail> {
+    let metadata = metadata(rt.alloc(), &[])?;
+    check_words(&rt, &metadata);
+    check_numbers(&rt, &metadata)
+}
+
+static KINDS: [(&str, &str); 8] = [
+    ("\"2\":{\"type\":\"luks2\",\"x\"", "member"),
+    ("\"2\":{\"type\":\"luks1\",\"key_size\"", "type"),
+    ("\"2\":{\"type\":null,\"key_size\"", "type"),
+    ("\"2\":{\"kind\":\"luks2\",\"key_size\"", "type"),
+    ("\"2\":null,\"3\":{\"type\":\"luks2\",\"key_size\"", "type"),
+    (
+        "\"2\":\"luks2\",\"3\":{\"type\":\"luks2\",\"key_size\"",
+        "type",
+    ),
+    ("\"02\":{\"type\":\"luks2\",\"key_size\"", "not there"),
+    ("\"\\u0032\":{\"type\":\"luks2\",\"key_size\"", "usable 1"),
+];
+
+#[test]
 fn kinds_of_slots(rt: HostRuntime) -> Result<(), Fail> {
-    for (other, want) in [
-        ("\"2\":{\"type\":\"luks2\",\"x\"", "member"),
-        ("\"2\":{\"type\":\"luks1\",\"key_size\"", "type"),
-        ("\"2\":{\"type\":null,\"key_size\"", "type"),
-        ("\"2\":{\"kind\":\"luks2\",\"key_size\"", "type"),
-        ("\"2\":null,\"3\":{\"type\":\"luks2\",\"key_size\"", "type"),
-        (
-            "\"2\":\"luks2\",\"3\":{\"type\":\"luks2\",\"key_size\"",
-            "type",
-        ),
-        ("\"02\":{\"type\":\"luks2\",\"key_size\"", "not there"),
-        ("\"\\u0032\":{\"type\":\"luks2\",\"key_size\"", "usable 1"),
-    ] {
-        check(&rt, "\"2\":{\"type\":\"luks2\",\"key_size\"", other, want)?;
-    }
-    Ok(())
+    check_rows(&rt, "\"2\":{\"type\":\"luks2\",\"key_size\"", &KINDS)
+}
+
+static PRIORITIES: [(&str, &str); 9] = [
+    ("0", "usable 0"),
+    ("1", "usable 1"),
+    ("2", "usable 2"),
+    ("3", "member"),
+    ("-0", "member"),
+    ("1.0", "member"),
+    ("\"1\"", "member"),
+    ("null", "member"),
+    ("18446744073709551616", "member"),
+];
+
+fn check_priority(rt: &(impl Abort + AllocGlobal), priority: &str, want: &str) -> Result<(), Fail> {
+    let place = "\"2\":{\"type\":\"luks2\",";
+    let other = joined(rt.alloc(), &[place, "\"priority\":", priority, ","])?;
+    check(rt, place, other.as_str(), want)
 }
 
 #[test]
 fn priorities(rt: HostRuntime) -> Result<(), Fail> {
-    let place = "\"2\":{\"type\":\"luks2\",";
-    for (priority, want) in [
-        ("0", "usable 0"),
-        ("1", "usable 1"),
-        ("2", "usable 2"),
-        ("3", "member"),
-        ("-0", "member"),
-        ("1.0", "member"),
-        ("\"1\"", "member"),
-        ("null", "member"),
-        ("18446744073709551616", "member"),
-    ] {
-        let other = joined(rt.alloc(), &[place, "\"priority\":", priority, ","])?;
-        check(&rt, place, other.as_str(), want)?;
+    for (priority, want) in &PRIORITIES {
+        check_priority(&rt, priority, want)?;
     }
     Ok(())
 }
@@ -193,11 +239,11 @@ static AF_MEMBERS: [(&str, &str); 18] = [
 
 #[test]
 fn members_of_af(rt: HostRuntime) -> Result<(), Fail> {
-    let place = "\"af\":{\"type\":\"luks1\",\"stripes\":4000,\"hash\":\"sha512\"}";
-    for (other, want) in AF_MEMBERS {
-        check(&rt, place, other, want)?;
-    }
-    Ok(())
+    check_rows(
+        &rt,
+        "\"af\":{\"type\":\"luks1\",\"stripes\":4000,\"hash\":\"sha512\"}",
+        &AF_MEMBERS,
+    )
 }
 
 static KDF_MEMBERS: [(&str, &str); 19] = [
@@ -259,12 +305,11 @@ static KDF_MEMBERS: [(&str, &str); 19] = [
 
 #[test]
 fn members_of_kdf(rt: HostRuntime) -> Result<(), Fail> {
-    let place =
-        "\"kdf\":{\"type\":\"pbkdf2\",\"hash\":\"sha256\",\"iterations\":1000,\"salt\":\"AQEB";
-    for (other, want) in KDF_MEMBERS {
-        check(&rt, place, other, want)?;
-    }
-    Ok(())
+    check_rows(
+        &rt,
+        "\"kdf\":{\"type\":\"pbkdf2\",\"hash\":\"sha256\",\"iterations\":1000,\"salt\":\"AQEB",
+        &KDF_MEMBERS,
+    )
 }
 
 static CHANGES: [(&str, &str); 11] = [
@@ -315,29 +360,29 @@ static REASONS: [&str; 11] = [
 #[test]
 fn the_first_reason(rt: HostRuntime) -> Result<(), Fail> {
     for i in 0..11 {
-        let changed = metadata(&rt, &CHANGES[..=i])?;
-        check_metadata(&rt, &changed, REASONS[i], REASONS[i])?;
+        check_changed(&rt, &CHANGES[..=i], REASONS[i], REASONS[i])?;
     }
     Ok(())
 }
 
+static LIMITS: [(Option<u32>, u8, &str); 6] = [
+    (None, 2, "usable 1"),
+    (Some(4_294_967_295), 2, "usable 1"),
+    (Some(1000), 2, "usable 1"),
+    (Some(999), 2, "iterations"),
+    (Some(0), 2, "iterations"),
+    (Some(1), 0, "argon2id"),
+];
+
+fn check_limits(rt: &impl Abort, metadata: &Metadata) {
+    for (limit, number, want) in &LIMITS {
+        let word = word(judge(metadata, ATTACHED, *limit, *number));
+        same_in(limit, word, *want).expect(rt, "the same");
+    }
+}
+
 #[test]
 fn limits(rt: HostRuntime) -> Result<(), Fail> {
-    let metadata = metadata(&rt, &[])?;
-    for (limit, want) in [
-        (None, "usable 1"),
-        (Some(4_294_967_295), "usable 1"),
-        (Some(1000), "usable 1"),
-        (Some(999), "iterations"),
-        (Some(0), "iterations"),
-    ] {
-        let judgement = judge(&metadata, ATTACHED, limit, 2);
-        same_in(&limit, word(judgement), want).expect(&rt, "the same");
-    }
-    same(
-        judge(&metadata, ATTACHED, Some(1), 0),
-        Some(Judgement::Skipped(SkipReason::Argon2id)),
-    )
-    .expect(&rt, "the same");
+    check_limits(&rt, &metadata(rt.alloc(), &[])?);
     Ok(())
 }
