@@ -2,7 +2,6 @@
 
 use super::slots::{AREA, check, check_changed, check_rows};
 use std::process::Abort;
-use std::test::Fail;
 
 static AREA_MEMBERS: [(&str, &str); 7] = [
     (
@@ -44,33 +43,33 @@ static AREA_SIZES: [(&str, &str); 14] = [
 ];
 
 #[test]
-fn members_of_area(rt: HostRuntime) -> Result<(), Fail> {
+fn members_of_area(rt: HostRuntime) {
     check_rows(
         &rt,
         "\"area\":{\"type\":\"raw\",\"offset\":\"32768\"",
         &AREA_MEMBERS,
-    )?;
-    check_rows(&rt, AREA, &AREA_SIZES)
+    );
+    check_rows(&rt, AREA, &AREA_SIZES);
 }
 
 const LINEAR: (&str, &str) = ("\"type\":\"crypt\"", "\"type\":\"linear\"");
 
 const BEYOND: (&str, &str) = ("\"16777216\"", "\"67108864\"");
 
-fn check_far(rt: &(impl Abort + AllocGlobal), offset: &str, want: &str) -> Result<(), Fail> {
-    check_changed(rt, &[(AREA, offset), LINEAR], offset, want)?;
-    check_changed(rt, &[(AREA, offset), BEYOND], offset, want)
+fn check_far(rt: &(impl Abort + AllocGlobal), offset: &str, want: &str) {
+    check_changed(rt, &[(AREA, offset), LINEAR], offset, want);
+    check_changed(rt, &[(AREA, offset), BEYOND], offset, want);
 }
 
 // Where the segment is refused, the payload's start is not known, and key areas end within 32 MiB.
 #[test]
-fn areas_of_a_refused_segment(rt: HostRuntime) -> Result<(), Fail> {
+fn areas_of_a_refused_segment(rt: HostRuntime) {
     check_far(
         &rt,
         "\"offset\":\"33298432\",\"size\":\"258048\"",
         "usable 1",
-    )?;
-    check_far(&rt, "\"offset\":\"33298433\",\"size\":\"258048\"", "area")
+    );
+    check_far(&rt, "\"offset\":\"33298433\",\"size\":\"258048\"", "area");
 }
 
 static ENCRYPTIONS: [(&str, &str); 12] = [
@@ -122,12 +121,12 @@ static ENCRYPTIONS: [(&str, &str); 12] = [
 ];
 
 #[test]
-fn encryptions(rt: HostRuntime) -> Result<(), Fail> {
+fn encryptions(rt: HostRuntime) {
     check_rows(
         &rt,
         "\"encryption\":\"aes-xts-plain64\",\"key_size\":64},\"kdf\":{\"type\":\"pbkdf2\"",
         &ENCRYPTIONS,
-    )
+    );
 }
 
 // The length, and what becomes of it under XTS, under CBC, and where the segment is refused.
@@ -170,11 +169,10 @@ const CBC: (&str, &str) = ("aes-xts-plain64\",\"sector", "aes-cbc-plain64\",\"se
 
 // The volume key's length is one of the segment's mode, whatever the area's is.
 #[test]
-fn volume_keys(rt: HostRuntime) -> Result<(), Fail> {
+fn volume_keys(rt: HostRuntime) {
     for (size, xts, cbc, refused) in &VOLUME_KEYS {
-        check(&rt, KEY_SIZE, size, xts)?;
-        check_changed(&rt, &[(KEY_SIZE, size), CBC], size, cbc)?;
-        check_changed(&rt, &[(KEY_SIZE, size), LINEAR], size, refused)?;
+        check(&rt, KEY_SIZE, size, xts);
+        check_changed(&rt, &[(KEY_SIZE, size), CBC], size, cbc);
+        check_changed(&rt, &[(KEY_SIZE, size), LINEAR], size, refused);
     }
-    Ok(())
 }

@@ -8,7 +8,6 @@ use luks2_members::tree::Metadata;
 use luks2_segment::bounds::Bounds;
 use luks2_segment::payload::segment;
 use std::process::Abort;
-use std::test::Fail;
 
 fn check_segment(rt: &impl Abort, case: &str, metadata: &Metadata, bounds: Bounds, want: &str) {
     let word = segments::word(segment(metadata, bounds));
@@ -28,24 +27,17 @@ static STARTS: [(&str, &str, &str); 10] = [
     ("0", "member", "member"),
 ];
 
-fn check_start(
-    rt: &(impl Abort + AllocGlobal),
-    offset: &str,
-    attached: &str,
-    detached: &str,
-) -> Result<(), Fail> {
-    let metadata = metadata(rt.alloc(), &[("\"16777216\"", offset)])?;
+fn check_start(rt: &(impl Abort + AllocGlobal), offset: &str, attached: &str, detached: &str) {
+    let metadata = metadata(rt, &[("\"16777216\"", offset)]);
     check_segment(rt, offset, &metadata, ATTACHED, attached);
     check_segment(rt, offset, &metadata, DETACHED, detached);
-    Ok(())
 }
 
 #[test]
-fn the_payloads_start(rt: HostRuntime) -> Result<(), Fail> {
+fn the_payloads_start(rt: HostRuntime) {
     for (offset, attached, detached) in &STARTS {
-        check_start(&rt, offset, attached, detached)?;
+        check_start(&rt, offset, attached, detached);
     }
-    Ok(())
 }
 
 static OTHER_FAULTS: [(&str, &str, &str); 3] = [
@@ -54,25 +46,18 @@ static OTHER_FAULTS: [(&str, &str, &str); 3] = [
     ("\"sector_size\":512", "\"sector_size\":513", "sector size"),
 ];
 
-fn check_fault(
-    rt: &(impl Abort + AllocGlobal),
-    part: &str,
-    other: &str,
-    want: &str,
-) -> Result<(), Fail> {
+fn check_fault(rt: &(impl Abort + AllocGlobal), part: &str, other: &str, want: &str) {
     let changes = [(part, other), ("\"16777216\"", "\"0\"")];
-    let metadata = metadata(rt.alloc(), &changes)?;
+    let metadata = metadata(rt, &changes);
     check_segment(rt, other, &metadata, DETACHED, want);
-    Ok(())
 }
 
 // Every other fault holds of either.
 #[test]
-fn other_faults(rt: HostRuntime) -> Result<(), Fail> {
+fn other_faults(rt: HostRuntime) {
     for (part, other, want) in &OTHER_FAULTS {
-        check_fault(&rt, part, other, want)?;
+        check_fault(&rt, part, other, want);
     }
-    Ok(())
 }
 
 static KEY_AREAS: [(&str, &str, &str); 6] = [
@@ -96,25 +81,19 @@ static KEY_AREAS: [(&str, &str, &str); 6] = [
     ("\"offset\":\"32768\",\"size\":\"255999\"", "area", "area"),
 ];
 
-fn check_area(
-    rt: &(impl Abort + AllocGlobal),
-    area: &str,
-    attached: &str,
-    detached: &str,
-) -> Result<(), Fail> {
+fn check_area(rt: &(impl Abort + AllocGlobal), area: &str, attached: &str, detached: &str) {
     let changes = [(AREA, area), ("\"16777216\"", "\"65536\"")];
-    let metadata = metadata(rt.alloc(), &changes)?;
-    check_judged(rt, &metadata, ATTACHED, area, attached)?;
-    check_judged(rt, &metadata, DETACHED, area, detached)
+    let metadata = metadata(rt, &changes);
+    check_judged(rt, &metadata, ATTACHED, area, attached);
+    check_judged(rt, &metadata, DETACHED, area, detached);
 }
 
 // Key material of 256,000 bytes in an image with a payload from byte 65,536 on, and in another one.
 #[test]
-fn key_areas(rt: HostRuntime) -> Result<(), Fail> {
+fn key_areas(rt: HostRuntime) {
     for (area, attached, detached) in &KEY_AREAS {
-        check_area(&rt, area, attached, detached)?;
+        check_area(&rt, area, attached, detached);
     }
-    Ok(())
 }
 
 static SHORT_KEY: [(&str, &str); 2] = [
@@ -127,9 +106,8 @@ static SHORT_KEY: [(&str, &str); 2] = [
 
 // Where the payload may start at byte 0, its mode is known, and the volume key has a length of it.
 #[test]
-fn the_volume_key(rt: HostRuntime) -> Result<(), Fail> {
-    let metadata = metadata(rt.alloc(), &SHORT_KEY)?;
+fn the_volume_key(rt: HostRuntime) {
+    let metadata = metadata(&rt, &SHORT_KEY);
     check_word(&rt, &metadata, ATTACHED, "a short key", "usable 1");
     check_word(&rt, &metadata, DETACHED, "a short key", "key size");
-    Ok(())
 }

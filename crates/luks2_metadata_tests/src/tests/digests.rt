@@ -9,58 +9,50 @@ use luks_verdict::slot::Judgement;
 use luks2_members::tree::Metadata;
 use luks2_metadata::digest::{Digest, digest_for, digests};
 use luks2_metadata::slot::judge;
-use std::alloc::{AllocError, Global};
 use std::process::Abort;
-use std::test::Fail;
 
 const UNDIGESTED: Judgement = Judgement::Skipped(SkipReason::Digest);
 
 const DIGEST: &str = "\"digest\":\"AgICAgICAgICAgICAgICAgICAgICAgICAgICAgICAgI=\"";
 
 // Whether slot 2 has a digest.
-fn is_there(alloc: Global, metadata: &Metadata) -> Result<bool, AllocError> {
-    Ok(digest_for(alloc, metadata, 2)?.is_some())
+fn is_there(rt: &(impl Abort + AllocGlobal), metadata: &Metadata) -> bool {
+    digest_for(rt.alloc(), metadata, 2)
+        .expect(rt, "memory")
+        .is_some()
 }
 
 // Whether the first digest is listed as usable, where there is one.
-fn first_usable(alloc: Global, metadata: &Metadata) -> Result<Option<bool>, AllocError> {
-    let all = digests(alloc, metadata)?;
-    Ok(match all.first() {
+fn first_usable(rt: &(impl Abort + AllocGlobal), metadata: &Metadata) -> Option<bool> {
+    match digests(rt.alloc(), metadata).expect(rt, "memory").first() {
         Some((_, listed)) => Some(listed.is_some()),
         None => None,
-    })
+    }
 }
 
 // The digest, and the verdict on the slot that it is of, agree on whether it is usable.
-fn check_metadata(
-    rt: &(impl Abort + AllocGlobal),
-    metadata: &Metadata,
-    other: &str,
-    want: bool,
-) -> Result<(), Fail> {
-    same_in(&other, is_there(rt.alloc(), metadata)?, want).expect(rt, "the same");
+fn check_metadata(rt: &(impl Abort + AllocGlobal), metadata: &Metadata, other: &str, want: bool) {
     let skipped = judge(metadata, ATTACHED, None, 2) == Some(UNDIGESTED);
-    same_in(&other, skipped, !want).expect(rt, "the same");
-    same_in(&other, first_usable(rt.alloc(), metadata)?, Some(want)).expect(rt, "the same");
-    Ok(())
+    let told = [is_there(rt, metadata), !skipped];
+    same_in(&other, told, [want, want]).expect(rt, "the same");
+    same_in(&other, first_usable(rt, metadata), Some(want)).expect(rt, "the same");
 }
 
-fn check(rt: &(impl Abort + AllocGlobal), part: &str, other: &str, want: bool) -> Result<(), Fail> {
-    check_metadata(rt, &metadata(rt.alloc(), &[(part, other)])?, other, want)
+fn check(rt: &(impl Abort + AllocGlobal), part: &str, other: &str, want: bool) {
+    check_metadata(rt, &metadata(rt, &[(part, other)]), other, want);
 }
 
 // Each row is a part, what stands in its place, and whether the digest is usable then.
-fn check_rows(rt: &(impl Abort + AllocGlobal), rows: &[(&str, &str, bool)]) -> Result<(), Fail> {
+fn check_rows(rt: &(impl Abort + AllocGlobal), rows: &[(&str, &str, bool)]) {
     for (part, other, want) in rows {
-        check(rt, part, other, *want)?;
+        check(rt, part, other, *want);
     }
-    Ok(())
 }
 
-fn check_names(rt: &impl Abort, names: &[String], want: &[&str]) {
-    same(names.len(), want.len()).expect(rt, "the same");
-    for (i, name) in names.iter().enumerate() {
-        same_in(&i, want.get(i).copied(), Some(name.as_str())).expect(rt, "the same");
+fn name(names: &[String], place: usize) -> Option<&str> {
+    match names.get(place) {
+        Some(name) => Some(name.as_str()),
+        None => None,
     }
 }
 
@@ -72,36 +64,29 @@ fn check_key(rt: &impl Abort, key: &KeyDigest) {
 }
 
 // The digest of slot 2.
-fn check_found(rt: &(impl Abort + AllocGlobal), metadata: &Metadata) -> Result<(), Fail> {
-    let Some(key) = digest_for(rt.alloc(), metadata, 2)? else {
-        return Err(Fail::new("no digest"));
-    };
-    check_key(rt, &key);
-    Ok(())
-}
-
-fn check_slot(
-    rt: &(impl Abort + AllocGlobal),
-    metadata: &Metadata,
-    slot: u8,
-    want: Option<u32>,
-) -> Result<(), Fail> {
-    same_in(&slot, iterations(rt.alloc(), metadata, slot)?, want).expect(rt, "the same");
-    Ok(())
+fn check_found(rt: &(impl Abort + AllocGlobal), metadata: &Metadata) {
+    match digest_for(rt.alloc(), metadata, 2).expect(rt, "memory") {
+        Some(key) => check_key(rt, &key),
+        None => panic!(rt; "no digest"),
+    }
 }
 
 #[test]
-fn the_digest_as_it_is(rt: HostRuntime) -> Result<(), Fail> {
-    let metadata = metadata(rt.alloc(), &[])?;
-    check_found(&rt, &metadata)?;
-    check_slot(&rt, &metadata, 0, Some(1000))?;
-    check_slot(&rt, &metadata, 1, None)
+fn the_digest_as_it_is(rt: HostRuntime) {
+    let metadata = metadata(&rt, &[]);
+    check_found(&rt, &metadata);
+    let found = [iterations(&rt, &metadata, 0), iterations(&rt, &metadata, 1)];
+    same(found, [Some(1000), None]).expect(&rt, "the same");
 }
 
 fn check_listed(rt: &impl Abort, digest: &Digest) {
     same(digest.key.iterations, 1000).expect(rt, "the same");
-    check_names(rt, digest.keyslots.as_slice(), &["0", "2"]);
-    check_names(rt, digest.segments.as_slice(), &["0"]);
+    let keyslots = digest.keyslots.as_slice();
+    let names = [name(keyslots, 0), name(keyslots, 1), name(keyslots, 2)];
+    same(names, [Some("0"), Some("2"), None]).expect(rt, "the same");
+    let segments = digest.segments.as_slice();
+    let names = [name(segments, 0), name(segments, 1)];
+    same(names, [Some("0"), None]).expect(rt, "the same");
 }
 
 fn check_all(rt: &impl Abort, all: &[(u8, Option<Digest>)]) {
@@ -113,10 +98,10 @@ fn check_all(rt: &impl Abort, all: &[(u8, Option<Digest>)]) {
 }
 
 #[test]
-fn the_digests_as_they_are(rt: HostRuntime) -> Result<(), Fail> {
-    let metadata = metadata(rt.alloc(), &[])?;
-    check_all(&rt, digests(rt.alloc(), &metadata)?.as_slice());
-    Ok(())
+fn the_digests_as_they_are(rt: HostRuntime) {
+    let metadata = metadata(&rt, &[]);
+    let all = digests(rt.alloc(), &metadata).expect(&rt, "memory");
+    check_all(&rt, all.as_slice());
 }
 
 const TYPE: &str = "\"digests\":{\"0\":{\"type\":\"pbkdf2\"";
@@ -151,8 +136,8 @@ static MEMBERS: [(&str, &str, bool); 14] = [
 ];
 
 #[test]
-fn members(rt: HostRuntime) -> Result<(), Fail> {
-    check_rows(&rt, &MEMBERS)
+fn members(rt: HostRuntime) {
+    check_rows(&rt, &MEMBERS);
 }
 
 const HASH: &str = "[\"0\"],\"hash\":\"sha256\"";
@@ -198,8 +183,8 @@ static VALUES: [(&str, &str, bool); 11] = [
 ];
 
 #[test]
-fn values(rt: HostRuntime) -> Result<(), Fail> {
-    check_rows(&rt, &VALUES)
+fn values(rt: HostRuntime) {
+    check_rows(&rt, &VALUES);
 }
 
 // Python's base64.b64encode(b'\x02' * n) for n bytes.
@@ -225,32 +210,25 @@ static LENGTHS: [(&str, &str, bool); 8] = [
 ];
 
 #[test]
-fn lengths(rt: HostRuntime) -> Result<(), Fail> {
-    check_rows(&rt, &LENGTHS)
+fn lengths(rt: HostRuntime) {
+    check_rows(&rt, &LENGTHS);
 }
 
 // The iterations of the digest of a slot, where it has one.
-fn iterations(alloc: Global, metadata: &Metadata, slot: u8) -> Result<Option<u32>, AllocError> {
-    Ok(match digest_for(alloc, metadata, slot)? {
+fn iterations(rt: &(impl Abort + AllocGlobal), metadata: &Metadata, slot: u8) -> Option<u32> {
+    match digest_for(rt.alloc(), metadata, slot).expect(rt, "memory") {
         Some(key) => Some(key.iterations),
         None => None,
-    })
-}
-
-// Those of slot 2 of the text with another part.
-fn iterations_with(alloc: Global, part: &str, other: &str) -> Result<Option<u32>, Fail> {
-    let metadata = metadata(alloc, &[(part, other)])?;
-    Ok(iterations(alloc, &metadata, 2)?)
+    }
 }
 
 const OTHER: &str = "\"type\":\"pbkdf2\",\"keyslots\":[\"2\"],\"segments\":[\"0\"],\
     \"hash\":\"sha1\",\"salt\":\"\",\"digest\":\"AgICAgICAgICAgICAgICAgICAgI=\",";
 
-fn check_which(rt: &(impl Abort + AllocGlobal), names: [&str; 2], want: u32) -> Result<(), Fail> {
-    let text = joined(rt.alloc(), &[names[0], OTHER, names[1]])?;
-    let found = iterations_with(rt.alloc(), "\"digests\":{\"0\":{", text.as_str())?;
-    same_in(&names, found, Some(want)).expect(rt, "the same");
-    Ok(())
+fn check_which(rt: &(impl Abort + AllocGlobal), names: [&str; 2], want: u32) {
+    let text = joined(rt.alloc(), &[names[0], OTHER, names[1]]).expect(rt, "a text");
+    let metadata = metadata(rt, &[("\"digests\":{\"0\":{", text.as_str())]);
+    same_in(&names, iterations(rt, &metadata, 2), Some(want)).expect(rt, "the same");
 }
 
 static WHICH: [([&str; 2], u32); 7] = [
@@ -277,11 +255,10 @@ static WHICH: [([&str; 2], u32); 7] = [
 
 // Of the usable digests that list the slot and the segment, the one with the lowest number.
 #[test]
-fn which_digest(rt: HostRuntime) -> Result<(), Fail> {
+fn which_digest(rt: HostRuntime) {
     for (names, want) in &WHICH {
-        check_which(&rt, *names, *want)?;
+        check_which(&rt, *names, *want);
     }
-    Ok(())
 }
 
 fn check_usable(rt: &impl Abort, metadata: &Metadata, other: &str, want: bool) {
@@ -292,16 +269,10 @@ fn check_usable(rt: &impl Abort, metadata: &Metadata, other: &str, want: bool) {
     same_in(&other, usable, want).expect(rt, "the same");
 }
 
-fn check_lists(
-    rt: &(impl Abort + AllocGlobal),
-    part: &str,
-    other: &str,
-    want: Option<u32>,
-) -> Result<(), Fail> {
-    let metadata = metadata(rt.alloc(), &[(part, other)])?;
+fn check_lists(rt: &(impl Abort + AllocGlobal), part: &str, other: &str, want: Option<u32>) {
+    let metadata = metadata(rt, &[(part, other)]);
     check_usable(rt, &metadata, other, want.is_some());
-    same_in(&other, iterations(rt.alloc(), &metadata, 2)?, want).expect(rt, "the same");
-    Ok(())
+    same_in(&other, iterations(rt, &metadata, 2), want).expect(rt, "the same");
 }
 
 static LISTS: [(&str, &str, Option<u32>); 6] = [
@@ -315,11 +286,10 @@ static LISTS: [(&str, &str, Option<u32>); 6] = [
 
 // "02" is not slot 2, and a digest that lists no segment 0 is not one of the slot.
 #[test]
-fn what_a_digest_lists(rt: HostRuntime) -> Result<(), Fail> {
+fn what_a_digest_lists(rt: HostRuntime) {
     for (part, other, want) in &LISTS {
-        check_lists(&rt, part, other, *want)?;
+        check_lists(&rt, part, other, *want);
     }
-    Ok(())
 }
 
 fn check_limit(rt: &impl Abort, metadata: &Metadata, limit: u32, want: Judgement) {
@@ -334,9 +304,8 @@ static MORE: [(&str, &str); 1] = [(
 
 // The limit bounds the iterations of the digest too.
 #[test]
-fn limits(rt: HostRuntime) -> Result<(), Fail> {
-    let metadata = metadata(rt.alloc(), &MORE)?;
+fn limits(rt: HostRuntime) {
+    let metadata = metadata(&rt, &MORE);
     check_limit(&rt, &metadata, 1999, UNDIGESTED);
     check_limit(&rt, &metadata, 2000, Judgement::Usable(1));
-    Ok(())
 }

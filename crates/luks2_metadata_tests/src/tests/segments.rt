@@ -8,7 +8,6 @@ use luks_verdict::sector_size::SectorSize;
 use luks_verdict::segment::{Segment, SegmentParts};
 use luks2_segment::payload::segment;
 use std::process::Abort;
-use std::test::Fail;
 
 pub(super) fn word(segment: Result<Segment, SegmentFault>) -> &'static str {
     match segment {
@@ -18,45 +17,34 @@ pub(super) fn word(segment: Result<Segment, SegmentFault>) -> &'static str {
 }
 
 // The segment of the text with these changes, judged so.
-fn check_changed(
-    rt: &(impl Abort + AllocGlobal),
-    changes: &[(&str, &str)],
-    want: &str,
-) -> Result<(), Fail> {
-    let metadata = metadata(rt.alloc(), changes)?;
-    same_in(&changes, word(segment(&metadata, ATTACHED)), want).expect(rt, "the same");
-    Ok(())
+fn check_changed(rt: &(impl Abort + AllocGlobal), changes: &[(&str, &str)], want: &str) {
+    let word = word(segment(&metadata(rt, changes), ATTACHED));
+    same_in(&changes, word, want).expect(rt, "the same");
 }
 
-fn check(rt: &(impl Abort + AllocGlobal), part: &str, other: &str, want: &str) -> Result<(), Fail> {
-    check_changed(rt, &[(part, other)], want)
+fn check(rt: &(impl Abort + AllocGlobal), part: &str, other: &str, want: &str) {
+    check_changed(rt, &[(part, other)], want);
 }
 
 // Each row is a part, what stands in its place, and what becomes of the segment.
-fn check_rows(rt: &(impl Abort + AllocGlobal), rows: &[(&str, &str, &str)]) -> Result<(), Fail> {
+fn check_rows(rt: &(impl Abort + AllocGlobal), rows: &[(&str, &str, &str)]) {
     for (part, other, want) in rows {
-        check(rt, part, other, want)?;
+        check(rt, part, other, want);
     }
-    Ok(())
 }
 
 fn check_values(rt: &impl Abort, segment: &Segment, want: &SegmentParts) {
-    same(Some(segment.offset), want.offset).expect(rt, "the same");
+    let numbers = [Some(segment.offset), Some(segment.iv_tweak)];
+    same(numbers, [want.offset, want.iv_tweak]).expect(rt, "the same");
     same(Some(segment.size), want.size).expect(rt, "the same");
-    same(Some(segment.iv_tweak), want.iv_tweak).expect(rt, "the same");
     same(Some(segment.sector_size), want.sector_size).expect(rt, "the same");
     same(Some(segment.mode), want.mode).expect(rt, "the same");
 }
 
 // The segment of the text with these changes has these values.
-fn check_parts(
-    rt: &(impl Abort + AllocGlobal),
-    changes: &[(&str, &str)],
-    want: &SegmentParts,
-) -> Result<(), Fail> {
-    let metadata = metadata(rt.alloc(), changes)?;
-    check_values(rt, &segment(&metadata, ATTACHED)?, want);
-    Ok(())
+fn check_parts(rt: &(impl Abort + AllocGlobal), changes: &[(&str, &str)], want: &SegmentParts) {
+    let segment = segment(&metadata(rt, changes), ATTACHED).expect(rt, "a segment");
+    check_values(rt, &segment, want);
 }
 
 const AS_IT_IS: SegmentParts = SegmentParts {
@@ -68,8 +56,8 @@ const AS_IT_IS: SegmentParts = SegmentParts {
 };
 
 #[test]
-fn the_segment_as_it_is(rt: HostRuntime) -> Result<(), Fail> {
-    check_parts(&rt, &[], &AS_IT_IS)
+fn the_segment_as_it_is(rt: HostRuntime) {
+    check_parts(&rt, &[], &AS_IT_IS);
 }
 
 static OTHER_VALUES: [(&str, &str); 4] = [
@@ -94,8 +82,8 @@ const OTHERS: SegmentParts = SegmentParts {
 };
 
 #[test]
-fn other_values(rt: HostRuntime) -> Result<(), Fail> {
-    check_parts(&rt, &OTHER_VALUES, &OTHERS)
+fn other_values(rt: HostRuntime) {
+    check_parts(&rt, &OTHER_VALUES, &OTHERS);
 }
 
 const CONFIG: &str = "\"config\":{";
@@ -118,22 +106,17 @@ static REQUIREMENTS: [(&str, &str); 15] = [
     ("\"\"", "requirement"),
 ];
 
-fn check_requirements(
-    rt: &(impl Abort + AllocGlobal),
-    requirements: &str,
-    want: &str,
-) -> Result<(), Fail> {
+fn check_requirements(rt: &(impl Abort + AllocGlobal), requirements: &str, want: &str) {
     let parts = ["\"config\":{\"requirements\":", requirements, ","];
-    let other = joined(rt.alloc(), &parts)?;
-    check(rt, CONFIG, other.as_str(), want)
+    let other = joined(rt.alloc(), &parts).expect(rt, "a text");
+    check(rt, CONFIG, other.as_str(), want);
 }
 
 #[test]
-fn requirements(rt: HostRuntime) -> Result<(), Fail> {
+fn requirements(rt: HostRuntime) {
     for (requirements, want) in &REQUIREMENTS {
-        check_requirements(&rt, requirements, want)?;
+        check_requirements(&rt, requirements, want);
     }
-    Ok(())
 }
 
 static NO_REQUIREMENTS: [(&str, &str, &str); 5] = [
@@ -149,8 +132,8 @@ static NO_REQUIREMENTS: [(&str, &str, &str); 5] = [
 ];
 
 #[test]
-fn no_requirements(rt: HostRuntime) -> Result<(), Fail> {
-    check_rows(&rt, &NO_REQUIREMENTS)
+fn no_requirements(rt: HostRuntime) {
+    check_rows(&rt, &NO_REQUIREMENTS);
 }
 
 const FIRST: &str = "\"segments\":{\"0\":{\"type\"";
@@ -169,8 +152,8 @@ static NAMES: [(&str, &str, &str); 6] = [
 ];
 
 #[test]
-fn one_segment_named_0(rt: HostRuntime) -> Result<(), Fail> {
-    check_rows(&rt, &NAMES)
+fn one_segment_named_0(rt: HostRuntime) {
+    check_rows(&rt, &NAMES);
 }
 
 static MEMBERS: [(&str, &str, &str); 27] = [
@@ -236,8 +219,8 @@ static MEMBERS: [(&str, &str, &str); 27] = [
 ];
 
 #[test]
-fn members(rt: HostRuntime) -> Result<(), Fail> {
-    check_rows(&rt, &MEMBERS)
+fn members(rt: HostRuntime) {
+    check_rows(&rt, &MEMBERS);
 }
 
 static NUMBERS: [(&str, &str, &str); 22] = [
@@ -269,14 +252,14 @@ static NUMBERS: [(&str, &str, &str); 22] = [
     ("\"dynamic\"", "\"18446744073709551615\"", "size"),
 ];
 
-fn check_long(rt: &(impl Abort + AllocGlobal), size: &str, want: &str) -> Result<(), Fail> {
-    check_changed(rt, &[("512}", "4096}"), ("\"dynamic\"", size)], want)
+fn check_long(rt: &(impl Abort + AllocGlobal), size: &str, want: &str) {
+    check_changed(rt, &[("512}", "4096}"), ("\"dynamic\"", size)], want);
 }
 
 #[test]
-fn numbers(rt: HostRuntime) -> Result<(), Fail> {
-    check_rows(&rt, &NUMBERS)?;
+fn numbers(rt: HostRuntime) {
+    check_rows(&rt, &NUMBERS);
     // A length is one of whole sectors, also of long ones.
-    check_long(&rt, "\"12288\"", "fine")?;
-    check_long(&rt, "\"12800\"", "size")
+    check_long(&rt, "\"12288\"", "fine");
+    check_long(&rt, "\"12800\"", "size");
 }
