@@ -1,8 +1,7 @@
 //! Key areas and encryption: each kind of each member, sizes, modes, and lengths of keys.
 
-use super::fixture::metadata;
-use super::slots::{AREA, check, check_metadata};
-use std::test::Fail;
+use super::slots::{AREA, check, check_changed, check_rows};
+use std::process::Abort;
 
 static AREA_MEMBERS: [(&str, &str); 7] = [
     (
@@ -44,33 +43,33 @@ static AREA_SIZES: [(&str, &str); 14] = [
 ];
 
 #[test]
-fn members_of_area(rt: HostRuntime) -> Result<(), Fail> {
-    let place = "\"area\":{\"type\":\"raw\",\"offset\":\"32768\"";
-    for (other, want) in AREA_MEMBERS {
-        check(&rt, place, other, want)?;
-    }
-    for (other, want) in AREA_SIZES {
-        check(&rt, AREA, other, want)?;
-    }
-    Ok(())
+fn members_of_area(rt: HostRuntime) {
+    check_rows(
+        &rt,
+        "\"area\":{\"type\":\"raw\",\"offset\":\"32768\"",
+        &AREA_MEMBERS,
+    );
+    check_rows(&rt, AREA, &AREA_SIZES);
+}
+
+const LINEAR: (&str, &str) = ("\"type\":\"crypt\"", "\"type\":\"linear\"");
+
+const BEYOND: (&str, &str) = ("\"16777216\"", "\"67108864\"");
+
+fn check_far(rt: &(impl Abort + AllocGlobal), offset: &str, want: &str) {
+    check_changed(rt, &[(AREA, offset), LINEAR], offset, want);
+    check_changed(rt, &[(AREA, offset), BEYOND], offset, want);
 }
 
 // Where the segment is refused, the payload's start is not known, and key areas end within 32 MiB.
 #[test]
-fn areas_of_a_refused_segment(rt: HostRuntime) -> Result<(), Fail> {
-    for (offset, want) in [
-        ("\"offset\":\"33298432\",\"size\":\"258048\"", "usable 1"),
-        ("\"offset\":\"33298433\",\"size\":\"258048\"", "area"),
-    ] {
-        let refused = [
-            (AREA, offset),
-            ("\"type\":\"crypt\"", "\"type\":\"linear\""),
-        ];
-        check_metadata(&rt, &metadata(&rt, &refused)?, want, offset)?;
-        let beyond = [(AREA, offset), ("\"16777216\"", "\"67108864\"")];
-        check_metadata(&rt, &metadata(&rt, &beyond)?, want, offset)?;
-    }
-    Ok(())
+fn areas_of_a_refused_segment(rt: HostRuntime) {
+    check_far(
+        &rt,
+        "\"offset\":\"33298432\",\"size\":\"258048\"",
+        "usable 1",
+    );
+    check_far(&rt, "\"offset\":\"33298433\",\"size\":\"258048\"", "area");
 }
 
 static ENCRYPTIONS: [(&str, &str); 12] = [
@@ -122,14 +121,15 @@ static ENCRYPTIONS: [(&str, &str); 12] = [
 ];
 
 #[test]
-fn encryptions(rt: HostRuntime) -> Result<(), Fail> {
-    let place = "\"encryption\":\"aes-xts-plain64\",\"key_size\":64},\"kdf\":{\"type\":\"pbkdf2\"";
-    for (other, want) in ENCRYPTIONS {
-        check(&rt, place, other, want)?;
-    }
-    Ok(())
+fn encryptions(rt: HostRuntime) {
+    check_rows(
+        &rt,
+        "\"encryption\":\"aes-xts-plain64\",\"key_size\":64},\"kdf\":{\"type\":\"pbkdf2\"",
+        &ENCRYPTIONS,
+    );
 }
 
+// The length, and what becomes of it under XTS, under CBC, and where the segment is refused.
 static VOLUME_KEYS: [(&str, &str, &str, &str); 5] = [
     (
         "\"2\":{\"type\":\"luks2\",\"key_size\":16",
@@ -163,16 +163,16 @@ static VOLUME_KEYS: [(&str, &str, &str, &str); 5] = [
     ),
 ];
 
+const KEY_SIZE: &str = "\"2\":{\"type\":\"luks2\",\"key_size\":64";
+
+const CBC: (&str, &str) = ("aes-xts-plain64\",\"sector", "aes-cbc-plain64\",\"sector");
+
 // The volume key's length is one of the segment's mode, whatever the area's is.
 #[test]
-fn volume_keys(rt: HostRuntime) -> Result<(), Fail> {
-    let place = "\"2\":{\"type\":\"luks2\",\"key_size\":64";
-    for (size, xts, cbc, refused) in VOLUME_KEYS {
-        check(&rt, place, size, xts)?;
-        let cipher = ("aes-xts-plain64\",\"sector", "aes-cbc-plain64\",\"sector");
-        check_metadata(&rt, &metadata(&rt, &[(place, size), cipher])?, cbc, size)?;
-        let kind = ("\"type\":\"crypt\"", "\"type\":\"linear\"");
-        check_metadata(&rt, &metadata(&rt, &[(place, size), kind])?, refused, size)?;
+fn volume_keys(rt: HostRuntime) {
+    for (size, xts, cbc, refused) in &VOLUME_KEYS {
+        check(&rt, KEY_SIZE, size, xts);
+        check_changed(&rt, &[(KEY_SIZE, size), CBC], size, cbc);
+        check_changed(&rt, &[(KEY_SIZE, size), LINEAR], size, refused);
     }
-    Ok(())
 }

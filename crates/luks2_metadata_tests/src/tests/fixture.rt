@@ -1,10 +1,12 @@
 //! A JSON area, and how it is changed.
+//!
+//! Where a call is to succeed, an error ends the test on the spot: what is not handed up needs not
+//! be dropped on the way.
 
 use luks2_members::tree::Metadata;
 use luks2_segment::bounds::Bounds;
 use std::alloc::{AllocError, Global};
 use std::process::Abort;
-use std::test::Fail;
 
 /// The bounds of a header of twice 16,384 bytes in the payload's image.
 pub const ATTACHED: Bounds = Bounds {
@@ -71,8 +73,8 @@ static PARTS: [&str; 13] = [
     "}}",
 ];
 
-/// The text: slot 0 by argon2id, slot 2 by PBKDF2, a segment and a digest.
-pub fn text(alloc: Global) -> Result<Vec<u8>, AllocError> {
+// The text: slot 0 by argon2id, slot 2 by PBKDF2, a segment and a digest.
+fn text(alloc: Global) -> Result<Vec<u8>, AllocError> {
     Vec::from_slice(alloc, joined(alloc, &PARTS)?.as_bytes())
 }
 
@@ -87,27 +89,35 @@ fn place_of(text: &[u8], part: &str) -> Option<usize> {
     place
 }
 
-/// The text with another part in place of this one, where it has it last.
-pub fn changed(alloc: Global, text: &[u8], part: &str, other: &str) -> Result<Vec<u8>, Fail> {
-    let Some(place) = place_of(text, part) else {
-        return Err(Fail::new(part));
-    };
+// The text with other bytes in place of so many, from a place on.
+fn spliced(
+    alloc: Global,
+    text: &[u8],
+    place: usize,
+    len: usize,
+    other: &str,
+) -> Result<Vec<u8>, AllocError> {
     let (before, behind) = text.split_at(place.min(text.len()));
-    let (_, rest) = behind.split_at(part.len().min(behind.len()));
+    let (_, rest) = behind.split_at(len.min(behind.len()));
     let mut bytes = Vec::from_slice(alloc, before)?;
     bytes.extend_from_slice(other.as_bytes())?;
     bytes.extend_from_slice(rest)?;
     Ok(bytes)
 }
 
-/// What the text says with each of these parts changed.
-pub fn metadata(
-    rt: &(impl Abort + AllocGlobal),
-    changes: &[(&str, &str)],
-) -> Result<Metadata, Fail> {
-    let mut bytes = text(rt.alloc())?;
+// The text with another part in place of this one, where it has it last.
+fn changed(rt: &(impl Abort + AllocGlobal), text: &[u8], part: &str, other: &str) -> Vec<u8> {
+    let place = place_of(text, part)
+        .ok_or(part)
+        .expect(rt, "a part of the text");
+    spliced(rt.alloc(), text, place, part.len(), other).expect(rt, "memory")
+}
+
+/// What the text says with each of these parts changed, one after the other.
+pub fn metadata(rt: &(impl Abort + AllocGlobal), changes: &[(&str, &str)]) -> Metadata {
+    let mut bytes = text(rt.alloc()).expect(rt, "memory");
     for (part, other) in changes {
-        bytes = changed(rt.alloc(), bytes.as_slice(), part, other)?;
+        bytes = changed(rt, bytes.as_slice(), part, other);
     }
-    Ok(Metadata::read(rt.alloc(), bytes.as_slice())?)
+    Metadata::read(rt.alloc(), bytes.as_slice()).expect(rt, "metadata")
 }

@@ -5,10 +5,9 @@ use luks_cipher::Mode;
 use luks_testing::same::{same, same_in};
 use luks_verdict::refusal::SegmentFault;
 use luks_verdict::sector_size::SectorSize;
-use luks_verdict::segment::Segment;
+use luks_verdict::segment::{Segment, SegmentParts};
 use luks2_segment::payload::segment;
 use std::process::Abort;
-use std::test::Fail;
 
 pub(super) fn word(segment: Result<Segment, SegmentFault>) -> &'static str {
     match segment {
@@ -17,55 +16,74 @@ pub(super) fn word(segment: Result<Segment, SegmentFault>) -> &'static str {
     }
 }
 
-fn check_changed(
-    rt: &(impl Abort + AllocGlobal),
-    changes: &[(&str, &str)],
-    want: &str,
-) -> Result<(), Fail> {
-    let metadata = metadata(rt, changes)?;
-    same_in(&changes, word(segment(&metadata, ATTACHED)), want).expect(rt, "the same");
-    Ok(())
+// The segment of the text with these changes, judged so.
+fn check_changed(rt: &(impl Abort + AllocGlobal), changes: &[(&str, &str)], want: &str) {
+    let word = word(segment(&metadata(rt, changes), ATTACHED));
+    same_in(&changes, word, want).expect(rt, "the same");
 }
 
-fn check(rt: &(impl Abort + AllocGlobal), part: &str, other: &str, want: &str) -> Result<(), Fail> {
-    check_changed(rt, &[(part, other)], want)
+fn check(rt: &(impl Abort + AllocGlobal), part: &str, other: &str, want: &str) {
+    check_changed(rt, &[(part, other)], want);
 }
+
+// Each row is a part, what stands in its place, and what becomes of the segment.
+fn check_rows(rt: &(impl Abort + AllocGlobal), rows: &[(&str, &str, &str)]) {
+    for (part, other, want) in rows {
+        check(rt, part, other, want);
+    }
+}
+
+fn check_values(rt: &impl Abort, segment: &Segment, want: &SegmentParts) {
+    let numbers = [Some(segment.offset), Some(segment.iv_tweak)];
+    same(numbers, [want.offset, want.iv_tweak]).expect(rt, "the same");
+    same(Some(segment.size), want.size).expect(rt, "the same");
+    same(Some(segment.sector_size), want.sector_size).expect(rt, "the same");
+    same(Some(segment.mode), want.mode).expect(rt, "the same");
+}
+
+// The segment of the text with these changes has these values.
+fn check_parts(rt: &(impl Abort + AllocGlobal), changes: &[(&str, &str)], want: &SegmentParts) {
+    let segment = segment(&metadata(rt, changes), ATTACHED).expect(rt, "a segment");
+    check_values(rt, &segment, want);
+}
+
+const AS_IT_IS: SegmentParts = SegmentParts {
+    offset: Some(16_777_216),
+    size: Some(None),
+    iv_tweak: Some(0),
+    sector_size: Some(SectorSize::B512),
+    mode: Some(Mode::XtsPlain64),
+};
 
 #[test]
-fn the_segment_as_it_is(rt: HostRuntime) -> Result<(), Fail> {
-    let segment = segment(&metadata(&rt, &[])?, ATTACHED)?;
-    same(segment.offset, 16_777_216).expect(&rt, "the same");
-    same(segment.size, None).expect(&rt, "the same");
-    same(segment.iv_tweak, 0).expect(&rt, "the same");
-    same(segment.sector_size, SectorSize::B512).expect(&rt, "the same");
-    same(segment.mode, Mode::XtsPlain64).expect(&rt, "the same");
-    Ok(())
+fn the_segment_as_it_is(rt: HostRuntime) {
+    check_parts(&rt, &[], &AS_IT_IS);
 }
 
+static OTHER_VALUES: [(&str, &str); 4] = [
+    ("\"16777216\"", "\"32768\""),
+    ("\"dynamic\"", "\"0008192\""),
+    (
+        "\"iv_tweak\":\"0\"",
+        "\"iv_tweak\":\"18446744073709551615\"",
+    ),
+    (
+        "aes-xts-plain64\",\"sector_size\":512",
+        "aes-cbc-essiv:sha256\",\"sector_size\":4096",
+    ),
+];
+
+const OTHERS: SegmentParts = SegmentParts {
+    offset: Some(32_768),
+    size: Some(Some(8192)),
+    iv_tweak: Some(18_446_744_073_709_551_615),
+    sector_size: Some(SectorSize::B4096),
+    mode: Some(Mode::CbcEssivSha256),
+};
+
 #[test]
-fn other_values(rt: HostRuntime) -> Result<(), Fail> {
-    let metadata = metadata(
-        &rt,
-        &[
-            ("\"16777216\"", "\"32768\""),
-            ("\"dynamic\"", "\"0008192\""),
-            (
-                "\"iv_tweak\":\"0\"",
-                "\"iv_tweak\":\"18446744073709551615\"",
-            ),
-            (
-                "aes-xts-plain64\",\"sector_size\":512",
-                "aes-cbc-essiv:sha256\",\"sector_size\":4096",
-            ),
-        ],
-    )?;
-    let segment = segment(&metadata, ATTACHED)?;
-    same(segment.offset, 32_768).expect(&rt, "the same");
-    same(segment.size, Some(8192)).expect(&rt, "the same");
-    same(segment.iv_tweak, 18_446_744_073_709_551_615).expect(&rt, "the same");
-    same(segment.sector_size, SectorSize::B4096).expect(&rt, "the same");
-    same(segment.mode, Mode::CbcEssivSha256).expect(&rt, "the same");
-    Ok(())
+fn other_values(rt: HostRuntime) {
+    check_parts(&rt, &OTHER_VALUES, &OTHERS);
 }
 
 const CONFIG: &str = "\"config\":{";
@@ -88,45 +106,57 @@ static REQUIREMENTS: [(&str, &str); 15] = [
     ("\"\"", "requirement"),
 ];
 
-#[test]
-fn requirements(rt: HostRuntime) -> Result<(), Fail> {
-    for (requirements, want) in REQUIREMENTS {
-        let parts = ["\"config\":{\"requirements\":", requirements, ","];
-        check(&rt, CONFIG, joined(rt.alloc(), &parts)?.as_str(), want)?;
-    }
-    Ok(())
+fn check_requirements(rt: &(impl Abort + AllocGlobal), requirements: &str, want: &str) {
+    let parts = ["\"config\":{\"requirements\":", requirements, ","];
+    let other = joined(rt.alloc(), &parts).expect(rt, "a text");
+    check(rt, CONFIG, other.as_str(), want);
 }
 
 #[test]
-fn no_requirements(rt: HostRuntime) -> Result<(), Fail> {
-    for other in [
-        "\"config\":{\"Requirements\":[\"x\"],",
-        "\"requirements\":[\"x\"],\"config\":{",
-        "\"configuration\":{",
-        "\"config\":null,\"other\":{",
+fn requirements(rt: HostRuntime) {
+    for (requirements, want) in &REQUIREMENTS {
+        check_requirements(&rt, requirements, want);
+    }
+}
+
+static NO_REQUIREMENTS: [(&str, &str, &str); 5] = [
+    (CONFIG, "\"config\":{\"Requirements\":[\"x\"],", "fine"),
+    (CONFIG, "\"requirements\":[\"x\"],\"config\":{", "fine"),
+    (CONFIG, "\"configuration\":{", "fine"),
+    (CONFIG, "\"config\":null,\"other\":{", "fine"),
+    (
+        CONFIG,
         "\"config\":[{\"requirements\":1}],\"other\":{",
-    ] {
-        check(&rt, CONFIG, other, "fine")?;
-    }
-    Ok(())
-}
+        "fine",
+    ),
+];
 
 #[test]
-fn one_segment_named_0(rt: HostRuntime) -> Result<(), Fail> {
-    for (other, want) in [
-        ("\"segments\":{\"1\":{},\"0\":{\"type\"", "segments"),
-        ("\"segments\":{\"0\":{},\"0\":{\"type\"", "fine"),
-        ("\"segments\":{\"1\":{\"type\"", "segments"),
-        ("\"segments\":{\"00\":{\"type\"", "segments"),
-        ("\"segments\":{\"\\u0030\":{\"type\"", "fine"),
-        ("\"segments\":{},\"other\":{\"0\":{\"type\"", "segments"),
-    ] {
-        check(&rt, "\"segments\":{\"0\":{\"type\"", other, want)?;
-    }
-    Ok(())
+fn no_requirements(rt: HostRuntime) {
+    check_rows(&rt, &NO_REQUIREMENTS);
 }
 
-static MEMBERS: [(&str, &str, &str); 26] = [
+const FIRST: &str = "\"segments\":{\"0\":{\"type\"";
+
+static NAMES: [(&str, &str, &str); 6] = [
+    (FIRST, "\"segments\":{\"1\":{},\"0\":{\"type\"", "segments"),
+    (FIRST, "\"segments\":{\"0\":{},\"0\":{\"type\"", "fine"),
+    (FIRST, "\"segments\":{\"1\":{\"type\"", "segments"),
+    (FIRST, "\"segments\":{\"00\":{\"type\"", "segments"),
+    (FIRST, "\"segments\":{\"\\u0030\":{\"type\"", "fine"),
+    (
+        FIRST,
+        "\"segments\":{},\"other\":{\"0\":{\"type\"",
+        "segments",
+    ),
+];
+
+#[test]
+fn one_segment_named_0(rt: HostRuntime) {
+    check_rows(&rt, &NAMES);
+}
+
+static MEMBERS: [(&str, &str, &str); 27] = [
     ("\"type\":\"crypt\"", "\"type\":5", "member"),
     ("\"type\":\"crypt\"", "\"type\":null", "member"),
     ("\"type\":\"crypt\"", "\"kind\":\"crypt\"", "member"),
@@ -181,19 +211,16 @@ static MEMBERS: [(&str, &str, &str); 26] = [
     ("\"sector_size\":512", "\"sector\":512", "member"),
     ("\"sector_size\":512", "\"sector_size\":\"512\"", "member"),
     ("\"sector_size\":512", "\"sector_size\":512.0", "member"),
-];
-
-#[test]
-fn members(rt: HostRuntime) -> Result<(), Fail> {
-    for (part, other, want) in MEMBERS {
-        check(&rt, part, other, want)?;
-    }
-    check(
-        &rt,
+    (
         "\"segments\":{\"0\":{",
         "\"segments\":{\"0\":null},\"other\":{\"0\":{",
         "member",
-    )
+    ),
+];
+
+#[test]
+fn members(rt: HostRuntime) {
+    check_rows(&rt, &MEMBERS);
 }
 
 static NUMBERS: [(&str, &str, &str); 22] = [
@@ -225,13 +252,14 @@ static NUMBERS: [(&str, &str, &str); 22] = [
     ("\"dynamic\"", "\"18446744073709551615\"", "size"),
 ];
 
+fn check_long(rt: &(impl Abort + AllocGlobal), size: &str, want: &str) {
+    check_changed(rt, &[("512}", "4096}"), ("\"dynamic\"", size)], want);
+}
+
 #[test]
-fn numbers(rt: HostRuntime) -> Result<(), Fail> {
-    for (part, other, want) in NUMBERS {
-        check(&rt, part, other, want)?;
-    }
-    for (size, want) in [("\"12288\"", "fine"), ("\"12800\"", "size")] {
-        check_changed(&rt, &[("512}", "4096}"), ("\"dynamic\"", size)], want)?;
-    }
-    Ok(())
+fn numbers(rt: HostRuntime) {
+    check_rows(&rt, &NUMBERS);
+    // A length is one of whole sectors, also of long ones.
+    check_long(&rt, "\"12288\"", "fine");
+    check_long(&rt, "\"12800\"", "size");
 }

@@ -5,11 +5,11 @@ use luks_cipher::Mode;
 use luks_kdf::Hash;
 use luks_testing::same::{same, same_in};
 use luks_verdict::refusal::SkipReason;
-use luks_verdict::slot::{Judgement, SlotParts};
+use luks_verdict::slot::{Judgement, Slot, SlotParts};
 use luks2_members::tree::Metadata;
 use luks2_metadata::slot::{judge, slot};
+use luks2_segment::bounds::Bounds;
 use std::process::Abort;
-use std::test::Fail;
 
 // Slot 2 of the text, up to the end of its area: what has to be changed stands there once.
 pub(super) const AREA: &str = "\"offset\":\"32768\",\"size\":\"258048\"";
@@ -26,112 +26,154 @@ pub(super) fn word(judgement: Option<Judgement>) -> &'static str {
     }
 }
 
-// Slot 2 is judged so, and where it is skipped for another reason than a limit, there is nothing
-// to open.
-pub(super) fn check_metadata(
-    rt: &(impl Abort + AllocGlobal),
-    metadata: &Metadata,
-    want: &str,
-    why: &str,
-) -> Result<(), Fail> {
-    let judgement = judge(metadata, ATTACHED, None, 2);
-    same_in(&why, word(judgement), want).expect(rt, "the same");
-    let usable = slot(rt.alloc(), metadata, ATTACHED, 2)?;
-    same_in(
-        &why,
-        usable.is_some(),
-        matches!(judgement, Some(Judgement::Usable(_))),
-    )
-    .expect(rt, "the same");
-    Ok(())
+// Whether there is something of slot 2 to open.
+fn is_there(rt: &(impl Abort + AllocGlobal), metadata: &Metadata, bounds: Bounds) -> bool {
+    slot(rt.alloc(), metadata, bounds, 2)
+        .expect(rt, "memory")
+        .is_some()
 }
 
-pub(super) fn check(
-    rt: &(impl Abort + AllocGlobal),
-    part: &str,
-    other: &str,
+// Slot 2 is judged so.
+pub(super) fn check_word(
+    rt: &impl Abort,
+    metadata: &Metadata,
+    bounds: Bounds,
+    why: &str,
     want: &str,
-) -> Result<(), Fail> {
-    check_metadata(rt, &metadata(rt, &[(part, other)])?, want, other)
+) {
+    let word = word(judge(metadata, bounds, None, 2));
+    same_in(&(why, bounds.detached), word, want).expect(rt, "the same");
+}
+
+// Slot 2 is judged so, and where it is skipped for another reason than a limit, there is nothing
+// to open.
+pub(super) fn check_judged(
+    rt: &(impl Abort + AllocGlobal),
+    metadata: &Metadata,
+    bounds: Bounds,
+    why: &str,
+    want: &str,
+) {
+    check_word(rt, metadata, bounds, why, want);
+    let there = is_there(rt, metadata, bounds);
+    same_in(&(why, bounds.detached), there, want.starts_with("usable")).expect(rt, "the same");
+}
+
+// So is that of the text with these changes.
+pub(super) fn check_changed(
+    rt: &(impl Abort + AllocGlobal),
+    changes: &[(&str, &str)],
+    why: &str,
+    want: &str,
+) {
+    check_judged(rt, &metadata(rt, changes), ATTACHED, why, want);
+}
+
+pub(super) fn check(rt: &(impl Abort + AllocGlobal), part: &str, other: &str, want: &str) {
+    check_changed(rt, &[(part, other)], other, want);
+}
+
+// Each row is what stands in place of the part, and what becomes of the slot.
+pub(super) fn check_rows(rt: &(impl Abort + AllocGlobal), part: &str, rows: &[(&str, &str)]) {
+    for (other, want) in rows {
+        check(rt, part, other, want);
+    }
 }
 
 // The numbers of slot 2.
 fn check_parts(rt: &impl Abort, parts: &SlotParts) {
     same(parts.priority, 1).expect(rt, "the same");
-    same(parts.kdf_hash, Some(Hash::Sha256)).expect(rt, "the same");
-    same(parts.iterations, 1000).expect(rt, "the same");
+    let hashes = [parts.kdf_hash, parts.af_hash];
+    same(hashes, [Some(Hash::Sha256), Some(Hash::Sha512)]).expect(rt, "the same");
+    let numbers = [
+        parts.iterations,
+        parts.stripes,
+        parts.key_bytes,
+        parts.area_key_bytes,
+    ];
+    same(numbers, [1000, 4000, 64, 64]).expect(rt, "the same");
     assert!(rt; parts.salt.as_slice() == [1u8; 32].as_slice());
-    same(parts.af_hash, Some(Hash::Sha512)).expect(rt, "the same");
-    same(parts.stripes, 4000).expect(rt, "the same");
-    same(parts.key_bytes, 64).expect(rt, "the same");
-    same(parts.area_key_bytes, 64).expect(rt, "the same");
-    same(parts.area_offset, 32_768).expect(rt, "the same");
-    same(parts.area_size, 258_048).expect(rt, "the same");
+    let area = [parts.area_offset, parts.area_size];
+    same(area, [32_768, 258_048]).expect(rt, "the same");
     same(parts.area_mode, Some(Mode::XtsPlain64)).expect(rt, "the same");
 }
 
-#[test]
-fn the_slots_as_they_are(rt: HostRuntime) -> Result<(), Fail> {
-    let metadata = metadata(&rt, &[])?;
-    for (number, want) in [
-        (0, "argon2id"),
-        (1, "not there"),
-        (2, "usable 1"),
-        (32, "not there"),
-    ] {
-        same_in(
-            &number,
-            word(judge(&metadata, ATTACHED, None, number)),
-            want,
-        )
-        .expect(&rt, "the same");
+static WORDS: [(u8, &str); 4] = [
+    (0, "argon2id"),
+    (1, "not there"),
+    (2, "usable 1"),
+    (32, "not there"),
+];
+
+fn check_words(rt: &impl Abort, metadata: &Metadata) {
+    for (number, want) in &WORDS {
+        let word = word(judge(metadata, ATTACHED, None, *number));
+        same_in(number, word, *want).expect(rt, "the same");
     }
-    let Some(slot) = slot(rt.alloc(), &metadata, ATTACHED, 2)? else {
-        return Err(Fail::new("no slot"));
-    };
-    check_parts(&rt, &slot.parts);
-    same(slot.need(), 256_000).expect(&rt, "the same");
-    Ok(())
+}
+
+fn check_slot(rt: &impl Abort, slot: &Slot) {
+    check_parts(rt, &slot.parts);
+    same(slot.need(), 256_000).expect(rt, "the same");
+}
+
+fn check_numbers(rt: &(impl Abort + AllocGlobal), metadata: &Metadata) {
+    match slot(rt.alloc(), metadata, ATTACHED, 2).expect(rt, "memory") {
+        Some(slot) => check_slot(rt, &slot),
+        None => panic!(rt; "no slot"),
+    }
 }
 
 #[test]
-fn kinds_of_slots(rt: HostRuntime) -> Result<(), Fail> {
-    for (other, want) in [
-        ("\"2\":{\"type\":\"luks2\",\"x\"", "member"),
-        ("\"2\":{\"type\":\"luks1\",\"key_size\"", "type"),
-        ("\"2\":{\"type\":null,\"key_size\"", "type"),
-        ("\"2\":{\"kind\":\"luks2\",\"key_size\"", "type"),
-        ("\"2\":null,\"3\":{\"type\":\"luks2\",\"key_size\"", "type"),
-        (
-            "\"2\":\"luks2\",\"3\":{\"type\":\"luks2\",\"key_size\"",
-            "type",
-        ),
-        ("\"02\":{\"type\":\"luks2\",\"key_size\"", "not there"),
-        ("\"\\u0032\":{\"type\":\"luks2\",\"key_size\"", "usable 1"),
-    ] {
-        check(&rt, "\"2\":{\"type\":\"luks2\",\"key_size\"", other, want)?;
-    }
-    Ok(())
+fn the_slots_as_they_are(rt: HostRuntime) {
+    let metadata = metadata(&rt, &[]);
+    check_words(&rt, &metadata);
+    check_numbers(&rt, &metadata);
 }
 
+static KINDS: [(&str, &str); 8] = [
+    ("\"2\":{\"type\":\"luks2\",\"x\"", "member"),
+    ("\"2\":{\"type\":\"luks1\",\"key_size\"", "type"),
+    ("\"2\":{\"type\":null,\"key_size\"", "type"),
+    ("\"2\":{\"kind\":\"luks2\",\"key_size\"", "type"),
+    ("\"2\":null,\"3\":{\"type\":\"luks2\",\"key_size\"", "type"),
+    (
+        "\"2\":\"luks2\",\"3\":{\"type\":\"luks2\",\"key_size\"",
+        "type",
+    ),
+    ("\"02\":{\"type\":\"luks2\",\"key_size\"", "not there"),
+    ("\"\\u0032\":{\"type\":\"luks2\",\"key_size\"", "usable 1"),
+];
+
 #[test]
-fn priorities(rt: HostRuntime) -> Result<(), Fail> {
+fn kinds_of_slots(rt: HostRuntime) {
+    check_rows(&rt, "\"2\":{\"type\":\"luks2\",\"key_size\"", &KINDS);
+}
+
+static PRIORITIES: [(&str, &str); 9] = [
+    ("0", "usable 0"),
+    ("1", "usable 1"),
+    ("2", "usable 2"),
+    ("3", "member"),
+    ("-0", "member"),
+    ("1.0", "member"),
+    ("\"1\"", "member"),
+    ("null", "member"),
+    ("18446744073709551616", "member"),
+];
+
+fn check_priority(rt: &(impl Abort + AllocGlobal), priority: &str, want: &str) {
     let place = "\"2\":{\"type\":\"luks2\",";
-    for (priority, want) in [
-        ("0", "usable 0"),
-        ("1", "usable 1"),
-        ("2", "usable 2"),
-        ("3", "member"),
-        ("-0", "member"),
-        ("1.0", "member"),
-        ("\"1\"", "member"),
-        ("null", "member"),
-        ("18446744073709551616", "member"),
-    ] {
-        let other = joined(rt.alloc(), &[place, "\"priority\":", priority, ","])?;
-        check(&rt, place, other.as_str(), want)?;
+    let parts = [place, "\"priority\":", priority, ","];
+    let other = joined(rt.alloc(), &parts).expect(rt, "a text");
+    check(rt, place, other.as_str(), want);
+}
+
+#[test]
+fn priorities(rt: HostRuntime) {
+    for (priority, want) in &PRIORITIES {
+        check_priority(&rt, priority, want);
     }
-    Ok(())
 }
 
 static AF_MEMBERS: [(&str, &str); 18] = [
@@ -192,12 +234,12 @@ static AF_MEMBERS: [(&str, &str); 18] = [
 ];
 
 #[test]
-fn members_of_af(rt: HostRuntime) -> Result<(), Fail> {
-    let place = "\"af\":{\"type\":\"luks1\",\"stripes\":4000,\"hash\":\"sha512\"}";
-    for (other, want) in AF_MEMBERS {
-        check(&rt, place, other, want)?;
-    }
-    Ok(())
+fn members_of_af(rt: HostRuntime) {
+    check_rows(
+        &rt,
+        "\"af\":{\"type\":\"luks1\",\"stripes\":4000,\"hash\":\"sha512\"}",
+        &AF_MEMBERS,
+    );
 }
 
 static KDF_MEMBERS: [(&str, &str); 19] = [
@@ -258,13 +300,12 @@ static KDF_MEMBERS: [(&str, &str); 19] = [
 ];
 
 #[test]
-fn members_of_kdf(rt: HostRuntime) -> Result<(), Fail> {
-    let place =
-        "\"kdf\":{\"type\":\"pbkdf2\",\"hash\":\"sha256\",\"iterations\":1000,\"salt\":\"AQEB";
-    for (other, want) in KDF_MEMBERS {
-        check(&rt, place, other, want)?;
-    }
-    Ok(())
+fn members_of_kdf(rt: HostRuntime) {
+    check_rows(
+        &rt,
+        "\"kdf\":{\"type\":\"pbkdf2\",\"hash\":\"sha256\",\"iterations\":1000,\"salt\":\"AQEB",
+        &KDF_MEMBERS,
+    );
 }
 
 static CHANGES: [(&str, &str); 11] = [
@@ -313,31 +354,30 @@ static REASONS: [&str; 11] = [
 
 // Of several reasons the first in the table counts: each change adds one that comes before.
 #[test]
-fn the_first_reason(rt: HostRuntime) -> Result<(), Fail> {
+fn the_first_reason(rt: HostRuntime) {
     for i in 0..11 {
-        let changed = metadata(&rt, &CHANGES[..=i])?;
-        check_metadata(&rt, &changed, REASONS[i], REASONS[i])?;
+        check_changed(&rt, &CHANGES[..=i], REASONS[i], REASONS[i]);
     }
-    Ok(())
+}
+
+static LIMITS: [(Option<u32>, &str); 5] = [
+    (None, "usable 1"),
+    (Some(4_294_967_295), "usable 1"),
+    (Some(1000), "usable 1"),
+    (Some(999), "iterations"),
+    (Some(0), "iterations"),
+];
+
+fn check_limits(rt: &impl Abort, metadata: &Metadata) {
+    for (limit, want) in &LIMITS {
+        let word = word(judge(metadata, ATTACHED, *limit, 2));
+        same_in(limit, word, *want).expect(rt, "the same");
+    }
+    let skipped = Judgement::Skipped(SkipReason::Argon2id);
+    same(judge(metadata, ATTACHED, Some(1), 0), Some(skipped)).expect(rt, "the same");
 }
 
 #[test]
-fn limits(rt: HostRuntime) -> Result<(), Fail> {
-    let metadata = metadata(&rt, &[])?;
-    for (limit, want) in [
-        (None, "usable 1"),
-        (Some(4_294_967_295), "usable 1"),
-        (Some(1000), "usable 1"),
-        (Some(999), "iterations"),
-        (Some(0), "iterations"),
-    ] {
-        let judgement = judge(&metadata, ATTACHED, limit, 2);
-        same_in(&limit, word(judgement), want).expect(&rt, "the same");
-    }
-    same(
-        judge(&metadata, ATTACHED, Some(1), 0),
-        Some(Judgement::Skipped(SkipReason::Argon2id)),
-    )
-    .expect(&rt, "the same");
-    Ok(())
+fn limits(rt: HostRuntime) {
+    check_limits(&rt, &metadata(&rt, &[]));
 }
