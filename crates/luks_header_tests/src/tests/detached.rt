@@ -1,15 +1,14 @@
 //! Headers of both formats, read and then marked as detached.
 
-use super::fixture::{patch, volume_header};
-use luks_header::header::{Header, read_header};
+use super::fixture::{changed, parse};
+use super::judging::is_there;
+use luks_header::header::Header;
 use luks_header::payload::segment;
-use luks_header::slot::{Judgement, judge, slot};
-use luks_io::memory::MemSource;
+use luks_header::slot::{Judgement, judge};
 use luks_testing::header2::image_of;
 use luks_testing::same::same;
-use std::alloc::Global;
+use std::alloc::{AllocError, Global};
 use std::process::Abort;
-use std::test::Fail;
 
 const PAYLOAD_OFFSET: usize = 104;
 
@@ -31,28 +30,31 @@ const SEGMENT: &str = "\"segments\":{\"0\":{\"type\":\"crypt\",\"size\":\"dynami
     \"iv_tweak\":\"0\",\"encryption\":\"aes-xts-plain64\",\"sector_size\":512,\
     \"offset\":\"";
 
-fn parse(alloc: Global, image: &[u8]) -> Result<Header, Fail> {
-    let (header, _area) = read_header(alloc, &mut MemSource::new(image))?;
-    Ok(header)
-}
-
 // The volume of LUKS1 with these numbers at these places.
-fn first(alloc: Global, changes: &[(usize, u32)]) -> Result<Header, Fail> {
-    let mut bytes = volume_header();
-    for (place, number) in changes {
-        patch(&mut bytes, *place, &number.to_be_bytes());
-    }
-    parse(alloc, &bytes)
+fn first(rt: &(impl Abort + AllocGlobal), changes: &[(usize, u32)]) -> Header {
+    parse(rt, &changed(changes))
 }
 
-// A volume of LUKS2 whose payload starts where the text says.
-fn second(alloc: Global, offset: &str) -> Result<Header, Fail> {
+// The text of a volume of LUKS2 whose payload starts there.
+fn text(alloc: Global, offset: &str) -> Result<String, AllocError> {
     let mut json = String::new(alloc);
     for part in [KEYSLOTS, DIGESTS, SEGMENT, offset, "\"}}}"] {
         json.push_str(part)?;
     }
-    let image = image_of(alloc, 1, 1, json.as_str())?;
-    parse(alloc, image.as_slice())
+    Ok(json)
+}
+
+// That volume.
+fn image(alloc: Global, offset: &str) -> Result<Vec<u8>, AllocError> {
+    image_of(alloc, 1, 1, text(alloc, offset)?.as_str())
+}
+
+// A volume of LUKS2 whose payload starts where the text says.
+fn second(rt: &(impl Abort + AllocGlobal), offset: &str) -> Header {
+    parse(
+        rt,
+        image(rt.alloc(), offset).expect(rt, "an image").as_slice(),
+    )
 }
 
 // What becomes of the segment.
@@ -83,13 +85,11 @@ fn check(
     header: Header,
     attached: [&str; 2],
     detached: [&str; 2],
-) -> Result<(), Fail> {
+) {
     check_words(rt, &header, attached);
     let apart = header.detach();
     check_words(rt, &apart, detached);
-    let there = slot(rt.alloc(), &apart, 0)?.is_some();
-    assert!(rt; there || detached[1] == "area");
-    Ok(())
+    assert!(rt; is_there(rt, &apart, 0) || detached[1] == "area");
 }
 
 const GOOD: [&str; 2] = ["fine", "usable"];
@@ -106,27 +106,27 @@ static SECTORS: [(u32, [&str; 2]); 6] = [
 
 // The key material ends with sector 508.
 #[test]
-fn a_header_of_luks1(rt: HostRuntime) -> Result<(), Fail> {
-    for (sector, attached) in SECTORS {
-        let header = first(rt.alloc(), &[(PAYLOAD_OFFSET, sector)])?;
-        check(&rt, header, attached, GOOD)?;
+fn a_header_of_luks1(rt: HostRuntime) {
+    for (sector, attached) in &SECTORS {
+        let header = first(&rt, &[(PAYLOAD_OFFSET, *sector)]);
+        check(&rt, header, *attached, GOOD);
     }
-    Ok(())
 }
+
+static KEY_AREAS: [(u32, &str); 4] = [
+    (1, "area"),
+    (2, "usable"),
+    (65036, "usable"),
+    (65037, "area"),
+];
 
 // Of a detached header too, key material starts behind the header and ends within 32 MiB.
 #[test]
-fn key_areas_of_luks1(rt: HostRuntime) -> Result<(), Fail> {
-    for (sector, slot) in [
-        (1, "area"),
-        (2, "usable"),
-        (65036, "usable"),
-        (65037, "area"),
-    ] {
-        let header = first(rt.alloc(), &[(PAYLOAD_OFFSET, 0), (SLOT_OFFSET, sector)])?;
-        check(&rt, header, ["offset", "area"], ["fine", slot])?;
+fn key_areas_of_luks1(rt: HostRuntime) {
+    for (sector, slot) in &KEY_AREAS {
+        let header = first(&rt, &[(PAYLOAD_OFFSET, 0), (SLOT_OFFSET, *sector)]);
+        check(&rt, header, ["offset", "area"], ["fine", *slot]);
     }
-    Ok(())
 }
 
 const WRONG: [&str; 2] = ["offset", "usable"];
@@ -145,11 +145,10 @@ static OFFSETS: [(&str, [&str; 2], [&str; 2]); 7] = [
 // Both headers end with byte 32,768, and the key material with byte 288,768. Where the payload's
 // start is refused, key areas are judged without it.
 #[test]
-fn a_header_of_luks2(rt: HostRuntime) -> Result<(), Fail> {
-    for (offset, attached, detached) in OFFSETS {
-        check(&rt, second(rt.alloc(), offset)?, attached, detached)?;
+fn a_header_of_luks2(rt: HostRuntime) {
+    for (offset, attached, detached) in &OFFSETS {
+        check(&rt, second(&rt, offset), *attached, *detached);
     }
-    Ok(())
 }
 
 fn is_detached(header: &Header) -> bool {
@@ -165,8 +164,7 @@ fn check_detached(rt: &impl Abort, header: Header) {
 }
 
 #[test]
-fn no_header_is_read_as_detached(rt: HostRuntime) -> Result<(), Fail> {
-    check_detached(&rt, first(rt.alloc(), &[])?);
-    check_detached(&rt, second(rt.alloc(), "0")?);
-    Ok(())
+fn no_header_is_read_as_detached(rt: HostRuntime) {
+    check_detached(&rt, first(&rt, &[]));
+    check_detached(&rt, second(&rt, "0"));
 }

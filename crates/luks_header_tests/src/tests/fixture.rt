@@ -1,6 +1,12 @@
 //! A header of LUKS1 and devices to read it from.
+//!
+//! Where a call is to succeed, an error ends the test on the spot: what is not handed up needs not
+//! be dropped on the way.
 
+use luks_header::header::{Header, read_header};
+use luks_io::memory::MemSource;
 use std::io::{self, ErrorKind, Read};
+use std::process::Abort;
 
 // Written by Python's struct module: struct.pack('>6sH32s32s32sII20s32sI40s', ..) and eight times
 // struct.pack('>II32sII', ..), with the values that the tests name.
@@ -79,6 +85,22 @@ pub fn volume_header() -> [u8; 592] {
         patch(&mut bytes, 208 + 48 * slot, &[0, 0, 0xde, 0xad]);
     }
     bytes
+}
+
+/// That header with these numbers at these places.
+pub fn changed(changes: &[(usize, u32)]) -> [u8; 592] {
+    let mut bytes = volume_header();
+    for (place, number) in changes {
+        patch(&mut bytes, *place, &number.to_be_bytes());
+    }
+    bytes
+}
+
+/// The header of an image.
+pub fn parse(rt: &(impl Abort + AllocGlobal), image: &[u8]) -> Header {
+    let read = read_header(rt.alloc(), &mut MemSource::new(image));
+    let (header, _area) = read.expect(rt, "a header");
+    header
 }
 
 /// A reader that gives at most `piece` bytes a call, and fails once `calls` of them were made.
