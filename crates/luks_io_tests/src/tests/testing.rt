@@ -1,10 +1,10 @@
 //! What no clause says of the devices: how many bytes a call moves, and which call fails.
 
-use luks_testing::devices::{Broken, Flaky, Leaky};
-use luks_testing::same::{holds_in, same, same_in};
 use luks_io::DeviceFault;
 use luks_io::sink::Sink;
 use luks_io::source::Source;
+use luks_testing::devices::{Broken, Flaky, Leaky};
+use luks_testing::same::{holds_in, same, same_in};
 use std::process::Abort;
 use std::test::Fail;
 
