@@ -10,6 +10,7 @@ mod honest;
 mod hostile;
 mod modes;
 mod past;
+mod runs;
 mod same;
 mod second;
 pub(crate) mod volume;
@@ -29,6 +30,7 @@ use luks_io::memory::{MemSink, MemSource};
 use luks_report::message::Message;
 use luks_report::report::Report;
 use luks_request::command::Command;
+use runs::check_room;
 use std::alloc::{AllocError, Global};
 use std::process::Abort;
 use std::test::Fail;
@@ -296,29 +298,25 @@ fn tells_a_failed_read_or_write(rt: HostRuntime) -> Result<(), Fail> {
     check_failures(&rt, line, two.as_slice(), &[], &[0xff; 28])
 }
 
+const SPLIT_WORDS: [&str; 8] = [
+    "afSplit",
+    "--hash",
+    "sha256",
+    "--stripes",
+    "2",
+    "--random",
+    "r",
+    "k",
+];
+
 #[test]
 fn writes_what_fits(rt: HostRuntime) -> Result<(), Fail> {
-    let alloc = rt.alloc();
-    let words = [
-        "afSplit",
-        "--hash",
-        "sha256",
-        "--stripes",
-        "2",
-        "--random",
-        "r",
-        "k",
-    ];
-    let command = attached(alloc, &words)?;
-    let two = joined(alloc, &[&ZEROS, &LAST])?;
+    let two = joined(rt.alloc(), &[&ZEROS, &LAST])?;
     for room in [10, 30] {
-        let mut key = MemSource::new(&[0xff; 28]);
-        let mut random = MemSource::new(&[0; 100]);
-        let mut out = MemSink::new(alloc, room)?;
-        let report = execute(alloc, &command, &mut key, &mut random, &mut out);
-        assert!(rt; report == Report::of(Message::WriteFailed));
-        assert_same(&rt, out.as_slice(), &two[..two.len().min(room)]);
-        assert_same(&rt, random.left().len(), 72);
+        let inputs: (&[u8], &[u8]) = (&[0xff; 28], &[0; 100]);
+        let ends = (Message::WriteFailed, two.as_slice());
+        let left = check_room(&rt, &SPLIT_WORDS, inputs, room, ends)?;
+        assert_same(&rt, left.1, 72);
     }
     Ok(())
 }

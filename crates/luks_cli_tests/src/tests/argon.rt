@@ -1,6 +1,6 @@
 //! Key slots by Argon2: they are skipped and told, and those beside them are tried.
 
-use super::{check, run};
+use super::runs::check_run;
 use crate::tests::volume::PASSPHRASE;
 use crate::tests::volume2::{SLOT, header2_with};
 use std::alloc::Global;
@@ -23,45 +23,38 @@ fn image(alloc: Global) -> Result<Vec<u8>, Fail> {
 
 #[test]
 fn the_others_are_tried_in_their_order(rt: HostRuntime) -> Result<(), Fail> {
-    let alloc = rt.alloc();
-    let image = image(alloc)?;
+    let image = image(rt.alloc())?;
     let any = "testPassphrase --key-file f i";
-    let opened = run(alloc, any, &image, PASSPHRASE)?;
-    check(&rt, &opened, b"Key slot 2 opens the volume.\n", 0, "");
-    let wrong = run(alloc, any, &image, b"another")?;
+    let opened: &[u8] = b"Key slot 2 opens the volume.\n";
+    check_run(&rt, any, &image, PASSPHRASE, (opened, 0, ""))?;
     let told = "luksrd: no key opens the volume; skipped: 0 (argon2id)\n";
-    check(&rt, &wrong, &[], 2, told);
+    check_run(&rt, any, &image, b"another", (&[], 2, told))?;
     Ok(())
 }
 
 #[test]
 fn a_named_one_is_told(rt: HostRuntime) -> Result<(), Fail> {
-    let alloc = rt.alloc();
-    let image = image(alloc)?;
+    let image = image(rt.alloc())?;
     let line = "testPassphrase --key-file f --key-slot 0 i";
-    let named = run(alloc, line, &image, PASSPHRASE)?;
-    check(
-        &rt,
-        &named,
-        &[],
-        1,
-        "luksrd: key slot 0 is skipped: argon2id\n",
-    );
+    let told = "luksrd: key slot 0 is skipped: argon2id\n";
+    check_run(&rt, line, &image, PASSPHRASE, (&[], 1, told))?;
     let line = "testPassphrase --key-file f --key-slot 10 i";
-    let other = run(alloc, line, &image, PASSPHRASE)?;
-    check(&rt, &other, b"Key slot 10 opens the volume.\n", 0, "");
+    let opened: &[u8] = b"Key slot 10 opens the volume.\n";
+    check_run(&rt, line, &image, PASSPHRASE, (opened, 0, ""))?;
     Ok(())
+}
+
+fn lone_image(alloc: Global) -> Result<Vec<u8>, Fail> {
+    let slots = format!(in alloc; "\"0\":{ARGON2ID}")?;
+    header2_with(alloc, slots.as_str(), "\"0\"")
 }
 
 #[test]
 fn there_may_be_no_other(rt: HostRuntime) -> Result<(), Fail> {
-    let alloc = rt.alloc();
-    let slots = format!(in alloc; "\"0\":{ARGON2ID}")?;
-    let image = header2_with(alloc, slots.as_str(), "\"0\"")?;
+    let image = lone_image(rt.alloc())?;
     let told = "luksrd: no key slot can be tried; skipped: 0 (argon2id)\n";
     for line in ["testPassphrase --key-file f i", "luksCat --key-file f i"] {
-        let ended = run(alloc, line, &image, PASSPHRASE)?;
-        check(&rt, &ended, &[], 1, told);
+        check_run(&rt, line, &image, PASSPHRASE, (&[], 1, told))?;
     }
     Ok(())
 }

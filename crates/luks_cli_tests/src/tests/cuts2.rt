@@ -1,8 +1,9 @@
 //! Volumes of LUKS2 that are cut at each place where it matters.
 
+use super::run;
+use super::runs::{check_run, first_of};
 use super::volume::{PASSPHRASE, SMALL, plain_bytes, sealed};
 use super::volume2::{header2, sealed2};
-use super::{check, run};
 use crate::tests::same::{assert_same, assert_same_in};
 use std::alloc::Global;
 use std::process::Abort;
@@ -16,24 +17,31 @@ const CUT: &str = "luksrd: image ends inside the header or a key area\n";
 
 const BEFORE: &str = "luksrd: image ends before the payload\n";
 
-// The first `len` bytes of the image give so many bytes of plain text, and this is told.
+/// How many bytes of the image there are, how many bytes of plain text they give, and what is told.
+type Row = (usize, usize, &'static str);
+
 fn check_cut(
     rt: &(impl Abort + AllocGlobal),
     image: &[u8],
-    len: usize,
-    written: usize,
-    told: &str,
+    plain: &[u8],
+    (len, written, told): Row,
 ) -> Result<(), Fail> {
-    let alloc = rt.alloc();
-    let plain = plain_bytes(alloc)?;
-    let ended = run(alloc, CAT, &image[..image.len().min(len)], PASSPHRASE)?;
     let status = if told.is_empty() { 0 } else { 4 };
-    check(rt, &ended, &plain[..plain.len().min(written)], status, told);
-    assert_same_in(rt, &len, ended.image_left, 0);
+    let ends = (first_of(plain, written), status, told);
+    let left = check_run(rt, CAT, first_of(image, len), PASSPHRASE, ends)?;
+    assert_same_in(rt, &len, left.0, 0);
     Ok(())
 }
 
-static CUTS: [(usize, usize, &str); 20] = [
+fn check_cuts(rt: &(impl Abort + AllocGlobal), image: &[u8], rows: &[Row]) -> Result<(), Fail> {
+    let plain = plain_bytes(rt.alloc())?;
+    for row in rows {
+        check_cut(rt, image, &plain, *row)?;
+    }
+    Ok(())
+}
+
+static CUTS: [Row; 20] = [
     (0, 0, NO_LUKS),
     (7, 0, NO_LUKS),
     (591, 0, NO_LUKS),
@@ -72,11 +80,7 @@ static CUTS: [(usize, usize, &str); 20] = [
 // in a sector.
 #[test]
 fn volumes_of_luks2_are_cut(rt: HostRuntime) -> Result<(), Fail> {
-    let image = sealed2(rt.alloc())?;
-    for (len, written, told) in CUTS {
-        check_cut(&rt, &image, len, written, told)?;
-    }
-    Ok(())
+    check_cuts(&rt, &sealed2(rt.alloc())?, &CUTS)
 }
 
 // A volume of LUKS2 whose payload has a fixed size of 1,024 bytes, and 512 bytes behind it.
@@ -97,7 +101,7 @@ fn check_whole(rt: &(impl Abort + AllocGlobal), image: &[u8]) -> Result<(), Fail
     Ok(())
 }
 
-static FIXED_CUTS: [(usize, usize, &str); 6] = [
+static FIXED_CUTS: [Row; 6] = [
     (36_863, 0, BEFORE),
     (
         36_864,
@@ -126,8 +130,6 @@ static FIXED_CUTS: [(usize, usize, &str); 6] = [
 #[test]
 fn a_fixed_size_is_cut(rt: HostRuntime) -> Result<(), Fail> {
     let image = fixed_image(rt.alloc())?;
-    for (len, written, told) in FIXED_CUTS {
-        check_cut(&rt, &image, len, written, told)?;
-    }
+    check_cuts(&rt, &image, &FIXED_CUTS)?;
     check_whole(&rt, &image)
 }

@@ -3,7 +3,8 @@
 ghost use Rattle.std.specs.Prelude.{◌≡◌, ◌+◌, ◌≤◌, length};
 
 use super::failing::check_failures;
-use super::{attached, check, run};
+use super::runs::{check_room, check_run, first_of};
+use super::{attached, run};
 use crate::tests::same::{assert_in, assert_same, assert_same_in};
 use luks_cli::execute::execute;
 use luks_io::memory::{MemSink, MemSource};
@@ -84,99 +85,89 @@ const UUID: &str = "0123456789012345678901234567890123456789\n";
 
 #[test]
 fn prints_headers(rt: HostRuntime) -> Result<(), Fail> {
-    let alloc = rt.alloc();
     let header = make_header();
-    check(
-        &rt,
-        &run(alloc, "luksDump i", &header, &[])?,
-        DUMP.as_bytes(),
-        0,
-        "",
-    );
-    check(
-        &rt,
-        &run(alloc, "luksUUID i", &header, &[])?,
-        UUID.as_bytes(),
-        0,
-        "",
-    );
-    let mut image = header.to_vec(alloc)?;
-    image.push(7)?;
-    let ended = run(alloc, "isLuks i", image.as_slice(), b"secret")?;
-    check(&rt, &ended, &[], 0, "");
-    assert_same(&rt, (ended.image_left, ended.secret_left), (1, 6));
+    check_run(&rt, "luksDump i", &header, &[], (DUMP.as_bytes(), 0, ""))?;
+    check_run(&rt, "luksUUID i", &header, &[], (UUID.as_bytes(), 0, ""))?;
+    let mut image = [7; 593];
+    image[..592].copy_from_slice(&header);
+    let left = check_run(&rt, "isLuks i", &image, b"secret", (&[], 0, ""))?;
+    assert_same(&rt, left, (1, 6));
     Ok(())
 }
 
+const ESCAPED: &str = "a\\x5cb\\x1f ~\\x7f\\x80\\xff\\x0a\n";
+
 #[test]
 fn escapes_texts(rt: HostRuntime) -> Result<(), Fail> {
-    let alloc = rt.alloc();
     let mut header = make_header();
     put(&mut header, 168, b"a\\b\x1f \x7e\x7f\x80\xff\n\x00z");
-    let uuid = "a\\x5cb\\x1f ~\\x7f\\x80\\xff\\x0a\n";
-    check(
-        &rt,
-        &run(alloc, "luksUUID i", &header, &[])?,
-        uuid.as_bytes(),
-        0,
-        "",
-    );
+    check_run(&rt, "luksUUID i", &header, &[], (ESCAPED.as_bytes(), 0, ""))?;
     put(&mut header, 8, b"\x00");
     put(&mut header, 40, b"c\xc3\x00");
     put(&mut header, 72, b"\x00");
-    let ended = run(alloc, "luksDump i", &header, &[])?;
-    let expected: &[u8] = b"\nCipher: -c\\xc3\nHash: \nPayload offset: 4096\n";
+    let ended = run(rt.alloc(), "luksDump i", &header, &[])?;
     assert!(rt;
-        ended
-            .output
-            .as_slice()
-            .windows(expected.len())
-            .any(|part| part == expected)
+        has_part(
+            &ended.output,
+            b"\nCipher: -c\\xc3\nHash: \nPayload offset: 4096\n"
+        )
     );
+    Ok(())
+}
+
+// Whether the part stands in the text.
+fn has_part(text: &[u8], part: &[u8]) -> bool {
+    !part.is_empty() && text.windows(part.len()).any(|other| other == part)
+}
+
+const CUT: &str = "luksrd: image ends inside the header or a key area\n";
+
+const NO_LUKS: &str = "luksrd: not a LUKS image\n";
+
+/// How many bytes of the header there are, and the status of `isLuks` and what it tells.
+const LENGTHS: [(usize, u8, &str); 6] = [
+    (0, 1, ""),
+    (7, 1, ""),
+    (8, 4, CUT),
+    (20, 4, CUT),
+    (591, 4, CUT),
+    (592, 0, ""),
+];
+
+// The beginning of a header is told by each command.
+fn check_beginning(
+    rt: &(impl Abort + AllocGlobal),
+    header: &[u8],
+    (status, told): (u8, &str),
+) -> Result<(), Fail> {
+    let left = check_run(rt, "isLuks i", header, &[], (&[], status, told))?;
+    assert_same(rt, left.0, 0);
+    if header.len() < 592 {
+        let told = if told.is_empty() { NO_LUKS } else { told };
+        check_run(rt, "luksUUID i", header, &[], (&[], 4, told))?;
+        check_run(rt, "luksDump i", header, &[], (&[], 4, told))?;
+    }
+    Ok(())
+}
+
+// A header with another byte at this place is none.
+fn check_other(rt: &(impl Abort + AllocGlobal), place: usize, byte: u8) -> Result<(), Fail> {
+    let mut other = make_header();
+    assert!(rt; place < other.len());
+    other[place] = byte;
+    check_run(rt, "isLuks i", &other, &[], (&[], 1, ""))?;
+    check_run(rt, "luksDump i", &other, &[], (&[], 4, NO_LUKS))?;
     Ok(())
 }
 
 #[test]
 fn tells_what_is_no_header(rt: HostRuntime) -> Result<(), Fail> {
-    let alloc = rt.alloc();
     let header = make_header();
-    let cut = "luksrd: image ends inside the header or a key area\n";
-    let none = "luksrd: not a LUKS image\n";
-    for (len, status, told) in [
-        (0, 1, ""),
-        (7, 1, ""),
-        (8, 4, cut),
-        (20, 4, cut),
-        (591, 4, cut),
-        (592, 0, ""),
-    ] {
-        let ended = run(alloc, "isLuks i", &header[..len], &[])?;
-        check(&rt, &ended, &[], status, told);
-        assert_same(&rt, ended.image_left, 0);
-        let told = if told.is_empty() { none } else { told };
-        if len < 592 {
-            check(
-                &rt,
-                &run(alloc, "luksUUID i", &header[..len], &[])?,
-                &[],
-                4,
-                told,
-            );
-            check(
-                &rt,
-                &run(alloc, "luksDump i", &header[..len], &[])?,
-                &[],
-                4,
-                told,
-            );
-        }
+    for (len, status, told) in LENGTHS {
+        check_beginning(&rt, &header[..len], (status, told))?;
     }
     for (place, byte) in [(0, b'l'), (5, 0xbf), (6, 1), (7, 0), (7, 3)] {
-        let mut other = make_header();
-        assert!(rt; place < other.len());
-        other[place] = byte;
-        check(&rt, &run(alloc, "isLuks i", &other, &[])?, &[], 1, "");
-        check(&rt, &run(alloc, "luksDump i", &other, &[])?, &[], 4, none);
+        check_other(&rt, place, byte)?;
     }
     Ok(())
 }
@@ -189,11 +180,10 @@ fn zeros(alloc: Global, len: usize) -> Result<Vec<u8>, AllocError> {
 // A header of LUKS2 is sought at nine places, and 4,096 bytes are read at the last of them.
 #[test]
 fn seeks_a_header_so_far(rt: HostRuntime) -> Result<(), Fail> {
-    let alloc = rt.alloc();
-    for (len, left) in [(1000, 0), (4_198_400, 0), (4_200_000, 1600)] {
-        let ended = run(alloc, "isLuks i", &zeros(alloc, len)?, &[])?;
-        check(&rt, &ended, &[], 1, "");
-        assert_same(&rt, ended.image_left, left);
+    let zeros = zeros(rt.alloc(), 4_200_000)?;
+    for (len, rest) in [(1000, 0), (4_198_400, 0), (4_200_000, 1600)] {
+        let left = check_run(&rt, "isLuks i", first_of(&zeros, len), &[], (&[], 1, ""))?;
+        assert_same(&rt, left.0, rest);
     }
     Ok(())
 }
@@ -203,15 +193,12 @@ const FINDINGS: &str = "slot 2: state\n";
 
 #[test]
 fn tells_what_is_amiss(rt: HostRuntime) -> Result<(), Fail> {
-    let alloc = rt.alloc();
     let mut header = make_header();
-    let told = "luksrd: the header has findings\n";
-    let ended = run(alloc, "luksCheck i", &header, &[])?;
-    check(&rt, &ended, FINDINGS.as_bytes(), 1, told);
-    assert_same(&rt, ended.image_left, 0);
+    let ends = (FINDINGS.as_bytes(), 1, "luksrd: the header has findings\n");
+    let left = check_run(&rt, "luksCheck i", &header, &[], ends)?;
+    assert_same(&rt, left.0, 0);
     put(&mut header, 304, &[0, 0, 0xde, 0xad]);
-    let ended = run(alloc, "luksCheck i", &header, &[])?;
-    check(&rt, &ended, b"clean\n", 0, "");
+    check_run(&rt, "luksCheck i", &header, &[], (b"clean\n", 0, ""))?;
     Ok(())
 }
 
@@ -220,21 +207,16 @@ fn tells_failed_devices(rt: HostRuntime) -> Result<(), Fail> {
     let header = make_header();
     check_failures(&rt, "isLuks i", &header, &[], &[])?;
     check_failures(&rt, "luksUUID i", &header, &[], UUID.as_bytes())?;
-    check_failures(&rt, "luksDump i", &header, &[], DUMP.as_bytes())?;
-    let alloc = rt.alloc();
-    let words: Vec<&str> = "luksDump i".split(' ').collect(alloc)?;
-    let command = attached(alloc, words.as_slice())?;
-    let mut out = MemSink::new(alloc, 10)?;
-    let mut secret = MemSource::new(&[]);
-    let report = execute(
-        alloc,
-        &command,
-        &mut MemSource::new(&header),
-        &mut secret,
-        &mut out,
-    );
-    assert_same(&rt, report, Report::of(Message::WriteFailed));
-    assert_same(&rt, out.as_slice(), b"Version: 1".as_slice());
+    check_failures(&rt, "luksDump i", &header, &[], DUMP.as_bytes())
+}
+
+// The first ten bytes of the dump are written.
+#[test]
+fn writes_of_a_dump_what_fits(rt: HostRuntime) -> Result<(), Fail> {
+    let header = make_header();
+    assert!(rt; DUMP.as_bytes().starts_with(b"Version: 1"));
+    let ends = (Message::WriteFailed, DUMP.as_bytes());
+    check_room(&rt, &["luksDump", "i"], (&header, &[]), 10, ends)?;
     Ok(())
 }
 
@@ -266,11 +248,22 @@ pub(super) fn check_refusals(
         scarcity.relent();
     }
     drop(scarcity);
-    let last = reports.pop().ok_or("a run")?;
-    assert_same_in(rt, &line, last.0, Report::of(message));
     assert_same_in(rt, &line, out.as_slice(), whole.as_bytes());
-    assert_in(rt, &line, !reports.is_empty());
-    for (report, written) in reports.iter() {
+    check_refused(rt, line, reports, message)
+}
+
+// The last of these runs met no refusal, and ends so. Each before it answers want of memory, and
+// wrote nothing.
+fn check_refused(
+    rt: &impl Abort,
+    line: &str,
+    mut runs: Vec<(Report, usize)>,
+    message: Message,
+) -> Result<(), Fail> {
+    let last = runs.pop().ok_or("a run")?;
+    assert_same_in(rt, &line, last.0, Report::of(message));
+    assert_in(rt, &line, !runs.is_empty());
+    for (report, written) in runs.iter() {
         assert_same_in(rt, &line, *report, Report::of(Message::OutOfMemory));
         assert_same_in(rt, &line, *written, 0);
     }

@@ -1,12 +1,11 @@
 //! Sealed volumes of two key slots, which are written out under either passphrase: of both formats,
 //! in each mode, with sectors of each length.
 
-use super::attached;
+use super::runs::report_over;
 use crate::tests::same::{assert_in, assert_same_in};
 use crate::tests::volume::KEY;
 use crate::tests::volumes2::{RANDOM, parameters, plain_of, slot};
 use luks_cipher::Mode;
-use luks_cli::execute::execute;
 use luks_io::memory::{MemSink, MemSource};
 use luks_kdf::Hash;
 use luks_report::message::Message;
@@ -97,6 +96,25 @@ fn second(
     seal2(alloc, &volume)
 }
 
+const CAT: [&str; 4] = ["luksCat", "--key-file", "f", "i"];
+
+// The passphrase gives the plain bytes of a volume in this mode.
+fn check_passphrase(
+    rt: &(impl Abort + AllocGlobal),
+    mode: Mode,
+    image: &[u8],
+    passphrase: &[u8],
+    plain: &[u8],
+) -> Result<(), Fail> {
+    let mut source = MemSource::new(image);
+    let mut secret = MemSource::new(passphrase);
+    let mut out = MemSink::new(rt.alloc(), 8192)?;
+    let report = report_over(rt.alloc(), &CAT, &mut source, &mut secret, &mut out)?;
+    assert_in(rt, &mode, report == Report::of(Message::Done));
+    assert_same_in(rt, &mode, out.as_slice(), plain);
+    Ok(())
+}
+
 // Either passphrase gives the plain bytes.
 fn check_written(
     rt: &(impl Abort + AllocGlobal),
@@ -104,19 +122,9 @@ fn check_written(
     image: Result<Vec<u8>, SealFault>,
     plain: &[u8],
 ) -> Result<(), Fail> {
-    let alloc = rt.alloc();
     let image = image.ok().ok_or("a volume")?;
-    let words = ["luksCat", "--key-file", "f", "i"];
-    let command = attached(alloc, &words)?;
-    for passphrase in PASSPHRASES {
-        let mut source = MemSource::new(&image);
-        let mut secret = MemSource::new(passphrase);
-        let mut out = MemSink::new(alloc, 8192)?;
-        let report = execute(alloc, &command, &mut source, &mut secret, &mut out);
-        assert_in(rt, &mode, report == Report::of(Message::Done));
-        assert_same_in(rt, &mode, out.as_slice(), plain);
-    }
-    Ok(())
+    check_passphrase(rt, mode, &image, PASSPHRASES[0], plain)?;
+    check_passphrase(rt, mode, &image, PASSPHRASES[1], plain)
 }
 
 #[test]

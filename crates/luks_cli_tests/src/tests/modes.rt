@@ -1,6 +1,6 @@
 //! Whole runs over volumes in the older modes.
 
-use super::{check, run};
+use super::runs::check_run;
 use crate::tests::same::assert_same;
 use crate::tests::volume::{KEY, PASSPHRASE, USUAL, changed, plain_bytes, sealed_in};
 use luks_cipher::Mode;
@@ -18,14 +18,32 @@ fn check_mode(
     let key = &KEY[..key_len.min(KEY.len())];
     let image = sealed_in(alloc, mode, key, USUAL, PASSPHRASE)?;
     let plain = plain_bytes(alloc)?;
-    let ended = run(alloc, "luksCat --key-file f i", &image, PASSPHRASE)?;
-    check(rt, &ended, &plain, 0, "");
-    assert_same(rt, (ended.image_left, ended.secret_left), (0, 0));
-    let ended = run(alloc, "testPassphrase --key-file f i", &image, PASSPHRASE)?;
-    check(rt, &ended, b"Key slot 0 opens the volume.\n", 0, "");
-    assert_same(rt, image.len() - ended.image_left.min(image.len()), held);
-    let ended = run(alloc, "luksCat --key-file f i", &image, b"wrong")?;
-    check(rt, &ended, &[], 2, "luksrd: no key opens the volume\n");
+    check_volume(rt, &image, &plain, held)
+}
+
+const CAT: &str = "luksCat --key-file f i";
+
+const OPENED: (&[u8], u8, &str) = (b"Key slot 0 opens the volume.\n", 0, "");
+
+const NO_KEY: (&[u8], u8, &str) = (&[], 2, "luksrd: no key opens the volume\n");
+
+fn check_volume(
+    rt: &(impl Abort + AllocGlobal),
+    image: &[u8],
+    plain: &[u8],
+    held: usize,
+) -> Result<(), Fail> {
+    let left = check_run(rt, CAT, image, PASSPHRASE, (plain, 0, ""))?;
+    assert_same(rt, left, (0, 0));
+    let left = check_run(
+        rt,
+        "testPassphrase --key-file f i",
+        image,
+        PASSPHRASE,
+        OPENED,
+    )?;
+    assert_same(rt, image.len() - left.0.min(image.len()), held);
+    check_run(rt, CAT, image, b"wrong", NO_KEY)?;
     Ok(())
 }
 
@@ -51,9 +69,8 @@ fn check_length(
     let image = sealed_in(alloc, Mode::CbcEssivSha256, &KEY[..32], USUAL, PASSPHRASE)?;
     let image = changed(alloc, &image, 40, mode)?;
     let image = changed(alloc, &image, 111, &[key_len])?;
-    let ended = run(alloc, "luksCat --key-file f i", &image, PASSPHRASE)?;
-    check(rt, &ended, &[], 1, told);
-    assert_same(rt, ended.secret_left, PASSPHRASE.len());
+    let left = check_run(rt, CAT, &image, PASSPHRASE, (&[], 1, told))?;
+    assert_same(rt, left.1, PASSPHRASE.len());
     Ok(())
 }
 

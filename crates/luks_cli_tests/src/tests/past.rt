@@ -1,15 +1,11 @@
 //! Volumes whose damaged primary header names a larger size than it has: the search for the
 //! secondary one reads past the payload's start, and what it has read of the payload comes first.
 
-use super::{attached, check, run};
+use super::runs::{check_pieces, check_room, check_run, first_of};
 use crate::tests::same::assert_same;
 use crate::tests::volume::{PASSPHRASE, changed, plain_bytes};
 use crate::tests::volume2::sealed2;
-use luks_cli::execute::execute;
-use luks_io::memory::{MemSink, MemSource};
 use luks_report::message::Message;
-use luks_report::report::Report;
-use luks_testing::devices::Flaky;
 use std::alloc::Global;
 use std::process::Abort;
 use std::test::Fail;
@@ -25,50 +21,44 @@ fn damaged(alloc: Global) -> Result<Vec<u8>, Fail> {
 
 #[test]
 fn writes_what_the_search_has_read(rt: HostRuntime) -> Result<(), Fail> {
-    let alloc = rt.alloc();
-    let image = damaged(alloc)?;
-    let plain = plain_bytes(alloc)?;
-    let whole = run(alloc, CAT, &image, PASSPHRASE)?;
-    check(&rt, &whole, &plain, 0, "");
-    assert_same(&rt, (whole.image_left, whole.secret_left), (0, 0));
-
-    let cut = run(alloc, CAT, &image[..image.len().min(38_300)], PASSPHRASE)?;
+    let image = damaged(rt.alloc())?;
+    let plain = plain_bytes(rt.alloc())?;
+    let left = check_run(&rt, CAT, &image, PASSPHRASE, (&plain, 0, ""))?;
+    assert_same(&rt, left, (0, 0));
     let told = "luksrd: image ends inside a sector: 412 bytes left over\n";
-    check(&rt, &cut, &plain[..plain.len().min(1024)], 4, told);
-
-    let line = "testPassphrase --key-file f i";
-    let opened = run(alloc, line, &image, PASSPHRASE)?;
-    check(&rt, &opened, b"Key slot 0 opens the volume.\n", 0, "");
-    assert_same(&rt, opened.image_left, 0);
-
-    let wrong = run(alloc, CAT, &image, b"another passphrase")?;
-    check(&rt, &wrong, &[], 2, "luksrd: no key opens the volume\n");
+    let ends = (first_of(&plain, 1024), 4, told);
+    check_run(&rt, CAT, first_of(&image, 38_300), PASSPHRASE, ends)?;
     Ok(())
 }
 
+const OPENED: (&[u8], u8, &str) = (b"Key slot 0 opens the volume.\n", 0, "");
+
+const NO_KEY: (&[u8], u8, &str) = (&[], 2, "luksrd: no key opens the volume\n");
+
+#[test]
+fn opens_where_the_search_has_read(rt: HostRuntime) -> Result<(), Fail> {
+    let image = damaged(rt.alloc())?;
+    let line = "testPassphrase --key-file f i";
+    let left = check_run(&rt, line, &image, PASSPHRASE, OPENED)?;
+    assert_same(&rt, left.0, 0);
+    check_run(&rt, CAT, &image, b"another passphrase", NO_KEY)?;
+    Ok(())
+}
+
+const CAT_WORDS: [&str; 4] = ["luksCat", "--key-file", "f", "i"];
+
 #[test]
 fn stops_in_what_the_search_has_read(rt: HostRuntime) -> Result<(), Fail> {
-    let alloc = rt.alloc();
-    let image = damaged(alloc)?;
-    let plain = plain_bytes(alloc)?;
-    let words = ["luksCat", "--key-file", "f", "i"];
-    let command = attached(alloc, &words)?;
+    let image = damaged(rt.alloc())?;
+    let plain = plain_bytes(rt.alloc())?;
+    let inputs = (image.as_slice(), PASSPHRASE);
     for room in [0, 511, 512, 700, 1535] {
-        let mut source = MemSource::new(&image);
-        let mut secret = MemSource::new(PASSPHRASE);
-        let mut out = MemSink::new(alloc, room)?;
-        let report = execute(alloc, &command, &mut source, &mut secret, &mut out);
-        assert_same(&rt, report, Report::of(Message::WriteFailed));
-        assert_same(&rt, out.as_slice(), &plain[..plain.len().min(room)]);
-        assert_same(&rt, source.left().len(), 0);
+        let ends = (Message::WriteFailed, plain.as_slice());
+        let left = check_room(&rt, &CAT_WORDS, inputs, room, ends)?;
+        assert_same(&rt, left.0, 0);
     }
     for piece in [1, 511, 4097] {
-        let mut source = Flaky::new(&image, piece, u64::MAX);
-        let mut secret = MemSource::new(PASSPHRASE);
-        let mut out = MemSink::new(alloc, 4096)?;
-        let report = execute(alloc, &command, &mut source, &mut secret, &mut out);
-        assert_same(&rt, report, Report::of(Message::Done));
-        assert_same(&rt, out.as_slice(), plain.as_slice());
+        check_pieces(&rt, &CAT_WORDS, inputs, (piece, 0, 4096), &plain)?;
     }
     Ok(())
 }

@@ -3,13 +3,9 @@
 
 use super::failing::check_failures;
 use super::headers::check_refusals;
-use super::{attached, check, run};
+use super::runs::{check_pieces, check_run, first_of};
 use crate::tests::same::{assert_same, assert_same_in};
-use luks_cli::execute::execute;
-use luks_io::memory::{MemSink, MemSource};
 use luks_report::message::Message;
-use luks_report::report::Report;
-use luks_testing::devices::Flaky;
 use luks_testing::header2::{SIZE, image_of};
 use std::alloc::Global;
 use std::process::Abort;
@@ -53,22 +49,26 @@ fn image(alloc: Global) -> Result<Vec<u8>, Fail> {
     Ok(image)
 }
 
+fn check_page(
+    rt: &(impl Abort + AllocGlobal),
+    image: &[u8],
+    line: &str,
+    page: &str,
+) -> Result<(), Fail> {
+    let words: Vec<&str> = line.split(' ').collect(rt.alloc())?;
+    for piece in [1, 591, 4095, 4096, 32_768] {
+        let pieces = (piece, 0, 4096);
+        let left = check_pieces(rt, words.as_slice(), (image, &[]), pieces, page.as_bytes())?;
+        assert_same_in(rt, &line, left.0, 10);
+    }
+    Ok(())
+}
+
 #[test]
 fn prints_the_same_for_all_pieces(rt: HostRuntime) -> Result<(), Fail> {
-    let alloc = rt.alloc();
-    let image = image(alloc)?;
+    let image = image(rt.alloc())?;
     for (line, page) in PRINTED {
-        let words: Vec<&str> = line.split(' ').collect(alloc)?;
-        let command = attached(alloc, words.as_slice())?;
-        for piece in [1, 591, 4095, 4096, 32_768] {
-            let mut source = Flaky::new(&image, piece, u64::MAX);
-            let mut out = MemSink::new(alloc, 4096)?;
-            let mut secret = MemSource::new(&[]);
-            let report = execute(alloc, &command, &mut source, &mut secret, &mut out);
-            assert_same_in(&rt, &line, report, Report::of(Message::Done));
-            assert_same_in(&rt, &line, out.as_slice(), page.as_bytes());
-            assert_same_in(&rt, &line, source.left(), 10);
-        }
+        check_page(&rt, &image, line, page)?;
     }
     Ok(())
 }
@@ -94,18 +94,18 @@ fn answers_memory_where_it_is_refused(rt: HostRuntime) -> Result<(), Fail> {
 // Cut behind the primary header, the image still has it; within it, it has none.
 #[test]
 fn a_cut_image_has_what_is_whole(rt: HostRuntime) -> Result<(), Fail> {
-    let alloc = rt.alloc();
-    let image = image(alloc)?;
+    let image = image(rt.alloc())?;
     for len in [SIZE, SIZE + 4096, 2 * SIZE - 1] {
-        let ended = run(alloc, "luksCheck i", &image[..len.min(image.len())], &[])?;
-        let told = "luksrd: the header has findings\n";
-        check(&rt, &ended, b"secondary header: not valid\n", 1, told);
-        assert_same(&rt, ended.image_left, 0);
+        let found: &[u8] = b"secondary header: not valid\n";
+        let ends = (found, 1, "luksrd: the header has findings\n");
+        let left = check_run(&rt, "luksCheck i", first_of(&image, len), &[], ends)?;
+        assert_same(&rt, left.0, 0);
     }
     for len in [591, 4095, 4096, SIZE - 1] {
-        let ended = run(alloc, "luksUUID i", &image[..len.min(image.len())], &[])?;
-        check(&rt, &ended, &[], 4, "luksrd: not a LUKS image\n");
-        assert_same(&rt, ended.image_left, 0);
+        let none: &[u8] = &[];
+        let ends = (none, 4, "luksrd: not a LUKS image\n");
+        let left = check_run(&rt, "luksUUID i", first_of(&image, len), &[], ends)?;
+        assert_same(&rt, left.0, 0);
     }
     Ok(())
 }

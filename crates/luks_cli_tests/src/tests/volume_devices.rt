@@ -2,6 +2,7 @@
 
 use super::attached;
 use super::failing::check_failures;
+use super::runs::{check_pieces, check_room, first_of, report_over};
 use crate::tests::same::{assert_in, assert_same, assert_same_in};
 use crate::tests::volume::{PASSPHRASE, SMALL, USUAL, plain_bytes, sealed};
 use crate::tests::volume2::sealed2;
@@ -9,30 +10,22 @@ use luks_cli::execute::execute;
 use luks_io::memory::{MemSink, MemSource};
 use luks_report::message::Message;
 use luks_report::report::Report;
-use luks_testing::devices::{Broken, Flaky, Leaky};
+use luks_testing::devices::Broken;
 use luks_testing::scarce::Scarcity;
 use std::process::Abort;
 use std::test::Fail;
-
-const NEVER: u64 = u64::MAX;
 
 const CAT: [&str; 4] = ["luksCat", "--key-file", "f", "i"];
 
 const OPENED: &[u8] = b"Key slot 0 opens the volume.\n";
 
-fn check_pieces(rt: &(impl Abort + AllocGlobal), image: &[u8]) -> Result<(), Fail> {
-    let alloc = rt.alloc();
-    let plain = plain_bytes(alloc)?;
-    let command = attached(alloc, &CAT)?;
+fn check_all_pieces(rt: &(impl Abort + AllocGlobal), image: &[u8]) -> Result<(), Fail> {
+    let plain = plain_bytes(rt.alloc())?;
     for given in [1, 511, 512, 513, 5000] {
         for taken in [1, 700] {
-            let mut source = Flaky::new(image, given, NEVER);
-            let mut secret = Flaky::new(PASSPHRASE, given, NEVER);
-            let mut out = Leaky::new(alloc, 4096, taken, NEVER)?;
-            let report = execute(alloc, &command, &mut source, &mut secret, &mut out);
-            assert_same(rt, report, Report::of(Message::Done));
-            assert_same(rt, out.as_slice(), plain.as_slice());
-            assert_same(rt, (source.left(), secret.left()), (0, 0));
+            let pieces = (given, given, taken);
+            let left = check_pieces(rt, &CAT, (image, PASSPHRASE), pieces, &plain)?;
+            assert_same(rt, left, (0, 0));
         }
     }
     Ok(())
@@ -40,61 +33,49 @@ fn check_pieces(rt: &(impl Abort + AllocGlobal), image: &[u8]) -> Result<(), Fai
 
 #[test]
 fn writes_the_same_for_all_pieces(rt: HostRuntime) -> Result<(), Fail> {
-    check_pieces(&rt, &sealed(rt.alloc(), SMALL, PASSPHRASE)?)?;
-    check_pieces(&rt, &sealed2(rt.alloc())?)
+    check_all_pieces(&rt, &sealed(rt.alloc(), SMALL, PASSPHRASE)?)?;
+    check_all_pieces(&rt, &sealed2(rt.alloc())?)
 }
 
-// `luksCat` into a sink with so much room writes what fits, and takes so many bytes of the image.
-fn check_room(
-    rt: &(impl Abort + AllocGlobal),
-    image: &[u8],
-    room: usize,
-    taken: usize,
-) -> Result<(), Fail> {
-    let alloc = rt.alloc();
-    let plain = plain_bytes(alloc)?;
-    let command = attached(alloc, &CAT)?;
-    let mut source = MemSource::new(image);
-    let mut secret = MemSource::new(PASSPHRASE);
-    let mut out = MemSink::new(alloc, room)?;
-    let report = execute(alloc, &command, &mut source, &mut secret, &mut out);
-    assert_same(rt, report, Report::of(Message::WriteFailed));
-    assert_same(rt, out.as_slice(), &plain[..plain.len().min(room)]);
-    assert_same(
-        rt,
-        image.len() - source.left().len().min(image.len()),
-        taken,
-    );
-    Ok(())
-}
+/// How much room a sink has, and how many bytes of the image are taken.
+const ROOMS: [(usize, usize); 5] = [
+    (0, 2_097_664),
+    (511, 2_097_664),
+    (512, 2_098_176),
+    (700, 2_098_176),
+    (1535, 2_098_688),
+];
 
+// `luksCat` into a sink with so much room writes what fits.
 #[test]
 fn stops_at_a_failed_write(rt: HostRuntime) -> Result<(), Fail> {
     let image = sealed(rt.alloc(), USUAL, PASSPHRASE)?;
-    check_room(&rt, &image, 0, 2_097_664)?;
-    check_room(&rt, &image, 511, 2_097_664)?;
-    check_room(&rt, &image, 512, 2_098_176)?;
-    check_room(&rt, &image, 700, 2_098_176)?;
-    check_room(&rt, &image, 1535, 2_098_688)
+    let plain = plain_bytes(rt.alloc())?;
+    for (room, taken) in ROOMS {
+        let ends = (Message::WriteFailed, plain.as_slice());
+        let left = check_room(&rt, &CAT, (&image, PASSPHRASE), room, ends)?;
+        assert_same_in(&rt, &room, image.len() - left.0.min(image.len()), taken);
+    }
+    Ok(())
 }
 
 // `luksCat` of an image that can be read up to here writes so many sectors.
 fn check_broken(
     rt: &(impl Abort + AllocGlobal),
     image: &[u8],
-    given: usize,
-    sectors: usize,
+    plain: &[u8],
+    (given, sectors): (usize, usize),
 ) -> Result<(), Fail> {
-    let alloc = rt.alloc();
-    let plain = plain_bytes(alloc)?;
-    let command = attached(alloc, &CAT)?;
     let mut source = Broken::new(image, given);
     let mut secret = MemSource::new(PASSPHRASE);
-    let mut out = MemSink::new(alloc, 4096)?;
-    let report = execute(alloc, &command, &mut source, &mut secret, &mut out);
+    let mut out = MemSink::new(rt.alloc(), 4096)?;
+    let report = report_over(rt.alloc(), &CAT, &mut source, &mut secret, &mut out)?;
     assert_same(rt, report, Report::of(Message::ReadFailed));
-    let written = 512 * sectors.min(8);
-    assert_same(rt, out.as_slice(), &plain[..plain.len().min(written)]);
+    assert_same(
+        rt,
+        out.as_slice(),
+        first_of(plain, sectors.saturating_mul(512)),
+    );
     assert_same(rt, image.len() - source.left().min(image.len()), given);
     Ok(())
 }
@@ -113,21 +94,20 @@ static READS: [(usize, usize); 8] = [
 #[test]
 fn stops_at_a_failed_read(rt: HostRuntime) -> Result<(), Fail> {
     let image = sealed(rt.alloc(), USUAL, PASSPHRASE)?;
-    for (given, sectors) in READS {
-        check_broken(&rt, &image, given, sectors)?;
+    let plain = plain_bytes(rt.alloc())?;
+    for row in READS {
+        check_broken(&rt, &image, &plain, row)?;
     }
     Ok(())
 }
 
 #[test]
 fn stops_at_a_failed_read_of_the_key_file(rt: HostRuntime) -> Result<(), Fail> {
-    let alloc = rt.alloc();
-    let image = sealed(alloc, USUAL, PASSPHRASE)?;
-    let command = attached(alloc, &CAT)?;
+    let image = sealed(rt.alloc(), USUAL, PASSPHRASE)?;
     let mut source = MemSource::new(&image);
     let mut secret = Broken::new(PASSPHRASE, 5);
-    let mut out = MemSink::new(alloc, 4096)?;
-    let report = execute(alloc, &command, &mut source, &mut secret, &mut out);
+    let mut out = MemSink::new(rt.alloc(), 4096)?;
+    let report = report_over(rt.alloc(), &CAT, &mut source, &mut secret, &mut out)?;
     assert_same(&rt, report, Report::of(Message::ReadFailed));
     assert_same(&rt, image.len() - source.left().len().min(image.len()), 592);
     assert_same(&rt, out.as_slice().len(), 0);
@@ -148,24 +128,6 @@ fn tells_each_failed_call(rt: HostRuntime) -> Result<(), Fail> {
     check_each_failed_call(&rt, &sealed2(rt.alloc())?)
 }
 
-// A run with ample memory.
-fn run_whole(
-    rt: &(impl Abort + AllocGlobal),
-    words: &[&str],
-    image: &[u8],
-    whole: &[u8],
-) -> Result<(), Fail> {
-    let alloc = rt.alloc();
-    let command = attached(alloc, words)?;
-    let mut source = MemSource::new(image);
-    let mut secret = MemSource::new(PASSPHRASE);
-    let mut out = MemSink::new(alloc, 4096)?;
-    let report = execute(alloc, &command, &mut source, &mut secret, &mut out);
-    assert_same(rt, report, Report::of(Message::Done));
-    assert_same(rt, out.as_slice(), whole);
-    Ok(())
-}
-
 // Runs with less and less memory refused, in pieces of so many bytes, until one meets no refusal.
 // Each refused run answers want of memory, and writes nothing.
 fn check_refusals(
@@ -179,7 +141,13 @@ fn check_refusals(
     let words = [name, "--key-file", "f", "i"];
     let command = attached(alloc, &words)?;
     // The stack grows in a first run, since it cannot once all memory is taken.
-    run_whole(rt, &words, image, whole)?;
+    check_room(
+        rt,
+        &words,
+        (image, PASSPHRASE),
+        4096,
+        (Message::Done, whole),
+    )?;
     let mut out = MemSink::new(alloc, 4096)?;
     let mut reports = Vec::with_capacity(alloc, 400)?;
     let mut scarcity = Scarcity::new(alloc, 400, piece)?;

@@ -1,15 +1,12 @@
 //! Volumes of LUKS2 from their first byte to their last: which key slot opens, fixed sizes, and a
 //! header whose search goes past the payload's start.
 
-use super::{attached, check, run};
+use super::runs::{check_room, check_run, first_of};
 use crate::tests::same::assert_same;
 use crate::tests::volume::{KEY, changed};
 use luks_cipher::Mode;
-use luks_cli::execute::execute;
-use luks_io::memory::{MemSink, MemSource};
 use luks_kdf::Hash;
 use luks_report::message::Message;
-use luks_report::report::Report;
 use luks_seal::parameters::{Seal2, Slot2};
 use luks_verdict::sector_size::SectorSize;
 use luks2_seal::seal2;
@@ -77,9 +74,26 @@ pub(super) fn plain_of(alloc: Global, len: usize) -> Result<Vec<u8>, AllocError>
     Ok(plain)
 }
 
-#[test]
-fn slots_are_tried_by_priority_and_number(rt: HostRuntime) -> Result<(), Fail> {
-    let alloc = rt.alloc();
+const TEST: &str = "testPassphrase --key-file f i";
+
+/// A line, a passphrase, and what it prints.
+const OPENED: [(&str, &[u8], &str); 4] = [
+    (TEST, b"one", "Key slot 2 opens the volume.\n"),
+    (TEST, b"two", "Key slot 3 opens the volume.\n"),
+    (
+        "testPassphrase --key-file f --key-slot 10 i",
+        b"two",
+        "Key slot 10 opens the volume.\n",
+    ),
+    (
+        "testPassphrase --key-file f --key-slot 1 i",
+        b"hidden",
+        "Key slot 1 opens the volume.\n",
+    ),
+];
+
+// A volume with slots of three priorities.
+fn ranked(alloc: Global) -> Result<Vec<u8>, Fail> {
     let slots = [
         slot(0, 1, b"one"),
         slot(1, 0, b"hidden"),
@@ -87,62 +101,48 @@ fn slots_are_tried_by_priority_and_number(rt: HostRuntime) -> Result<(), Fail> {
         slot(10, 1, b"two"),
         slot(3, 1, b"two"),
     ];
-    let image = sealed(alloc, &parameters(&slots, &[]))?;
-    let line = "testPassphrase --key-file f i";
-    for (line, passphrase, told) in [
-        (line, b"one".as_slice(), "Key slot 2 opens the volume.\n"),
-        (line, b"two", "Key slot 3 opens the volume.\n"),
-        (
-            "testPassphrase --key-file f --key-slot 10 i",
-            b"two",
-            "Key slot 10 opens the volume.\n",
-        ),
-        (
-            "testPassphrase --key-file f --key-slot 1 i",
-            b"hidden",
-            "Key slot 1 opens the volume.\n",
-        ),
-    ] {
-        let opened = run(alloc, line, &image, passphrase)?;
-        check(&rt, &opened, told.as_bytes(), 0, "");
+    sealed(alloc, &parameters(&slots, &[]))
+}
+
+#[test]
+fn slots_are_tried_by_priority_and_number(rt: HostRuntime) -> Result<(), Fail> {
+    let image = ranked(rt.alloc())?;
+    for (line, passphrase, told) in OPENED {
+        check_run(&rt, line, &image, passphrase, (told.as_bytes(), 0, ""))?;
     }
-    let hidden = run(alloc, line, &image, b"hidden")?;
-    check(&rt, &hidden, &[], 2, "luksrd: no key opens the volume\n");
+    let told = "luksrd: no key opens the volume\n";
+    check_run(&rt, TEST, &image, b"hidden", (&[], 2, told))?;
     Ok(())
+}
+
+// A volume of a fixed size, and 808 bytes behind it.
+fn fixed_image(alloc: Global, plain: &[u8]) -> Result<Vec<u8>, Fail> {
+    let slots = [slot(0, 1, b"one")];
+    let volume = Seal2 {
+        fixed: true,
+        ..parameters(&slots, plain)
+    };
+    let mut image = sealed(alloc, &volume)?;
+    image.resize(image.len().min(100_000) + 808, 0xee)?;
+    Ok(image)
 }
 
 #[test]
 fn a_fixed_size_ends_the_payload(rt: HostRuntime) -> Result<(), Fail> {
-    let alloc = rt.alloc();
-    let plain = plain_of(alloc, 3584)?;
-    let slots = [slot(0, 1, b"one")];
-    let volume = Seal2 {
-        fixed: true,
-        ..parameters(&slots, &plain)
-    };
-    let mut image = sealed(alloc, &volume)?;
-    image.resize(image.len().min(100_000) + 808, 0xee)?;
+    let plain = plain_of(rt.alloc(), 3584)?;
+    let image = fixed_image(rt.alloc(), &plain)?;
     let line = "luksCat --key-file f i";
-    let whole = run(alloc, line, &image, b"one")?;
-    check(&rt, &whole, &plain, 0, "");
-    assert_same(&rt, whole.image_left, 808);
-    let cut = run(
-        alloc,
-        line,
-        &image[..image.len().min(65_536 + 1024)],
-        b"one",
-    )?;
+    let left = check_run(&rt, line, &image, b"one", (&plain, 0, ""))?;
+    assert_same(&rt, left.0, 808);
     let told = "luksrd: image ends 2560 bytes before the segment does\n";
-    check(&rt, &cut, &plain[..plain.len().min(1024)], 4, told);
+    let ends = (first_of(&plain, 1024), 4, told);
+    check_run(&rt, line, first_of(&image, 65_536 + 1024), b"one", ends)?;
     Ok(())
 }
 
 // The primary header names 4,194,304 bytes, and its checksum no longer agrees: the search for the
 // other one reads as much, of which 3,145,728 bytes are the payload's.
-#[test]
-fn a_search_past_the_start_loses_nothing(rt: HostRuntime) -> Result<(), Fail> {
-    let alloc = rt.alloc();
-    let plain = plain_of(alloc, 4_194_304)?;
+fn damaged(alloc: Global, plain: &[u8]) -> Result<Vec<u8>, Fail> {
     let random = plain_of(alloc, 3999 * 64)?;
     let slots = [Slot2 {
         stripes: 4000,
@@ -151,23 +151,23 @@ fn a_search_past_the_start_loses_nothing(rt: HostRuntime) -> Result<(), Fail> {
     }];
     let volume = Seal2 {
         offset: 1_048_576,
-        ..parameters(&slots, &plain)
+        ..parameters(&slots, plain)
     };
     let image = sealed(alloc, &volume)?;
-    let image = changed(alloc, &image, 8, &4_194_304u64.to_be_bytes())?;
+    Ok(changed(alloc, &image, 8, &4_194_304u64.to_be_bytes())?)
+}
+
+#[test]
+fn a_search_past_the_start_loses_nothing(rt: HostRuntime) -> Result<(), Fail> {
+    let plain = plain_of(rt.alloc(), 4_194_304)?;
+    let image = damaged(rt.alloc(), &plain)?;
     let words = ["luksCat", "--key-file", "f", "i"];
-    let command = attached(alloc, &words)?;
-    for (room, told, left) in [
-        (4_194_304, Message::Done, 0),
-        (700, Message::WriteFailed, 1_048_576),
-    ] {
-        let mut source = MemSource::new(&image);
-        let mut secret = MemSource::new(b"one");
-        let mut out = MemSink::new(alloc, room)?;
-        let report = execute(alloc, &command, &mut source, &mut secret, &mut out);
-        assert_same(&rt, report, Report::of(told));
-        assert_same(&rt, out.as_slice(), &plain[..plain.len().min(room)]);
-        assert_same(&rt, source.left().len(), left);
-    }
+    let inputs: (&[u8], &[u8]) = (&image, b"one");
+    let whole = (Message::Done, plain.as_slice());
+    let left = check_room(&rt, &words, inputs, 4_194_304, whole)?;
+    assert_same(&rt, left.0, 0);
+    let cut = (Message::WriteFailed, plain.as_slice());
+    let left = check_room(&rt, &words, inputs, 700, cut)?;
+    assert_same(&rt, left.0, 1_048_576);
     Ok(())
 }
