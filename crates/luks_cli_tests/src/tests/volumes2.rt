@@ -4,11 +4,10 @@
 use super::runs::{check_room, check_run, first_of};
 use crate::tests::same::assert_same;
 use crate::tests::volume::{KEY, changed};
-use luks_cipher::Mode;
 use luks_kdf::Hash;
 use luks_report::message::Message;
 use luks_seal::parameters::{Seal2, Slot2};
-use luks_verdict::sector_size::SectorSize;
+use luks_seal_testing::parameters::{parameters2, slot2};
 use luks2_seal::seal2;
 use std::alloc::{AllocError, Global};
 use std::process::Abort;
@@ -17,44 +16,22 @@ use std::test::Fail;
 /// The random stripes of a key slot.
 pub(super) const RANDOM: [u8; 192] = [0x5a; 192];
 
-/// A key slot of four stripes.
-pub(super) fn slot(number: u32, priority: u32, passphrase: &[u8]) -> Slot2<'_> {
+/// A key slot of four stripes of the key.
+pub(super) fn slot(number: u32, priority: u32, passphrase: &'static [u8]) -> Slot2<'static> {
     Slot2 {
-        number,
         priority,
         hash: Hash::Sha512,
-        iterations: 3,
-        salt: [0x51; 32],
         af_hash: Hash::Sha1,
-        stripes: 4,
-        passphrase,
         random: &RANDOM,
+        ..slot2(number, [0x51; 32], passphrase)
     }
 }
 
 /// A volume under the key of 64 bytes, whose payload starts at byte 65,536.
 pub(super) fn parameters<'a>(slots: &'a [Slot2<'a>], plain: &'a [u8]) -> Seal2<'a> {
     Seal2 {
-        hdr_size: 16_384,
-        seqid: 3,
-        uuid: b"a-uuid",
-        label: b"",
-        subsystem: b"",
-        primary_salt: [1; 64],
-        secondary_salt: [2; 64],
-        mode: Mode::XtsPlain64,
         key: KEY,
-        sector_size: SectorSize::B512,
-        iv_tweak: 0,
-        offset: 65_536,
-        fixed: false,
-        area_mode: Mode::XtsPlain64,
-        area_key_size: 64,
-        digest_hash: Hash::Sha256,
-        digest_salt: [0xd1; 32],
-        digest_iterations: 2,
-        slots,
-        plain,
+        ..parameters2(slots, plain)
     }
 }
 

@@ -1,10 +1,10 @@
 //! Volumes sealed of drawn parameters that are all in their ranges: where memory is ample, none is
 //! refused.
 
-use super::fixture::slot1 as slot;
 use luks_cipher::Mode;
 use luks_kdf::Hash;
 use luks_seal::parameters::{Seal1, Slot1};
+use luks_seal_testing::parameters::slot1 as slot;
 use luks_testing::same::holds_in;
 use luks1_seal::seal1;
 use std::test::Fail;

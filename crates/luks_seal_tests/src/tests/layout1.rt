@@ -3,10 +3,12 @@
 //! `cryptography`. An image of that program with 4000 stripes is opened by cryptsetup and read by
 //! qemu-img.
 
-use super::fixture::{at, check_image, counted, parameters1 as parameters, slot1 as slot};
+use super::fixture::check_image;
 use luks_cipher::Mode;
 use luks_kdf::Hash;
 use luks_seal::parameters::{Seal1, Slot1};
+use luks_seal_testing::bytes::{at, counted};
+use luks_seal_testing::parameters::{parameters1 as parameters, slot1 as slot};
 use luks1_seal::seal1;
 use std::process::Abort;
 use std::test::Fail;

@@ -2,10 +2,12 @@
 //! parameters by the LUKS2 On-Disk Format Specification, with hashlib, json and the AES, XTS and
 //! CBC of `cryptography`.
 
-use super::fixture::{at, check_image, counted, parameters2, slot2};
+use super::fixture::check_image;
 use luks_cipher::Mode;
 use luks_kdf::Hash;
 use luks_seal::parameters::{Seal2, Slot2};
+use luks_seal_testing::bytes::{at, counted};
+use luks_seal_testing::parameters::{parameters2, slot2};
 use luks_verdict::sector_size::SectorSize;
 use luks2_seal::seal2;
 use std::process::Abort;

@@ -1,8 +1,9 @@
 //! Sealing where memory is refused: less and less of it, until a call meets no refusal. Each call
 //! that does answers want of memory, and never anything else.
 
-use super::fixture::{counted, parameters1, parameters2, slot1, slot2};
 use luks_seal::parameters::SealFault;
+use luks_seal_testing::bytes::counted;
+use luks_seal_testing::parameters::{parameters1, parameters2, slot1, slot2};
 use luks_testing::same::same;
 use luks_testing::scarce::Scarcity;
 use luks1_seal::seal1;

@@ -1,14 +1,12 @@
 //! Each range of LUKS1 from both sides.
 
-use super::fixture::{
-    KEY_LENGTHS, at, check_fits, counted, parameters1 as parameters, slot1 as slot,
-};
+use super::fixture::{KEY_LENGTHS, check_fits};
 use luks_seal::parameters::{Seal1, Slot1};
+use luks_seal_testing::bytes::{at, counted};
+use luks_seal_testing::parameters::{SALT, parameters1 as parameters, slot1 as slot};
 use luks1_seal::seal1;
 use std::process::Abort;
 use std::test::Fail;
-
-const SALT: [u8; 32] = [0x5a; 32];
 
 // The parameters are in range or not.
 fn check(rt: &(impl Abort + AllocGlobal), seal: Seal1<'_>, fits: bool) {

@@ -1,15 +1,15 @@
 //! Each range of LUKS2 from both sides.
 
-use super::fixture::{KEY_LENGTHS, at, check_fits, counted, parameters2, slot2};
+use super::fixture::{KEY_LENGTHS, check_fits};
 use luks_cipher::Mode;
 use luks_kdf::Hash;
 use luks_seal::parameters::{Seal2, Slot2};
+use luks_seal_testing::bytes::{at, counted};
+use luks_seal_testing::parameters::{SALT, parameters2, slot2};
 use luks_verdict::sector_size::SectorSize;
 use luks2_seal::seal2;
 use std::process::Abort;
 use std::test::Fail;
-
-const SALT: [u8; 32] = [0x5a; 32];
 
 // The parameters are in range or not.
 fn check(rt: &(impl Abort + AllocGlobal), seal: Seal2<'_>, fits: bool) {

@@ -6,7 +6,8 @@ use super::fixture::{NEVER, counted, dynamic, expected, outcome_of, run_pump, ta
 use luks_cipher::{Mode, SectorCipher};
 use luks_header::sector_size::SectorSize;
 use luks_kdf::{Hash, Work, pbkdf2};
-use luks_seal::parameters::{Seal1, Slot1};
+use luks_seal_testing::bytes::at;
+use luks_seal_testing::parameters::{KEY, SALT, parameters1, slot1};
 use luks_stripes::af_merge;
 use luks_testing::devices::Flaky;
 use luks_testing::same::same;
@@ -17,8 +18,6 @@ use std::alloc::Global;
 use std::process::Abort;
 use std::test::Fail;
 
-const KEY: &[u8] = b"a volume key has thirty-two byte";
-
 /// PBKDF2 of the key with SHA-256, 32 bytes 5a as salt and 3 iterations: Python's
 /// hashlib.pbkdf2_hmac.
 const DIGEST: &[u8] = &[
@@ -26,47 +25,9 @@ const DIGEST: &[u8] = &[
     0x5a, 0xf1, 0x34, 0xdb,
 ];
 
-const SALT: [u8; 32] = [0x5a; 32];
-
 const FIRST_SALT: [u8; 32] = [0x11; 32];
 
 const SIXTH_SALT: [u8; 32] = [0x66; 32];
-
-/// Three random stripes.
-const RANDOM: &[u8] =
-    b"ninety-six bytes that nobody drew: they are only written down, once, and serve as random stripes";
-
-fn slot(number: u32, salt: [u8; 32], passphrase: &'static [u8]) -> Slot1<'static> {
-    Slot1 {
-        number,
-        iterations: 2,
-        salt,
-        passphrase,
-        random: RANDOM,
-    }
-}
-
-fn parameters<'a>(slots: &'a [Slot1<'a>], plain: &'a [u8]) -> Seal1<'a> {
-    Seal1 {
-        hash: Hash::Sha256,
-        mode: Mode::XtsPlain64,
-        key: KEY,
-        stripes: 4,
-        payload_sectors: 72,
-        uuid: b"a-uuid",
-        digest_salt: SALT,
-        digest_iterations: 3,
-        slots,
-        plain,
-    }
-}
-
-// So many bytes from this place on.
-fn at(image: &[u8], place: usize, len: usize) -> &[u8] {
-    let place = place.min(image.len());
-    let rest = &image[place..];
-    &rest[..len.min(rest.len())]
-}
 
 // The key of four stripes.
 fn merge(stripes: &[u8], key: &mut [u8])
@@ -177,8 +138,11 @@ fn check_payload(rt: &(impl Abort + AllocGlobal), image: &[u8], plain: &[u8]) ->
 }
 
 fn sealed(alloc: Global, plain: &[u8]) -> Result<Vec<u8>, Fail> {
-    let slots = [slot(5, SIXTH_SALT, b"sixth"), slot(0, FIRST_SALT, b"first")];
-    match seal1(alloc, &parameters(&slots, plain)) {
+    let slots = [
+        slot1(5, SIXTH_SALT, b"sixth"),
+        slot1(0, FIRST_SALT, b"first"),
+    ];
+    match seal1(alloc, &parameters1(&slots, plain)) {
         Ok(image) => Ok(image),
         Err(_) => Err("not sealed".into()),
     }

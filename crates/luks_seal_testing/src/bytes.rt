@@ -1,0 +1,25 @@
+//! Plain bytes, and pieces of an image.
+
+ghost use Rattle.std.specs.Prelude.{◌≡◌, IfOk, drop, length, take};
+
+use std::alloc::{AllocError, Global};
+
+/// So many bytes, each one more than the one before, and zero behind 250.
+pub fn counted(alloc: Global, len: usize) -> Result<Vec<u8>, AllocError>
+    ensures { IfOk result (λ bytes. length bytes.items ≡ len) }
+{
+    let mut bytes = Vec::new(alloc);
+    for i in 0..len {
+        bytes.push((i % 251) as u8)?;
+    }
+    Ok(bytes)
+}
+
+/// So many bytes from this place on, or those that there are.
+pub fn at(image: &[u8], place: usize, len: usize) -> &[u8]
+    ensures { result.now ≡ take len (drop place image.now) }
+{
+    let place = place.min(image.len());
+    let rest = &image[place..];
+    &rest[..len.min(rest.len())]
+}

@@ -1,0 +1,7 @@
+//! What the tests of several crates share of sealed volumes: parameters that are in their ranges.
+//!
+//! Nothing but tests uses it.
+#![tactic(auto)]
+
+pub mod bytes;
+pub mod parameters;
