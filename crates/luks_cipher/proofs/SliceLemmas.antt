@@ -1,8 +1,7 @@
 -- Slices of a unit, of 32 blocks each.
-use Rattle.std.proofs.Common.{◌≡◌, ℕ, zero, suc, ◌+◌, ◌-◌, ◌*◌, ◌^◌, ◌<◌, ◌≤◌, List, ◌++◌, length, take, drop}
+use Rattle.std.proofs.Common.{◌≡◌, ℕ, zero, suc, ◌+◌, ◌-◌, ◌*◌, ◌<◌, ◌≤◌, List, ◌++◌, length, take, drop}
 use Rattle.std.proofs.Common.{append_assoc, arith, refl, sym, ap, subst, ◌∙◌}
 use Rattle.std.specs.Int.Bits.{bit_xor}
-use Rattle.std.specs.Int.{w128, to_le_bytes, from_le_bytes}
 use Rattle.std.specs.Simd.Lanes.{zip2, put_chunk}
 use Rattle.std.proofs.lemmas.Simd.{get_or-zip2, length-zip2, put_chunk_whole}
 use Rattle.std.proofs.lemmas.List.{append-nil, take_all, take-take, drop-take, drop-drop}
@@ -12,11 +11,10 @@ use Rattle.luks_aes.specs.Field.{◌⊕◌}
 use Rattle.luks_aes.specs.Aes.{cell, decrypted}
 use Rattle.luks_aes.proofs.Undone.{whole_state}
 use Rattle.luks_aes.proofs.UnmixedLemmas.{same_cells}
-use Rattle.luks_cipher.specs.Xts.{data_key, doubled_number, doubled, tweak_of, block_sum, block_at, block_decrypted}
+use Rattle.luks_cipher.specs.Xts.{data_key, doubled, tweak_of, block_sum, block_at, block_decrypted}
 use Rattle.luks_cipher.specs.Xts.{joined}
 use Rattle.luks_cipher.specs.Slices.{tweak_after, with_tweaks}
 use Rattle.luks_cipher.specs.Cbc.{block_before}
-use Rattle.luks_cipher.proofs.NumberLemmas.{number_back}
 use Rattle.luks_cipher.proofs.TweakLemmas.{IsDoneBefore}
 use Rattle.luks_cipher.proofs.UnitsUndone.{joined_at, joined_same}
 
@@ -117,13 +115,23 @@ slice_tweak key number i tweak next same is =
     ∙ tweak_more key number (32 * i) 32
     ∙ ap (tweak_of key number) more
 
--- the number of the next tweak
-pub next_number : (tweak : List ℕ) (number n : ℕ) → number < 2 ^ 128 → to_le_bytes w128 number ≡ tweak_after tweak n
-    → to_le_bytes w128 (doubled_number number) ≡ tweak_after tweak (suc n)
-unfolding tweak_after doubled
-next_number tweak number n fits is =
-    ap (λ m. to_le_bytes w128 (doubled_number m)) (sym (number_back number fits))
-    ∙ ap (λ t. to_le_bytes w128 (doubled_number (from_le_bytes w128 t))) is
+pub doubled_len : (tweak : List ℕ) → length (doubled tweak) ≡ 16
+unfolding doubled
+doubled_len tweak = refl
+
+pub tweak_len : (tweak : List ℕ) (n : ℕ) → length tweak ≡ 16 → length (tweak_after tweak n) ≡ 16
+unfolding tweak_after
+tweak_len tweak zero long = long
+tweak_len tweak (suc n) long = doubled_len (tweak_after tweak n)
+
+-- the sums with tweaks that are kept
+pub tweaks_added : (tweak kept old new : List ℕ) → ((n : ℕ) → n < 32 → block_at kept n ≡ tweak_after tweak n)
+    → new ≡ joined (λ n. block_sum (block_at old n) (block_at kept n)) 32 → new ≡ with_tweaks tweak old
+tweaks_added tweak kept old new same is =
+    is
+    ∙ joined_same (λ n. block_sum (block_at old n) (block_at kept n))
+    (λ n. block_sum (block_at old n) (tweak_after tweak n)) 32
+    (λ n low. ap (block_sum (block_at old n)) (same n low))
 
 -- ---- XTS
 

@@ -1,31 +1,13 @@
 -- A tweak doubled, and the blocks of a data unit.
-use Rattle.std.proofs.Common.{◌≡◌, ℕ, ◌-◌, ◌*◌, ◌/◌, ◌%◌, ◌^◌, ◌<◌, ◌≤◌, true, false, ltb, List, ◌+◌, ◌++◌, length}
+use Rattle.std.proofs.Common.{◌≡◌, ℕ, ◌-◌, ◌*◌, ◌/◌, ◌≤◌, List, ◌+◌, ◌++◌, length}
 use Rattle.std.proofs.Common.{take, drop, length-append, add-one, arith, refl, sym, ap, ◌∙◌}
-use Rattle.std.specs.Int.Bits.{bit_xor, xor_zero_r}
-use Rattle.std.proofs.lemmas.Bool.{lt-ltb, le-ltb}
 use Rattle.std.specs.Int.{w128, to_le_bytes}
 use Rattle.std.proofs.lemmas.List.{take_at, drop_at, take_all, drop-drop}
 use Rattle.std.proofs.lemmas.Slice.{take-put_mid, drop-put_mid}
 use borrow.Rule.Slice.PartMut.{put_mid}
 use Rattle.luks_aes.specs.Aes.{encrypted, decrypted}
-use Rattle.luks_cipher.specs.Xts.{data_key, tweak_key, doubled_number, doubled, tweak_of, block_at, joined, block_sum}
+use Rattle.luks_cipher.specs.Xts.{data_key, tweak_key, doubled, tweak_of, block_at, joined, block_sum}
 use Rattle.luks_cipher.specs.Xts.{block_encrypted, block_decrypted, xts_encrypted, xts_decrypted}
-
--- below 2^127 nothing is carried out
-pub doubled_low : (n : ℕ) → n < 2 ^ 127 → bit_xor (n * 2 % 2 ^ 128) 0 ≡ doubled_number n
-unfolding doubled_number
-doubled_low n low =
-    let test : ltb n (2 ^ 127) ≡ true = lt-ltb n (2 ^ 127) low in
-    let whole : n * 2 % 2 ^ 128 ≡ 2 * n = omega arith in
-    rw test (xor_zero_r (n * 2 % 2 ^ 128) ∙ whole)
-
--- from there on 2^128 is
-pub doubled_high : (n : ℕ) → 2 ^ 127 ≤ n → n < 2 ^ 128 → bit_xor (n * 2 % 2 ^ 128) 0x87 ≡ doubled_number n
-unfolding doubled_number
-doubled_high n high fits =
-    let test : ltb n (2 ^ 127) ≡ false = le-ltb n (2 ^ 127) high in
-    let rest : n * 2 % 2 ^ 128 ≡ 2 * n - 2 ^ 128 = omega arith in
-    rw test (ap (λ k. bit_xor k 0x87) rest)
 
 -- ---- the two halves of a key
 pub halves : (a b key : List ℕ) → length a ≡ length b → a ++ b ≡ key → (data_key key ≡ a) × (tweak_key key ≡ b)

@@ -1,7 +1,6 @@
 //! Blocks of 16 bytes.
 
 ghost use Rattle.std.specs.Prelude.{◌≡◌, length};
-ghost use Rattle.std.specs.Int.{w128, to_le_bytes};
 ghost use Rattle.luks_cipher.specs.Xts.{block_sum};
 
 use std::simd::prelude::*;
@@ -27,16 +26,6 @@ pub fn block_of(piece: &[u8]) -> [u8; 16]
     let mut block = [0; 16];
     block.copy_from_slice(piece);
     block
-}
-
-/// The number as a block, its low byte first.
-#[inline(always)]
-pub fn vector_of(number: u128) -> u8x16
-    ensures { result ≡ to_le_bytes w128 number }
-{
-    let low = (number % 0x1_0000_0000_0000_0000) as u64;
-    let high = (number >> 64) as u64;
-    u64x2::from_array([low, high]).to_le_bytes()
 }
 
 /// Adds the vector to the block that the slice is.

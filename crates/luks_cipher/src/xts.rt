@@ -1,49 +1,57 @@
 //! XTS-AES (IEEE 1619) over data units of whole blocks.
 
-ghost use Rattle.std.specs.Prelude.{◌≡◌, ◌+◌, ◌*◌, ◌%◌, ◌≤◌, List, ℕ, ◌++◌, length, Some, None};
-ghost use Rattle.std.specs.Prelude.{if◌then◌else◌};
-ghost use Rattle.luks_cipher.specs.Xts.{doubled_number, doubled, tweak_of, block_at, joined};
+ghost use Rattle.std.specs.Prelude.{◌≡◌, ◌+◌, ◌*◌, ◌%◌, ◌<◌, ◌≤◌, List, ℕ, ◌++◌, length};
+ghost use Rattle.std.specs.Prelude.{Some, None, if◌then◌else◌};
+ghost use Rattle.luks_cipher.specs.Xts.{doubled, tweak_of, block_sum, block_at, joined};
 ghost use Rattle.luks_cipher.specs.Xts.{block_encrypted, block_decrypted, xts_encrypted};
 ghost use Rattle.luks_cipher.specs.Xts.{xts_decrypted, is_xts_key_length};
 ghost use Rattle.luks_aes.specs.Bytes.{IsBytes};
-ghost use Rattle.luks_cipher.specs.Slices.{tweak_after, with_tweaks};
+ghost use Rattle.luks_cipher.specs.Slices.{tweak_after};
 ghost use Rattle.luks_cipher.specs.KeyPair.{IsKeyPair};
 
-use crate::block::{add_vector, block_sum, vector_of};
+use crate::block::{add_vector, block_of};
 use luks_aes::AesKey;
 use luks_blocks::SliceKey;
 use std::marker::Model;
+use std::simd::prelude::*;
 
-// A tweak's number times the primitive element (5.2).
+// The tweak times the primitive element (5.2): its halves are doubled, and the bit that leaves one
+// comes into the other, from the low one as 1 and from the high one as 0x87.
 #[inline(always)]
-fn doubled_number(number: u128) -> u128
-    ensures { result ≡ doubled_number number }
-{
-    let reduction = if number >> 127 == 0 { 0 } else { 0x87 };
-    (number << 1) ^ reduction
-}
-
-// The tweak times the primitive element (5.2).
-#[tactic(auto, unfolding(crate::specs::Xts::doubled))]
-fn doubled(tweak: [u8; 16]) -> [u8; 16]
+fn doubled(tweak: u8x16) -> u8x16
     ensures { result ≡ doubled tweak }
 {
-    doubled_number(u128::from_le_bytes(tweak)).to_le_bytes()
+    let halves = u64x2::from_le_bytes(tweak);
+    let carried = (halves.shuffle(halves, [1, 0]) >> 63) * u64x2::from_array([0x87, 1]);
+    ((halves << 1) ^ carried).to_le_bytes()
 }
 
-// Adds the tweaks from this one on to the 32 blocks of the slice, and gives the one after them.
-fn add_tweaks(tweak: [u8; 16], slice: &mut [u8]) -> [u8; 16]
-    requires { length slice.old ≡ 512 }
-    ensures value { slice.new ≡ with_tweaks tweak slice.old }
+// Writes the tweaks of 32 blocks, of which this is the first one's, and gives the one after them.
+fn put_tweaks(tweak: u8x16, tweaks: &mut [u8]) -> u8x16
+    requires { length tweaks.old ≡ 512 }
+    ensures value { (n : ℕ) → n < 32 → block_at tweaks.new n ≡ tweak_after tweak n }
     ensures next { result ≡ tweak_after tweak 32 }
 {
-    let mut number = u128::from_le_bytes(tweak);
+    let mut last = tweak;
     for n in 0..32 {
-        add_vector(vector_of(number), &mut slice[16 * n..16 * n + 16]);
-        let next = doubled_number(number);
-        number = next;
+        last.copy_to_slice(&mut tweaks[16 * n..16 * n + 16]);
+        let next = doubled(last);
+        last = next;
     }
-    number.to_le_bytes()
+    last
+}
+
+// Adds to each of the 32 blocks of the slice its tweak.
+fn add_tweaks(tweaks: &[u8], slice: &mut [u8])
+    requires tweaks { length tweaks.now ≡ 512 }
+    requires slice { length slice.old ≡ 512 }
+    ensures { slice.new
+        ≡ joined (λ n. block_sum (block_at slice.old n) (block_at tweaks.now n)) 32 }
+{
+    for n in 0..32 {
+        let tweak = block_of(&tweaks[16 * n..16 * n + 16]);
+        add_vector(u8x16::from_array(tweak), &mut slice[16 * n..16 * n + 16]);
+    }
 }
 
 /// A key of XTS-AES-128 or XTS-AES-256 (IEEE 1619). Contracts see it as its bytes, of which the
@@ -80,50 +88,53 @@ impl XtsKey {
     }
 
     // The tweak of the first block of a data unit (5.3.1).
-    fn first_tweak(&self, number: u64) -> [u8; 16]
+    fn first_tweak(&self, number: u64) -> u8x16
         ensures value { result ≡ tweak_of self.now number 0 }
         ensures key_bytes { IsBytes self.now }
     {
         let mut tweak = u128::from(number).to_le_bytes();
         self.tweak_key.encrypt_block(&mut tweak);
-        tweak
+        u8x16::from_array(tweak)
     }
 
     // Encrypts one block under its tweak (5.3.1).
-    fn encrypt_piece(&self, tweak: [u8; 16], piece: &mut [u8])
+    fn encrypt_piece(&self, tweak: u8x16, piece: &mut [u8])
         requires { length piece.old ≡ 16 }
         ensures { piece.new ≡ block_encrypted self.now tweak piece.old }
     {
-        let mut block = [0; 16];
-        block.copy_from_slice(piece);
-        let mut masked = block_sum(block, tweak);
-        self.data_key.key().encrypt_block(&mut masked);
-        piece.copy_from_slice(&block_sum(masked, tweak));
+        add_vector(tweak, piece);
+        let mut block = block_of(piece);
+        self.data_key.key().encrypt_block(&mut block);
+        piece.copy_from_slice(&block);
+        add_vector(tweak, piece);
     }
 
     // Decrypts one block under its tweak (5.4.1).
-    fn decrypt_piece(&self, tweak: [u8; 16], piece: &mut [u8])
+    fn decrypt_piece(&self, tweak: u8x16, piece: &mut [u8])
         requires { length piece.old ≡ 16 }
         ensures { piece.new ≡ block_decrypted self.now tweak piece.old }
     {
-        let mut block = [0; 16];
-        block.copy_from_slice(piece);
-        let mut masked = block_sum(block, tweak);
-        self.data_key.key().decrypt_block(&mut masked);
-        piece.copy_from_slice(&block_sum(masked, tweak));
+        add_vector(tweak, piece);
+        let mut block = block_of(piece);
+        self.data_key.key().decrypt_block(&mut block);
+        piece.copy_from_slice(&block);
+        add_vector(tweak, piece);
     }
 
     // Decrypts 32 blocks, of which this is the first one's tweak, and gives the next one's.
-    fn decrypt_slice(&self, tweak: [u8; 16], slice: &mut [u8]) -> [u8; 16]
+    fn decrypt_slice(&self, tweak: u8x16, slice: &mut [u8]) -> u8x16
         requires { length slice.old ≡ 512 }
         ensures value { slice.new
             ≡ joined
             (λ n. block_decrypted self.now (tweak_after tweak n) (block_at slice.old n)) 32 }
         ensures next { result ≡ tweak_after tweak 32 }
     {
-        add_tweaks(tweak, slice);
+        let mut tweaks = [0; 512];
+        let next = put_tweaks(tweak, &mut tweaks);
+        add_tweaks(&tweaks, slice);
         self.data_key.decrypt_slice(slice);
-        add_tweaks(tweak, slice)
+        add_tweaks(&tweaks, slice);
+        next
     }
 
     /// Encrypts the data unit of this number (IEEE 1619, 5.3.2). Its length is a multiple of 16
