@@ -20,6 +20,7 @@ const RANDOM: &[u8] = b"ninety-six bytes that nobody drew: they are only written
 /// A key slot of LUKS1.
 pub fn slot1(number: u32, salt: [u8; 32], passphrase: &'static [u8]) -> Slot1<'static>
     ensures number { result.number ≡ number }
+    ensures salt { result.salt ≡ salt }
     ensures passphrase { result.passphrase.now ≡ passphrase.entry.now }
 {
     Slot1 {
@@ -53,6 +54,7 @@ pub fn parameters1<'a>(slots: &'a [Slot1<'a>], plain: &'a [u8]) -> Seal1<'a>
 /// A key slot of LUKS2.
 pub fn slot2(number: u32, salt: [u8; 32], passphrase: &'static [u8]) -> Slot2<'static>
     ensures number { result.number ≡ number }
+    ensures salt { result.salt ≡ salt }
     ensures passphrase { result.passphrase.now ≡ passphrase.entry.now }
 {
     Slot2 {
