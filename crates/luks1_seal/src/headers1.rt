@@ -45,7 +45,7 @@ fn push_start(alloc: Global, header: &mut Vec<u8>, seal: &Seal1<'_>) -> Result<(
 }
 
 /// Adds `hash-spec`, `payload-offset` and `key-bytes`.
-#[tactic(auto, using(luks_cipher::proofs::ModeLemmas::longest_key), unfolding(crate::specs::Layout1::middle1_of))]
+#[tactic(auto, unfolding(crate::specs::Layout1::middle1_of))]
 fn push_middle(alloc: Global, header: &mut Vec<u8>, seal: &Seal1<'_>) -> Result<(), AllocError>
     requires { AreParameters seal.now }
     ensures { OnOk result (header.new.items ≡ header.old.items ++ middle1_of seal.now) }
@@ -124,7 +124,7 @@ fn push_state(
 }
 
 /// Adds the key slot of this number.
-#[tactic(auto, using(luks_cipher::proofs::ModeLemmas::longest_key), unfolding(crate::specs::Layout1::key_slot1_of))]
+#[tactic(auto, unfolding(crate::specs::Layout1::key_slot1_of))]
 fn push_key_slot(
     alloc: Global,
     header: &mut Vec<u8>,

@@ -19,7 +19,7 @@ use luks_verdict::sector_size::SectorSize;
 use std::alloc::{AllocError, Global};
 
 /// The key that encrypts a slot's area.
-#[tactic(auto, using(luks_cipher::proofs::ModeLemmas::longest_key), unfolding(crate::specs::Layout1::area_key1_of))]
+#[tactic(auto, unfolding(crate::specs::Layout1::area_key1_of))]
 fn area_key_of(alloc: Global, seal: &Seal1<'_>, slot: &Slot1<'_>) -> Result<Vec<u8>, AllocError>
     requires fits { AreParameters seal.now }
     requires slot { FitsSlot ((seal.now.stripes - 1) * length seal.now.key.now) slot.now }
@@ -39,7 +39,7 @@ fn area_key_of(alloc: Global, seal: &Seal1<'_>, slot: &Slot1<'_>) -> Result<Vec<
 }
 
 /// A slot's key material.
-#[tactic(auto, using(luks_cipher::proofs::ModeLemmas::longest_key), unfolding(crate::specs::Layout1::material1_of))]
+#[tactic(auto, unfolding(crate::specs::Layout1::material1_of))]
 fn slot_material(alloc: Global, seal: &Seal1<'_>, slot: &Slot1<'_>) -> Result<Vec<u8>, AllocError>
     requires fits { AreParameters seal.now }
     requires slot { FitsSlot ((seal.now.stripes - 1) * length seal.now.key.now) slot.now }
@@ -63,7 +63,7 @@ fn material_at(alloc: Global, seal: &Seal1<'_>, number: u32) -> Result<Vec<u8>, 
 }
 
 /// Adds the area of the slot of this number.
-#[tactic(auto, using(luks_cipher::proofs::ModeLemmas::longest_key), unfolding(crate::specs::Layout1::area1_of))]
+#[tactic(auto, unfolding(crate::specs::Layout1::area1_of))]
 fn push_area(
     alloc: Global,
     image: &mut Vec<u8>,

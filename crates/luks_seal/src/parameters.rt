@@ -6,7 +6,7 @@ use luks_verdict::sector_size::SectorSize;
 use std::alloc::AllocError;
 
 /// A volume of LUKS1.
-#[derive(Clone, Copy, Debug)]
+#[derive(Clone, Copy)]
 pub struct Seal1<'a> {
     /// The hash of the key slots, the stripes and the digest.
     pub hash: Hash,
@@ -32,7 +32,7 @@ pub struct Seal1<'a> {
 }
 
 /// A key slot of LUKS1 that is in use.
-#[derive(Clone, Copy, Debug)]
+#[derive(Clone, Copy)]
 pub struct Slot1<'a> {
     /// Its number, from 0 to 7.
     pub number: u32,
@@ -47,7 +47,7 @@ pub struct Slot1<'a> {
 }
 
 /// A volume of LUKS2.
-#[derive(Clone, Copy, Debug)]
+#[derive(Clone, Copy)]
 pub struct Seal2<'a> {
     /// The length of a header and its JSON area in bytes, one of the nine that the format has.
     pub hdr_size: u64,
@@ -93,7 +93,7 @@ pub struct Seal2<'a> {
 }
 
 /// A key slot of LUKS2.
-#[derive(Clone, Copy, Debug)]
+#[derive(Clone, Copy)]
 pub struct Slot2<'a> {
     /// Its number, from 0 to 31.
     pub number: u32,

@@ -7,3 +7,6 @@ pub returns-clause-sealed : goal.returns-clause-sealed
 returns-clause-sealed c =
     let fits : AreParameters c.args.seal.now = search (rules, c.are_parameters.ensures) in
     rw c.in_ok-image_of.ensures (sealed1 c.args.seal.now fits c.typed1.ensures)
+
+pub returns-then-not-are_parameters-clause-answer : goal.returns-then-not-are_parameters-clause-answer
+returns-then-not-are_parameters-clause-answer c = search rules
