@@ -377,8 +377,8 @@ module _ (stand : Standing) (o : OpeningRequest) (image pass : List ℕ) (i s w 
 
     -- the key slots were not tried, or none of them opens
     runs_without_slot : (short : length pass ≤ longest_key_file) (gone : Took pass s (length pass))
-        (area area' : List ℕ) (front : area ≡ take (cost_of image) image) (on_opened : OnOpened) (takes : TakesHeld pass on_opened)
-        (message : Message)
+        (area area' : List ℕ) (front : area ≡ take (cost_of image) image) (on_opened : OnOpened)
+        (takes : TakesHeld pass on_opened) (message : Message)
         → TriesSlots o.key_slot tries pass area area' (drop (cost_of image) image) i (Err message)
         → Runs (opens_promptly stand image) (volume_outcome_by (reading_of stand) on_opened o image pass) message
         (Took image i) (Took pass s) (Adds w w)
