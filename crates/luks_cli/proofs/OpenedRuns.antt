@@ -1,6 +1,6 @@
 -- How the commands on volumes end once their volume is opened.
-use Rattle.std.proofs.Common.{◌≡◌, ◌≢◌, inl, ℕ, ◌+◌, ◌*◌, ◌/◌, ◌<◌, ◌≤◌, List, Option, None, Some, Result, Ok, Err}
-use Rattle.std.proofs.Common.{IfErr, Bool, true, false, ◌∙◌, ap, refl, take, length, max, arith}
+use Rattle.std.proofs.Common.{◌≡◌, ◌≢◌, ℕ, ◌+◌, ◌*◌, ◌/◌, ◌<◌, ◌≤◌, List, Option, None, Some, Result, Ok, Err}
+use Rattle.std.proofs.Common.{◌⊎◌, inl, inr, IfErr, Bool, true, false, ◌∙◌, ap, refl, take, length, max, arith}
 use Rattle.std.proofs.Math.Nat.{div-eq_of_lt-le, mul-le-mul_right}
 use Rattle.std.specs.Prelude.{MatchBool, if◌then◌else◌}
 use Rattle.luks_cipher.specs.Sector.{Cipher, is_mode_key_length}
@@ -24,7 +24,8 @@ use Rattle.luks_request.specs.Request.{OpeningRequest}
 use Rattle.luks_runs.specs.Run.{BreaksOff, Completes, Counts, Failures, Promptness, Runs, at_any_pace, breaks_off}
 use Rattle.luks_runs.specs.Run.{is_failed_read, is_failed_write, message_of}
 use Rattle.luks_cli.specs.VolumeParts.{TakesHeld}
-use Rattle.luks_cli.specs.Unlocking.{Unlocks}
+use Rattle.luks_cli.specs.MayEnd.{OpeningMessage}
+use Rattle.luks_cli.specs.Unlocking.{TellsSlot, Unlocks}
 use Rattle.luks_report.specs.Texts.{opened_line}
 use Rattle.luks_report.specs.declared.message.Message.{Message}
 use Rattle.luks_report.specs.declared.message.Message.TheVariants.{Done, OutOfMemory, ReadFailed, WriteFailed}
@@ -66,7 +67,7 @@ runs_at_any_pace is_prompt out message TookImage TookSecret Wrote = either (brea
 module _ (stand : Standing) (o : OpeningRequest) (image pass : List ℕ) (segment : Segment) (opened : Opened)
     (held : List ℕ) (i s : Option (List ℕ)) (u : Unlocks stand o image pass segment opened held i s) where
   -- memory was refused for the line
-  pub runs_without_line : (w : Option (List ℕ))
+  runs_without_line : (w : Option (List ℕ))
       → Runs at_any_pace (volume_outcome_by (reading_of stand) (slot_outcome pass) o image pass) OutOfMemory
       (Took image i) (Took pass s)
       (Adds w w)
@@ -86,7 +87,7 @@ module _ (stand : Standing) (o : OpeningRequest) (image pass : List ℕ) (segmen
 
   module _ (page : List ℕ) (is : page ≡ opened_line opened.slot) (w w' : Option (List ℕ)) where
     -- the line was written
-    pub runs_told : Adds w w' page
+    runs_told : Adds w w' page
         → Runs at_any_pace (volume_outcome_by (reading_of stand) (slot_outcome pass) o image pass) Done
         (Took image i) (Took pass s)
         (Adds w w')
@@ -97,7 +98,7 @@ module _ (stand : Standing) (o : OpeningRequest) (image pass : List ℕ) (segmen
         ) (record { as_stated = refl; image = u.image_taken; secret = u.secret_taken; output = added })
 
     -- a write failed within it
-    pub runs_without_rest : (n : ℕ) → n < length page → Adds w w' (take n page)
+    runs_without_rest : (n : ℕ) → n < length page → Adds w w' (take n page)
         → Runs at_any_pace (volume_outcome_by (reading_of stand) (slot_outcome pass) o image pass) WriteFailed
         (Took image i) (Took pass s)
         (Adds w w')
@@ -114,6 +115,37 @@ module _ (stand : Standing) (o : OpeningRequest) (image pass : List ℕ) (segmen
       secret = u.secret_taken;
       output = added;
     })
+
+  -- the key slot was told, or not all of its line
+  pub runs_slot : (w w' : Option (List ℕ)) (message : Message) → TellsSlot opened w w' message
+      → Runs at_any_pace (volume_outcome_by (reading_of stand) (slot_outcome pass) o image pass) message
+      (Took image i) (Took pass s)
+      (Adds w w')
+  runs_slot w w' Done told = runs_told (opened_line opened.slot) refl w w' told
+  runs_slot w w' WriteFailed told = runs_without_rest (opened_line opened.slot) refl w w' told.0 told.1 told.2
+  runs_slot w w' OutOfMemory told = rw told (runs_without_line w)
+  runs_slot w w' _ told = absurd told
+
+-- a write failed within the line
+pub told_in_part : (opened : Opened) (w w' : Option (List ℕ)) (page : List ℕ) → page ≡ opened_line opened.slot
+    → (n : ℕ) → n < length page → Adds w w' (take n page) → TellsSlot opened w w' WriteFailed
+told_in_part opened w w' page is n within added = rw (← is) (n, within, added)
+
+-- telling the key slot ends with one of these messages
+pub slot_message : (opened : Opened) (w w' : Option (List ℕ)) (message : Message) → TellsSlot opened w w' message
+    → OpeningMessage message ⊎ (message ≡ Done ⊎ message ≡ WriteFailed)
+slot_message opened w w' Done told = inr (inl refl)
+slot_message opened w w' WriteFailed told = inr (inr refl)
+slot_message opened w w' OutOfMemory told = inl tt
+slot_message opened w w' _ told = absurd told
+
+-- and reads nothing
+pub slot_reads_nothing : (opened : Opened) (w w' : Option (List ℕ)) (message : Message)
+    → TellsSlot opened w w' message → is_failed_read message ≡ false
+slot_reads_nothing opened w w' Done told = refl
+slot_reads_nothing opened w w' WriteFailed told = refl
+slot_reads_nothing opened w w' OutOfMemory told = refl
+slot_reads_nothing opened w w' _ told = absurd told
 
 -- ---- `luksCat`
 

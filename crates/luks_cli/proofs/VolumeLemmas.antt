@@ -14,18 +14,18 @@ use Rattle.luks_verdict.specs.declared.refusal.SegmentFault.{SegmentFault}
 use Rattle.luks_verdict.specs.declared.segment.Segment.{Segment}
 use Rattle.luks_open.specs.Order.{Tries, order_of}
 use Rattle.luks_open.specs.declared.fault.OpenFault.{OpenFault}
-use Rattle.luks_open.specs.declared.fault.OpenFault.TheVariants.{NoSuchSlot as NotThere, Disabled, NamedSkipped}
-use Rattle.luks_open.specs.declared.fault.OpenFault.TheVariants.{NothingTried as NoneTried, NoKey as NoneOpens, Memory}
+use Rattle.luks_open.specs.declared.fault.OpenFault.TheVariants.{Memory}
 use Rattle.luks_report.specs.Faults.{message_for_header}
 use Rattle.luks_request.specs.Request.{OpeningRequest}
 use Rattle.luks_runs.proofs.HeaderTaking.{cost_there}
 use Rattle.luks_cli.specs.VolumeParts.{StopsFinding}
 use Rattle.luks_runs.proofs.HeaderTaking.{reading_fault}
 use Rattle.luks_runs.specs.Standing.{reading_of}
-use Rattle.luks_cli.specs.Volume.{volume_by}
+use Rattle.luks_cli.specs.Volume.{volume_by, volume_in_header}
 use Rattle.luks_runs.specs.declared.standing.Standing.{Standing}
 use Rattle.luks_report.specs.Faults.{message_for_opening}
-use Rattle.luks_report.specs.declared.message.Message.TheVariants.{SegmentRefused}
+use Rattle.luks_report.specs.declared.message.Message.{Message}
+use Rattle.luks_report.specs.declared.message.Message.TheVariants.{OutOfMemory, ReadFailed, SegmentRefused}
 
 -- as much is held of the header as it costs
 pub cost_held : (image area : List ℕ) → area ≡ take (cost_of image) image → length area ≡ cost_of image
@@ -46,22 +46,18 @@ module _ (stand : Standing) (o : OpeningRequest) (image : List ℕ) (left : Opti
   stops_without_header ends ends' NoMemory stop = memory_below image left ends ends' stop
 
   module _ (header : Header) (found : reading_of stand image ≡ Ok header) where
-    no_segment : (fault : SegmentFault) → segment_of header ≡ Err fault
-        → volume_by (reading_of stand) o image ≡ Err (SegmentRefused fault)
+    -- there is no volume with this header, or memory was refused for the order of its key slots
+    pub stops_without_slots : Took image left (cost_of image) → (message : Message)
+        → (message ≡ OutOfMemory) ⊎ (volume_in_header o (Ok header) ≡ Err message)
+        → StopsFinding (reading_of stand) o image left message
     unfolding volume_by
-    no_segment fault none = rw (found, none) refl
-
-    pub stops_without_segment : Took image left (cost_of image) → (fault : SegmentFault) → segment_of header ≡ Err fault
-        → StopsFinding (reading_of stand) o image left (SegmentRefused fault)
-    stops_without_segment rest fault none = (no_segment fault none, rest)
+    stops_without_slots rest OutOfMemory why = (cost_of image, omega arith, rest)
+    stops_without_slots rest ReadFailed why = (cost_of image, omega arith, rest)
+    stops_without_slots rest _ (inl memory) = cc
+    stops_without_slots rest _ (inr why) = (rw found why, rest)
 
   module _ (header : Header) (found : reading_of stand image ≡ Ok header) (segment : Segment)
       (is : segment_of header ≡ Ok segment) where
-    no_order : (fault : OpenFault) → order_of header o.key_slot o.max_iterations ≡ Err fault
-        → volume_by (reading_of stand) o image ≡ Err (message_for_opening o.key_slot fault)
-    unfolding volume_by
-    no_order fault none = rw (found, is, none) refl
-
     pub volume_is : (tries : Tries) → order_of header o.key_slot o.max_iterations ≡ Ok tries
         → volume_by (reading_of stand) o image ≡ Ok (record { header = header; segment = segment; tries = tries })
     unfolding volume_by
@@ -71,13 +67,16 @@ module _ (stand : Standing) (o : OpeningRequest) (image : List ℕ) (left : Opti
         → is_err (volume_by (reading_of stand) o image) ≡ false
     volume_found tries ordered = rw (volume_is tries ordered) refl
 
-    pub stops_without_order : Took image left (cost_of image) → (fault : OpenFault)
-        → (fault ≡ Memory) ⊎ (order_of header o.key_slot o.max_iterations ≡ Err fault)
-        → StopsFinding (reading_of stand) o image left (message_for_opening o.key_slot fault)
-    stops_without_order rest Memory why = (cost_of image, omega arith, rest)
-    stops_without_order rest NotThere (inr why) = (no_order NotThere why, rest)
-    stops_without_order rest Disabled (inr why) = (no_order Disabled why, rest)
-    stops_without_order rest (NamedSkipped reason) (inr why) = (no_order (NamedSkipped reason) why, rest)
-    stops_without_order rest (NoneTried skipped) (inr why) = (no_order (NoneTried skipped) why, rest)
-    stops_without_order rest (NoneOpens skipped) (inr why) = (no_order (NoneOpens skipped) why, rest)
-    stops_without_order rest _ (inl memory) = cc
+-- ---- the key slots of a header
+
+module _ (o : OpeningRequest) (header : Header) where
+  pub no_segment : (fault : SegmentFault) → segment_of header ≡ Err fault
+      → volume_in_header o (Ok header) ≡ Err (SegmentRefused fault)
+  no_segment fault none = rw none refl
+
+  pub no_order : (segment : Segment) → segment_of header ≡ Ok segment → (fault : OpenFault)
+      → (fault ≡ Memory) ⊎ (order_of header o.key_slot o.max_iterations ≡ Err fault)
+      → (message_for_opening o.key_slot fault ≡ OutOfMemory)
+      ⊎ (volume_in_header o (Ok header) ≡ Err (message_for_opening o.key_slot fault))
+  no_order segment is fault (inl memory) = inl (rw memory refl)
+  no_order segment is fault (inr why) = inr (rw (is, why) refl)

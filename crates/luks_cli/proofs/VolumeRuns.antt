@@ -33,7 +33,7 @@ use Rattle.luks_runs.proofs.HeaderTaking.{cost_there, took_header}
 use Rattle.luks_runs.specs.Secret.{NoSecretRead}
 use Rattle.luks_runs.specs.Secret.{longest_key_file}
 use Rattle.luks_cli.specs.VolumeParts.{TakesHeld}
-use Rattle.luks_cli.specs.Unlocking.{Unlocks, opens_promptly}
+use Rattle.luks_cli.specs.Unlocking.{OpensVolume, TriesSlots, Unlocks, opens_promptly}
 use Rattle.luks_cli.specs.VolumeParts.{StopsFinding}
 use Rattle.luks_cli.specs.Volume.{Volume, held_for, volume_by}
 use Rattle.luks_runs.specs.Standing.{reading_of}
@@ -253,7 +253,7 @@ module _ (stand : Standing) (o : OpeningRequest) (image pass : List ℕ) (i s w 
     )
 
     -- the key file was not read
-    pub runs_without_secret : (on_opened : OnOpened) (takes : TakesHeld pass on_opened) (message : Message)
+    runs_without_secret : (on_opened : OnOpened) (takes : TakesHeld pass on_opened) (message : Message)
         → NoSecretRead pass s message
         → Took image i (cost_of image)
         → Runs (opens_promptly stand image) (volume_outcome_by (reading_of stand) on_opened o image pass) message
@@ -281,7 +281,7 @@ module _ (stand : Standing) (o : OpeningRequest) (image pass : List ℕ) (i s w 
     module _ (short : length pass ≤ longest_key_file) (gone : Took pass s (length pass)) (area area' : List ℕ)
         (front : area ≡ take (cost_of image) image) where
       -- the key areas were not taken
-      pub runs_without_area : (on_opened : OnOpened) (takes : TakesHeld pass on_opened) (fault : HeaderFault)
+      runs_without_area : (on_opened : OnOpened) (takes : TakesHeld pass on_opened) (fault : HeaderFault)
           → BreaksTaking (held_of tries.slots - length area) area area' (drop (cost_of image) image) i fault
           → Runs (opens_promptly stand image) (volume_outcome_by (reading_of stand) on_opened o image pass)
           (message_for_header fault) (Took image i)
@@ -310,7 +310,7 @@ module _ (stand : Standing) (o : OpeningRequest) (image pass : List ℕ) (i s w 
       module _ (grows : TookBehind area area' (drop (cost_of image) image) i
           (min (held_of tries.slots - length area) (length (drop (cost_of image) image)))) where
         -- the image ended within them
-        pub runs_cut : (on_opened : OnOpened) → length area' < held_of tries.slots
+        runs_cut : (on_opened : OnOpened) → length area' < held_of tries.slots
             → Runs (opens_promptly stand image) (volume_outcome_by (reading_of stand) on_opened o image pass) Cut
             (Took image i) (Took pass s)
             (Adds w w)
@@ -336,7 +336,7 @@ module _ (stand : Standing) (o : OpeningRequest) (image pass : List ℕ) (i s w 
               ∙ ap (opened_outcome on_opened o.key_slot volume image pass) whole
 
       -- no key slot opens
-      pub runs_unopened : (grows : TookBehind area area' (drop (cost_of image) image) i
+      runs_unopened : (grows : TookBehind area area' (drop (cost_of image) image) i
           (min (held_of tries.slots - length area) (length (drop (cost_of image) image))))
           → (enough : held_of tries.slots ≤ length area') (fault : OpenFault)
           (tried : opening_of tries area' pass ≡ Err fault) (on_opened : OnOpened)
@@ -356,7 +356,7 @@ module _ (stand : Standing) (o : OpeningRequest) (image pass : List ℕ) (i s w 
           held.3 gone)
 
       -- a key slot opens
-      pub unlocks : (grows : TookBehind area area' (drop (cost_of image) image) i
+      unlocks : (grows : TookBehind area area' (drop (cost_of image) image) i
           (min (held_of tries.slots - length area) (length (drop (cost_of image) image))))
           → (enough : held_of tries.slots ≤ length area') (opened : Opened)
           (tried : opening_of tries area' pass ≡ Ok opened)
@@ -374,3 +374,38 @@ module _ (stand : Standing) (o : OpeningRequest) (image pass : List ℕ) (i s w 
             image_taken = rw (← held.1) at held.3;
             secret_taken = gone;
           }
+
+    -- the key slots were not tried, or none of them opens
+    runs_without_slot : (short : length pass ≤ longest_key_file) (gone : Took pass s (length pass))
+        (area area' : List ℕ) (front : area ≡ take (cost_of image) image) (on_opened : OnOpened)
+        (takes : TakesHeld pass on_opened) (message : Message)
+        → TriesSlots o.key_slot tries pass area area' (drop (cost_of image) image) i (Err message)
+        → Runs (opens_promptly stand image) (volume_outcome_by (reading_of stand) on_opened o image pass) message
+        (Took image i) (Took pass s) (Adds w w)
+    runs_without_slot short gone area area' front on_opened takes message (inl lost) =
+        rw lost.1 (runs_without_area short gone area area' front on_opened takes lost.0 lost.2)
+    runs_without_slot short gone area area' front on_opened takes message (inr (grows, inl cut)) =
+        rw cut.0 (runs_cut short gone area area' front grows on_opened cut.1)
+    runs_without_slot short gone area area' front on_opened takes message (inr (grows, inr none)) =
+        rw none.1 (runs_unopened short gone area area' front grows none.2 none.0 none.3 on_opened)
+
+    -- the volume was not opened
+    pub runs_without_key : (area area' : List ℕ) (front : area ≡ take (cost_of image) image) (on_opened : OnOpened)
+        (takes : TakesHeld pass on_opened) (left : Took image (Some (drop (cost_of image) image)) (cost_of image))
+        (message : Message)
+        → OpensVolume o.key_slot tries pass area area' (drop (cost_of image) image) i s (Err message)
+        → Runs (opens_promptly stand image) (volume_outcome_by (reading_of stand) on_opened o image pass) message
+        (Took image i) (Took pass s) (Adds w w)
+    runs_without_key area area' front on_opened takes left message (inl (short, gone, tried)) =
+        runs_without_slot short gone area area' front on_opened takes message tried
+    runs_without_key area area' front on_opened takes left message (inr none) =
+        let same : message ≡ none.0 = cc in
+        rw same (runs_without_secret on_opened takes none.0 none.2 (rw none.4 left))
+
+    -- the volume was opened
+    pub unlocks_volume : (area area' : List ℕ) (front : area ≡ take (cost_of image) image) (opened : Opened)
+        → OpensVolume o.key_slot tries pass area area' (drop (cost_of image) image) i s (Ok opened)
+        → Unlocks stand o image pass segment opened area' i s
+    unlocks_volume area area' front opened (inl (short, gone, tried)) =
+        unlocks short gone area area' front tried.0 tried.1 opened tried.2
+    unlocks_volume area area' front opened (inr none) = cc

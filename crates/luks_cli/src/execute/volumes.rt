@@ -1,6 +1,7 @@
 //! `testPassphrase` and `luksCat`: volumes that a passphrase opens.
 
-ghost use Rattle.std.specs.Prelude.{◌≡◌, ◌≢◌, ◌<◌, ◌≤◌, ◌⊎◌, ◌^◌, List, ℕ, Option, Ok, IfOk, IfErr};
+ghost use Rattle.std.specs.Prelude.{◌≡◌, ◌≢◌, ◌<◌, ◌≤◌, ◌⊎◌, ◌^◌, List, ℕ, Option, Ok, Err};
+ghost use Rattle.std.specs.Prelude.{IfOk, IfErr};
 ghost use Rattle.std.specs.Prelude.{false, is_err, length, take, true};
 ghost use Rattle.luks_cipher.specs.Sector.{is_mode_key_length};
 ghost use Rattle.luks_io.specs.Bytes.{Adds, Took, WhereKnown, counted};
@@ -8,7 +9,8 @@ ghost use Rattle.luks_header.specs.Header.{cost_of, header_of};
 ghost use Rattle.luks_header.specs.Segment.{segment_of};
 ghost use Rattle.luks_open.specs.Order.{order_of};
 ghost use Rattle.luks_cli.specs.Volume.{OnOpened, detached_payload_outcome, payload_outcome};
-ghost use Rattle.luks_cli.specs.Volume.{slot_outcome, volume_by, volume_outcome, volume_outcome_by};
+ghost use Rattle.luks_cli.specs.Volume.{slot_outcome, volume_by, volume_in_header};
+ghost use Rattle.luks_cli.specs.Volume.{volume_outcome, volume_outcome_by};
 ghost use Rattle.luks_cli.specs.VolumeParts.{cat_promptly};
 ghost use Rattle.luks_request.specs.Request.{opening_request};
 ghost use Rattle.luks_cli.specs.Detached.{CountsDetached, EndsWithoutKey};
@@ -18,7 +20,8 @@ ghost use Rattle.luks_cli.specs.MayEnd.{OpeningMessage};
 ghost use Rattle.luks_runs.specs.MayEnd.{PayloadMessage};
 ghost use Rattle.luks_runs.specs.Reading.{detached_header_of};
 ghost use Rattle.luks_runs.specs.Standing.{reading_of};
-ghost use Rattle.luks_cli.specs.Unlocking.{Unlocks, opens_promptly};
+ghost use Rattle.luks_cli.specs.Unlocking.{OpensVolume, TellsSlot, TriesSlots, Unlocks};
+ghost use Rattle.luks_cli.specs.Unlocking.{opens_promptly};
 ghost use Rattle.luks_cli.specs.Volume.{volume_of};
 ghost use Rattle.luks_runs.specs.Payload.{PassesHeld};
 ghost use Rattle.luks_cli.specs.VolumeParts.{StopsFinding, TakesHeld, detached_cat_promptly};
@@ -80,6 +83,29 @@ fn limit(opening: &Opening<'_>) -> Option<u32>
     }
 }
 
+/// Finds the segment of a header, and the key slots that are tried.
+fn find_slots(
+    alloc: Global,
+    opening: &Opening<'_>,
+    header: &Header,
+) -> Result<(Segment, Order), Message>
+    ensures ok { IfOk result (λ found. let o = opening_request opening.now in
+        (segment_of header.now ≡ Ok found.0)
+        × (order_of header.now o.key_slot o.max_iterations ≡ Ok found.1)) }
+    ensures err { IfErr result (λ message. (message ≡ Message.OutOfMemory)
+        ⊎ (volume_in_header (opening_request opening.now) (Ok header.now) ≡ Err message)) }
+    ensures only { IfErr result OpeningMessage }
+    ensures untouched { IfErr result
+        (λ message. (message ≢ Message.WriteFailed) × (message ≢ Message.ReadFailed)) }
+{
+    let segment = segment(header)?;
+    let named = named_slot(opening);
+    match order(alloc, header, named, limit(opening)) {
+        Ok(order) => Ok((segment, order)),
+        Err(fault) => Err(Message::of_opening(named, fault)),
+    }
+}
+
 /// Reads the header of an image, or of a file of its own, and finds its segment and the key slots
 /// that are tried.
 fn find_volume<I: Source>(
@@ -109,17 +135,85 @@ fn find_volume<I: Source>(
         ≡ counted (is_failed_read (message_of result)) (I.failures image.old) }
 {
     let (header, area) = find_header(alloc, standing, image)?;
-    let segment = segment(&header)?;
-    let named = named_slot(opening);
-    match order(alloc, &header, named, limit(opening)) {
-        Ok(order) => Ok(Volume {
+    match find_slots(alloc, opening, &header) {
+        Ok((segment, order)) => Ok(Volume {
             header,
             area,
             segment,
             order,
         }),
-        Err(fault) => Err(Message::of_opening(named, fault)),
+        Err(message) => Err(message),
     }
+}
+
+/// Tries the key slots of a volume under a passphrase: takes the key areas behind its header first.
+fn try_slots<I: Source>(
+    opening: &Opening<'_>,
+    volume: &mut Volume,
+    image: &mut I,
+    pass: &[u8],
+) -> Result<Opened, Message>
+    requires segment { segment_of volume.old.header ≡ Ok volume.old.segment }
+    requires order { let o = opening_request opening.now in
+        order_of volume.old.header o.key_slot o.max_iterations ≡ Ok volume.old.order }
+    ensures run { WhereKnown (I.to_come image.old) (λ rest.
+        TriesSlots (opening_request opening.now).key_slot volume.old.order pass.now
+        volume.old.area volume.new.area rest (I.to_come image.new) result) }
+    ensures kept { volume.new ≡ record volume.old { area = volume.new.area } }
+    ensures only { IfErr result OpeningMessage }
+    ensures writes { IfErr result (λ message. message ≢ Message.WriteFailed) }
+    ensures key { IfOk result (λ opened.
+        is_mode_key_length volume.old.segment.mode (length opened.key) ≡ true) }
+    ensures reads { I.failures image.new
+        ≡ counted (is_failed_read (message_of result)) (I.failures image.old) }
+{
+    if !volume.area.extend_to(image, held_end(&volume.order))? {
+        return Err(Message::Cut);
+    }
+    let Volume {
+        header,
+        area,
+        order,
+        ..
+    } = volume;
+    match open(header, area, order, pass, &mut Work::new(0)) {
+        Ok(opened) => Ok(opened),
+        Err(fault) => Err(Message::of_opening(named_slot(opening), fault)),
+    }
+}
+
+/// Opens a volume that was found by the passphrase that the key file has.
+fn open_volume<I: Source, K: Source>(
+    alloc: Global,
+    opening: &Opening<'_>,
+    volume: &mut Volume,
+    image: &mut I,
+    secret: &mut K,
+) -> Result<Opened, Message>
+    requires segment { segment_of volume.old.header ≡ Ok volume.old.segment }
+    requires order { let o = opening_request opening.now in
+        order_of volume.old.header o.key_slot o.max_iterations ≡ Ok volume.old.order }
+    ensures run { WhereKnown (I.to_come image.old) (λ rest. WhereKnown (K.to_come secret.old)
+        (λ pass. OpensVolume (opening_request opening.now).key_slot volume.old.order pass
+        volume.old.area volume.new.area rest (I.to_come image.new) (K.to_come secret.new)
+        result)) }
+    ensures kept { volume.new ≡ record volume.old { area = volume.new.area } }
+    ensures only { IfErr result OpeningMessage }
+    ensures key { IfOk result (λ opened.
+        is_mode_key_length volume.old.segment.mode (length opened.key) ≡ true) }
+    ensures counts { (written : ℕ) → Counts (message_of result)
+        (failures_of (I.failures image.old) (K.failures secret.old) written)
+        (failures_of (I.failures image.new) (K.failures secret.new) written) }
+{
+    let pass = read_secret(alloc, secret)?;
+    try_slots(opening, volume, image, &pass)
+}
+
+/// What is kept of a volume that is opened: the bytes of its image that are held, and its segment.
+fn held_parts(volume: Volume) -> (HeaderArea, Segment)
+    ensures { result ≡ (volume.area, volume.segment) }
+{
+    (volume.area, volume.segment)
 }
 
 /// Opens a volume by the passphrase that the key file has. Its header stands in this image, or in
@@ -153,25 +247,27 @@ fn unlock<I: Source, K: Source>(
         (failures_of (I.failures image.old) (K.failures secret.old) written)
         (failures_of (I.failures image.new) (K.failures secret.new) written) }
 {
-    let volume = find_volume(alloc, standing, opening, image)?;
-    let pass = read_secret(alloc, secret)?;
-    let Volume {
-        header,
-        mut area,
+    let mut volume = find_volume(alloc, standing, opening, image)?;
+    let opened = open_volume(alloc, opening, &mut volume, image, secret);
+    // Whether or not it opened, the rest of the volume ends here, so that it does in one place.
+    let (area, segment) = held_parts(volume);
+    Ok(Unlocked {
+        area,
         segment,
-        order,
-    } = volume;
-    if !area.extend_to(image, held_end(&order))? {
-        return Err(Message::Cut);
-    }
-    match open(&header, &area, &order, &pass, &mut Work::new(0)) {
-        Ok(opened) => Ok(Unlocked {
-            area,
-            segment,
-            opened,
-        }),
-        Err(fault) => Err(Message::of_opening(named_slot(opening), fault)),
-    }
+        opened: opened?,
+    })
+}
+
+/// Tells the key slot that opened a volume.
+fn tell_slot<O: Sink>(alloc: Global, unlocked: &Unlocked, out: &mut O) -> Result<(), Message>
+    ensures told { TellsSlot unlocked.now.opened (O.written out.old) (O.written out.new)
+        (message_of result) }
+    ensures writes { O.failures out.new
+        ≡ counted (is_failed_write (message_of result)) (O.failures out.old) }
+{
+    let page = opened_page(alloc, unlocked.opened.slot)?;
+    put_all(out, page.as_bytes())?;
+    Ok(())
 }
 
 /// `testPassphrase`.
@@ -200,9 +296,7 @@ pub(super) fn test_passphrase<I: Source, K: Source, O: Sink>(
         (failures_of (I.failures image.new) (K.failures secret.new) (O.failures out.new)) }
 {
     let unlocked = unlock(alloc, standing, opening, image, secret)?;
-    let page = opened_page(alloc, unlocked.opened.slot)?;
-    put_all(out, page.as_bytes())?;
-    Ok(())
+    tell_slot(alloc, &unlocked, out)
 }
 
 /// Writes the payload of a volume that is opened. These first bytes of its image are held.

@@ -1,7 +1,7 @@
 use Rattle.std.proofs.lemmas.Result.{err_from_is_err_and}
-use Rattle.std.proofs.Common.{None, sym}
+use Rattle.std.proofs.Common.{None}
 use Rattle.luks_request.specs.Request.{opening_request}
-use Rattle.luks_cli.proofs.VolumeLemmas.{stops_without_header, stops_without_order, stops_without_segment, volume_found}
+use Rattle.luks_cli.proofs.VolumeLemmas.{stops_without_header, stops_without_slots, volume_found}
 use Rattle.luks_cli.proofs.execute.volumes.find_volume.Goals as goal
 
 pub returns-in_err-header-clause-err : goal.returns-in_err-header-clause-err
@@ -11,31 +11,17 @@ returns-in_err-header-clause-err g c =
     stops_without_header c.args.standing _ known _ _ _ c.in_err-header.field-0.0
     (c.in_err-header.ensures.broken known is))
 
-pub returns-in_err-segment-clause-err : goal.returns-in_err-segment-clause-err
-returns-in_err-segment-clause-err g c =
-    let p = err_from_is_err_and c.from_residual-in_err-segment.result c.from_residual-in_err-segment.ensures.1 in
-    rw (p.1, p.2) (λ known is.
-    let read = c.in_ok-header.ensures.taken known is in
-    stops_without_segment c.args.standing _ known _ c.in_ok-header.header read.0 read.2 c.in_err-segment.field-0.0
-    (sym c.in_err-segment.ensures))
-
 pub returns-in-Err-clause-err : goal.returns-in-Err-clause-err
-returns-in-Err-clause-err g c =
-    rw (c.of_opening.ensures, c.named_slot-named.ensures) (λ known is.
+returns-in-Err-clause-err g c known is =
     let read = c.in_ok-header.ensures.taken known is in
-    stops_without_order c.args.standing (opening_request c.args.opening.now) known _ c.in_ok-header.header read.0
-    c.in_ok-segment.segment (sym c.in_ok-segment.ensures)
-    read.2 c.in-Err.fault
-    (rw (c.named_slot-named.ensures, c.limit.ensures) at c.in-Err.ensures.answer))
+    stops_without_slots c.args.standing (opening_request c.args.opening.now) known _ c.in_ok-header.header read.0 read.2
+    c.in-Err.message c.in-Err.ensures.err
 
 pub returns-in-Ok-clause-ok : goal.returns-in-Ok-clause-ok
-returns-in-Ok-clause-ok g c known is =
-    let read = c.in_ok-header.ensures.taken known is in
-    read
+returns-in-Ok-clause-ok g c = c.in_ok-header.ensures.taken
 
 pub returns-in-Ok-clause-volume : goal.returns-in-Ok-clause-volume
 returns-in-Ok-clause-volume g c known is =
     let read = c.in_ok-header.ensures.taken known is in
     volume_found c.args.standing (opening_request c.args.opening.now) known None c.in_ok-header.header read.0
-    c.in_ok-segment.segment (sym c.in_ok-segment.ensures)
-    c.in-Ok.order (rw (c.named_slot-named.ensures, c.limit.ensures) at c.in-Ok.ensures.answer)
+    _ c.in-Ok.ensures.ok.0 _ c.in-Ok.ensures.ok.1
