@@ -20,7 +20,7 @@ returns-in-Some-Disabled-clause-memory c = λ memory. absurd cc
 pub returns-in-Some-Skipped-clause-answer : goal.returns-in-Some-Skipped-clause-answer
 returns-in-Some-Skipped-clause-answer c =
     inr (ap (tries_of_named (entry_at c.args.header.now c.args.named))
-    (skipped_from_shut _ c.in-Some-Skipped.reason
+    (skipped_from_shut _ _
     (sym c.judge.ensures ∙ (c.in-Some-Skipped.is ∙ ap Some c.in-Some-Skipped.field-0-is))))
 
 pub returns-in-Some-Usable-clause-answer : goal.returns-in-Some-Usable-clause-answer
