@@ -1,13 +1,15 @@
 -- The steps of the loops that move bytes piece by piece.
 use Rattle.std.proofs.Common.{◌≡◌, ◌==◌, ◌&&◌, ℕ, ◌+◌, ◌-◌, ◌≤◌, nat_lt, refl, List, ◌++◌, Option, ◌∙◌, ap, sym, subst}
-use Rattle.std.proofs.Common.{take, drop, length, take_all, length-drop, length-take-le, arith}
-use Rattle.std.specs.Io.KnownBytes.{Appends, Consumes}
-use Rattle.std.proofs.KnownBytes.{Consumes-trans, Appends-trans}
+use Rattle.std.proofs.Common.{take, drop, length, take_all, length-append, length-drop, length-take-le, append-nil}
+use Rattle.std.proofs.Common.{Some, None, [], min, arith}
+use Rattle.std.specs.Io.KnownBytes.{Appends, Consumes, Keeps}
+use Rattle.std.proofs.KnownBytes.{Consumes-kept, Consumes-trans, Appends-trans}
+use Rattle.std.proofs.Transfers.{drop-appended}
 use Rattle.std.proofs.Math.Seq.{take-add, take-append-add}
 use Rattle.std.proofs.lemmas.List.{take-append-le}
 use Rattle.std.proofs.lemmas.Bool.{ne_eqb}
-use Rattle.luks_io.specs.Bytes.{counted}
-use borrow.Rule.Slice.PartMut.{put_mid}
+use Rattle.luks_io.specs.Bytes.{Adds, TookInto, WhereKnown, counted}
+use borrow.Rule.Slice.PartMut.{post_of, put_mid}
 
 -- the rest of a list, read as a range, is the rest
 rest_of : (xs : List ℕ) (at : ℕ) → take (length xs - at) (drop at xs) ≡ drop at xs
@@ -29,12 +31,69 @@ front_of xs ys rest at n within few =
     ∙ take-append-add (take at xs) (ys ++ rest) n
     ∙ ap (λ l. take at xs ++ l) (take-append-le n ys rest few)
 
+-- the first at bytes of a buffer stay, whatever comes behind them
+front_stays : (xs rest : List ℕ) (at : ℕ) → at ≤ length xs → take at (take at xs ++ rest) ≡ take at xs
+front_stays xs rest at within =
+    let cut : length (take at xs) ≡ at = length-take-le at xs within in
+    take-append-le at (take at xs) rest (omega (arith, cut)) ∙ take_all at (take at xs) (omega (arith, cut))
+
 -- the first bytes of a buffer were consumed, and then n more were read behind them
 pub Consumes-next : (a b c : Option (List ℕ)) (xs ys : List ℕ) (at n : ℕ) → at ≤ length xs → n ≤ length ys
     → Consumes a b (take at xs) → Consumes b c (take n ys)
     → Consumes a c (take (at + n) (put_mid at (length xs - at) xs ys))
 Consumes-next a b c xs ys at n within few p q =
     subst (Consumes a c) (sym (front_of xs ys _ at n within few)) (Consumes-trans a b c (take at xs) (take n ys) p q)
+
+-- the first bytes of a buffer were consumed, so they are those that were known to come
+pub took-front : (a b : Option (List ℕ)) (buf : List ℕ) (at : ℕ) → at ≤ length buf → Consumes a b (take at buf)
+    → WhereKnown a (λ known. TookInto known b buf at)
+took-front None b buf at within p known is = absurd cc
+took-front (Some xs) None buf at within p known is = absurd p
+took-front (Some xs) (Some ys) buf at within p known is =
+    let whole : known ≡ take at buf ++ ys = cc in
+    let cut : length (take at buf) ≡ at = length-take-le at buf within in
+    let rest : drop at known ≡ ys = subst (λ n. drop n known ≡ ys) cut (drop-appended (take at buf) known ys whole) in (
+      record {
+        within = omega (arith, cut, ap length whole, length-append (take at buf) ys);
+        left = ap Some (sym rest);
+      },
+      sym (ap (take at) whole ∙ front_stays buf ys at within),
+    )
+
+-- a whole buffer of them
+pub took-whole : (a b : Option (List ℕ)) (buf : List ℕ) (at : ℕ) → at ≤ length buf → length buf ≤ at
+    → Consumes a b (take at buf)
+    → WhereKnown a (λ known. at ≡ min (length buf) (length known))
+took-whole a b buf at within all p known is = omega (arith, (took-front a b buf at within p known is).0.within)
+
+module _ (a b c : Option (List ℕ)) (xs ys : List ℕ) (at : ℕ) where
+  took_same : at ≤ length xs → Consumes a c (take at xs)
+      → WhereKnown a (λ known. TookInto known c (put_mid at (length xs - at) xs ys) at)
+  took_same within p =
+      let cut : length (take at xs) ≡ at = length-take-le at xs within in
+      let rest = ys ++ post_of at (length xs - at) xs in
+      took-front a c (take at xs ++ rest) at (omega (arith, cut, length-append (take at xs) rest))
+      (subst (Consumes a c) (sym (front_stays xs rest at within)) p)
+
+  -- the first bytes of a buffer were consumed, and then a read behind them failed
+  pub took-kept : at ≤ length xs → Consumes a b (take at xs) → Keeps b c
+      → WhereKnown a (λ known. TookInto known c (put_mid at (length xs - at) xs ys) at)
+  took-kept within p q = took_same within (Consumes-kept a b c (take at xs) p q)
+
+  -- or it gave nothing
+  pub took-nothing : (n : ℕ) → n ≡ 0 → at ≤ length xs → Consumes a b (take at xs) → Consumes b c (take n ys)
+      → WhereKnown a (λ known. TookInto known c (put_mid at (length xs - at) xs ys) at)
+  took-nothing n none within p q =
+      let nothing : Consumes b c [] = subst (λ k. Consumes b c (take k ys)) none q in
+      took_same within
+      (subst (Consumes a c) (append-nil (take at xs)) (Consumes-trans a b c (take at xs) [] p nothing))
+
+-- all bytes of a list went out
+pub adds-all : (a b : Option (List ℕ)) (xs : List ℕ) (at : ℕ) → length xs ≤ at → Appends a b (take at xs)
+    → Adds a b xs
+adds-all None b xs at all p known is = absurd cc
+adds-all (Some old) None xs at all p known is = absurd p
+adds-all (Some old) (Some new) xs at all p known is = let whole = take_all at xs all in cc
 
 -- a read that gave some bytes found no end
 pub counted-some : (got room count : ℕ) → (got ≡ 0 → ⊥) → counted (got == 0 && nat_lt 0 room) count ≡ count

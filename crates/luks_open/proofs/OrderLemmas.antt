@@ -1,6 +1,6 @@
 -- What holds of the key slots that are tried, and where the last of their key material ends.
 use Rattle.std.proofs.Common.{◌≡◌, ◌∙◌, ℕ, ◌+◌, ◌==◌, ◌<◌, ◌≤◌, max, Bool, true, false, List, [], ◌∷◌, length, drop}
-use Rattle.std.proofs.Common.{get_or, Option, Some, None, Ok, IsOk, IsSome, refl, sym, ap, subst, arith}
+use Rattle.std.proofs.Common.{get_or, Option, Some, None, Result, Ok, IsOk, IsSome, refl, sym, ap, subst, arith}
 use Rattle.std.specs.Prelude.{if◌then◌else◌, option_map}
 use Rattle.std.specs.List.{AllByRecursion}
 use Rattle.std.proofs.lemmas.Bool.{eq-eqb}
@@ -22,9 +22,10 @@ use Rattle.luks_header.specs.Digest.{digest_for}
 use Rattle.luks_header.specs.Slot.{slot_at, verdict_at}
 use Rattle.luks_header.specs.declared.header.Header.{Header}
 use Rattle.luks_header.proofs.KnownLemmas.{digest_of_usable, slot_of_usable}
-use Rattle.luks_open.specs.Order.{Tries, entry_at, entry_of, held_of, order_of, skipped_at, tried_alone, tries_of_all}
-use Rattle.luks_open.specs.Order.{tries_of_named, unless_none, usable_at, where_usable}
+use Rattle.luks_open.specs.Order.{IsOrMemory, Tries, entry_at, entry_of, held_of, order_of, skipped_at, tried_alone}
+use Rattle.luks_open.specs.Order.{tries_of_all, tries_of_named, unless_none, usable_at, where_usable}
 use Rattle.luks_open.specs.declared.entry.Entry.{Entry}
+use Rattle.luks_open.specs.declared.fault.OpenFault.{OpenFault}
 
 -- what is tried of a key slot is of this header: it can be tried, and this is its digest
 pub record IsOf (header : Header) (limit : Option ℕ) (entry : Entry) : Type 0 where
@@ -153,6 +154,14 @@ pub named_open : (header : Header) (limit : Option ℕ) (priority number : ℕ)
 named_open header limit priority number is =
     let usable = usable_from_open (verdict_at header limit number) priority is in
     named_tried header limit number usable.0 usable.1
+
+-- and it alone is tried
+pub named_alone : (entry : Option Entry) (verdict : Option Verdict) (priority : ℕ) (answer : Result Tries OpenFault)
+    → option_map judgement_of verdict ≡ Some (Open priority)
+    → IsOrMemory (tried_alone entry) answer → IsOrMemory (tries_of_named entry verdict) answer
+named_alone entry verdict priority answer is alone =
+    let usable = usable_from_open verdict priority is in
+    rw usable.1 alone
 
 -- ---- where the last of the key material ends
 

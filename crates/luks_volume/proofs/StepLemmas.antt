@@ -14,7 +14,7 @@ use Rattle.luks_volume.specs.Passing.{limit_of}
 use Rattle.luks_volume.specs.Plain.{end_within, ending_within, payload_end_of, payload_len, sector_len, sector_of}
 use Rattle.luks_volume.specs.Plain.{sector_start, unit_number, unit_plain}
 use Rattle.luks_volume.specs.Pumped.{Ends, EndsAt, MayAnswer, Pumped, Skips, SkipsAgain, StandsIn, Steps, TakesSector}
-use Rattle.luks_volume.specs.Pumped.{is_found_end, is_running, reach_of}
+use Rattle.luks_volume.specs.Pumped.{StepsAgain, is_found_end, is_running, reach_of, state_after_skip}
 use Rattle.luks_volume.specs.declared.state.State.{State}
 use Rattle.luks_volume.specs.declared.state.State.TheVariants.{BeforePayload, InPayload, Ended, Faulted}
 use Rattle.luks_volume.specs.declared.fault.VolumeFault.{VolumeFault}
@@ -379,3 +379,21 @@ module _ (s : Segment) (cipher : Cipher) (consumed count : ℕ) (front image : L
       (subst (λ (p : Pumped). StandsAt image p.front (sector_start p.segment p.count) r'
       → Steps p.segment p.cipher p.count (sector_start p.segment p.count + length p.front) image answer r'' before
       after) is steps)
+
+-- where a skip let a pump go on that has not ended, it is in its payload
+pub resumed : (state now : State) (T : Type 0) → SkipsAgain state (Ok tt) T
+    → now ≡ state_after_skip {T = Unit {0}} state (Ok tt) → (now ≡ Ended → ⊥)
+    → now ≡ InPayload
+resumed BeforePayload now T again is going = is
+resumed InPayload now T again is going = is
+resumed Ended now T again is going = absurd (going is)
+resumed (Faulted fault) now T again is going = absurd cc
+
+-- and it had neither ended nor failed before
+pub first_answer : (state now : State) (T untouched : Type 0) (answer : Result Step VolumeFault)
+    → SkipsAgain state (Ok tt) T → now ≡ state_after_skip {T = Unit {0}} state (Ok tt) → (now ≡ Ended → ⊥)
+    → StepsAgain state answer untouched
+first_answer BeforePayload now T untouched answer again is going = tt
+first_answer InPayload now T untouched answer again is going = tt
+first_answer Ended now T untouched answer again is going = absurd (going is)
+first_answer (Faulted fault) now T untouched answer again is going = absurd cc

@@ -1,5 +1,5 @@
 use Rattle.std.proofs.Common.{arith, rules, drop, length, length-take, length-drop, ◌-◌}
-use Rattle.luks_io.proofs.Moves.{Appends-next}
+use Rattle.luks_io.proofs.Moves.{Appends-next, adds-all}
 use Rattle.luks_io.proofs.sink.put_all.Goals as goal
 
 pub loop-at-preserved : goal.loop-at-preserved
@@ -14,3 +14,22 @@ loop-at-preserved g c = record {
       c.in-Ok.ensures.bytes;
   failures = search rules;
 }
+
+pub returns-in-Err-clause-ok : goal.returns-in-Err-clause-ok
+returns-in-Err-clause-ok g c = search rules
+
+pub returns-in-Err-clause-err : goal.returns-in-Err-clause-err
+returns-in-Err-clause-err g c = search rules
+
+pub returns-in-Err-clause-counts : goal.returns-in-Err-clause-counts
+returns-in-Err-clause-counts g c = search rules
+
+pub returns-clause-ok : goal.returns-clause-ok
+returns-clause-ok g c =
+    adds-all _ _ c.args.bytes.now c.loop-at.at c.loop-at-test.false c.loop-at.invariant.written
+
+pub returns-clause-err : goal.returns-clause-err
+returns-clause-err g c = search rules
+
+pub returns-clause-counts : goal.returns-clause-counts
+returns-clause-counts g c = search rules

@@ -1,5 +1,6 @@
 use Rattle.std.proofs.Common.{◌∙◌, rules}
-use Rattle.luks_io.proofs.Moves.{Consumes-next, counted-some}
+use Rattle.luks_io.proofs.Moves.{Consumes-next, counted-some, took-front, took-kept, took-nothing}
+use Rattle.luks_io.proofs.Moves.{took-whole}
 use Rattle.luks_io.proofs.source.fill.Goals as goal
 
 pub loop-at-preserved : goal.loop-at-preserved
@@ -10,3 +11,54 @@ loop-at-preserved g c = record {
   failures = search rules;
   ends = c.in-Ok.ensures.ends ∙ counted-some _ _ _ c.in-Ok.n-test.1 ∙ c.loop-at.invariant.ends;
 }
+
+pub returns-in-Ok-eq0-clause-bound : goal.returns-in-Ok-eq0-clause-bound
+returns-in-Ok-eq0-clause-bound g c = search rules
+
+pub returns-in-Ok-eq0-clause-bytes : goal.returns-in-Ok-eq0-clause-bytes
+returns-in-Ok-eq0-clause-bytes g c =
+    took-nothing _ _ _ c.loop-at.buf c.read.new.buf c.loop-at.at c.in-Ok-eq0.field-0 c.in-Ok-eq0.field-0-test
+    c.loop-at.invariant.within c.loop-at.invariant.taken c.in-Ok-eq0.ensures.bytes.0
+
+pub returns-in-Ok-eq0-clause-end : goal.returns-in-Ok-eq0-clause-end
+returns-in-Ok-eq0-clause-end g c = search rules
+
+pub returns-in-Ok-eq0-clause-counts : goal.returns-in-Ok-eq0-clause-counts
+returns-in-Ok-eq0-clause-counts g c = search rules
+
+pub returns-in-Ok-eq0-clause-ends : goal.returns-in-Ok-eq0-clause-ends
+returns-in-Ok-eq0-clause-ends g c = search rules
+
+pub returns-in-Err-clause-bound : goal.returns-in-Err-clause-bound
+returns-in-Err-clause-bound g c = search rules
+
+pub returns-in-Err-clause-bytes : goal.returns-in-Err-clause-bytes
+returns-in-Err-clause-bytes g c =
+    took-kept _ _ _ c.loop-at.buf c.read.new.buf c.loop-at.at c.loop-at.invariant.within c.loop-at.invariant.taken
+    c.in-Err.ensures.bytes
+
+pub returns-in-Err-clause-end : goal.returns-in-Err-clause-end
+returns-in-Err-clause-end g c = search rules
+
+pub returns-in-Err-clause-counts : goal.returns-in-Err-clause-counts
+returns-in-Err-clause-counts g c = search rules
+
+pub returns-in-Err-clause-ends : goal.returns-in-Err-clause-ends
+returns-in-Err-clause-ends g c = search rules
+
+pub returns-clause-bound : goal.returns-clause-bound
+returns-clause-bound g c = search rules
+
+pub returns-clause-bytes : goal.returns-clause-bytes
+returns-clause-bytes g c =
+    took-front _ _ c.loop-at.buf c.loop-at.at c.loop-at.invariant.within c.loop-at.invariant.taken
+
+pub returns-clause-end : goal.returns-clause-end
+returns-clause-end g c =
+    took-whole _ _ c.loop-at.buf c.loop-at.at c.loop-at.invariant.within c.loop-at-test.false c.loop-at.invariant.taken
+
+pub returns-clause-counts : goal.returns-clause-counts
+returns-clause-counts g c = search rules
+
+pub returns-clause-ends : goal.returns-clause-ends
+returns-clause-ends g c = search rules

@@ -1,8 +1,9 @@
-use Rattle.std.proofs.Common.{◌≡◌, ◌∙◌, Some, None, true, length, ap, sym}
+use Rattle.std.proofs.Common.{rules, ◌≡◌, ◌∙◌, Some, None, true, length, ap, sym}
 use Rattle.std.proofs.lemmas.Option.{same_Some}
 use Rattle.luks_cipher.specs.Sector.{is_mode_key_length}
 use Rattle.luks_cipher.specs.declared.mode.Mode.{Mode}
 use Rattle.luks_kdf.proofs.Pbkdf2Lemmas.{length-derived_key}
+use Rattle.luks_open.specs.Candidate.{candidate_of}
 use Rattle.luks_open.proofs.opening.candidate.Goals as goal
 use Rattle.luks_open.proofs.opening.candidate.Goals.{After-from_residual-in_err-cipher}
 
@@ -26,3 +27,19 @@ returns-in_err-cipher-clause-value c = absurd (never c)
 
 pub returns-in_err-cipher-clause-some : goal.returns-in_err-cipher-clause-some
 returns-in_err-cipher-clause-some c = absurd (never c)
+
+pub returns-in_err-cipher-clause-work : goal.returns-in_err-cipher-clause-work
+returns-in_err-cipher-clause-work c = absurd (never c)
+
+pub derived-area_key-requires-clause-some : goal.derived-area_key-requires-clause-some
+derived-area_key-requires-clause-some c = search rules
+
+pub derived-area_key-requires-clause-room : goal.derived-area_key-requires-clause-room
+derived-area_key-requires-clause-room c = search rules
+
+pub returns-clause-value : goal.returns-clause-value
+unfolding candidate_of
+returns-clause-value c = search rules
+
+pub returns-clause-work : goal.returns-clause-work
+returns-clause-work c = search rules

@@ -1,4 +1,5 @@
-use Rattle.std.proofs.Common.{length}
+use Rattle.std.proofs.Common.{rules, length}
+use Rattle.luks_open.specs.Opening.{opening_of, work_of}
 use Rattle.luks_open.proofs.TrialLemmas.{All-IsTriable, All-volume_key}
 use Rattle.luks_open.proofs.opening.open.Goals as goal
 
@@ -16,3 +17,15 @@ returns-in-Some-clause-key_length c segment is_segment =
     rw c.in-Some.is at (c.first_opening.ensures.len segment.mode
     (rw c.entries.ensures
     (All-volume_key c.args.header.now segment order.0 order.1 c.args.order.now is_segment order.2)))
+
+pub returns-in-Some-clause-value : goal.returns-in-Some-clause-value
+unfolding opening_of
+returns-in-Some-clause-value c = search rules
+
+pub returns-in-Some-clause-work : goal.returns-in-Some-clause-work
+unfolding work_of
+returns-in-Some-clause-work c = search rules
+
+pub returns-in-None-clause-work : goal.returns-in-None-clause-work
+unfolding work_of
+returns-in-None-clause-work c = search rules

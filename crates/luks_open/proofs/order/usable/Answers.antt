@@ -9,3 +9,6 @@ returns-in-Some-Usable-clause-err c =
     let some : IsSome (usable_at c.args.header.now c.args.limit c.args.priority c.args.number) =
     usable_there c.args.header.now c.args.limit c.args.priority c.args.number (rw c.if-its-priority.true at judged) in
     search (rules, some)
+
+pub returns-in-Some-Usable-clause-ok : goal.returns-in-Some-Usable-clause-ok
+returns-in-Some-Usable-clause-ok c = search rules

@@ -1,4 +1,4 @@
-use Rattle.std.proofs.Common.{◌≡◌, ◌+◌, ◌-◌, ◌<◌, ◌∙◌, length, length-take-le, arith}
+use Rattle.std.proofs.Common.{rules, ◌≡◌, ◌+◌, ◌-◌, ◌<◌, ◌∙◌, length, length-take-le, arith}
 use Rattle.std.proofs.lemmas.Result.{err_from_is_err_and}
 use Rattle.luks_io.proofs.Taking.{counted-whole, took_all, took_more, took_sum}
 use Rattle.luks_volume.proofs.passing.discard.Goals as goal
@@ -44,3 +44,12 @@ pieces-preserved g c =
           took_sum known _ _ _ _ _ more (c.pieces.invariant.taken known is)
           (λ rest left. (c.in_ok-fill.ensures.bytes rest left).0);
     }
+
+pub returns-then-branch-size-clause-reads : goal.returns-then-branch-size-clause-reads
+returns-then-branch-size-clause-reads g c = search rules
+
+pub returns-then-branch-size-clause-ends : goal.returns-then-branch-size-clause-ends
+returns-then-branch-size-clause-ends g c = search rules
+
+pub returns-then-branch-size-clause-only : goal.returns-then-branch-size-clause-only
+returns-then-branch-size-clause-only g c = search rules

@@ -1,4 +1,4 @@
-use Rattle.std.proofs.Common.{◌≡◌, ◌<◌, ◌++◌, length, arith}
+use Rattle.std.proofs.Common.{rules, ◌≡◌, ◌<◌, ◌++◌, length, arith}
 use Rattle.std.proofs.lemmas.Result.{err_from_is_err_and}
 use Rattle.luks_volume.proofs.PassingLemmas.{unit_filled, unit_is}
 use Rattle.luks_volume.proofs.passing.pass_sector.Goals as goal
@@ -40,3 +40,33 @@ returns-clause-whole g c whole =
       c.in_ok-got.ensures.begins,
       rw (← unit) c.in_ok-put_all.ensures.ok,
     )
+
+pub returns-clause-most : goal.returns-clause-most
+returns-clause-most g c = search rules
+
+pub returns-clause-taken : goal.returns-clause-taken
+returns-clause-taken g c = search rules
+
+pub returns-clause-torn : goal.returns-clause-torn
+returns-clause-torn g c = search rules
+
+pub returns-clause-reads : goal.returns-clause-reads
+returns-clause-reads g c = search rules
+
+pub returns-clause-ends : goal.returns-clause-ends
+returns-clause-ends g c = search rules
+
+pub returns-clause-writes : goal.returns-clause-writes
+returns-clause-writes g c = search rules
+
+pub returns-then-got-sector-clause-most : goal.returns-then-got-sector-clause-most
+returns-then-got-sector-clause-most g c = search rules
+
+pub returns-then-got-sector-clause-taken : goal.returns-then-got-sector-clause-taken
+returns-then-got-sector-clause-taken g c = search rules
+
+pub returns-then-got-sector-clause-reads : goal.returns-then-got-sector-clause-reads
+returns-then-got-sector-clause-reads g c = search rules
+
+pub returns-then-got-sector-clause-ends : goal.returns-then-got-sector-clause-ends
+returns-then-got-sector-clause-ends g c = search rules

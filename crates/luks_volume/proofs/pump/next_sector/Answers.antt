@@ -1,4 +1,4 @@
-use Rattle.std.proofs.Common.{◌≡◌, ◌<◌, ◌≤◌, ◌∙◌, take, length, length-take-le, arith}
+use Rattle.std.proofs.Common.{rules, ◌≡◌, ◌<◌, ◌≤◌, ◌∙◌, take, length, length-take-le, arith}
 use Rattle.std.proofs.lemmas.Result.{err_from_is_err_and}
 use Rattle.luks_io.proofs.Taking.{counted-short, counted-whole}
 use Rattle.luks_volume.specs.Passing.{limit_of}
@@ -97,3 +97,21 @@ returns-clause-passed g c is =
     let full : c.in_ok-got.got
     ≡ length (take c.bytes-size.result c.args.buffer.now) = omega (arith, c.in_ok-got.ensures.most) in
     rw (c.number.ensures, sized) at (c.in_ok-got.ensures.whole full)
+
+pub returns-then-got-size-clause-limit : goal.returns-then-got-size-clause-limit
+returns-then-got-size-clause-limit g c = search rules
+
+pub returns-then-got-size-clause-below : goal.returns-then-got-size-clause-below
+returns-then-got-size-clause-below g c = search rules
+
+pub returns-then-got-size-clause-writes_sectors : goal.returns-then-got-size-clause-writes_sectors
+returns-then-got-size-clause-writes_sectors g c = search rules
+
+pub returns-then-count-limit-clause-only : goal.returns-then-count-limit-clause-only
+returns-then-count-limit-clause-only g c = search rules
+
+pub returns-then-count-limit-clause-limit : goal.returns-then-count-limit-clause-limit
+returns-then-count-limit-clause-limit g c = search rules
+
+pub returns-then-count-limit-clause-ends : goal.returns-then-count-limit-clause-ends
+returns-then-count-limit-clause-ends g c = search rules

@@ -24,3 +24,30 @@ returns-in-Interrupted-2-clause-told g c =
 pub returns-in-Failed-clause-told : goal.returns-in-Failed-clause-told
 returns-in-Failed-clause-told g c =
     c.tries.invariant.told _ _ (tells_failed told_of_read _ _ c.tries.tries c.in-Failed.ensures.next)
+
+pub tries-init : goal.tries-init
+tries-init g c = search rules
+
+pub returns-in-Moved-clause-bound : goal.returns-in-Moved-clause-bound
+returns-in-Moved-clause-bound g c = search rules
+
+pub returns-in-Moved-clause-bytes : goal.returns-in-Moved-clause-bytes
+returns-in-Moved-clause-bytes g c = search rules
+
+pub returns-in-Moved-clause-counts : goal.returns-in-Moved-clause-counts
+returns-in-Moved-clause-counts g c = search rules
+
+pub returns-in-Moved-clause-ends : goal.returns-in-Moved-clause-ends
+returns-in-Moved-clause-ends g c = search rules
+
+pub returns-in-Failed-clause-bound : goal.returns-in-Failed-clause-bound
+returns-in-Failed-clause-bound g c = search rules
+
+pub returns-in-Failed-clause-bytes : goal.returns-in-Failed-clause-bytes
+returns-in-Failed-clause-bytes g c = search rules
+
+pub returns-in-Failed-clause-counts : goal.returns-in-Failed-clause-counts
+returns-in-Failed-clause-counts g c = search rules
+
+pub returns-in-Failed-clause-ends : goal.returns-in-Failed-clause-ends
+returns-in-Failed-clause-ends g c = search rules

@@ -32,3 +32,39 @@ returns-in-Moved-clause-told g c some =
     ≡ Ok c.in-Moved.count = rw (ne_eqb c.in-Moved.count 0 c.in-Moved.count-test.1) refl in
     c.tries.invariant.told _ _
     (tells_moved told_of_write _ _ c.tries.tries c.in-Moved.count _ moved c.in-Moved.ensures.next)
+
+pub tries-init : goal.tries-init
+tries-init g c = search rules
+
+pub returns-then-is_empty-clause-told : goal.returns-then-is_empty-clause-told
+returns-then-is_empty-clause-told g c = search rules
+
+pub returns-then-is_empty-clause-empty : goal.returns-then-is_empty-clause-empty
+returns-then-is_empty-clause-empty g c = search rules
+
+pub returns-then-is_empty-clause-bound : goal.returns-then-is_empty-clause-bound
+returns-then-is_empty-clause-bound g c = search rules
+
+pub returns-then-is_empty-clause-bytes : goal.returns-then-is_empty-clause-bytes
+returns-then-is_empty-clause-bytes g c = search rules
+
+pub returns-then-is_empty-clause-counts : goal.returns-then-is_empty-clause-counts
+returns-then-is_empty-clause-counts g c = search rules
+
+pub returns-in-Moved-clause-bound : goal.returns-in-Moved-clause-bound
+returns-in-Moved-clause-bound g c = search rules
+
+pub returns-in-Moved-clause-bytes : goal.returns-in-Moved-clause-bytes
+returns-in-Moved-clause-bytes g c = search rules
+
+pub returns-in-Moved-clause-counts : goal.returns-in-Moved-clause-counts
+returns-in-Moved-clause-counts g c = search rules
+
+pub returns-in-Moved-eq0-clause-bound : goal.returns-in-Moved-eq0-clause-bound
+returns-in-Moved-eq0-clause-bound g c = search rules
+
+pub returns-in-Moved-eq0-clause-bytes : goal.returns-in-Moved-eq0-clause-bytes
+returns-in-Moved-eq0-clause-bytes g c = search rules
+
+pub returns-in-Moved-eq0-clause-counts : goal.returns-in-Moved-eq0-clause-counts
+returns-in-Moved-eq0-clause-counts g c = search rules

@@ -1,6 +1,8 @@
-use Rattle.std.proofs.Common.{ap}
+use Rattle.std.proofs.Common.{◌≡◌, ◌∙◌, ap}
 use Rattle.std.proofs.lemmas.Result.{err_from_is_err_and}
-use Rattle.luks_volume.proofs.StepLemmas.{steps_resumed, steps_unskipped, unwritten}
+use Rattle.luks_volume.specs.Pumped.{Pumped}
+use Rattle.luks_volume.specs.declared.state.State.TheVariants.{Ended}
+use Rattle.luks_volume.proofs.StepLemmas.{first_answer, resumed, steps_resumed, steps_unskipped, unwritten}
 use Rattle.luks_volume.proofs.pump.Pump.step.Goals as goal
 
 pub returns-in_err-skip-clause-run : goal.returns-in_err-skip-clause-run
@@ -26,3 +28,15 @@ returns-clause-run g c image few stands =
     c.in_ok-skip.ensures.again (λ same. ap g.S.Source.to_come same) c.in_ok-skip.ensures.fresh
     (λ first. c.in_ok-skip.ensures.run image first stands)
     (λ stands'. c.next_sector-answer.ensures.run image few stands')
+
+pub remember-requires-clause-running : goal.remember-requires-clause-running
+remember-requires-clause-running g c =
+    let going : c.self.inside.state ≡ Ended → ⊥ = λ ended. (let f = rw ended at c.if-eq.ensures in absurd cc) in
+    resumed c.args.self.now.state c.self.inside.state _ c.in_ok-skip.ensures.again
+    (ap (λ (p : Pumped). p.state) (c.self.view_is ∙ c.in_ok-skip.ensures.pump)) going
+
+pub returns-clause-again : goal.returns-clause-again
+returns-clause-again g c =
+    let going : c.self.inside.state ≡ Ended → ⊥ = λ ended. (let f = rw ended at c.if-eq.ensures in absurd cc) in
+    first_answer c.args.self.now.state c.self.inside.state _ _ _ c.in_ok-skip.ensures.again
+    (ap (λ (p : Pumped). p.state) (c.self.view_is ∙ c.in_ok-skip.ensures.pump)) going

@@ -1,0 +1,42 @@
+use Rattle.std.proofs.Common.{rules, arith, length-append}
+use Rattle.luks_verdict.specs.Rule.{most_slots}
+use Rattle.luks_verdict.specs.Table.{rising}
+use Rattle.luks_open.specs.Order.{tries_of_all, usable_at}
+use Rattle.luks_open.proofs.OrderLemmas.{some_tried}
+use Rattle.luks_open.proofs.order.order_all.Goals as goal
+
+pub returns-in_err-push_usable-clause-memory : goal.returns-in_err-push_usable-clause-memory
+unfolding tries_of_all
+returns-in_err-push_usable-clause-memory c = λ memory.
+    let entries = usable_at c.args.header.now c.args.limit in
+    some_tried _ _
+    (omega (
+      arith,
+      length-append (rising (entries 2) most_slots) (rising (entries 1) most_slots),
+      c.in_err-push_usable.ensures.err,
+    ))
+
+pub returns-in_err-push_usable-2-clause-memory : goal.returns-in_err-push_usable-2-clause-memory
+unfolding tries_of_all
+returns-in_err-push_usable-2-clause-memory c = λ memory.
+    let entries = usable_at c.args.header.now c.args.limit in
+    some_tried _ _
+    (omega (
+      arith,
+      length-append (rising (entries 2) most_slots) (rising (entries 1) most_slots),
+      c.in_err-push_usable-2.ensures.err,
+    ))
+
+pub returns-then-is_empty-clause-answer : goal.returns-then-is_empty-clause-answer
+unfolding tries_of_all
+returns-then-is_empty-clause-answer c = search rules
+
+pub returns-then-is_empty-clause-memory : goal.returns-then-is_empty-clause-memory
+returns-then-is_empty-clause-memory c = λ memory. absurd cc
+
+pub returns-clause-answer : goal.returns-clause-answer
+unfolding tries_of_all
+returns-clause-answer c = search rules
+
+pub returns-clause-memory : goal.returns-clause-memory
+returns-clause-memory c = λ memory. absurd cc
