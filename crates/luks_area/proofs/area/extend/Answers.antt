@@ -1,4 +1,5 @@
-use Rattle.std.proofs.Common.{◌≡◌, ◌-◌, ◌∙◌, ap, sym, length, vec_len, arith}
+use Rattle.std.proofs.Common.{rules, ◌≡◌, ◌-◌, ◌∙◌, ap, sym, length, vec_len, arith}
+use Rattle.std.proofs.lemmas.Grind.{common_steps}
 use Rattle.luks_area.proofs.AreaLemmas.{front_filled, length-room, took_all_behind, took_behind}
 use Rattle.luks_area.proofs.area.extend.Goals as goal
 
@@ -40,3 +41,48 @@ returns-in-Err-clause-broken g c =
       took_behind old c.truncate-in-Err.new.self.items told c.fill.new.buf _ got is
           (c.in-Err.ensures.bytes told tells),
     )
+
+pub returns-in-Ok-clause-whole : goal.returns-in-Ok-clause-whole
+returns-in-Ok-clause-whole g c = grind (arith, common_steps)
+
+pub returns-in-Ok-clause-ends : goal.returns-in-Ok-clause-ends
+returns-in-Ok-clause-ends g c = grind (arith, common_steps)
+
+pub returns-in-Ok-clause-within : goal.returns-in-Ok-clause-within
+returns-in-Ok-clause-within g c = grind (arith, common_steps)
+
+pub returns-in-Ok-clause-held : goal.returns-in-Ok-clause-held
+returns-in-Ok-clause-held g c = grind (arith, common_steps)
+
+pub returns-in-Err-clause-memory : goal.returns-in-Err-clause-memory
+returns-in-Err-clause-memory g c = search rules
+
+pub returns-in-Err-clause-reads : goal.returns-in-Err-clause-reads
+returns-in-Err-clause-reads g c = search rules
+
+pub returns-in-Err-clause-held : goal.returns-in-Err-clause-held
+returns-in-Err-clause-held g c = grind (arith, common_steps)
+
+pub returns-in-Err-clause-within : goal.returns-in-Err-clause-within
+returns-in-Err-clause-within g c = grind (arith, common_steps)
+
+pub returns-in-Err-clause-refusals : goal.returns-in-Err-clause-refusals
+returns-in-Err-clause-refusals g c = search rules
+
+pub returns-in-Err-clause-ends : goal.returns-in-Err-clause-ends
+returns-in-Err-clause-ends g c = search rules
+
+pub returns-in_err-make_room-clause-memory : goal.returns-in_err-make_room-clause-memory
+returns-in_err-make_room-clause-memory g c = search rules
+
+pub returns-in_err-make_room-clause-reads : goal.returns-in_err-make_room-clause-reads
+returns-in_err-make_room-clause-reads g c = search rules
+
+pub returns-in_err-make_room-clause-ends : goal.returns-in_err-make_room-clause-ends
+returns-in_err-make_room-clause-ends g c = search rules
+
+pub returns-in_err-make_room-clause-refusals : goal.returns-in_err-make_room-clause-refusals
+returns-in_err-make_room-clause-refusals g c = search rules
+
+pub returns-in_err-make_room-clause-broken : goal.returns-in_err-make_room-clause-broken
+returns-in_err-make_room-clause-broken g c = search rules
