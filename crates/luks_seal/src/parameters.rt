@@ -1,4 +1,4 @@
-//! What a volume is made from.
+//! What a volume is made from. Parameters are not `Debug`: they hold keys and passphrases.
 
 use luks_cipher::Mode;
 use luks_kdf::Hash;
