@@ -1,22 +1,20 @@
+use Rattle.std.proofs.Common.{rules}
 use Rattle.luks_cli.proofs.execute.perform.Goals as goal
 
 pub returns-in-IsLuks-clause-run : goal.returns-in-IsLuks-clause-run
 returns-in-IsLuks-clause-run g c = rw c.in-IsLuks.is (λ known is pass has counted. c.is_luks.ensures.run _ known is)
 
 pub returns-in-LuksUuid-clause-run : goal.returns-in-LuksUuid-clause-run
-returns-in-LuksUuid-clause-run g c = rw c.in-LuksUuid.is (λ known is pass has counted. c.print.ensures.run known is)
+returns-in-LuksUuid-clause-run g c = search rules
 
 pub returns-in-LuksDump-clause-run : goal.returns-in-LuksDump-clause-run
-returns-in-LuksDump-clause-run g c =
-    rw c.in-LuksDump.is (λ known is pass has counted. c.print-in-LuksDump.ensures.run known is)
+returns-in-LuksDump-clause-run g c = search rules
 
 pub returns-in-LuksCheck-clause-run : goal.returns-in-LuksCheck-clause-run
-returns-in-LuksCheck-clause-run g c =
-    rw c.in-LuksCheck.is (λ known is pass has counted. c.print-in-LuksCheck.ensures.run known is)
+returns-in-LuksCheck-clause-run g c = search rules
 
 pub returns-in-TestPassphrase-clause-run : goal.returns-in-TestPassphrase-clause-run
-returns-in-TestPassphrase-clause-run g c =
-    rw c.in-TestPassphrase.is (λ known is pass has counted. c.test_passphrase.ensures.run known is pass has)
+returns-in-TestPassphrase-clause-run g c = search rules
 
 pub returns-in-LuksCat-clause-run : goal.returns-in-LuksCat-clause-run
 returns-in-LuksCat-clause-run g c =
