@@ -89,9 +89,9 @@ fn find_slots(
     opening: &Opening<'_>,
     header: &Header,
 ) -> Result<(Segment, Order), Message>
-    ensures ok { IfOk result (λ found. let o = opening_request opening.now in
-        (segment_of header.now ≡ Ok found.0)
-        × (order_of header.now o.key_slot o.max_iterations ≡ Ok found.1)) }
+    ensures segment { IfOk result (λ found. segment_of header.now ≡ Ok found.0) }
+    ensures order { IfOk result (λ found. let o = opening_request opening.now in
+        order_of header.now o.key_slot o.max_iterations ≡ Ok found.1) }
     ensures err { IfErr result (λ message. (message ≡ Message.OutOfMemory)
         ⊎ (volume_in_header (opening_request opening.now) (Ok header.now) ≡ Err message)) }
     ensures only { IfErr result OpeningMessage }

@@ -18,3 +18,21 @@ returns-in-Err-clause-honest g c =
     (g.I.Source.to_come c.perform.new.image) (g.K.Source.to_come c.args.secret.now)
     (g.K.Source.to_come c.perform.new.secret) (g.O.Sink.written c.args.out.now) (g.O.Sink.written c.perform.new.out)
     c.in-Err.ensures.run)
+
+pub returns-in-Ok-clause-run : goal.returns-in-Ok-clause-run
+returns-in-Ok-clause-run g c = rw c.of.ensures c.in-Ok.ensures.run
+
+pub returns-in-Ok-clause-only : goal.returns-in-Ok-clause-only
+returns-in-Ok-clause-only g c = rw c.of.ensures c.in-Ok.ensures.only
+
+pub returns-in-Ok-clause-counts : goal.returns-in-Ok-clause-counts
+returns-in-Ok-clause-counts g c = rw c.of.ensures c.in-Ok.ensures.counts
+
+pub returns-in-Err-clause-run : goal.returns-in-Err-clause-run
+returns-in-Err-clause-run g c = rw c.of-in-Err.ensures c.in-Err.ensures.run
+
+pub returns-in-Err-clause-only : goal.returns-in-Err-clause-only
+returns-in-Err-clause-only g c = rw c.of-in-Err.ensures c.in-Err.ensures.only
+
+pub returns-in-Err-clause-counts : goal.returns-in-Err-clause-counts
+returns-in-Err-clause-counts g c = rw c.of-in-Err.ensures c.in-Err.ensures.counts

@@ -49,3 +49,46 @@ returns-in-LuksCheck-clause-counts g c = counts_apart _ _ _ _ _ _ _ _ (c.print-i
 
 pub returns-in-TestPassphrase-clause-counts : goal.returns-in-TestPassphrase-clause-counts
 returns-in-TestPassphrase-clause-counts g c = counts_apart _ _ _ _ _ _ _ _ c.test_passphrase.ensures.counts
+
+pub returns-in-LuksCat-clause-counts : goal.returns-in-LuksCat-clause-counts
+returns-in-LuksCat-clause-counts g c = c.cat_detached.ensures.counts
+
+pub returns-in-IsLuks-clause-only : goal.returns-in-IsLuks-clause-only
+returns-in-IsLuks-clause-only g c = rw c.in-IsLuks.is c.is_luks.ensures.only
+
+pub returns-in-LuksUuid-clause-only : goal.returns-in-LuksUuid-clause-only
+returns-in-LuksUuid-clause-only g c = rw c.in-LuksUuid.is c.print.ensures.only
+
+pub returns-in-LuksDump-clause-only : goal.returns-in-LuksDump-clause-only
+returns-in-LuksDump-clause-only g c = rw c.in-LuksDump.is c.print-in-LuksDump.ensures.only
+
+pub returns-in-LuksCheck-clause-only : goal.returns-in-LuksCheck-clause-only
+returns-in-LuksCheck-clause-only g c = rw c.in-LuksCheck.is c.print-in-LuksCheck.ensures.only
+
+pub returns-in-TestPassphrase-clause-only : goal.returns-in-TestPassphrase-clause-only
+returns-in-TestPassphrase-clause-only g c = rw c.in-TestPassphrase.is c.test_passphrase.ensures.only
+
+pub returns-in-LuksCat-clause-only : goal.returns-in-LuksCat-clause-only
+returns-in-LuksCat-clause-only g c = rw c.in-LuksCat.is c.cat_detached.ensures.only
+
+pub returns-in-TestPassphrase-clause-unneeded : goal.returns-in-TestPassphrase-clause-unneeded
+returns-in-TestPassphrase-clause-unneeded g c = rw c.in-TestPassphrase.is c.test_passphrase.ensures.unneeded
+
+pub returns-in-LuksCat-clause-unneeded : goal.returns-in-LuksCat-clause-unneeded
+returns-in-LuksCat-clause-unneeded g c = rw c.in-LuksCat.is c.cat_detached.ensures.unneeded
+
+pub returns-in-LuksCat-clause-before_key : goal.returns-in-LuksCat-clause-before_key
+returns-in-LuksCat-clause-before_key g c = c.cat_detached.ensures.before_key
+
+pub returns-in-LuksUuid-clause-reads_first : goal.returns-in-LuksUuid-clause-reads_first
+returns-in-LuksUuid-clause-reads_first g c = rw c.in-LuksUuid.is (λ _. c.print.ensures.reads_first)
+
+pub returns-in-LuksDump-clause-reads_first : goal.returns-in-LuksDump-clause-reads_first
+returns-in-LuksDump-clause-reads_first g c = rw c.in-LuksDump.is (λ _. c.print-in-LuksDump.ensures.reads_first)
+
+pub returns-in-LuksCheck-clause-reads_first : goal.returns-in-LuksCheck-clause-reads_first
+returns-in-LuksCheck-clause-reads_first g c = rw c.in-LuksCheck.is (λ _. c.print-in-LuksCheck.ensures.reads_first)
+
+pub returns-in-TestPassphrase-clause-reads_first : goal.returns-in-TestPassphrase-clause-reads_first
+returns-in-TestPassphrase-clause-reads_first g c =
+    rw c.in-TestPassphrase.is (λ _. c.test_passphrase.ensures.reads_first)

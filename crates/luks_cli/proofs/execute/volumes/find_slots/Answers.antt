@@ -15,7 +15,3 @@ returns-in-Err-clause-err c =
     rw (c.of_opening.ensures, c.named_slot-named.ensures) (no_order (opening_request c.args.opening.now)
     c.args.header.now _ (sym c.in_ok-segment.ensures) _
     (rw (c.named_slot-named.ensures, c.limit.ensures) at c.in-Err.ensures.answer))
-
-pub returns-in-Ok-clause-ok : goal.returns-in-Ok-clause-ok
-returns-in-Ok-clause-ok c =
-    (sym c.in_ok-segment.ensures, rw (c.named_slot-named.ensures, c.limit.ensures) at c.in-Ok.ensures.answer)

@@ -24,4 +24,4 @@ pub returns-in-Ok-clause-volume : goal.returns-in-Ok-clause-volume
 returns-in-Ok-clause-volume g c known is =
     let read = c.in_ok-header.ensures.taken known is in
     volume_found c.args.standing (opening_request c.args.opening.now) known None c.in_ok-header.header read.0
-    _ c.in-Ok.ensures.ok.0 _ c.in-Ok.ensures.ok.1
+    _ c.in-Ok.ensures.segment _ c.in-Ok.ensures.order
