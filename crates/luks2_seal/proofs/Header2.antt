@@ -23,12 +23,9 @@ use Rattle.luks2_seal.specs.Layout2.{end_of, fields_of, header_of, middle_of, pr
 use Rattle.luks2_seal.specs.Layout2.{start_of}
 use Rattle.luks2_seal.specs.Metadata2.{FitsJson, json_of}
 use Rattle.luks2_seal.specs.Ranges2.{AreParameters2, is_header_size}
+use Rattle.luks2_seal.proofs.RangeLemmas.{size_range}
 
 -- ---- lengths
-
--- a header has one of the nine lengths
-pub size_range : (n : ℕ) → is_header_size n ≡ true → (16384 ≤ n) × (n ≤ 4194304)
-size_range n is = (grind (arith, nat_tests), grind (arith, nat_tests))
 
 size_listed : (n : ℕ) → is_header_size n ≡ true → list_any (λ size. size == n) sizes ≡ true
 unfolding sizes

@@ -1,3 +1,4 @@
+pub mod RangeLemmas
 pub mod WholeLemmas
 pub mod TextLemmas
 pub mod Slots2

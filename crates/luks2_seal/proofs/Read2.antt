@@ -30,7 +30,8 @@ use Rattle.luks2_seal.specs.Numbered.{area_start}
 use Rattle.luks2_seal.specs.Ranges2.{AreParameters2}
 use Rattle.luks2_seal.specs.Typed2.{AreTyped2}
 use Rattle.luks2_seal.proofs.Header2.{IsStart, binary_begins, binary_hash, binary_sequence, binary_size, intact}
-use Rattle.luks2_seal.proofs.Header2.{is_binary, json_there, primary_start, secondary_start, size_range}
+use Rattle.luks2_seal.proofs.Header2.{is_binary, json_there, primary_start, secondary_start}
+use Rattle.luks2_seal.proofs.RangeLemmas.{size_range}
 use Rattle.luks2_seal.proofs.Image2.{image_primary, image_secondary, length-image}
 use Rattle.luks2_seal.proofs.Slots2.{start_rises}
 use Rattle.luks2_seal.proofs.Segment2.{bounds_of}

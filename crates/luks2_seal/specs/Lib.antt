@@ -1,4 +1,5 @@
 pub mod Layout2
+pub mod Members
 pub mod Metadata2
 pub mod Numbered
 pub mod Passphrases

@@ -7,6 +7,7 @@ pub use luks2::seal2;
 mod areas;
 mod headers;
 mod luks2;
+mod members;
 mod metadata;
 mod ranges2;
 mod typed2;

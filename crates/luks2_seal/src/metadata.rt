@@ -1,100 +1,128 @@
 //! The JSON text of a volume of LUKS2 (LUKS2 On-Disk Format Specification 1.1, section 3).
 
-ghost use Rattle.std.specs.Prelude.{◌≡◌, IfOk, length, map};
-ghost use Rattle.base64.specs.Engines.{standard};
+ghost use Rattle.std.specs.Prelude.{◌≡◌, [], ◌∷◌, IfOk, OnOk, codes, length, map};
 ghost use Rattle.luks_kdf.specs.Hash.{size_of};
 ghost use Rattle.luks_kdf.specs.Pbkdf2.{derived_key};
+ghost use Rattle.luks2_seal.specs.Members.{data_of};
 ghost use Rattle.luks2_seal.specs.Metadata2.{ReadsBack, af_object, area_object, base64_text};
-ghost use Rattle.luks2_seal.specs.Metadata2.{config_object, decimal_text, digest_object};
-ghost use Rattle.luks2_seal.specs.Metadata2.{encryption_text, json_of, kdf_object, keyslot_object};
-ghost use Rattle.luks2_seal.specs.Metadata2.{keyslots_below, metadata_of, names_below};
-ghost use Rattle.luks2_seal.specs.Metadata2.{segment_object, size_text};
+ghost use Rattle.luks2_seal.specs.Metadata2.{config_object, digest_object, json_of, kdf_object};
+ghost use Rattle.luks2_seal.specs.Metadata2.{keyslot_object, keyslots_below, metadata_of};
+ghost use Rattle.luks2_seal.specs.Metadata2.{names_below, segment_object, size_text};
 ghost use Rattle.luks2_seal.specs.Ranges2.{AreParameters2, FitsSlot2};
-ghost use Rattle.serde_json.specs.View.{members_view, view};
+ghost use Rattle.serde_json.specs.Data.{array, member, no_members, object, put, string};
+ghost use Rattle.serde_json.specs.View.{items_of, members_view, view};
 
 use crate::areas::{area_size, area_start, numbered};
-use base64::engine::general_purpose::STANDARD;
-use luks_cipher::Mode;
+use crate::members::{Content, decimal_text, object_of, put_members, put_object};
 use luks_kdf::{Work, pbkdf2};
 use luks_seal::parameters::{Seal2, Slot2};
-use serde_json::{Map, Value, json};
+use serde_json::{Map, Value, json, put};
 use std::alloc::{AllocError, Global};
 
-/// A number of bytes, as a text.
-fn decimal_text(alloc: Global, number: u64) -> Result<Value, AllocError>
-    ensures { IfOk result (λ value. view value ≡ decimal_text number) }
-{
-    Ok(Value::from(number.to_string(alloc)?))
-}
-
-/// Bytes in base64.
-fn base64_text(alloc: Global, bytes: &[u8]) -> Result<Value, AllocError>
-    ensures { IfOk result (λ value. view value ≡ base64_text bytes.now) }
-{
-    Ok(Value::from(STANDARD.encode(alloc, bytes)?))
-}
-
-/// How sectors are encrypted.
-fn encryption_text(alloc: Global, mode: Mode) -> Result<Value, AllocError>
-    ensures { IfOk result (λ value. view value ≡ encryption_text mode) }
-{
-    let mut text = String::from_str(alloc, "aes-")?;
-    text.push_str(mode.name())?;
-    Ok(Value::from(text))
-}
-
-/// How the key is split.
+/// Puts how the key is split into the key slot.
 #[tactic(auto, unfolding(crate::specs::Metadata2::af_object))]
-fn af_object(alloc: Global, slot: &Slot2<'_>) -> Result<Value, AllocError>
-    ensures { IfOk result (λ value. view value ≡ af_object slot.now) }
+fn put_af(alloc: Global, map: &mut Map<String, Value>, slot: &Slot2<'_>) -> Result<(), AllocError>
+    ensures { OnOk result (members_view map.new.entries
+        ≡ put (codes "af") (af_object slot.now) (members_view map.old.entries)) }
 {
-    json!(in alloc; {"hash": slot.af_hash.name(), "stripes": slot.stripes, "type": "luks1"})
+    put_object(
+        alloc,
+        map,
+        "af",
+        &[
+            ("hash", Content::Text(slot.af_hash.name())),
+            ("stripes", Content::Number(u64::from(slot.stripes))),
+            ("type", Content::Text("luks1")),
+        ],
+    )
 }
 
-/// Where the key material is, and how it is encrypted.
-#[tactic(auto, unfolding(crate::specs::Metadata2::area_object), using(luks_cipher::proofs::ModeLemmas::longest_key))]
-fn area_object(alloc: Global, seal: &Seal2<'_>, slot: &Slot2<'_>) -> Result<Value, AllocError>
+/// Puts where the key material is, and how it is encrypted, into the key slot.
+#[tactic(auto, unfolding(crate::specs::Metadata2::area_object))]
+fn put_area(
+    alloc: Global,
+    map: &mut Map<String, Value>,
+    seal: &Seal2<'_>,
+    slot: &Slot2<'_>,
+) -> Result<(), AllocError>
     requires fits { AreParameters2 seal.now }
     requires slot { FitsSlot2 (length seal.now.key.now) slot.now }
-    ensures { IfOk result (λ value. view value ≡ area_object seal.now slot.now) }
+    ensures { OnOk result (members_view map.new.entries
+        ≡ put (codes "area") (area_object seal.now slot.now) (members_view map.old.entries)) }
 {
-    json!(in alloc; {
-        "encryption": encryption_text(alloc, seal.area_mode)?,
-        "key_size": seal.area_key_size,
-        "offset": decimal_text(alloc, area_start(seal, slot.number))?,
-        "size": decimal_text(alloc, area_size(seal.key.len(), slot.stripes))?,
-        "type": "raw"
-    })
+    put_object(
+        alloc,
+        map,
+        "area",
+        &[
+            ("encryption", Content::Encryption(seal.area_mode)),
+            ("key_size", Content::Number(seal.area_key_size as u64)),
+            ("offset", Content::Length(area_start(seal, slot.number))),
+            (
+                "size",
+                Content::Length(area_size(seal.key.len(), slot.stripes)),
+            ),
+            ("type", Content::Text("raw")),
+        ],
+    )
 }
 
-/// How the key of the area comes of the passphrase.
+/// Puts how the key of the area comes of the passphrase into the key slot.
 #[tactic(auto, unfolding(crate::specs::Metadata2::kdf_object))]
-fn kdf_object(alloc: Global, slot: &Slot2<'_>) -> Result<Value, AllocError>
-    ensures { IfOk result (λ value. view value ≡ kdf_object slot.now) }
+fn put_kdf(alloc: Global, map: &mut Map<String, Value>, slot: &Slot2<'_>) -> Result<(), AllocError>
+    ensures { OnOk result (members_view map.new.entries
+        ≡ put (codes "kdf") (kdf_object slot.now) (members_view map.old.entries)) }
 {
-    json!(in alloc; {
-        "hash": slot.hash.name(),
-        "iterations": slot.iterations,
-        "salt": base64_text(alloc, &slot.salt)?,
-        "type": "pbkdf2"
-    })
+    put_object(
+        alloc,
+        map,
+        "kdf",
+        &[
+            ("hash", Content::Text(slot.hash.name())),
+            ("iterations", Content::Number(u64::from(slot.iterations))),
+            ("salt", Content::Bytes(&slot.salt)),
+            ("type", Content::Text("pbkdf2")),
+        ],
+    )
 }
 
 /// A key slot.
-#[tactic(auto, unfolding(crate::specs::Metadata2::keyslot_object))]
 fn keyslot_object(alloc: Global, seal: &Seal2<'_>, slot: &Slot2<'_>) -> Result<Value, AllocError>
     requires fits { AreParameters2 seal.now }
     requires slot { FitsSlot2 (length seal.now.key.now) slot.now }
     ensures { IfOk result (λ value. view value ≡ keyslot_object seal.now slot.now) }
 {
-    json!(in alloc; {
-        "af": af_object(alloc, slot)?,
-        "area": area_object(alloc, seal, slot)?,
-        "kdf": kdf_object(alloc, slot)?,
-        "key_size": seal.key.len(),
-        "priority": slot.priority,
-        "type": "luks2"
-    })
+    let mut map = Map::new(alloc);
+    put_keyslot(alloc, &mut map, seal, slot)?;
+    Ok(Value::Object(map))
+}
+
+/// Puts what a key slot has into an empty object.
+#[tactic(auto, unfolding(crate::specs::Metadata2::keyslot_object))]
+fn put_keyslot(
+    alloc: Global,
+    map: &mut Map<String, Value>,
+    seal: &Seal2<'_>,
+    slot: &Slot2<'_>,
+) -> Result<(), AllocError>
+    requires fits { AreParameters2 seal.now }
+    requires slot { FitsSlot2 (length seal.now.key.now) slot.now }
+    requires empty { members_view map.old.entries ≡ no_members }
+    ensures { OnOk result (object (members_view map.new.entries)
+        ≡ keyslot_object seal.now slot.now) }
+{
+    put_af(alloc, map, slot)?;
+    put_area(alloc, map, seal, slot)?;
+    put_kdf(alloc, map, slot)?;
+    put_members(
+        alloc,
+        map,
+        &[
+            ("key_size", Content::Number(seal.key.len() as u64)),
+            ("priority", Content::Number(u64::from(slot.priority))),
+            ("type", Content::Text("luks2")),
+        ],
+    )
 }
 
 /// All key slots, each under its number.
@@ -108,7 +136,7 @@ fn keyslots(alloc: Global, seal: &Seal2<'_>) -> Result<Map<String, Value>, Alloc
         if let Some(slot) = numbered(seal, number) {
             let keyslot = keyslot_object(alloc, seal, slot)?;
             let name = number.to_string(alloc)?;
-            serde_json::put(&mut map, alloc, name.as_str(), keyslot)?;
+            put(&mut map, alloc, name.as_str(), keyslot)?;
         }
     }
     Ok(map)
@@ -129,12 +157,17 @@ fn keyslot_names(alloc: Global, seal: &Seal2<'_>) -> Result<Vec<Value>, AllocErr
     Ok(names)
 }
 
-/// The digest of the volume key.
-fn digest_text(alloc: Global, seal: &Seal2<'_>) -> Result<Value, AllocError>
+/// Puts the digest of the volume key into the object.
+fn put_digest_text(
+    alloc: Global,
+    map: &mut Map<String, Value>,
+    seal: &Seal2<'_>,
+) -> Result<(), AllocError>
     requires { AreParameters2 seal.now }
-    ensures { IfOk result (λ value. view value ≡ base64_text (derived_key seal.now.digest_hash
-        seal.now.key.now seal.now.digest_salt seal.now.digest_iterations
-        (size_of seal.now.digest_hash))) }
+    ensures { OnOk result (members_view map.new.entries ≡ put (codes "digest")
+        (base64_text (derived_key seal.now.digest_hash seal.now.key.now seal.now.digest_salt
+        seal.now.digest_iterations (size_of seal.now.digest_hash)))
+        (members_view map.old.entries)) }
 {
     let mut digest = vec![in alloc; 0; seal.digest_hash.size()]?;
     pbkdf2(
@@ -145,34 +178,70 @@ fn digest_text(alloc: Global, seal: &Seal2<'_>) -> Result<Value, AllocError>
         &mut digest,
         &mut Work::new(0),
     );
-    base64_text(alloc, &digest)
+    put_members(alloc, map, &[("digest", Content::Bytes(&digest))])
+}
+
+/// Puts the numbers of the segments into the digest.
+fn put_segment_names(alloc: Global, map: &mut Map<String, Value>) -> Result<(), AllocError>
+    ensures { OnOk result (members_view map.new.entries ≡ put (codes "segments")
+        (array (items_of (string (codes "0") ∷ []))) (members_view map.old.entries)) }
+{
+    let names = json!(in alloc; ["0"])?;
+    put(map, alloc, "segments", names)
 }
 
 /// The digest of the volume key, which is in all key slots.
-#[tactic(auto, unfolding(crate::specs::Metadata2::digest_object))]
 fn digest_object(alloc: Global, seal: &Seal2<'_>) -> Result<Value, AllocError>
     requires { AreParameters2 seal.now }
     ensures { IfOk result (λ value. view value ≡ digest_object seal.now) }
 {
-    json!(in alloc; {
-        "digest": digest_text(alloc, seal)?,
-        "hash": seal.digest_hash.name(),
-        "iterations": seal.digest_iterations,
-        "keyslots": keyslot_names(alloc, seal)?,
-        "salt": base64_text(alloc, &seal.digest_salt)?,
-        "segments": ["0"],
-        "type": "pbkdf2"
-    })
+    let mut map = Map::new(alloc);
+    put_digest(alloc, &mut map, seal)?;
+    Ok(Value::Object(map))
+}
+
+/// Puts what the digest has into an empty object.
+#[tactic(auto, unfolding(crate::specs::Metadata2::digest_object))]
+fn put_digest(
+    alloc: Global,
+    map: &mut Map<String, Value>,
+    seal: &Seal2<'_>,
+) -> Result<(), AllocError>
+    requires fits { AreParameters2 seal.now }
+    requires empty { members_view map.old.entries ≡ no_members }
+    ensures { OnOk result (object (members_view map.new.entries) ≡ digest_object seal.now) }
+{
+    put_digest_text(alloc, map, seal)?;
+    put(
+        map,
+        alloc,
+        "keyslots",
+        Value::Array(keyslot_names(alloc, seal)?),
+    )?;
+    put_segment_names(alloc, map)?;
+    put_members(
+        alloc,
+        map,
+        &[
+            ("hash", Content::Text(seal.digest_hash.name())),
+            (
+                "iterations",
+                Content::Number(u64::from(seal.digest_iterations)),
+            ),
+            ("salt", Content::Bytes(&seal.digest_salt)),
+            ("type", Content::Text("pbkdf2")),
+        ],
+    )
 }
 
 /// The payload's length, where it is fixed.
-fn size_text(alloc: Global, fixed: bool, len: usize) -> Result<Value, AllocError>
-    ensures { IfOk result (λ value. view value ≡ size_text fixed len) }
+fn size_text<'a>(fixed: bool, len: usize) -> Content<'a>
+    ensures { data_of result ≡ size_text fixed len }
 {
     if fixed {
-        decimal_text(alloc, len as u64)
+        Content::Length(len as u64)
     } else {
-        Value::try_from_str(alloc, "dynamic")
+        Content::Text("dynamic")
     }
 }
 
@@ -181,41 +250,93 @@ fn size_text(alloc: Global, fixed: bool, len: usize) -> Result<Value, AllocError
 fn segment_object(alloc: Global, seal: &Seal2<'_>) -> Result<Value, AllocError>
     ensures { IfOk result (λ value. view value ≡ segment_object seal.now) }
 {
-    json!(in alloc; {
-        "encryption": encryption_text(alloc, seal.mode)?,
-        "iv_tweak": decimal_text(alloc, seal.iv_tweak)?,
-        "offset": decimal_text(alloc, seal.offset)?,
-        "sector_size": seal.sector_size.bytes(),
-        "size": size_text(alloc, seal.fixed, seal.plain.len())?,
-        "type": "crypt"
-    })
+    object_of(
+        alloc,
+        &[
+            ("encryption", Content::Encryption(seal.mode)),
+            ("iv_tweak", Content::Length(seal.iv_tweak)),
+            ("offset", Content::Length(seal.offset)),
+            (
+                "sector_size",
+                Content::Number(seal.sector_size.bytes() as u64),
+            ),
+            ("size", size_text(seal.fixed, seal.plain.len())),
+            ("type", Content::Text("crypt")),
+        ],
+    )
 }
 
-/// The lengths of the JSON area, and of the room for key material.
+/// Puts the lengths of the JSON area, and of the room for key material, into the metadata.
 #[tactic(auto, unfolding(crate::specs::Metadata2::config_object))]
-fn config_object(alloc: Global, seal: &Seal2<'_>) -> Result<Value, AllocError>
+fn put_config(
+    alloc: Global,
+    map: &mut Map<String, Value>,
+    seal: &Seal2<'_>,
+) -> Result<(), AllocError>
     requires { AreParameters2 seal.now }
-    ensures { IfOk result (λ value. view value ≡ config_object seal.now) }
+    ensures { OnOk result (members_view map.new.entries
+        ≡ put (codes "config") (config_object seal.now) (members_view map.old.entries)) }
 {
-    json!(in alloc; {
-        "json_size": decimal_text(alloc, seal.hdr_size - 4096)?,
-        "keyslots_size": decimal_text(alloc, seal.offset.saturating_sub(2 * seal.hdr_size))?
-    })
+    put_object(
+        alloc,
+        map,
+        "config",
+        &[
+            ("json_size", Content::Length(seal.hdr_size - 4096)),
+            (
+                "keyslots_size",
+                Content::Length(seal.offset.saturating_sub(2 * seal.hdr_size)),
+            ),
+        ],
+    )
 }
 
 /// All metadata.
-#[tactic(auto, unfolding(crate::specs::Metadata2::metadata_of))]
 fn metadata_of(alloc: Global, seal: &Seal2<'_>) -> Result<Value, AllocError>
     requires { AreParameters2 seal.now }
     ensures { IfOk result (λ value. view value ≡ metadata_of seal.now) }
 {
-    json!(in alloc; {
-        "config": config_object(alloc, seal)?,
-        "digests": {"0": digest_object(alloc, seal)?},
-        "keyslots": keyslots(alloc, seal)?,
-        "segments": {"0": segment_object(alloc, seal)?},
-        "tokens": {}
-    })
+    let mut map = Map::new(alloc);
+    put_metadata(alloc, &mut map, seal)?;
+    Ok(Value::Object(map))
+}
+
+/// Puts an object with just this value, under the number 0, into the metadata.
+fn put_zeroth(
+    alloc: Global,
+    map: &mut Map<String, Value>,
+    name: &str,
+    value: Value,
+) -> Result<(), AllocError>
+    ensures { OnOk result (members_view map.new.entries ≡ put name.now
+        (object (member (codes "0") (view value) no_members)) (members_view map.old.entries)) }
+{
+    let mut zeroth = Map::new(alloc);
+    put(&mut zeroth, alloc, "0", value)?;
+    put(map, alloc, name, Value::Object(zeroth))
+}
+
+/// Puts all metadata into an empty object.
+#[tactic(auto, unfolding(crate::specs::Metadata2::metadata_of))]
+fn put_metadata(
+    alloc: Global,
+    map: &mut Map<String, Value>,
+    seal: &Seal2<'_>,
+) -> Result<(), AllocError>
+    requires fits { AreParameters2 seal.now }
+    requires empty { members_view map.old.entries ≡ no_members }
+    ensures { OnOk result (object (members_view map.new.entries) ≡ metadata_of seal.now) }
+{
+    put_config(alloc, map, seal)?;
+    put_zeroth(alloc, map, "digests", digest_object(alloc, seal)?)?;
+    put(
+        map,
+        alloc,
+        "keyslots",
+        Value::Object(keyslots(alloc, seal)?),
+    )?;
+    put_zeroth(alloc, map, "segments", segment_object(alloc, seal)?)?;
+    put(map, alloc, "tokens", Value::Object(Map::new(alloc)))
 }
 
 /// The JSON text.

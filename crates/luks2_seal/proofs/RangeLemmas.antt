@@ -1,0 +1,39 @@
+-- The ranges of parameters, as numbers.
+use Rattle.std.proofs.Common.{◌≡◌, ◌≤◌, ◌++◌, ℕ, List, length, take, drop, arith, true}
+use Rattle.std.proofs.lemmas.Grind.{common_steps}
+use Rattle.std.proofs.lemmas.Bool.Decides.{nat_tests}
+use Rattle.luks_cipher.specs.Sector.{is_mode_key_length}
+use Rattle.luks_cipher.specs.declared.mode.Mode.{Mode}
+use Rattle.luks_cipher.proofs.ModeLemmas.{key_length_of_mode, longest_key}
+use Rattle.luks_seal.specs.declared.parameters.Seal2.{Seal2}
+use Rattle.luks2_seal.specs.Ranges2.{AreParameters2, is_header_size}
+
+-- a header has one of the nine lengths
+pub size_range : (n : ℕ) → is_header_size n ≡ true → (16384 ≤ n) × (n ≤ 4194304)
+size_range n is = (grind (arith, nat_tests), grind (arith, nat_tests))
+
+shortest_key : (mode : Mode) (n : ℕ) → is_mode_key_length mode n ≡ true → 1 ≤ n
+shortest_key mode n is =
+    let known = key_length_of_mode mode n is in
+    grind (arith, nat_tests)
+
+module _ (p : Seal2) (fits : AreParameters2 p) where
+  pub some_key : 1 ≤ length p.key.now
+  some_key = shortest_key p.mode (length p.key.now) fits.keys.0
+
+  pub short_key : length p.key.now ≤ 64
+  short_key = longest_key p.mode (length p.key.now) fits.keys.0
+
+  pub some_area_key : 1 ≤ p.area_key_size
+  some_area_key = shortest_key p.area_mode p.area_key_size fits.keys.1
+
+  pub short_area_key : p.area_key_size ≤ 64
+  short_area_key = longest_key p.area_mode p.area_key_size fits.keys.1
+
+  pub short_header : p.hdr_size ≤ 4194304
+  short_header = (size_range p.hdr_size fits.size).1
+
+-- a vector that was written whole is what was written
+pub written_whole : (new old : List ℕ) (len : ℕ) → len ≡ length new → length old ≡ length new
+    → take len (new ++ drop (length new) old) ≡ new
+written_whole new old len is same = grind (arith, common_steps)

@@ -1,0 +1,26 @@
+use Rattle.std.proofs.Common.{◌≡◌, ◌∙◌, ◌++◌, ap}
+use Rattle.std.proofs.lemmas.Result.{on_ok_weaker}
+use Rattle.luks_seal.specs.Pieces.{padded}
+use Rattle.luks2_seal.specs.Layout2.{area_of}
+use Rattle.luks2_seal.proofs.RangeLemmas.{some_key, short_key}
+use Rattle.luks2_seal.proofs.areas.push_area.Goals as goal
+
+pub area_size-size-requires-clause-key : goal.area_size-size-requires-clause-key
+area_size-size-requires-clause-key c = short_key c.args.seal.now c.requires.fits
+
+pub stripes_of-requires-clause-some : goal.stripes_of-requires-clause-some
+stripes_of-requires-clause-some c = some_key c.args.seal.now c.requires.fits
+
+pub stripes_of-requires-clause-room : goal.stripes_of-requires-clause-room
+stripes_of-requires-clause-room c = short_key c.args.seal.now c.requires.fits
+
+pub returns : goal.returns
+unfolding area_of
+returns c =
+    let key = c.in_ok-area_key.ensures.value in
+    let stripes = c.in_ok-stripes.ensures.value in
+    let material = c.in_ok-material.ensures in
+    let is : padded c.area_size-size.result c.deref-3.result.now ≡ area_of c.args.seal.now c.args.slot.now =
+    cc (key, stripes, material) in
+    on_ok_weaker c.push_padded.result (λ adds. adds ∙ ap (λ a. c.args.image.now.items ++ a) is)
+    c.push_padded.ensures
