@@ -1,4 +1,5 @@
-use Rattle.std.proofs.Common.{◌∙◌, sym, arith}
+use Rattle.std.proofs.Common.{◌∙◌, sym, arith, rules}
+use Rattle.luks2_header.specs.Choice2.{beside_primary}
 use Rattle.luks2_header.proofs.ValidLemmas.{valid_range}
 use Rattle.luks2_header.proofs.choice.beside_primary.Goals as goal
 
@@ -8,3 +9,7 @@ binary_at-requires c = (let range = valid_range c.args.bytes.now 0 c.requires.va
 pub binary_at-requires-2 : goal.binary_at-requires-2
 binary_at-requires-2 c =
     (let range = valid_range c.args.bytes.now c.args.size (sym c.is_valid.ensures ∙ c.if-not-is_valid.false) in range.0)
+
+pub returns-then-not-is_valid : goal.returns-then-not-is_valid
+unfolding beside_primary
+returns-then-not-is_valid c = search rules
