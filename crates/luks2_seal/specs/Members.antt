@@ -4,13 +4,13 @@ use Rattle.std.specs.Borrow.{Bor}
 use Rattle.serde_json.specs.Data.{Data, Members, number, put, string, unsigned}
 use Rattle.luks2_seal.specs.Metadata2.{base64_text, decimal_text, encryption_text}
 use Rattle.luks2_seal.specs.declared.members.Content.{Content}
-use Rattle.luks2_seal.specs.declared.members.Content.TheVariants.{Text, Number, Length, Bytes, Encryption}
+use Rattle.luks2_seal.specs.declared.members.Content.TheVariants.{Text, Number, Decimal, Bytes, Encryption}
 
 -- what a member says
 abbrev pub data_of : Content → Data
 data_of (Text text) = string text.now
 data_of (Number n) = number (unsigned n)
-data_of (Length n) = decimal_text n
+data_of (Decimal n) = decimal_text n
 data_of (Bytes bytes) = base64_text bytes.now
 data_of (Encryption mode) = encryption_text mode
 

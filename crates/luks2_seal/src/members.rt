@@ -18,15 +18,15 @@ pub(crate) enum Content<'a> {
     Text(&'a str),
     /// A number.
     Number(u64),
-    /// A number of bytes, as a text.
-    Length(u64),
+    /// A number in decimal digits, as a text.
+    Decimal(u64),
     /// Bytes in base64.
     Bytes(&'a [u8]),
     /// How sectors are encrypted.
     Encryption(Mode),
 }
 
-/// A number of bytes, as a text.
+/// A number in decimal digits, as a text.
 pub(crate) fn decimal_text(alloc: Global, number: u64) -> Result<Value, AllocError>
     ensures { IfOk result (λ value. view value ≡ decimal_text number) }
 {
@@ -56,7 +56,7 @@ fn value_of(alloc: Global, content: Content<'_>) -> Result<Value, AllocError>
     match content {
         Content::Text(text) => Value::try_from_str(alloc, text),
         Content::Number(number) => Ok(Value::from(number)),
-        Content::Length(length) => decimal_text(alloc, length),
+        Content::Decimal(number) => decimal_text(alloc, number),
         Content::Bytes(bytes) => base64_text(alloc, bytes),
         Content::Encryption(mode) => encryption_text(alloc, mode),
     }

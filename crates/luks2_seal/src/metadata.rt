@@ -57,10 +57,10 @@ fn put_area(
         &[
             ("encryption", Content::Encryption(seal.area_mode)),
             ("key_size", Content::Number(seal.area_key_size as u64)),
-            ("offset", Content::Length(area_start(seal, slot.number))),
+            ("offset", Content::Decimal(area_start(seal, slot.number))),
             (
                 "size",
-                Content::Length(area_size(seal.key.len(), slot.stripes)),
+                Content::Decimal(area_size(seal.key.len(), slot.stripes)),
             ),
             ("type", Content::Text("raw")),
         ],
@@ -239,7 +239,7 @@ fn size_text<'a>(fixed: bool, len: usize) -> Content<'a>
     ensures { data_of result ≡ size_text fixed len }
 {
     if fixed {
-        Content::Length(len as u64)
+        Content::Decimal(len as u64)
     } else {
         Content::Text("dynamic")
     }
@@ -254,8 +254,8 @@ fn segment_object(alloc: Global, seal: &Seal2<'_>) -> Result<Value, AllocError>
         alloc,
         &[
             ("encryption", Content::Encryption(seal.mode)),
-            ("iv_tweak", Content::Length(seal.iv_tweak)),
-            ("offset", Content::Length(seal.offset)),
+            ("iv_tweak", Content::Decimal(seal.iv_tweak)),
+            ("offset", Content::Decimal(seal.offset)),
             (
                 "sector_size",
                 Content::Number(seal.sector_size.bytes() as u64),
@@ -282,10 +282,10 @@ fn put_config(
         map,
         "config",
         &[
-            ("json_size", Content::Length(seal.hdr_size - 4096)),
+            ("json_size", Content::Decimal(seal.hdr_size - 4096)),
             (
                 "keyslots_size",
-                Content::Length(seal.offset.saturating_sub(2 * seal.hdr_size)),
+                Content::Decimal(seal.offset.saturating_sub(2 * seal.hdr_size)),
             ),
         ],
     )
