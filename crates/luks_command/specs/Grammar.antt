@@ -1,7 +1,7 @@
 -- The command line of luksrd as `clap` reads it: one level of subcommands, each with options that
 -- take one text and with one input, and no rule between options.
-use Rattle.std.specs.Prelude.{◌≡◌, ◌∷◌, ◌++◌, [], Bool, true, false, List, Some, codes}
-use Rattle.clap.specs.Words.{App, Rule, Shape, Text, app_of, new_rule, with_rule}
+use Rattle.std.specs.Prelude.{◌≡◌, ◌∷◌, ◌++◌, [], Bool, true, false, IfOk, List, Result, Some, codes}
+use Rattle.clap.specs.Words.{App, Rule, Shape, Text, app_of, new_rule}
 use Rattle.clap.specs.Simple.{new_shape}
 use Rattle.clap.specs.declared.builder.Command.{Command}
 use Rattle.clap.specs.declared.builder.Command.TheViews.{out-Command}
@@ -92,17 +92,10 @@ pub record Reads (command : Command) (as_read : App) : Type 0 where
   pub app : app_of command ≡ as_read
   pub local : (out-Command command).has_globals ≡ false
 
--- `made` is `before` with the option or input as well
-pub record Takes (before : Command) (rule : Rule) (made : Command) : Type 0 where
-  pub app : app_of made ≡ with_rule (app_of before) rule
-  pub local : (out-Command made).has_globals ≡ (out-Command before).has_globals
+-- a command in the making is read so, where memory did not run out
+abbrev pub Makes : {E : Type 0} → Result Command E → App → Type 0
+Makes making as_read = IfOk making (λ command. Reads command as_read)
 
--- `made` is `before` with `[--header FILE] IMAGE` behind its options
-pub record TakesImage (before made : Command) : Type 0 where
-  pub app : app_of made ≡ with_rule (with_rule (app_of before) header_option) input
-  pub local : (out-Command made).has_globals ≡ (out-Command before).has_globals
-
--- `made` is `before` with `--hash HASH --stripes N` as well
-pub record TakesStripes (before made : Command) : Type 0 where
-  pub app : app_of made ≡ with_rule (with_rule (app_of before) (required (codes "hash"))) (required (codes "stripes"))
-  pub local : (out-Command made).has_globals ≡ (out-Command before).has_globals
+-- a program in the making holds these commands, where memory did not run out
+abbrev pub Holds : {E : Type 0} → Result Command E → App → Type 0
+Holds making as_read = IfOk making (λ command. app_of command ≡ as_read)

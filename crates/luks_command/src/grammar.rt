@@ -1,24 +1,27 @@
 //! The commands of luksrd as `clap` reads them.
 
-ghost use Rattle.std.specs.Prelude.{◌≡◌, IfOk, false};
-ghost use Rattle.clap.specs.Words.{app_of, rule_of, with_subcommand};
-ghost use Rattle.luks_command.specs.Grammar.{Reads, Takes, TakesImage, TakesStripes};
-ghost use Rattle.luks_command.specs.Grammar.{af_merge, af_split, alone};
-ghost use Rattle.luks_command.specs.Grammar.{header_command, input, is_luks};
+ghost use Rattle.std.specs.Prelude.{◌≡◌, codes, false};
+ghost use Rattle.clap.specs.Words.{App, Shape, rule_of, with_rule, with_subcommand};
+ghost use Rattle.luks_command.specs.Grammar.{Holds, Makes, Reads, af_merge, af_split, alone};
+ghost use Rattle.luks_command.specs.Grammar.{header_command, header_option, input, is_luks};
 ghost use Rattle.luks_command.specs.Grammar.{luks_cat, luks_check, luks_dump, luks_uuid, luksrd};
-ghost use Rattle.luks_command.specs.Grammar.{option, program};
+ghost use Rattle.luks_command.specs.Grammar.{option, program, required};
 ghost use Rattle.luks_command.specs.Grammar.{test_passphrase, volume_command};
 
 use clap::{Arg, Command};
 use std::alloc::{AllocError, Global};
 
+// A command in the making, which ran out of memory or did not: each call below puts one thing more
+// into it, and hands on what ran out of memory as it is.
+type Making<'a> = Result<Command<'a>, AllocError>;
+
 // luksrd with all its commands.
 #[tactic(auto, unfolding(crate::specs::Grammar::luksrd))]
 pub(super) fn grammar<'a>(alloc: Global) -> Result<Command<'a>, AllocError>
-    ensures { IfOk result (λ command. app_of command ≡ luksrd) }
+    ensures { Holds result luksrd }
 {
-    let program = with_header_commands(alloc, program(alloc))?;
-    let program = with_volume_commands(alloc, program)?;
+    let program = with_header_commands(alloc, Ok(program(alloc)));
+    let program = with_volume_commands(alloc, program);
     with_stripe_commands(alloc, program)
 }
 
@@ -33,144 +36,116 @@ fn program<'a>(alloc: Global) -> Command<'a>
 }
 
 // The program with the commands on headers as well.
-fn with_header_commands<'a>(alloc: Global, program: Command<'a>) -> Result<Command<'a>, AllocError>
-    ensures { IfOk result (λ command. app_of command ≡ with_subcommand (with_subcommand
-        (with_subcommand (with_subcommand (app_of program.entry) is_luks) luks_uuid) luks_dump)
-        luks_check) }
+fn with_header_commands<'a>(alloc: Global, program: Making<'a>) -> Making<'a>
+    ensures { (as_read : App) → Holds program.entry as_read
+        → Holds result (with_subcommand (with_subcommand (with_subcommand
+        (with_subcommand as_read is_luks) luks_uuid) luks_dump) luks_check) }
 {
-    let program = with_header_command(alloc, program, "isLuks")?;
-    let program = with_header_command(alloc, program, "luksUUID")?;
-    let program = with_header_command(alloc, program, "luksDump")?;
-    with_header_command(alloc, program, "luksCheck")
-}
-
-// The program with the command on headers as well.
-fn with_header_command<'a>(
-    alloc: Global,
-    program: Command<'a>,
-    name: &'a str,
-) -> Result<Command<'a>, AllocError>
-    ensures { IfOk result (λ command. app_of command
-        ≡ with_subcommand (app_of program.entry) (header_command name.entry.now)) }
-{
-    program.subcommand(header_command(alloc, name)?)
+    let program = with_command(program, header_command(alloc, "isLuks"));
+    let program = with_command(program, header_command(alloc, "luksUUID"));
+    let program = with_command(program, header_command(alloc, "luksDump"));
+    with_command(program, header_command(alloc, "luksCheck"))
 }
 
 // The program with the commands on volumes as well.
-fn with_volume_commands<'a>(alloc: Global, program: Command<'a>) -> Result<Command<'a>, AllocError>
-    ensures { IfOk result (λ command. app_of command
-        ≡ with_subcommand (with_subcommand (app_of program.entry) test_passphrase) luks_cat) }
+fn with_volume_commands<'a>(alloc: Global, program: Making<'a>) -> Making<'a>
+    ensures { (as_read : App) → Holds program.entry as_read
+        → Holds result (with_subcommand (with_subcommand as_read test_passphrase) luks_cat) }
 {
-    let program = with_volume_command(alloc, program, "testPassphrase")?;
-    with_volume_command(alloc, program, "luksCat")
-}
-
-// The program with the command on volumes as well.
-fn with_volume_command<'a>(
-    alloc: Global,
-    program: Command<'a>,
-    name: &'a str,
-) -> Result<Command<'a>, AllocError>
-    ensures { IfOk result (λ command. app_of command
-        ≡ with_subcommand (app_of program.entry) (volume_command name.entry.now)) }
-{
-    program.subcommand(volume_command(alloc, name)?)
+    let program = with_command(program, volume_command(alloc, "testPassphrase"));
+    with_command(program, volume_command(alloc, "luksCat"))
 }
 
 // The program with the commands on stripes as well.
-fn with_stripe_commands<'a>(alloc: Global, program: Command<'a>) -> Result<Command<'a>, AllocError>
-    ensures { IfOk result (λ command. app_of command
-        ≡ with_subcommand (with_subcommand (app_of program.entry) af_split) af_merge) }
+fn with_stripe_commands<'a>(alloc: Global, program: Making<'a>) -> Making<'a>
+    ensures { (as_read : App) → Holds program.entry as_read
+        → Holds result (with_subcommand (with_subcommand as_read af_split) af_merge) }
 {
-    let program = with_af_split(alloc, program)?;
-    with_af_merge(alloc, program)
+    let program = with_command(program, af_split(alloc));
+    with_command(program, af_merge(alloc))
 }
 
-fn with_af_split<'a>(alloc: Global, program: Command<'a>) -> Result<Command<'a>, AllocError>
-    ensures { IfOk result (λ command. app_of command
-        ≡ with_subcommand (app_of program.entry) af_split) }
+// The program with the command as well.
+fn with_command<'a>(program: Making<'a>, command: Making<'a>) -> Making<'a>
+    ensures { (as_read : App) (shape : Shape) → Holds program.entry as_read
+        → Makes command.entry (alone shape) → Holds result (with_subcommand as_read shape) }
 {
-    program.subcommand(af_split(alloc)?)
-}
-
-fn with_af_merge<'a>(alloc: Global, program: Command<'a>) -> Result<Command<'a>, AllocError>
-    ensures { IfOk result (λ command. app_of command
-        ≡ with_subcommand (app_of program.entry) af_merge) }
-{
-    program.subcommand(af_merge(alloc)?)
+    let command = command?;
+    program?.subcommand(command)
 }
 
 // `NAME [--header FILE] IMAGE`
-#[tactic(auto, unfolding(crate::specs::Grammar::header_command))]
-fn header_command<'a>(alloc: Global, name: &'a str) -> Result<Command<'a>, AllocError>
-    ensures { IfOk result (λ made. Reads made (alone (header_command name.entry.now))) }
+fn header_command<'a>(alloc: Global, name: &'a str) -> Making<'a>
+    ensures { Makes result (alone (header_command name.entry.now)) }
 {
-    with_image(alloc, Command::new(alloc, name))
+    with_image(alloc, Ok(Command::new(alloc, name)))
 }
 
 // `NAME --key-file FILE [--key-slot N] [--max-iterations N] [--header FILE] IMAGE`
-#[tactic(auto, unfolding(crate::specs::Grammar::volume_command))]
-fn volume_command<'a>(alloc: Global, name: &'a str) -> Result<Command<'a>, AllocError>
-    ensures { IfOk result (λ made. Reads made (alone (volume_command name.entry.now))) }
+fn volume_command<'a>(alloc: Global, name: &'a str) -> Making<'a>
+    ensures { Makes result (alone (volume_command name.entry.now)) }
 {
-    let command = with_option(alloc, Command::new(alloc, name), "key-file", true)?;
-    let command = with_option(alloc, command, "key-slot", false)?;
-    let command = with_option(alloc, command, "max-iterations", false)?;
+    let command = with_option(alloc, Ok(Command::new(alloc, name)), "key-file", true);
+    let command = with_option(alloc, command, "key-slot", false);
+    let command = with_option(alloc, command, "max-iterations", false);
     with_image(alloc, command)
 }
 
 // The command with `[--header FILE] IMAGE` behind its options.
-fn with_image<'a>(alloc: Global, command: Command<'a>) -> Result<Command<'a>, AllocError>
-    ensures { IfOk result (λ made. TakesImage command.entry made) }
+fn with_image<'a>(alloc: Global, command: Making<'a>) -> Making<'a>
+    ensures { (as_read : App) → Makes command.entry as_read
+        → Makes result (with_rule (with_rule as_read header_option) input) }
 {
-    let command = with_option(alloc, command, "header", false)?;
+    let command = with_option(alloc, command, "header", false);
     with_input(alloc, command)
 }
 
 // `afSplit --hash HASH --stripes N --random FILE KEY`
-fn af_split<'a>(alloc: Global) -> Result<Command<'a>, AllocError>
-    ensures { IfOk result (λ command. Reads command (alone af_split)) }
+fn af_split<'a>(alloc: Global) -> Making<'a>
+    ensures { Makes result (alone af_split) }
 {
-    let command = with_stripes(alloc, Command::new(alloc, "afSplit"))?;
-    let command = with_option(alloc, command, "random", true)?;
+    let command = with_stripes(alloc, Ok(Command::new(alloc, "afSplit")));
+    let command = with_option(alloc, command, "random", true);
     with_input(alloc, command)
 }
 
 // `afMerge --hash HASH --stripes N --key-bytes N STRIPES`
-fn af_merge<'a>(alloc: Global) -> Result<Command<'a>, AllocError>
-    ensures { IfOk result (λ command. Reads command (alone af_merge)) }
+fn af_merge<'a>(alloc: Global) -> Making<'a>
+    ensures { Makes result (alone af_merge) }
 {
-    let command = with_stripes(alloc, Command::new(alloc, "afMerge"))?;
-    let command = with_option(alloc, command, "key-bytes", true)?;
+    let command = with_stripes(alloc, Ok(Command::new(alloc, "afMerge")));
+    let command = with_option(alloc, command, "key-bytes", true);
     with_input(alloc, command)
 }
 
 // The command with `--hash HASH --stripes N` as well.
-fn with_stripes<'a>(alloc: Global, command: Command<'a>) -> Result<Command<'a>, AllocError>
-    ensures { IfOk result (λ made. TakesStripes command.entry made) }
+fn with_stripes<'a>(alloc: Global, command: Making<'a>) -> Making<'a>
+    ensures { (as_read : App) → Makes command.entry as_read → Makes result (with_rule
+        (with_rule as_read (required (codes "hash"))) (required (codes "stripes"))) }
 {
-    let command = with_option(alloc, command, "hash", true)?;
+    let command = with_option(alloc, command, "hash", true);
     with_option(alloc, command, "stripes", true)
 }
 
 // The command with the option `--name` as well.
 fn with_option<'a>(
     alloc: Global,
-    command: Command<'a>,
+    command: Making<'a>,
     name: &'a str,
     is_required: bool,
-) -> Result<Command<'a>, AllocError>
-    ensures { IfOk result (λ made.
-        Takes command.entry (option name.entry.now is_required) made) }
+) -> Making<'a>
+    ensures { (as_read : App) → Makes command.entry as_read
+        → Makes result (with_rule as_read (option name.entry.now is_required)) }
 {
-    command.arg(option(alloc, name, is_required))
+    command?.arg(option(alloc, name, is_required))
 }
 
 // The command with its input as well.
-fn with_input<'a>(alloc: Global, command: Command<'a>) -> Result<Command<'a>, AllocError>
-    ensures { IfOk result (λ made. Takes command.entry input made) }
+fn with_input<'a>(alloc: Global, command: Making<'a>) -> Making<'a>
+    ensures { (as_read : App) → Makes command.entry as_read
+        → Makes result (with_rule as_read input) }
 {
-    command.arg(input(alloc))
+    command?.arg(input(alloc))
 }
 
 // The option `--name`, which takes one text.

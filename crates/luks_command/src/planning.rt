@@ -81,16 +81,19 @@ fn read<'a>(matches: &ArgMatches<'a>) -> Option<Command<'a>>
         ≡ option_and_then request_in (subcommand_rows_of matches.now) }
 {
     let (name, options) = matches.subcommand()?;
-    if name == "testPassphrase" {
-        Some(Command::TestPassphrase(opening(options)?))
-    } else if name == "luksCat" {
-        Some(Command::LuksCat(opening(options)?))
-    } else if name == "afSplit" {
-        Some(Command::AfSplit(splitting(options)?))
-    } else if name == "afMerge" {
-        Some(Command::AfMerge(merging(options)?))
-    } else {
-        read_on_header(name, options)
+    read_named(name, options)
+}
+
+// The command of that name.
+fn read_named<'a>(name: &str, options: &ArgMatches<'a>) -> Option<Command<'a>>
+    ensures { option_map request_of result ≡ request_in (name.now, rows_of (found_of options.now)) }
+{
+    match name {
+        "testPassphrase" => opening(options).map(Command::TestPassphrase),
+        "luksCat" => opening(options).map(Command::LuksCat),
+        "afSplit" => splitting(options).map(Command::AfSplit),
+        "afMerge" => merging(options).map(Command::AfMerge),
+        _ => read_on_header(name, options),
     }
 }
 
@@ -100,16 +103,12 @@ fn read_on_header<'a>(name: &str, options: &ArgMatches<'a>) -> Option<Command<'a
     ensures { option_map request_of result
         ≡ header_request_in name.now (rows_of (found_of options.now)) }
 {
-    if name == "isLuks" {
-        Some(Command::IsLuks(reading(options)?))
-    } else if name == "luksUUID" {
-        Some(Command::LuksUuid(reading(options)?))
-    } else if name == "luksDump" {
-        Some(Command::LuksDump(reading(options)?))
-    } else if name == "luksCheck" {
-        Some(Command::LuksCheck(reading(options)?))
-    } else {
-        None
+    match name {
+        "isLuks" => reading(options).map(Command::IsLuks),
+        "luksUUID" => reading(options).map(Command::LuksUuid),
+        "luksDump" => reading(options).map(Command::LuksDump),
+        "luksCheck" => reading(options).map(Command::LuksCheck),
+        _ => None,
     }
 }
 
