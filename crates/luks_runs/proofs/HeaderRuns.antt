@@ -1,8 +1,8 @@
 -- How the commands on headers end.
 use Rattle.std.specs.Prelude.{◌==◌}
-use Rattle.std.proofs.Common.{◌≡◌, ℕ, ◌<◌, ◌≤◌, Bool, true, false, List, Option, Result, Ok, Err, ap, refl, take}
+use Rattle.std.proofs.Common.{◌≡◌, ℕ, ◌≤◌, Bool, true, false, List, Option, Result, Ok, Err, refl}
 use Rattle.std.proofs.Common.{length, arith}
-use Rattle.luks_io.specs.Bytes.{Adds, Took}
+use Rattle.luks_io.specs.Bytes.{Adds, Took, counted}
 use Rattle.luks_io.proofs.Taking.{adds-none}
 use Rattle.luks_header.specs.Header.{BreaksReading, cost_of, header_of}
 use Rattle.luks_header.proofs.HeaderLemmas.{memory_below}
@@ -16,15 +16,16 @@ use Rattle.luks_runs.specs.Header.{answer_to_is_luks}
 use Rattle.luks_report.specs.Faults.{message_for_header}
 use Rattle.luks_runs.specs.Ending.{Outcome, unwritten}
 use Rattle.luks_runs.specs.MayEnd.{CheckMessage, PageMessage}
-use Rattle.luks_runs.specs.Header.{is_luks_outcome, print_outcome_by, told_of}
+use Rattle.luks_runs.specs.Header.{is_luks_outcome, print_outcome_by, text_of, told_of}
+use Rattle.luks_runs.specs.Printing.{Prints}
 use Rattle.luks_runs.specs.Standing.{reading_of}
 use Rattle.luks_runs.specs.declared.standing.Standing.{Standing}
 use Rattle.luks_runs.proofs.HeaderTaking.{reading_fault}
 use Rattle.luks_runs.specs.declared.headers.Page.{Page}
 use Rattle.luks_runs.specs.declared.headers.Page.TheVariants.{Uuid, Dump, Check}
-use Rattle.luks_report.specs.Check.{findings_of, message_for_check}
-use Rattle.luks_runs.specs.Run.{Counts, Failures, IsBeginning, IsSilent, Runs, BreaksOff, TookNone, at_any_pace}
-use Rattle.luks_runs.specs.Run.{breaks_off}
+use Rattle.luks_report.specs.Check.{check_of, findings_of, message_for_check}
+use Rattle.luks_runs.specs.Run.{Counts, IsBeginning, IsSilent, Runs, BreaksOff, TookNone, at_any_pace, failures_of}
+use Rattle.luks_runs.specs.Run.{is_failed_write}
 
 -- a run that ended before any output
 early : (o : Outcome) (image : List ℕ) (message : Message) (i w : Option (List ℕ)) (count : ℕ) → IsSilent message 0
@@ -44,17 +45,7 @@ early o image message i w count silent begins few took = record {
   output = adds-none w;
 }
 
--- what is told once a page is printed is no want of memory and no failure
-pub told_well : (page : Page) (header : Header) → breaks_off (told_of page header) ≡ false
-unfolding message_for_check
-told_well Uuid header = refl
-told_well Dump header = refl
-told_well Check header = by (length (findings_of header) == 0) refl where
-  by : (b : Bool) → (length (findings_of header) == 0) ≡ b → breaks_off (message_for_check header) ≡ false
-  by true is = rw is refl
-  by false is = rw is refl
-
--- it is one of the messages of the page
+-- what is told once a page is printed is one of its messages
 pub told_may_end : (page : Page) (header : Header) → PageMessage page (told_of page header)
 unfolding message_for_check
 told_may_end Uuid header = tt
@@ -64,24 +55,36 @@ told_may_end Check header = by (length (findings_of header) == 0) refl where
   by true is = rw is tt
   by false is = rw is tt
 
--- no read failed
-pub told_no_read : (page : Page) (header : Header) → told_of page header ≡ ReadFailed → ⊥
+-- no write failed
+pub told_unfailed : (page : Page) (header : Header) → is_failed_write (told_of page header) ≡ false
 unfolding message_for_check
-told_no_read page header wrong =
-    let fine : breaks_off (told_of page header) ≡ false = told_well page header in
-    let lost : breaks_off (told_of page header) ≡ true = ap breaks_off wrong in
-    cc
+told_unfailed Uuid header = refl
+told_unfailed Dump header = refl
+told_unfailed Check header = by (length (findings_of header) == 0) refl where
+  by : (b : Bool) → (length (findings_of header) == 0) ≡ b → is_failed_write (message_for_check header) ≡ false
+  by true is = rw is refl
+  by false is = rw is refl
 
--- and nothing is counted
-pub told_counts : (page : Page) (header : Header) (before after : Failures) → after ≡ before
-    → Counts (told_of page header) before after
+-- and its text was written
+pub told_prints : (page : Page) (header : Header) (text : List ℕ) (before after : Option (List ℕ))
+    → text ≡ text_of page header → Adds before after text
+    → Prints (text_of page header) (told_of page header) before after (told_of page header)
 unfolding message_for_check
-told_counts Uuid header before after same = same
-told_counts Dump header before after same = same
-told_counts Check header before after same = by (length (findings_of header) == 0) refl where
-  by : (b : Bool) → (length (findings_of header) == 0) ≡ b → Counts (message_for_check header) before after
-  by true is = rw is same
-  by false is = rw is same
+told_prints Uuid header text before after is a = (refl, rw is at a)
+told_prints Dump header text before after is a = (refl, rw is at a)
+told_prints Check header text before after is a = by (length (findings_of header) == 0) refl where
+  by : (b : Bool) → (length (findings_of header) == 0) ≡ b
+      → Prints (check_of header) (message_for_check header) before after (message_for_check header)
+  by true none = rw none (refl, rw is at a)
+  by false some = rw some (refl, rw is at a)
+
+-- the counts of a run that printed a text: only writes are counted
+pub printing_counts : (text : List ℕ) (told : Message) (before after : Option (List ℕ)) (message : Message)
+    (image secret written written' : ℕ) → Prints text told before after message
+    → written' ≡ counted (is_failed_write message) written
+    → Counts message (failures_of image secret written) (failures_of image secret written')
+printing_counts text told before after ReadFailed image secret written written' lost is = absurd lost
+printing_counts text told before after _ image secret written written' prints is = rw is refl
 
 module _ (stand : Standing) (text : Header → List ℕ) (told : Header → Message) (image : List ℕ)
     (i w : Option (List ℕ)) where
@@ -99,43 +102,34 @@ module _ (stand : Standing) (text : Header → List ℕ) (told : Header → Mess
     print_found = rw found refl
 
     -- memory was refused for its text
-    pub runs_without_text : Runs at_any_pace (print_outcome_by (reading_of stand) text told image) OutOfMemory
+    runs_without_text : Runs at_any_pace (print_outcome_by (reading_of stand) text told image) OutOfMemory
         (Took image i) TookNone
         (Adds w w)
     runs_without_text =
         rw print_found (early _ image OutOfMemory i w (cost_of image) refl (omega arith) (omega arith)
         (left))
 
-    -- the text was written
-    pub runs_to_end : (page : List ℕ) (w' : Option (List ℕ)) → page ≡ text header → Adds w w' page
-        → breaks_off (told header) ≡ false
-        → Runs at_any_pace (print_outcome_by (reading_of stand) text told image) (told header)
-        (Took image i) TookNone (Adds w w')
-    runs_to_end page w' is_text a fine =
-        rw (
-          fine,
-          print_found,
-          ← is_text,
-        ) (record { as_stated = refl; image = left; secret = refl; output = a })
-
-    -- a write failed within it
-    pub runs_without_rest : (page : List ℕ) (w' : Option (List ℕ)) (n : ℕ) → page ≡ text header → n < length page
-        → Adds w w' (take n page)
-        → Runs at_any_pace (print_outcome_by (reading_of stand) text told image) WriteFailed (Took image i) TookNone
+    -- the page was printed, as far as it came
+    pub runs_with_page : (message : Message) (w' : Option (List ℕ)) → Prints (text header) (told header) w w' message
+        → Runs at_any_pace (print_outcome_by (reading_of stand) text told image) message (Took image i) TookNone
         (Adds w w')
-    runs_without_rest page w' n is_text within a = rw (print_found, ← is_text) (record {
+    runs_with_page OutOfMemory w' same = rw same runs_without_text
+    runs_with_page WriteFailed w' part = rw print_found (record {
       image_taken = cost_of image;
       secret_taken = 0;
-      output_len = n;
+      output_len = part.0;
       image_within = omega arith;
       secret_within = omega arith;
-      output_within = omega arith;
+      output_within = part.1;
       is_silent = tt;
       is_prompt = tt;
       image = left;
       secret = refl;
-      output = a;
+      output = part.2;
     })
+    runs_with_page ReadFailed w' lost = absurd lost
+    runs_with_page _ w' all =
+        rw print_found (record { as_stated = all.0; image = left; secret = refl; output = all.1 })
 
   print_cost : (print_outcome_by (reading_of stand) text told image).image_taken ≡ cost_of image
   unfolding print_outcome_by

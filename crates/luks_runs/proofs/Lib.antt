@@ -1,3 +1,4 @@
+pub mod Counting
 pub mod HeaderRuns
 pub mod HeaderTaking
 pub mod MergeLemmas

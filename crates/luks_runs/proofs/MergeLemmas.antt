@@ -1,9 +1,9 @@
 -- Taking stripes one at a time, and how merging them ends.
 use Rattle.std.proofs.Common.{◌≡◌, ℕ, ◌+◌, ◌-◌, ◌*◌, ◌<◌, ◌≤◌, List, [], ◌++◌, true, false, suc, length-take-le, Option}
-use Rattle.std.proofs.Common.{Some, ◌∙◌, ap, sym, refl, take, drop, length, take_all, min, arith, zero-mul}
+use Rattle.std.proofs.Common.{Some, ◌∙◌, ap, sym, refl, take, drop, length, length-drop, arith, zero-mul}
 use Rattle.std.proofs.lemmas.List.{take-append-drop}
-use Rattle.luks_io.proofs.Taking.{adds-none, took-none, took_all, took_more, took_sum}
-use Rattle.luks_io.specs.Bytes.{Adds, Took, TookInto, WhereKnown}
+use Rattle.luks_io.proofs.Taking.{adds-none, took-none, took_behind}
+use Rattle.luks_io.specs.Bytes.{Adds, Took, WhereKnown}
 use Rattle.std.proofs.lemmas.Bool.Decides.{nat_tests}
 use Rattle.std.proofs.Math.Nat.{mul-le-mul_right}
 use Rattle.std.specs.Prelude.{nat_le}
@@ -16,6 +16,7 @@ use Rattle.luks_report.specs.declared.message.Message.TheVariants.{Done, FewStri
 use Rattle.luks_runs.specs.Stripe.{merge_outcome}
 use Rattle.luks_runs.specs.Run.{Runs, BreaksOff, Completes, TookNone, at_any_pace}
 use Rattle.luks_runs.specs.StripeParts.{StopsTaking}
+use Rattle.luks_runs.proofs.StripeLemmas.{is_stripe}
 
 -- before any byte is taken
 pub taken_none : (bytes : List ℕ) (s : Option (List ℕ)) (len : ℕ) → s ≡ Some bytes → Took bytes s (0 * len)
@@ -23,30 +24,27 @@ taken_none bytes s len is = rw zero-mul (took-none bytes s is)
 
 module _ (bytes : List ℕ) (i len : ℕ) (s : Option (List ℕ)) (p : Took bytes s (i * len)) where
   -- one whole stripe more
-  pub stripe_more : (s' : Option (List ℕ)) (stripe : List ℕ) → length stripe ≡ len
-      → WhereKnown s (λ rest. TookInto rest s' stripe len)
+  pub stripe_more : (s' : Option (List ℕ)) (stripe : List ℕ)
+      → WhereKnown s (λ rest. (stripe ≡ take len rest) × Took rest s' len)
       → Took bytes s' ((i + 1) * len) × (stripe ≡ stripe_at len bytes i)
-  unfolding stripe_at
-  stripe_more s' stripe long t =
-      let more : i * len + len ≡ (i + 1) * len = omega arith in (
-        took_sum bytes s s' (i * len) len ((i + 1) * len) more p (λ rest is. (t rest is).0),
-        sym (take_all len stripe (omega arith)) ∙ (t _ p.left).1,
-      )
+  stripe_more s' stripe t =
+      let here = t (drop (i * len) bytes) p.left in
+      let more : i * len + len ≡ (i + 1) * len = omega arith in
+      (rw more at (took_behind bytes s s' (i * len) len p here.1), is_stripe bytes i len stripe here.0)
 
-  -- a read failed within the next stripe
-  pub stops_reading : (count got : ℕ) (s' : Option (List ℕ)) (buf : List ℕ) → (i + 1) * len ≤ count * len → got < len
-      → WhereKnown s (λ rest. TookInto rest s' buf got)
-      → StopsTaking count len bytes s' ReadFailed
-  stops_reading count got s' buf below few t =
-      (i * len + got, omega arith, took_more bytes s s' (i * len) got p (λ rest is. (t rest is).0))
-
-  -- the bytes ended within the next stripe
-  pub stops_short : (count got : ℕ) (s' : Option (List ℕ)) (buf : List ℕ) → (i + 1) * len ≤ count * len → got < len
-      → WhereKnown s (λ rest. got ≡ min len (length rest))
-      → WhereKnown s (λ rest. TookInto rest s' buf got) → StopsTaking count len bytes s' FewStripes
-  stops_short count got s' buf below few all t =
-      let whole = took_all bytes s s' (i * len) len got p (λ rest is. (t rest is).0) all few in
-      (omega (arith, whole.0), whole.1)
+  -- the next one could not be taken
+  pub stops_at : (count : ℕ) (message : Message) (s' : Option (List ℕ)) → (i + 1) * len ≤ count * len
+      → WhereKnown s (λ rest. StopsTaking 1 len rest s' message)
+      → StopsTaking count len bytes s' message
+  stops_at count FewStripes s' below stop =
+      let rest = drop (i * len) bytes in
+      let here = stop rest p.left in
+      let all : i * len + length rest ≡ length bytes = omega (arith, length-drop (i * len) bytes, p.within) in
+      (omega (arith, here.0), rw all at (took_behind bytes s s' (i * len) (length rest) p here.1))
+  stops_at count ReadFailed s' below stop =
+      let here = stop (drop (i * len) bytes) p.left in
+      (i * len + here.0, omega (arith, here.1), took_behind bytes s s' (i * len) here.0 p here.2)
+  stops_at count _ s' below stop = absurd (stop (drop (i * len) bytes) p.left)
 
 -- what stops before all but one stripe are there stops before all are
 pub stops_before : (count len : ℕ) (bytes : List ℕ) (s : Option (List ℕ)) (message : Message)

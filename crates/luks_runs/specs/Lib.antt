@@ -2,6 +2,7 @@ pub mod Ending
 pub mod Header
 pub mod MayEnd
 pub mod Payload
+pub mod Printing
 pub mod Reading
 pub mod Run
 pub mod Secret

@@ -19,6 +19,17 @@ pub record Passed (random : List ℕ) (left before after : Option (List ℕ)) (t
   pub took : Took random left taken
   pub added : Adds before after (take written random)
 
+-- passing on one random stripe of `len` bytes was broken off: by the end of the random bytes, or by a failed read,
+-- before any byte was written, or by a failed write
+abbrev pub StopsInStripe : ℕ → List ℕ → Option (List ℕ) → Option (List ℕ) → Option (List ℕ) → Message → Type 0
+StopsInStripe len random left before after FewRandomBytes =
+    (length random < len) × Passed random left before after (length random) 0
+StopsInStripe len random left before after ReadFailed =
+    (taken : ℕ) × (taken < len) × Passed random left before after taken 0
+StopsInStripe len random left before after WriteFailed =
+    (written : ℕ) × (written < len) × Passed random left before after len written
+StopsInStripe len random left before after _ = ⊥
+
 -- passing on `count` random stripes of `len` bytes was broken off at stripe i, from 0: at the end of the random bytes
 -- or by a failed read after the whole stripes, and by a failed write within the stripe
 abbrev pub StopsAtStripe : ℕ → ℕ → List ℕ → Option (List ℕ) → Option (List ℕ) → Option (List ℕ) → Message → Type 0

@@ -1,10 +1,12 @@
 //! `isLuks`, `luksUUID`, `luksDump` and `luksCheck`: what an image's header says.
 
 ghost use Rattle.std.specs.Prelude.{◌≡◌, List, ℕ, IfOk, Option, string_bytes};
-ghost use Rattle.luks_io.specs.Bytes.{Adds, Took, WhereKnown};
+ghost use Rattle.luks_io.specs.Bytes.{Adds, Took, WhereKnown, counted};
 ghost use Rattle.luks_runs.specs.Header.{answer_to_is_luks, is_luks_outcome, print_outcome_by};
 ghost use Rattle.luks_runs.specs.Header.{text_of, told_of};
-ghost use Rattle.luks_runs.specs.Run.{Counts, failures_of, Runs, TookNone, at_any_pace, message_of};
+ghost use Rattle.luks_runs.specs.Printing.{Prints};
+ghost use Rattle.luks_runs.specs.Run.{Counts, failures_of, Runs, TookNone, at_any_pace};
+ghost use Rattle.luks_runs.specs.Run.{is_failed_write, message_of};
 ghost use Rattle.luks_runs.specs.MayEnd.{IsLuksMessage, PageMessage};
 ghost use Rattle.luks_runs.specs.Standing.{reading_of};
 
@@ -97,7 +99,23 @@ pub fn print<S: Source, O: Sink>(
         (failures_of (S.failures image.new) secret (O.failures out.new)) }
 {
     let (header, _held) = find_header(alloc, standing, image)?;
-    let (text, message) = page_text(alloc, page, &header)?;
+    print_page(alloc, page, &header, out)
+}
+
+/// Prints the page of a header: it stands whole before its first byte is written.
+fn print_page<O: Sink>(
+    alloc: Global,
+    page: Page,
+    header: &Header,
+    out: &mut O,
+) -> Result<(), Message>
+    ensures run { Prints (text_of page header.now) (told_of page header.now)
+        (O.written out.old) (O.written out.new) (message_of result) }
+    ensures only { PageMessage page (message_of result) }
+    ensures writes { O.failures out.new
+        ≡ counted (is_failed_write (message_of result)) (O.failures out.old) }
+{
+    let (text, message) = page_text(alloc, page, header)?;
     put_all(out, text.as_bytes())?;
     ended(message)
 }

@@ -1,15 +1,15 @@
 //! `afSplit` and `afMerge`: keys and the stripes that hold them.
 
-ghost use Rattle.std.specs.Prelude.{◌≡◌, ◌≢◌, ◌*◌, ◌<◌, ◌≤◌, ◌⊎◌, ◌+◌, ℕ, IfOk, IfErr, OnOk};
-ghost use Rattle.std.specs.Prelude.{length, take};
-ghost use Rattle.luks_stripes.specs.Stripes.{chain_after};
+ghost use Rattle.std.specs.Prelude.{◌≡◌, ◌≢◌, ◌*◌, ◌<◌, ◌≤◌, ◌⊎◌, ◌+◌, List, ℕ, IfOk, IfErr, OnOk};
+ghost use Rattle.std.specs.Prelude.{Option, length, take};
+ghost use Rattle.luks_stripes.specs.Stripes.{chain_after, merged};
 ghost use Rattle.luks_io.specs.Bytes.{Adds, Took, WhereKnown, counted};
 ghost use Rattle.luks_runs.specs.Run.{Counts, failures_of, Runs, TookNone, at_any_pace};
 ghost use Rattle.luks_runs.specs.Run.{is_failed_read, is_failed_write, message_of};
 ghost use Rattle.luks_runs.specs.MayEnd.{MergeMessage, SplitMessage};
 ghost use Rattle.luks_runs.specs.Stripe.{merge_outcome, split_outcome};
-ghost use Rattle.luks_runs.specs.StripeParts.{NoKeyRead, Passed, StopsAtStripe, StopsTaking};
-ghost use Rattle.luks_runs.specs.StripeParts.{split_promptly};
+ghost use Rattle.luks_runs.specs.StripeParts.{NoKeyRead, Passed, StopsAtStripe, StopsInStripe};
+ghost use Rattle.luks_runs.specs.StripeParts.{StopsTaking, split_promptly};
 ghost use Rattle.luks_runs.specs.Stripe.{longest_key};
 
 use luks_io::sink::{Sink, put_all};
@@ -74,13 +74,37 @@ fn pass_stripes<R: Source, O: Sink>(
 {
     let mut splitter = AfSplitter::new(hash, stripe.len());
     'stripes: for _ in 0..count {
-        if fill(random, stripe)? < stripe.len() {
-            return Err(Message::FewRandomBytes);
-        }
-        put_all(out, stripe)?;
+        pass_stripe(stripe, random, out)?;
         splitter.stripe(stripe);
     }
     Ok(splitter)
+}
+
+/// Writes the next random stripe, once it is whole.
+fn pass_stripe<R: Source, O: Sink>(
+    stripe: &mut [u8],
+    random: &mut R,
+    out: &mut O,
+) -> Result<(), Message>
+    ensures ok { OnOk result (WhereKnown (R.to_come random.old)
+        (λ known. (stripe.new ≡ take (length stripe.new) known)
+        × Passed known (R.to_come random.new) (O.written out.old) (O.written out.new)
+        (length stripe.new) (length stripe.new))) }
+    ensures err { IfErr result (λ message. WhereKnown (R.to_come random.old)
+        (λ known. StopsInStripe (length stripe.new) known
+        (R.to_come random.new) (O.written out.old) (O.written out.new) message)) }
+    ensures reads { R.failures random.new
+        ≡ counted (is_failed_read (message_of result)) (R.failures random.old) }
+    ensures writes { O.failures out.new
+        ≡ counted (is_failed_write (message_of result)) (O.failures out.old) }
+    ensures only { SplitMessage (message_of result) }
+    ensures memory { IfErr result (λ message. message ≢ Message.OutOfMemory) }
+{
+    if fill(random, stripe)? < stripe.len() {
+        return Err(Message::FewRandomBytes);
+    }
+    put_all(out, stripe)?;
+    Ok(())
 }
 
 /// `afSplit`: the key that the first source gives in stripes, the random ones first.
@@ -107,17 +131,42 @@ pub fn split<K: Source, R: Source, O: Sink>(
 {
     let mut key_buf = [0; LONGEST_KEY + 1];
     let len = read_key(key, &mut key_buf)?;
-    let mut stripe_buf = [0; LONGEST_KEY];
-    let stripe = &mut stripe_buf[..len];
+    split_key(splitting, &key_buf[..len], random, out)
+}
+
+/// Writes the stripes of a key, the random ones first.
+fn split_key<R: Source, O: Sink>(
+    splitting: &Splitting<'_>,
+    key: &[u8],
+    random: &mut R,
+    out: &mut O,
+) -> Result<(), Message>
+    requires some { 1 ≤ length key.now }
+    requires room { length key.now ≤ longest_key }
+    ensures run { (left : Option (List ℕ)) → Took key.now left (length key.now)
+        → WhereKnown (R.to_come random.old) (λ bytes.
+        Runs (split_promptly (length key.now))
+        (split_outcome splitting.now.hash splitting.now.stripes.count key.now bytes)
+        (message_of result) (Took key.now left) (Took bytes (R.to_come random.new))
+        (Adds (O.written out.old) (O.written out.new))) }
+    ensures only { SplitMessage (message_of result) }
+    ensures memory { IfErr result (λ message. message ≢ Message.OutOfMemory) }
+    ensures reads { R.failures random.new
+        ≡ counted (is_failed_read (message_of result)) (R.failures random.old) }
+    ensures writes { O.failures out.new
+        ≡ counted (is_failed_write (message_of result)) (O.failures out.old) }
+{
+    let mut block_buf = [0; LONGEST_KEY];
+    let block = &mut block_buf[..key.len()];
     let splitter = pass_stripes(
         splitting.hash,
         splitting.stripes.get() - 1,
-        stripe,
+        block,
         random,
         out,
     )?;
-    splitter.last(&key_buf[..len], stripe);
-    put_all(out, stripe)?;
+    splitter.last(key, block);
+    put_all(out, block)?;
     Ok(())
 }
 
@@ -143,12 +192,55 @@ fn take_stripes<S: Source>(
 {
     let mut splitter = AfSplitter::new(hash, stripe.len());
     'stripes: for _ in 0..count {
-        if fill(stripes, stripe)? < stripe.len() {
-            return Err(Message::FewStripes);
-        }
+        take_stripe(stripe, stripes)?;
         splitter.stripe(stripe);
     }
     Ok(splitter)
+}
+
+/// Takes the next stripe, a whole one.
+fn take_stripe<S: Source>(stripe: &mut [u8], stripes: &mut S) -> Result<(), Message>
+    ensures ok { OnOk result (WhereKnown (S.to_come stripes.old)
+        (λ known. (stripe.new ≡ take (length stripe.new) known)
+        × Took known (S.to_come stripes.new) (length stripe.new))) }
+    ensures err { IfErr result (λ message. WhereKnown (S.to_come stripes.old)
+        (λ known. StopsTaking 1 (length stripe.new) known (S.to_come stripes.new) message)) }
+    ensures only { IfErr result (λ message.
+        (message ≡ Message.FewStripes) ⊎ (message ≡ Message.ReadFailed)) }
+    ensures reads { S.failures stripes.new
+        ≡ counted (is_failed_read (message_of result)) (S.failures stripes.old) }
+{
+    if fill(stripes, stripe)? < stripe.len() {
+        return Err(Message::FewStripes);
+    }
+    Ok(())
+}
+
+/// Puts the key of the stripes that the source gives first into the buffer, which is as long.
+fn take_key<S: Source>(
+    merging: &Merging<'_>,
+    key: &mut [u8],
+    stripes: &mut S,
+) -> Result<(), Message>
+    requires { length key.old ≡ merging.now.key_bytes.bytes }
+    ensures ok { OnOk result (WhereKnown (S.to_come stripes.old) (λ known. let m = merging.now in
+        let needed = m.stripes.count * m.key_bytes.bytes in
+        (key.new ≡ merged m.hash m.key_bytes.bytes (take needed known))
+        × Took known (S.to_come stripes.new) needed)) }
+    ensures err { IfErr result (λ message. WhereKnown (S.to_come stripes.old)
+        (λ known. StopsTaking merging.now.stripes.count merging.now.key_bytes.bytes known
+        (S.to_come stripes.new) message)) }
+    ensures only { IfErr result (λ message.
+        (message ≡ Message.FewStripes) ⊎ (message ≡ Message.ReadFailed)) }
+    ensures reads { S.failures stripes.new
+        ≡ counted (is_failed_read (message_of result)) (S.failures stripes.old) }
+{
+    let mut stripe_buf = [0; LONGEST_KEY];
+    let stripe = &mut stripe_buf[..key.len()];
+    let splitter = take_stripes(merging.hash, merging.stripes.get() - 1, stripe, stripes)?;
+    take_stripe(stripe, stripes)?;
+    splitter.last(stripe, key);
+    Ok(())
 }
 
 /// `afMerge`: the key of the stripes that the source gives first.
@@ -168,16 +260,9 @@ pub fn merge<S: Source, O: Sink>(
         (failures_of (S.failures stripes.old) secret (O.failures out.old))
         (failures_of (S.failures stripes.new) secret (O.failures out.new)) }
 {
-    let len = merging.key_bytes.get();
-    let mut stripe_buf = [0; LONGEST_KEY];
     let mut key_buf = [0; LONGEST_KEY];
-    let stripe = &mut stripe_buf[..len];
-    let key = &mut key_buf[..len];
-    let splitter = take_stripes(merging.hash, merging.stripes.get() - 1, stripe, stripes)?;
-    if fill(stripes, stripe)? < len {
-        return Err(Message::FewStripes);
-    }
-    splitter.last(stripe, key);
+    let key = &mut key_buf[..merging.key_bytes.get()];
+    take_key(merging, key, stripes)?;
     put_all(out, key)?;
     Ok(())
 }

@@ -84,3 +84,19 @@ returns-clause-run g c whole few front took =
     let passing = so_far.passing whole few front took in
     let all = few_sectors c.sectors.pump.segment whole few in
     absurd (omega (arith, passing.few, so_far.count))
+
+pub returns-in-End-clause-reads : goal.returns-in-End-clause-reads
+returns-in-End-clause-reads g c =
+    let step = rw c.in-End.is at c.in_ok-step.ensures in
+    step.reads c.sectors.invariant.running ∙ c.sectors.invariant.reads
+
+pub returns-in-End-clause-writes : goal.returns-in-End-clause-writes
+returns-in-End-clause-writes g c =
+    let step = rw c.in-End.is at c.in_ok-step.ensures in
+    step.writes c.sectors.invariant.running ∙ c.sectors.invariant.writes
+
+pub returns-clause-reads : goal.returns-clause-reads
+returns-clause-reads g c = c.sectors.invariant.reads
+
+pub returns-clause-writes : goal.returns-clause-writes
+returns-clause-writes g c = c.sectors.invariant.writes
