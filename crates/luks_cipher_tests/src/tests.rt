@@ -8,10 +8,9 @@ mod slices;
 mod xts;
 mod xts_vectors;
 
-use std::alloc::Global;
+use luks_cipher::SectorCipher;
 use std::fmt::Debug;
 use std::process::Abort;
-use std::test::Fail;
 
 // Asserts what holds in this case of a table.
 fn assert_in<C: Debug>(rt: &impl Abort, case: &C, holds: bool) {
@@ -28,8 +27,33 @@ fn assert_same_in<C: Debug, T: PartialEq + Debug + Drop>(
     assert_eq!(rt; left, right, "{case:?}");
 }
 
+// A line's word of this number, from 0, or nothing where the line has fewer.
+fn word(line: &str, number: usize) -> &str {
+    line.split(' ').nth(number).unwrap_or("")
+}
+
+fn number_of(rt: &impl Abort, word: &str) -> u64 {
+    word.parse().expect(rt, "a number")
+}
+
 // The bytes that the hexadecimal digits spell.
-fn bytes(alloc: Global, digits: &str) -> Result<Vec<u8>, Fail> {
-    let decoded = hex::decode(alloc, digits.as_bytes());
-    Ok(decoded.ok().ok_or("no hexadecimal digits")?)
+fn bytes(rt: &(impl Abort + AllocGlobal), digits: &str) -> Vec<u8> {
+    hex::decode(rt.alloc(), digits).expect(rt, "hexadecimal digits")
+}
+
+// Whether these are the bytes that the digits spell.
+fn are_spelt(rt: &(impl Abort + AllocGlobal), unit: &[u8], digits: &str) -> bool {
+    bytes(rt, digits).as_slice() == unit
+}
+
+fn encrypt_sector(rt: &impl Abort, cipher: &SectorCipher, number: u64, sector: &mut [u8]) {
+    assert!(rt; sector.len() % 16 == 0);
+    assert!(rt; 16 <= sector.len() && sector.len() <= 4096);
+    cipher.encrypt_unit(number, sector);
+}
+
+fn decrypt_sector(rt: &impl Abort, cipher: &SectorCipher, number: u64, sector: &mut [u8]) {
+    assert!(rt; sector.len() % 16 == 0);
+    assert!(rt; 16 <= sector.len() && sector.len() <= 4096);
+    cipher.decrypt_unit(number, sector);
 }

@@ -3,5 +3,4 @@
 mod check;
 mod dump2;
 mod fixture;
-mod fixture2;
 mod messages;

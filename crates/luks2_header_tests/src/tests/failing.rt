@@ -1,21 +1,21 @@
 //! Checksums that another program computed, sources that give little or fail, and want of memory.
 
 use super::fixture::{
-    JSON, Sketch, flip, front, image_of, put, range_mut, read, read_from, seal, usual,
+    JSON, Sketch, assert_in, assert_of, fault_of, flip, front, image_of, put, range_mut, read_from,
+    seal, taken, usual,
 };
 use luks_area::fault::HeaderFault;
+use luks_io::memory::MemSource;
 use luks_kdf::Hash;
 use luks_testing::devices::{Broken, Flaky};
-use luks_testing::same::{holds_in, same, same_in};
 use luks_testing::scarce::Scarcity;
-use luks2_header::header::{Finding, Place};
-use std::alloc::{AllocError, Global};
+use luks2_header::header::{Finding, Header2, Place};
+use std::alloc::Global;
 use std::process::Abort;
-use std::test::Fail;
 
 // Computed by Python's hashlib over headers that were packed by its struct module: a primary header
 // of 16,384 bytes with the sequence number 7.
-const SUMS: [(Hash, &str, &str); 5] = [
+static SUMS: [(Hash, &str, &str); 5] = [
     (
         Hash::Sha1,
         "sha1",
@@ -53,164 +53,198 @@ fn primary_of<'a>(hash: Hash, name: &'a str) -> Sketch<'a> {
     }
 }
 
-fn check_sum(
-    rt: &(impl Abort + AllocGlobal),
-    hash: Hash,
-    name: &str,
-    digits: &str,
-) -> Result<(), Fail> {
-    let mut image = image_of(rt.alloc(), 16_384, &[primary_of(hash, name)])?;
-    put(image.as_mut_slice(), 448, &[0; 64]);
-    let sum = hex::decode(rt.alloc(), digits)?;
-    put(image.as_mut_slice(), 448, sum.as_slice());
-    let (answer, taken) = read(rt.alloc(), image.as_slice());
-    let (header, _) = answer?;
-    same(header.hash, hash).expect(rt, "the same");
-    same_in(&name, taken, 16_384).expect(rt, "the same");
-    Ok(())
+// Writes the checksum that the digits spell in place of a header's own.
+fn put_sum(header: &mut [u8], hash: Hash, digits: &str) {
+    let mut sum = [0; 64];
+    let _ = hex::decode_to_slice(digits, &mut sum[..hash.size()]);
+    put(header, 448, &sum);
+}
+
+fn with_sum(rt: &(impl Abort + AllocGlobal), hash: Hash, name: &str, digits: &str) -> Vec<u8> {
+    let mut image = image_of(rt, 16_384, &[primary_of(hash, name)]);
+    put_sum(image.as_mut_slice(), hash, digits);
+    image
+}
+
+fn check_sum(rt: &(impl Abort + AllocGlobal), image: &[u8], hash: Hash, name: &str) {
+    let mut source = MemSource::new(image);
+    let (header, _area) = read_from(rt.alloc(), &mut source).expect(rt, "a header");
+    let read = (header.hash, taken(image, &source));
+    assert_of(rt, name, read == (hash, 16_384));
 }
 
 #[test]
-fn checksums_of_another_program_agree(rt: HostRuntime) -> Result<(), Fail> {
-    for (hash, name, digits) in SUMS {
-        check_sum(&rt, hash, name, digits)?;
+fn checksums_of_another_program_agree(rt: HostRuntime) {
+    for (hash, name, digits) in &SUMS {
+        check_sum(&rt, &with_sum(&rt, *hash, name, digits), *hash, name);
     }
-    Ok(())
 }
 
-fn check_extent(rt: &(impl Abort + AllocGlobal), hash: Hash, name: &str) -> Result<(), Fail> {
-    let mut image = image_of(rt.alloc(), 16_384, &[primary_of(hash, name)])?;
+// Whether an image is read.
+fn is_read(alloc: Global, image: &[u8]) -> bool {
+    fault_of(alloc, &mut MemSource::new(image)).is_none()
+}
+
+fn check_is_read(rt: &(impl Abort + AllocGlobal), image: &[u8], name: &str, read: bool) {
+    assert_of(rt, name, is_read(rt.alloc(), image) == read);
+}
+
+// The bytes behind the checksum do not count, and its last one does.
+fn check_extent(rt: &(impl Abort + AllocGlobal), image: &mut [u8], hash: Hash, name: &str) {
     let size = hash.size();
     if size < 64 {
-        put(image.as_mut_slice(), 448 + size, b"x");
-        put(image.as_mut_slice(), 511, b"y");
-        holds_in(&name, read(rt.alloc(), image.as_slice()).0.is_ok()).expect(rt, "so");
+        put(image, 448 + size, b"x");
+        put(image, 511, b"y");
+        check_is_read(rt, image, name, true);
     }
-    flip(image.as_mut_slice(), 447 + size);
-    holds_in(&name, read(rt.alloc(), image.as_slice()).0.is_err()).expect(rt, "so");
-    Ok(())
+    flip(image, 447 + size);
+    check_is_read(rt, image, name, false);
+}
+
+fn check_hash(rt: &(impl Abort + AllocGlobal), hash: Hash, name: &str) {
+    let mut image = image_of(rt, 16_384, &[primary_of(hash, name)]);
+    check_extent(rt, image.as_mut_slice(), hash, name);
 }
 
 #[test]
-fn so_much_of_the_checksum_counts_as_the_hash_has(rt: HostRuntime) -> Result<(), Fail> {
-    for (hash, name, _) in SUMS {
-        check_extent(&rt, hash, name)?;
+fn so_much_of_the_checksum_counts_as_the_hash_has(rt: HostRuntime) {
+    for (hash, name, _) in &SUMS {
+        check_hash(&rt, *hash, name);
     }
-    Ok(())
 }
+
+static NAMES: [(&str, bool); 4] = [
+    ("SHA256", true),
+    ("Sha256", true),
+    ("sha-256", false),
+    ("", false),
+];
 
 #[test]
-fn the_name_of_a_hash_is_folded(rt: HostRuntime) -> Result<(), Fail> {
-    for (name, known) in [
-        ("SHA256", true),
-        ("Sha256", true),
-        ("sha-256", false),
-        ("", false),
-    ] {
-        let image = image_of(rt.alloc(), 16_384, &[primary_of(Hash::Sha256, name)])?;
-        same_in(&name, read(rt.alloc(), image.as_slice()).0.is_ok(), known).expect(&rt, "the same");
+fn the_name_of_a_hash_is_folded(rt: HostRuntime) {
+    for (name, known) in &NAMES {
+        let image = image_of(&rt, 16_384, &[primary_of(Hash::Sha256, name)]);
+        check_is_read(&rt, &image, name, *known);
     }
-    Ok(())
 }
 
-// A secondary header alone whose JSON area has a letter in each byte.
-fn full_of_text(alloc: Global) -> Result<Vec<u8>, AllocError> {
-    let mut image = image_of(alloc, 32_768, &[usual(16_384)])?;
-    let header = range_mut(image.as_mut_slice(), 16_384, 16_384);
+// Fills a header's JSON area with a letter.
+fn fill_text(header: &mut [u8]) {
     for i in 4096..16_384 {
         put(header, i, b"j");
     }
     put(header, 448, &[0; 64]);
     seal(header, Hash::Sha256);
-    Ok(image)
+}
+
+// A secondary header alone whose JSON area has a letter in each byte.
+fn full_of_text(rt: &(impl Abort + AllocGlobal)) -> Vec<u8> {
+    let mut image = image_of(rt, 32_768, &[usual(16_384)]);
+    fill_text(range_mut(image.as_mut_slice(), 16_384, 16_384));
+    image
+}
+
+fn check_text(rt: &impl Abort, header: &Header2, area: &[u8]) {
+    let text = header.json_text(area);
+    assert_in(rt, 12_288, text.len() == 12_288);
+    assert_in(rt, 0, text.first().copied() == Some(b'j'));
+    let short = header.json_text(front(area, 16_384));
+    assert_in(rt, 16_384, short.len() == 0);
+}
+
+fn check_full(rt: &(impl Abort + AllocGlobal), image: &[u8]) {
+    let mut source = MemSource::new(image);
+    let (header, area) = read_from(rt.alloc(), &mut source).expect(rt, "a header");
+    check_text(rt, &header, area.as_slice());
 }
 
 #[test]
-fn a_json_area_without_a_zero_byte_is_text_to_its_end(rt: HostRuntime) -> Result<(), Fail> {
-    let image = full_of_text(rt.alloc())?;
-    let (answer, _) = read(rt.alloc(), image.as_slice());
-    let (header, area) = answer?;
-    let text = header.json_text(area.as_slice());
-    same(text.len(), 12_288).expect(&rt, "the same");
-    same(text.first().copied(), Some(b'j')).expect(&rt, "the same");
-    let short = header.json_text(front(area.as_slice(), 16_384));
-    same(short.len(), 0).expect(&rt, "the same");
-    Ok(())
+fn a_json_area_without_a_zero_byte_is_text_to_its_end(rt: HostRuntime) {
+    check_full(&rt, &full_of_text(&rt));
 }
 
-fn check_pieces(
+// Where the header stands and what is amiss, in an image with one byte more than it has.
+fn check_piece(
     rt: &(impl Abort + AllocGlobal),
     image: &[u8],
     piece: usize,
     want: (Place, Option<Finding>),
-) -> Result<(), Fail> {
+) {
     let mut source = Flaky::new(image, piece, u64::MAX);
-    let (header, area) = read_from(rt.alloc(), &mut source)?;
-    same_in(&piece, (header.place, header.finding), want).expect(rt, "the same");
-    same_in(&piece, header.json_text(area.as_slice()), JSON).expect(rt, "the same");
-    same_in(&piece, source.left(), 1).expect(rt, "the same");
-    Ok(())
+    let (header, area) = read_from(rt.alloc(), &mut source).expect(rt, "a header");
+    let case = piece as u64;
+    assert_in(rt, case, source.left() == 1);
+    assert_in(rt, case, (header.place, header.finding) == want);
+    assert_in(rt, case, header.json_text(area.as_slice()) == JSON);
+}
+
+fn check_pieces(rt: &(impl Abort + AllocGlobal), image: &[u8], want: (Place, Option<Finding>)) {
+    for piece in [1, 4095, 0] {
+        check_piece(rt, image, piece, want);
+    }
 }
 
 #[test]
-fn pieces_of_any_length_serve(rt: HostRuntime) -> Result<(), Fail> {
-    let image = image_of(rt.alloc(), 32_769, &[usual(0), usual(16_384)])?;
-    let searched = image_of(rt.alloc(), 32_769, &[usual(16_384)])?;
+fn pieces_of_any_length_serve(rt: HostRuntime) {
+    let image = image_of(&rt, 32_769, &[usual(0), usual(16_384)]);
+    check_pieces(&rt, &image, (Place::Primary, None));
     let found = (Place::Secondary, Some(Finding::PrimaryNotValid));
-    for piece in [1, 4095, 0] {
-        check_pieces(&rt, image.as_slice(), piece, (Place::Primary, None))?;
-        check_pieces(&rt, searched.as_slice(), piece, found)?;
-    }
-    Ok(())
+    check_pieces(&rt, &image_of(&rt, 32_769, &[usual(16_384)]), found);
 }
 
 // A source of 40,000 bytes that fails once after so many.
 fn check_failed(rt: &(impl Abort + AllocGlobal), bytes: &[u8], given: usize) {
     let mut source = Broken::new(bytes, given);
-    let answer = read_from(rt.alloc(), &mut source);
-    same_in(&given, answer.err(), Some(HeaderFault::Read)).expect(rt, "the same");
-    same_in(&given, source.failures, 1).expect(rt, "the same");
-    same_in(&given, source.left(), 40_000usize.saturating_sub(given)).expect(rt, "the same");
+    let fault = fault_of(rt.alloc(), &mut source);
+    let case = given as u64;
+    assert_in(
+        rt,
+        case,
+        fault == Some(HeaderFault::Read) && source.failures == 1,
+    );
+    assert_in(rt, case, source.left() == 40_000usize.saturating_sub(given));
 }
 
 fn check_whole(rt: &(impl Abort + AllocGlobal), bytes: &[u8]) {
     let mut source = Broken::new(bytes, 32_768);
-    assert!(rt; read_from(rt.alloc(), &mut source).is_ok());
-    same(source.failures, 0).expect(rt, "the same");
+    let fault = fault_of(rt.alloc(), &mut source);
+    assert_in(rt, 32_768, fault.is_none() && source.failures == 0);
+}
+
+fn check_reads(rt: &(impl Abort + AllocGlobal), bytes: &[u8]) {
+    for given in [0, 591, 592, 4095, 4096, 16_383, 16_384, 20_480, 32_767] {
+        check_failed(rt, bytes, given);
+    }
+    check_whole(rt, bytes);
 }
 
 #[test]
-fn each_failed_read_is_told(rt: HostRuntime) -> Result<(), Fail> {
-    let image = image_of(rt.alloc(), 40_000, &[usual(0), usual(16_384)])?;
-    let searched = image_of(rt.alloc(), 40_000, &[usual(16_384)])?;
-    for given in [0, 591, 592, 4095, 4096, 16_383, 16_384, 20_480, 32_767] {
-        check_failed(&rt, image.as_slice(), given);
-        check_failed(&rt, searched.as_slice(), given);
-    }
-    check_whole(&rt, image.as_slice());
-    check_whole(&rt, searched.as_slice());
-    Ok(())
+fn each_failed_read_is_told(rt: HostRuntime) {
+    let image = image_of(&rt, 40_000, &[usual(0), usual(16_384)]);
+    check_reads(&rt, &image);
+    check_reads(&rt, &image_of(&rt, 40_000, &[usual(16_384)]));
 }
 
 // Runs until one meets no refusal, and answers how many met one.
 fn refused_runs(alloc: Global, image: &[u8], scarcity: &mut Scarcity, most: u32) -> Option<u32> {
     for refused in 0..most {
-        match read(alloc, image).0 {
-            Ok(_) => return Some(refused),
-            Err(HeaderFault::Memory) => scarcity.relent(),
-            Err(_) => return None,
+        match fault_of(alloc, &mut MemSource::new(image)) {
+            None => return Some(refused),
+            Some(HeaderFault::Memory) => scarcity.relent(),
+            Some(_) => return None,
         }
     }
     None
 }
 
+fn scarce_runs(rt: &(impl Abort + AllocGlobal), image: &[u8]) -> Option<u32> {
+    let mut scarcity = Scarcity::new(rt.alloc(), 40, 4096).expect(rt, "memory");
+    refused_runs(rt.alloc(), image, &mut scarcity, 41)
+}
+
 #[test]
-fn want_of_memory_is_told(rt: HostRuntime) -> Result<(), Fail> {
-    let image = image_of(rt.alloc(), 32_768, &[usual(16_384)])?;
-    let mut scarcity = Scarcity::new(rt.alloc(), 40, 4096)?;
-    let runs = refused_runs(rt.alloc(), image.as_slice(), &mut scarcity, 41);
-    drop(scarcity);
+fn want_of_memory_is_told(rt: HostRuntime) {
+    let runs = scarce_runs(&rt, &image_of(&rt, 32_768, &[usual(16_384)]));
     // Another fault than want of memory, too little given back, or no refusal at all.
-    holds_in(&runs, runs.unwrap_or(0) > 0).expect(&rt, "so");
-    Ok(())
+    assert!(rt; runs.unwrap_or(0) > 0, "{runs:?}");
 }

@@ -1,4 +1,7 @@
 //! Images with headers of LUKS2, and what is read of them.
+//!
+//! Where a call is to succeed, an error ends the test on the spot: what is not handed up needs not
+//! be dropped on the way.
 
 use luks_area::area::HeaderArea;
 use luks_area::fault::HeaderFault;
@@ -7,7 +10,8 @@ use luks_io::source::Source;
 use luks_kdf::{Hash, digest};
 use luks2_header::header::Header2;
 use luks2_header::reading::read_header2;
-use std::alloc::{AllocError, Global};
+use std::alloc::Global;
+use std::process::Abort;
 
 /// The JSON text of every header.
 pub const JSON: &[u8] =
@@ -52,8 +56,8 @@ pub fn flip(bytes: &mut [u8], place: usize) {
 }
 
 /// So many zero bytes.
-pub fn zeros(alloc: Global, len: usize) -> Result<Vec<u8>, AllocError> {
-    vec![in alloc; 0; len]
+pub fn zeros(rt: &(impl Abort + AllocGlobal), len: usize) -> Vec<u8> {
+    vec![in rt.alloc(); 0; len].expect(rt, "memory")
 }
 
 /// So many bytes from a place on, or as many as there are.
@@ -97,13 +101,18 @@ pub fn seal(header: &mut [u8], hash: Hash) {
     put(header, 448, sum);
 }
 
-/// An image of this length with these headers.
-pub fn image_of(alloc: Global, len: usize, headers: &[Sketch<'_>]) -> Result<Vec<u8>, AllocError> {
-    let mut image = zeros(alloc, len)?;
+// Writes headers into an image, one after the other.
+fn write_headers(image: &mut [u8], headers: &[Sketch<'_>]) {
     for header in headers {
-        write_header(image.as_mut_slice(), *header);
+        write_header(image, *header);
     }
-    Ok(image)
+}
+
+/// An image of this length with these headers.
+pub fn image_of(rt: &(impl Abort + AllocGlobal), len: usize, headers: &[Sketch<'_>]) -> Vec<u8> {
+    let mut image = zeros(rt, len);
+    write_headers(image.as_mut_slice(), headers);
+    image
 }
 
 /// What is read of a source whose first 592 bytes are held before.
@@ -117,9 +126,22 @@ pub fn read_from<S: Source>(
     Ok((header, area))
 }
 
-/// What is read of an image, and how many bytes that takes.
-pub fn read(alloc: Global, image: &[u8]) -> (Result<(Header2, HeaderArea), HeaderFault>, usize) {
-    let mut source = MemSource::new(image);
-    let answer = read_from(alloc, &mut source);
-    (answer, image.len().saturating_sub(source.left().len()))
+/// Why a source is not read, where it is not.
+pub fn fault_of<S: Source>(alloc: Global, source: &mut S) -> Option<HeaderFault> {
+    read_from(alloc, source).err()
+}
+
+/// How many bytes of an image were taken.
+pub fn taken(image: &[u8], source: &MemSource<'_>) -> usize {
+    image.len().saturating_sub(source.left().len())
+}
+
+/// Asserts what holds in the case of this number.
+pub fn assert_in(rt: &impl Abort, case: u64, holds: bool) {
+    assert!(rt; holds, "{case}");
+}
+
+/// Asserts what holds of a hash function of this name.
+pub fn assert_of(rt: &impl Abort, name: &str, holds: bool) {
+    assert!(rt; holds, "{name}");
 }

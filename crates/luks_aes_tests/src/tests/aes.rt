@@ -1,8 +1,7 @@
+use super::block;
 use super::known_answers::{AES_128, AES_192, AES_256};
-use super::{block, bytes};
 use luks_aes::AesKey;
-use std::alloc::Global;
-use std::test::Fail;
+use std::process::Abort;
 
 // The examples of FIPS 197, appendices B and C: a key, a block and that block encrypted.
 const EXAMPLES: &str = "\
@@ -12,54 +11,85 @@ const EXAMPLES: &str = "\
 000102030405060708090a0b0c0d0e0f101112131415161718191a1b1c1d1e1f 00112233445566778899aabbccddeeff 8ea2b7ca516745bfeafc49904b496089
 ";
 
-// Each line's key takes its plain block to its encrypted one, and back.
-fn holds(alloc: Global, line: &str) -> Result<bool, Fail> {
+// A line of a table; bytes are hexadecimal digits.
+#[derive(Clone, Copy)]
+struct Row<'a> {
+    key: &'a str,
+    plain: &'a str,
+    encrypted: &'a str,
+}
+
+fn row_of(line: &str) -> Option<Row<'_>> {
     let mut words = line.split(' ');
-    let key = bytes(alloc, words.next().ok_or("no key")?)?;
-    let plain = block(alloc, words.next().ok_or("no block")?)?;
-    let encrypted = block(alloc, words.next().ok_or("no answer")?)?;
-    let key = AesKey::new(&key).ok_or("no length of a key")?;
+    Some(Row {
+        key: words.next()?,
+        plain: words.next()?,
+        encrypted: words.next()?,
+    })
+}
+
+// The key takes the plain block to the encrypted one, and back.
+fn holds(key: &AesKey, plain: [u8; 16], encrypted: [u8; 16]) -> bool {
     let mut there = plain;
     key.encrypt_block(&mut there);
     let mut back = encrypted;
     key.decrypt_block(&mut back);
-    Ok(there == encrypted && back == plain)
+    there == encrypted && back == plain
+}
+
+fn key_of(rt: &(impl Abort + AllocGlobal), digits: &str) -> AesKey {
+    let key = hex::decode(rt.alloc(), digits).expect(rt, "hexadecimal digits");
+    AesKey::new(&key).expect(rt, "a length of a key")
+}
+
+fn row_holds(rt: &(impl Abort + AllocGlobal), row: &Row<'_>) -> bool {
+    holds(
+        &key_of(rt, row.key),
+        block(rt, row.plain),
+        block(rt, row.encrypted),
+    )
+}
+
+fn check_lines(rt: &(impl Abort + AllocGlobal), table: &str) {
+    for line in table.lines() {
+        let row = row_of(line).expect(rt, "a row");
+        assert!(rt; row_holds(rt, &row), "{line}");
+    }
 }
 
 #[test]
-fn examples_of_the_standard(rt: HostRuntime) -> Result<(), Fail> {
-    for line in EXAMPLES.lines() {
-        assert!(rt; holds(rt.alloc(), line)?, "{line}");
-    }
-    Ok(())
+fn examples_of_the_standard(rt: HostRuntime) {
+    check_lines(&rt, EXAMPLES);
 }
 
 #[test]
-fn known_answers(rt: HostRuntime) -> Result<(), Fail> {
-    for table in [AES_128, AES_192, AES_256] {
-        for line in table.lines() {
-            assert!(rt; holds(rt.alloc(), line)?, "{line}");
-        }
-    }
-    Ok(())
+fn known_answers(rt: HostRuntime) {
+    check_lines(&rt, AES_128);
+    check_lines(&rt, AES_192);
+    check_lines(&rt, AES_256);
+}
+
+static LENGTHS: [(usize, bool); 10] = [
+    (0, false),
+    (15, false),
+    (16, true),
+    (17, false),
+    (24, true),
+    (32, true),
+    (33, false),
+    (48, false),
+    (64, false),
+    (65, false),
+];
+
+// Whether so many of these bytes are a key.
+fn is_key(bytes: &[u8], length: usize) -> bool {
+    AesKey::new(&bytes[..length.min(bytes.len())]).is_some()
 }
 
 #[test]
-fn lengths_of_keys(rt: HostRuntime) -> Result<(), Fail> {
-    for (length, is_aes) in [
-        (0, false),
-        (15, false),
-        (16, true),
-        (17, false),
-        (24, true),
-        (32, true),
-        (33, false),
-        (48, false),
-        (64, false),
-        (65, false),
-    ] {
-        let bytes = vec![in rt.alloc(); 0u8; length]?;
-        assert_eq!(rt; AesKey::new(&bytes).is_some(), is_aes, "{length} bytes");
+fn lengths_of_keys(rt: HostRuntime) {
+    for (length, is_aes) in &LENGTHS {
+        assert!(rt; is_key(&[0; 65], *length) == *is_aes, "{length} bytes");
     }
-    Ok(())
 }

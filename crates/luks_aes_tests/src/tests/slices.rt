@@ -2,8 +2,7 @@
 
 use super::{block, fill};
 use luks_blocks::SliceKey;
-use std::alloc::Global;
-use std::test::Fail;
+use std::process::Abort;
 
 // The slice under the key of 16 bytes, by OpenSSL.
 const AES_128: &str = "\
@@ -52,44 +51,42 @@ fn plain_byte(i: usize) -> u8 {
     (i.wrapping_mul(7).wrapping_add(i / 256) % 256) as u8
 }
 
-// A key of this many bytes.
-fn key_of(alloc: Global, length: usize) -> Result<SliceKey, Fail> {
-    let mut key = Vec::new(alloc);
-    for i in 0..length {
-        key.push((i.wrapping_mul(17).wrapping_add(5) % 256) as u8)?;
+// A key of this many bytes, up to 32.
+fn key_of(rt: &impl Abort, length: usize) -> SliceKey {
+    let mut key = [0; 32];
+    for i in 0..32 {
+        key[i] = (i.wrapping_mul(17).wrapping_add(5) % 256) as u8;
     }
-    Ok(SliceKey::new(&key).ok_or("no length of a key")?)
+    SliceKey::new(&key[..length.min(32)]).expect(rt, "a length of a key")
+}
+
+fn is_plain(bytes: &[u8]) -> bool {
+    for (i, byte) in bytes.iter().enumerate() {
+        if *byte != plain_byte(i) {
+            return false;
+        }
+    }
+    true
 }
 
 // The slice that the digits spell is the plain one under the key of this many bytes.
-fn holds(alloc: Global, length: usize, digits: &str) -> Result<bool, Fail> {
-    let key = key_of(alloc, length)?;
+fn check(rt: &impl Abort, length: usize, digits: &str) {
     let mut slice = [0; 512];
-    fill(alloc, digits, &mut slice)?;
-    key.decrypt_slice(&mut slice);
-    for i in 0..512 {
-        if slice[i] != plain_byte(i) {
-            return Ok(false);
-        }
-    }
-    Ok(true)
+    fill(rt, digits, &mut slice);
+    key_of(rt, length).decrypt_slice(&mut slice);
+    assert!(rt; is_plain(&slice), "{length}");
 }
 
 #[test]
-fn slices_under_each_length_of_key(rt: HostRuntime) -> Result<(), Fail> {
-    assert!(rt; holds(rt.alloc(), 16, AES_128)?);
-    assert!(rt; holds(rt.alloc(), 24, AES_192)?);
-    assert!(rt; holds(rt.alloc(), 32, AES_256)?);
-    Ok(())
+fn slices_under_each_length_of_key(rt: HostRuntime) {
+    check(&rt, 16, AES_128);
+    check(&rt, 24, AES_192);
+    check(&rt, 32, AES_256);
 }
 
 #[test]
-fn the_key_for_single_blocks(rt: HostRuntime) -> Result<(), Fail> {
-    let key = key_of(rt.alloc(), 32)?;
-    let mut block = block(rt.alloc(), &AES_256[..32])?;
-    key.key().decrypt_block(&mut block);
-    for i in 0..16 {
-        assert!(rt; block[i] == plain_byte(i));
-    }
-    Ok(())
+fn the_key_for_single_blocks(rt: HostRuntime) {
+    let mut block = block(&rt, &AES_256[..32]);
+    key_of(&rt, 32).key().decrypt_block(&mut block);
+    assert!(rt; is_plain(&block));
 }

@@ -1,8 +1,5 @@
 //! XTS-AES byte by byte, as the standards write it: what the tables are compared with.
 
-use std::alloc::Global;
-use std::test::Fail;
-
 // b times x in the field (FIPS 197, 4.2).
 fn times_x(b: u8) -> u8 {
     if b < 0x80 { b << 1 } else { (b << 1) ^ 0x1b }
@@ -125,148 +122,164 @@ fn substituted_word(table: &[u8; 256], word: Word) -> Word {
     next
 }
 
-// Word `i` of the schedule of a key of so many words, from the words before it (5.2).
-fn next_word(boxes: &Boxes, all: &[Word], words: usize, i: usize, constant: u8) -> Option<Word> {
-    let mut word = *all.last()?;
-    if i.checked_rem(words)? == 0 {
-        word = substituted_word(&boxes.there, [word[1], word[2], word[3], word[0]]);
-        word[0] ^= constant;
+// A word as it enters word `i` of the schedule of a key of so many words (5.2).
+fn mapped_word(boxes: &Boxes, word: Word, words: usize, i: usize, constant: u8) -> Word {
+    if i.checked_rem(words) == Some(0) {
+        let [first, second, third, fourth] = word;
+        let mut next = substituted_word(&boxes.there, [second, third, fourth, first]);
+        next[0] ^= constant;
+        next
     } else if words == 8 && i % 8 == 4 {
-        word = substituted_word(&boxes.there, word);
+        substituted_word(&boxes.there, word)
+    } else {
+        word
     }
-    let first = *all.get(i.checked_sub(words)?)?;
+}
+
+// The words of a schedule: as many as the longest keys have.
+type Words = [Word; 60];
+
+// Word `i` of the schedule of a key of so many words, from the words before it (5.2).
+fn next_word(boxes: &Boxes, all: &Words, words: usize, i: usize, constant: u8) -> Word {
+    let before = all[i.saturating_sub(1).min(59)];
+    let mut word = mapped_word(boxes, before, words, i, constant);
+    let first = all[i.saturating_sub(words).min(59)];
     for k in 0..4 {
         word[k] ^= first[k];
     }
-    Some(word)
+    word
 }
 
-// The words of a key.
-fn words_of(alloc: Global, key: &[u8]) -> Result<Vec<Word>, Fail> {
-    let mut all = Vec::new(alloc);
-    for piece in key.chunks_exact(4) {
-        let mut word = [0; 4];
-        word.copy_from_slice(piece);
-        all.push(word)?;
+// Word `i` of a key.
+fn key_word(key: &[u8], i: usize) -> Word {
+    let mut word = [0; 4];
+    for k in 0..4 {
+        let place = i.saturating_mul(4).saturating_add(k);
+        if place < key.len() {
+            word[k] = key[place];
+        }
     }
-    Ok(all)
+    word
 }
 
-// The schedule of a key of so many words, 4 or 8 (5.2).
-fn schedule(boxes: &Boxes, alloc: Global, key: &[u8], words: usize) -> Result<Vec<Word>, Fail> {
-    let mut all = words_of(alloc, key)?;
+// The schedule of a key of 16 or 32 bytes (5.2).
+fn schedule(boxes: &Boxes, key: &[u8]) -> Words {
+    let words = key.len() / 4;
+    let mut all = [[0; 4]; 60];
     let mut constant = 1;
-    for i in words..words.saturating_add(7).saturating_mul(4) {
-        all.push(next_word(boxes, &all, words, i, constant).ok_or("no word before")?)?;
+    for i in 0..60usize {
+        if i < words {
+            all[i] = key_word(key, i);
+            continue;
+        }
+        all[i] = next_word(boxes, &all, words, i, constant);
         if i.checked_rem(words) == Some(0) {
             constant = times_x(constant);
         }
     }
-    Ok(all)
+    all
 }
 
-// The round keys of a key of 16 or 32 bytes (5.2).
-fn expanded(boxes: &Boxes, alloc: Global, key: &[u8]) -> Result<Vec<State>, Fail> {
-    if key.len() != 16 && key.len() != 32 {
-        return Err("no length of a key".into());
+// The key of a round (5.2).
+fn round_key(all: &Words, round: usize) -> State {
+    let mut state = [0; 16];
+    for i in 0..16 {
+        state[i] = all[4 * round.min(14) + i / 4][i % 4];
     }
-    let all = schedule(boxes, alloc, key, key.len() / 4)?;
-    let mut keys = Vec::new(alloc);
-    for piece in all.chunks_exact(4) {
-        let mut state = [0; 16];
-        for i in 0..16 {
-            state[i] = piece[i / 4][i % 4];
-        }
-        keys.push(state)?;
-    }
-    Ok(keys)
+    state
 }
 
-/// Two keys of AES and their round keys: what XTS-AES needs.
+// Twice a tweak (IEEE 1619, 5.2).
+fn doubled(tweak: State) -> State {
+    let mut next = tweak;
+    let mut carry = 0;
+    for i in 0..16 {
+        next[i] = (tweak[i] << 1) | carry;
+        carry = tweak[i] >> 7;
+    }
+    if carry == 1 {
+        next[0] ^= 0x87;
+    }
+    next
+}
+
+// The number of a data unit as a block.
+fn number_block(number: u64) -> State {
+    let mut block = [0; 16];
+    let low = number.to_le_bytes();
+    for i in 0..8 {
+        block[i] = low[i];
+    }
+    block
+}
+
+/// Two keys of AES and their schedules: what XTS-AES needs.
 #[derive(Drop)]
 pub struct Bytewise {
     boxes: Boxes,
-    data_keys: Vec<State>,
-    tweak_keys: Vec<State>,
-}
-
-fn round_key(keys: &Vec<State>, round: usize) -> Result<State, Fail> {
-    Ok(*keys.get(round).ok_or("no round key")?)
+    rounds: usize,
+    data_words: Words,
+    tweak_words: Words,
 }
 
 impl Bytewise {
-    pub fn new(alloc: Global, key: &[u8]) -> Result<Bytewise, Fail> {
+    /// Those of a key of 32 or 64 bytes.
+    pub fn new(key: &[u8]) -> Bytewise {
         let boxes = Boxes::new();
-        let (first, second) = key.split_at(key.len() / 2);
-        let data_keys = expanded(&boxes, alloc, first)?;
-        let tweak_keys = expanded(&boxes, alloc, second)?;
-        Ok(Bytewise {
+        let (data_key, tweak_key) = key.split_at(key.len() / 2);
+        let data_words = schedule(&boxes, data_key);
+        let tweak_words = schedule(&boxes, tweak_key);
+        Bytewise {
             boxes,
-            data_keys,
-            tweak_keys,
-        })
+            rounds: data_key.len() / 4 + 6,
+            data_words,
+            tweak_words,
+        }
     }
 
     // Cipher (5.1).
-    fn encrypted(&self, keys: &Vec<State>, block: State) -> Result<State, Fail> {
-        let mut s = sum(block, round_key(keys, 0)?);
-        for round in 1..keys.len() {
+    fn encrypted(&self, all: &Words, block: State) -> State {
+        let mut s = sum(block, round_key(all, 0));
+        for round in 1..self.rounds {
             let shifted = turned(1, substituted(&self.boxes.there, s));
-            let mixed = if round + 1 == keys.len() {
-                shifted
-            } else {
-                multiplied([2, 3, 1, 1], shifted)
-            };
-            s = sum(mixed, round_key(keys, round)?);
+            s = sum(multiplied([2, 3, 1, 1], shifted), round_key(all, round));
         }
-        Ok(s)
+        let shifted = turned(1, substituted(&self.boxes.there, s));
+        sum(shifted, round_key(all, self.rounds))
     }
 
     // InvCipher (5.3).
-    fn decrypted(&self, keys: &Vec<State>, block: State) -> Result<State, Fail> {
-        let mut s = sum(block, round_key(keys, keys.len().saturating_sub(1))?);
-        for round in (0..keys.len().saturating_sub(1)).rev() {
-            let added = sum(
-                substituted(&self.boxes.back, turned(3, s)),
-                round_key(keys, round)?,
-            );
-            s = if round == 0 {
-                added
-            } else {
-                multiplied([14, 11, 13, 9], added)
-            };
+    fn decrypted(&self, all: &Words, block: State) -> State {
+        let mut s = sum(block, round_key(all, self.rounds));
+        for round in (1..self.rounds).rev() {
+            let turned = substituted(&self.boxes.back, turned(3, s));
+            s = multiplied([14, 11, 13, 9], sum(turned, round_key(all, round)));
         }
-        Ok(s)
+        let turned = substituted(&self.boxes.back, turned(3, s));
+        sum(turned, round_key(all, 0))
+    }
+
+    // A block under its tweak.
+    fn block(&self, encrypts: bool, tweak: State, block: State) -> State {
+        let masked = sum(block, tweak);
+        let done = if encrypts {
+            self.encrypted(&self.data_words, masked)
+        } else {
+            self.decrypted(&self.data_words, masked)
+        };
+        sum(done, tweak)
     }
 
     /// The data unit of this number (IEEE 1619, 5.3.2 and 5.4.2), encrypted or decrypted.
-    pub fn unit(&self, encrypts: bool, number: u64, unit: &mut [u8]) -> Result<(), Fail> {
-        let mut first = [0; 16];
-        let low = number.to_le_bytes();
-        for i in 0..8 {
-            first[i] = low[i];
-        }
-        let mut tweak = self.encrypted(&self.tweak_keys, first)?;
+    pub fn unit(&self, encrypts: bool, number: u64, unit: &mut [u8]) {
+        let mut tweak = self.encrypted(&self.tweak_words, number_block(number));
         for piece in unit.chunks_exact_mut(16) {
             let mut block = [0; 16];
             block.copy_from_slice(piece);
-            let masked = sum(block, tweak);
-            let done = if encrypts {
-                self.encrypted(&self.data_keys, masked)?
-            } else {
-                self.decrypted(&self.data_keys, masked)?
-            };
-            piece.copy_from_slice(&sum(done, tweak));
-            let mut carry = 0;
-            for i in 0..16 {
-                let next = tweak[i] >> 7;
-                tweak[i] = (tweak[i] << 1) | carry;
-                carry = next;
-            }
-            if carry == 1 {
-                tweak[0] ^= 0x87;
-            }
+            let done = self.block(encrypts, tweak, block);
+            piece.copy_from_slice(&done);
+            let next = doubled(tweak);
+            tweak = next;
         }
-        Ok(())
     }
 }

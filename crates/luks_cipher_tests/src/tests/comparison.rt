@@ -1,9 +1,9 @@
 //! Units by tables and slices against units byte by byte.
 
+use super::assert_in;
 use super::bytewise::Bytewise;
 use luks_cipher::XtsKey;
-use std::alloc::Global;
-use std::test::Fail;
+use std::process::Abort;
 
 // A step of a xorshift generator (Marsaglia).
 fn next(x: u64) -> u64 {
@@ -12,63 +12,85 @@ fn next(x: u64) -> u64 {
     b ^ (b << 17)
 }
 
-// `length` bytes that follow from the seed.
-fn bytes(alloc: Global, seed: u64, length: usize) -> Result<Vec<u8>, Fail> {
-    let mut bytes = Vec::new(alloc);
+// Fills the room with what follows from the seed.
+fn draw(seed: u64, room: &mut [u8]) {
     let mut x = seed;
-    for _ in 0..length {
+    for byte in room.iter_mut() {
         x = next(x);
-        bytes.push((x >> 56) as u8)?;
+        *byte = (x >> 56) as u8;
     }
-    Ok(bytes)
 }
 
-// A unit of this number is encrypted and decrypted alike in both ways.
-fn agree(key: &XtsKey, other: &Bytewise, number: u64, plain: &Vec<u8>) -> Result<bool, Fail> {
-    let mut unit = plain.clone()?;
-    if unit.len() % 16 != 0 || unit.len() < 16 || unit.len() > 4096 {
-        return Err("no data unit".into());
+// Whether these bytes follow from the seed.
+fn are_drawn(seed: u64, bytes: &[u8]) -> bool {
+    let mut x = seed;
+    for byte in bytes {
+        x = next(x);
+        if *byte != (x >> 56) as u8 {
+            return false;
+        }
     }
-    let mut bytewise = plain.clone()?;
-    other.unit(true, number, &mut bytewise)?;
-    key.encrypt_unit(number, &mut unit);
-    let is_encrypted = unit == bytewise;
-    other.unit(false, number, &mut bytewise)?;
-    key.decrypt_unit(number, &mut unit);
-    Ok(is_encrypted && unit == bytewise && unit == *plain)
+    true
+}
+
+// A unit of this number, which both hold, is encrypted and decrypted alike in both ways.
+fn check_alike(
+    rt: &impl Abort,
+    keys: (&XtsKey, &Bytewise),
+    number: u64,
+    unit: &mut [u8],
+    bytewise: &mut [u8],
+) {
+    let (key, other) = keys;
+    assert!(rt; unit.len() % 16 == 0);
+    assert!(rt; 16 <= unit.len() && unit.len() <= 4096);
+    key.encrypt_unit(number, unit);
+    other.unit(true, number, bytewise);
+    assert_in(rt, &number, *unit == *bytewise);
+    key.decrypt_unit(number, unit);
+    other.unit(false, number, bytewise);
+    assert_in(rt, &number, *unit == *bytewise);
+}
+
+// The drawn unit of this number and length, which comes back.
+fn check_unit(rt: &impl Abort, keys: (&XtsKey, &Bytewise), number: u64, length: usize) {
+    let mut unit = [0; 4096];
+    let unit = &mut unit[..length.min(4096)];
+    draw(number, unit);
+    let mut bytewise = [0; 4096];
+    let bytewise = &mut bytewise[..length.min(4096)];
+    draw(number, bytewise);
+    check_alike(rt, keys, number, unit, bytewise);
+    assert_in(rt, &number, are_drawn(number, unit));
 }
 
 // 1000 units of this length, each under its own number, encrypted and decrypted in both ways.
-fn same(alloc: Global, key_length: usize, length: usize) -> Result<bool, Fail> {
-    let key = bytes(alloc, 0x9e37_79b9_7f4a_7c15, key_length)?;
-    let other = Bytewise::new(alloc, &key)?;
-    let key = XtsKey::new(&key).ok_or("no length of a key")?;
+fn check(rt: &impl Abort, key_length: usize, length: usize) {
+    let mut key = [0; 64];
+    let key = &mut key[..key_length.min(64)];
+    draw(0x9e37_79b9_7f4a_7c15, key);
+    let other = Bytewise::new(key);
+    let key = XtsKey::new(key).expect(rt, "a length of a key");
     let mut number = 0x0123_4567_89ab_cdef;
     for _ in 0..1000u32 {
         number = next(number);
-        if !agree(&key, &other, number, &bytes(alloc, number, length)?)? {
-            return Ok(false);
-        }
+        check_unit(rt, (&key, &other), number, length);
     }
-    Ok(true)
 }
 
 #[test]
-fn a_thousand_blocks(rt: HostRuntime) -> Result<(), Fail> {
-    assert!(rt; same(rt.alloc(), 32, 16)?);
-    assert!(rt; same(rt.alloc(), 64, 16)?);
-    Ok(())
+fn a_thousand_blocks(rt: HostRuntime) {
+    check(&rt, 32, 16);
+    check(&rt, 64, 16);
 }
 
 #[test]
-fn a_thousand_units_of_512_bytes(rt: HostRuntime) -> Result<(), Fail> {
-    assert!(rt; same(rt.alloc(), 32, 512)?);
-    assert!(rt; same(rt.alloc(), 64, 512)?);
-    Ok(())
+fn a_thousand_units_of_512_bytes(rt: HostRuntime) {
+    check(&rt, 32, 512);
+    check(&rt, 64, 512);
 }
 
 #[test]
-fn a_thousand_units_of_4096_bytes(rt: HostRuntime) -> Result<(), Fail> {
-    assert!(rt; same(rt.alloc(), 64, 4096)?);
-    Ok(())
+fn a_thousand_units_of_4096_bytes(rt: HostRuntime) {
+    check(&rt, 64, 4096);
 }

@@ -1,13 +1,26 @@
 use super::mode_vectors::{CHAINS, SECTORS};
-use super::{assert_in, assert_same_in, bytes};
+use super::{
+    are_spelt, assert_in, assert_same_in, bytes, decrypt_sector, encrypt_sector, number_of, word,
+};
 use luks_blocks::SliceKey;
 use luks_cipher::cbc::{decrypt_chain, encrypt_chain};
-use luks_cipher::{Mode, SectorCipher};
-use std::alloc::Global;
+use luks_cipher::{AesKey, Mode, SectorCipher};
 use std::process::Abort;
-use std::test::Fail;
 
-const MODES: [Mode; 4] = [
+static NAMES: [(&str, Option<Mode>); 10] = [
+    ("xts-plain64", Some(Mode::XtsPlain64)),
+    ("xts-plain", Some(Mode::XtsPlain)),
+    ("cbc-essiv:sha256", Some(Mode::CbcEssivSha256)),
+    ("cbc-plain64", Some(Mode::CbcPlain64)),
+    ("", None),
+    ("XTS-plain64", None),
+    ("xts-plain65", None),
+    ("cbc-plain", None),
+    ("cbc-essiv:sha1", None),
+    ("cbc-plain64 ", None),
+];
+
+static MODES: [Mode; 4] = [
     Mode::XtsPlain64,
     Mode::XtsPlain,
     Mode::CbcEssivSha256,
@@ -15,181 +28,149 @@ const MODES: [Mode; 4] = [
 ];
 
 #[test]
-fn names(rt: HostRuntime) -> Result<(), Fail> {
-    for (name, mode) in [
-        ("xts-plain64", Some(Mode::XtsPlain64)),
-        ("xts-plain", Some(Mode::XtsPlain)),
-        ("cbc-essiv:sha256", Some(Mode::CbcEssivSha256)),
-        ("cbc-plain64", Some(Mode::CbcPlain64)),
-        ("", None),
-        ("XTS-plain64", None),
-        ("xts-plain65", None),
-        ("cbc-plain", None),
-        ("cbc-essiv:sha1", None),
-        ("cbc-plain64 ", None),
-    ] {
-        assert_same_in(&rt, &name, Mode::from_name(name), mode);
+fn names(rt: HostRuntime) {
+    for (name, mode) in &NAMES {
+        assert_same_in(&rt, name, Mode::from_name(name), *mode);
     }
-    for mode in MODES {
-        assert_same_in(&rt, &mode, Mode::from_name(mode.name()), Some(mode));
+    for mode in &MODES {
+        assert_same_in(&rt, mode, Mode::from_name(mode.name()), Some(*mode));
     }
-    Ok(())
 }
 
-// Whether the key is one of each mode.
-fn check_length(rt: &impl Abort, key: &[u8], is: [bool; 4]) {
+// Whether so many zero bytes are a key of the mode.
+fn is_key(mode: Mode, length: usize) -> bool {
+    SectorCipher::new(mode, &[0; 65][..length.min(65)]).is_some()
+}
+
+// A length, and whether it is one of XTS and one of CBC.
+static LENGTHS: [(usize, bool, bool); 10] = [
+    (0, false, false),
+    (15, false, false),
+    (16, false, true),
+    (17, false, false),
+    (24, false, false),
+    (32, true, true),
+    (33, false, false),
+    (48, false, false),
+    (64, true, false),
+    (65, false, false),
+];
+
+fn check_length(rt: &impl Abort, length: usize, is: [bool; 4]) {
     for i in 0..4 {
-        let made = SectorCipher::new(MODES[i], key).is_some();
-        assert_same_in(rt, &(MODES[i], key.len()), made, is[i]);
+        assert_in(rt, &(MODES[i], length), is_key(MODES[i], length) == is[i]);
     }
 }
 
 #[test]
-fn lengths_of_keys(rt: HostRuntime) -> Result<(), Fail> {
-    for (length, is_xts, is_cbc) in [
-        (0, false, false),
-        (15, false, false),
-        (16, false, true),
-        (17, false, false),
-        (24, false, false),
-        (32, true, true),
-        (33, false, false),
-        (48, false, false),
-        (64, true, false),
-        (65, false, false),
-    ] {
-        let key = vec![in rt.alloc(); 0u8; length]?;
-        check_length(&rt, &key, [is_xts, is_xts, is_cbc, is_cbc]);
+fn lengths_of_keys(rt: HostRuntime) {
+    for (length, is_xts, is_cbc) in &LENGTHS {
+        check_length(&rt, *length, [*is_xts, *is_xts, *is_cbc, *is_cbc]);
     }
-    Ok(())
 }
 
-// A line of a table of chains; bytes are hexadecimal digits.
-#[derive(Clone, Copy)]
-struct Chain<'a> {
-    key: &'a str,
-    vector: &'a str,
-    plain: &'a str,
-    encrypted: &'a str,
+fn slice_key(rt: &(impl Abort + AllocGlobal), digits: &str) -> SliceKey {
+    SliceKey::new(&bytes(rt, digits)).expect(rt, "a length of a key")
 }
 
-fn chain_of(line: &str) -> Option<Chain<'_>> {
-    let mut words = line.split(' ');
-    Some(Chain {
-        key: words.next()?,
-        vector: words.next()?,
-        plain: words.next()?,
-        encrypted: words.next()?,
-    })
+fn vector_of(rt: &impl Abort, digits: &str) -> [u8; 16] {
+    let mut vector = [0; 16];
+    hex::decode_to_slice(digits, &mut vector).expect(rt, "a vector");
+    vector
 }
 
-fn vector_of(alloc: Global, digits: &str) -> Result<[u8; 16], Fail> {
-    let vector = bytes(alloc, digits)?;
-    if vector.len() != 16 {
-        return Err("no vector".into());
-    }
-    let mut first = [0; 16];
-    first.copy_from_slice(&vector);
-    Ok(first)
+fn check_encrypted_chain(
+    rt: &(impl Abort + AllocGlobal),
+    line: &str,
+    key: &AesKey,
+    first: [u8; 16],
+    unit: &mut [u8],
+    encrypted: &str,
+) {
+    assert!(rt; unit.len() % 16 == 0);
+    encrypt_chain(key, first, unit);
+    assert_in(rt, &line, are_spelt(rt, unit, encrypted));
 }
 
-fn chain_is_encrypted(alloc: Global, key: &SliceKey, chain: &Chain<'_>) -> Result<bool, Fail> {
-    let first = vector_of(alloc, chain.vector)?;
-    let mut unit = bytes(alloc, chain.plain)?;
-    if unit.len() % 16 != 0 {
-        return Err("no unit".into());
-    }
-    encrypt_chain(key.key(), first, &mut unit);
-    Ok(unit == bytes(alloc, chain.encrypted)?)
-}
-
-fn chain_is_decrypted(alloc: Global, key: &SliceKey, chain: &Chain<'_>) -> Result<bool, Fail> {
-    let first = vector_of(alloc, chain.vector)?;
-    let mut unit = bytes(alloc, chain.encrypted)?;
-    if unit.len() % 16 != 0 {
-        return Err("no unit".into());
-    }
-    decrypt_chain(key, first, &mut unit);
-    Ok(unit == bytes(alloc, chain.plain)?)
+fn check_decrypted_chain(
+    rt: &(impl Abort + AllocGlobal),
+    line: &str,
+    key: &SliceKey,
+    first: [u8; 16],
+    unit: &mut [u8],
+    plain: &str,
+) {
+    assert!(rt; unit.len() % 16 == 0);
+    decrypt_chain(key, first, unit);
+    assert_in(rt, &line, are_spelt(rt, unit, plain));
 }
 
 // The line's unit is encrypted to the other one, and back.
-fn chain_holds(alloc: Global, chain: &Chain<'_>) -> Result<bool, Fail> {
-    let key = SliceKey::new(&bytes(alloc, chain.key)?).ok_or("no length of a key")?;
-    Ok(chain_is_encrypted(alloc, &key, chain)? && chain_is_decrypted(alloc, &key, chain)?)
+fn check_chain(rt: &(impl Abort + AllocGlobal), line: &str) {
+    let key = word(line, 0);
+    let vector = word(line, 1);
+    let plain = word(line, 2);
+    let encrypted = word(line, 3);
+    let key = slice_key(rt, key);
+    let first = vector_of(rt, vector);
+    check_encrypted_chain(rt, line, key.key(), first, &mut bytes(rt, plain), encrypted);
+    check_decrypted_chain(rt, line, &key, first, &mut bytes(rt, encrypted), plain);
 }
 
 #[test]
-fn chains(rt: HostRuntime) -> Result<(), Fail> {
+fn chains(rt: HostRuntime) {
     for line in CHAINS.lines() {
-        assert_in(
-            &rt,
-            &line,
-            chain_holds(rt.alloc(), &chain_of(line).ok_or("no row")?)?,
-        );
+        check_chain(&rt, line);
     }
-    Ok(())
 }
 
-// The sector encrypted and the other one decrypted, under a key of the mode.
-fn both_ways(
-    mode: Mode,
-    key: &[u8],
+fn cipher_of(rt: &(impl Abort + AllocGlobal), mode: &str, digits: &str) -> SectorCipher {
+    let mode = Mode::from_name(mode).expect(rt, "a mode");
+    SectorCipher::new(mode, &bytes(rt, digits)).expect(rt, "a length of a key")
+}
+
+fn check_encrypted(
+    rt: &(impl Abort + AllocGlobal),
+    line: &str,
+    cipher: &SectorCipher,
     number: u64,
-    there: &mut [u8],
-    back: &mut [u8],
-) -> Result<(), Fail> {
-    let cipher = SectorCipher::new(mode, key).ok_or("no length of a key")?;
-    if there.len() % 16 != 0 || there.len() < 16 || there.len() > 4096 {
-        return Err("no sector".into());
-    }
-    if back.len() % 16 != 0 || back.len() < 16 || back.len() > 4096 {
-        return Err("no sector".into());
-    }
-    cipher.encrypt_unit(number, there);
-    cipher.decrypt_unit(number, back);
-    Ok(())
+    sector: &mut [u8],
+    encrypted: &str,
+) {
+    encrypt_sector(rt, cipher, number, sector);
+    assert_in(rt, &line, are_spelt(rt, sector, encrypted));
 }
 
-// A line of a table of sectors; bytes are hexadecimal digits.
-#[derive(Clone, Copy)]
-struct Sector<'a> {
-    mode: Mode,
-    key: &'a str,
+fn check_decrypted(
+    rt: &(impl Abort + AllocGlobal),
+    line: &str,
+    cipher: &SectorCipher,
     number: u64,
-    plain: &'a str,
-    encrypted: &'a str,
+    sector: &mut [u8],
+    plain: &str,
+) {
+    decrypt_sector(rt, cipher, number, sector);
+    assert_in(rt, &line, are_spelt(rt, sector, plain));
 }
 
-fn sector_of(line: &str) -> Option<Sector<'_>> {
-    let mut words = line.split(' ');
-    Some(Sector {
-        mode: Mode::from_name(words.next()?)?,
-        key: words.next()?,
-        number: words.next()?.parse().ok()?,
-        plain: words.next()?,
-        encrypted: words.next()?,
-    })
-}
-
-fn sector_holds(alloc: Global, sector: &Sector<'_>) -> Result<bool, Fail> {
-    let key = bytes(alloc, sector.key)?;
-    let mut there = bytes(alloc, sector.plain)?;
-    let mut back = bytes(alloc, sector.encrypted)?;
-    both_ways(sector.mode, &key, sector.number, &mut there, &mut back)?;
-    Ok(there == bytes(alloc, sector.encrypted)? && back == bytes(alloc, sector.plain)?)
+// The line's sector is encrypted to the other one under a key of the mode, and back.
+fn check_sector(rt: &(impl Abort + AllocGlobal), line: &str) {
+    let mode = word(line, 0);
+    let key = word(line, 1);
+    let number = word(line, 2);
+    let plain = word(line, 3);
+    let encrypted = word(line, 4);
+    let cipher = cipher_of(rt, mode, key);
+    let number = number_of(rt, number);
+    check_encrypted(rt, line, &cipher, number, &mut bytes(rt, plain), encrypted);
+    check_decrypted(rt, line, &cipher, number, &mut bytes(rt, encrypted), plain);
 }
 
 #[test]
-fn sectors(rt: HostRuntime) -> Result<(), Fail> {
+fn sectors(rt: HostRuntime) {
     for line in SECTORS.lines() {
-        assert_in(
-            &rt,
-            &line,
-            sector_holds(rt.alloc(), &sector_of(line).ok_or("no row")?)?,
-        );
+        check_sector(&rt, line);
     }
-    Ok(())
 }
 
 // Worked by hand: in CBC under the bytes 00 to 0f, FIPS 197's example block comes out of each of
@@ -203,13 +184,8 @@ xts-plain64 0000000000000000000000000000000000000000000000000000000000000000 0 0
 ";
 
 #[test]
-fn worked_sectors(rt: HostRuntime) -> Result<(), Fail> {
+fn worked_sectors(rt: HostRuntime) {
     for line in WORKED.lines() {
-        assert_in(
-            &rt,
-            &line,
-            sector_holds(rt.alloc(), &sector_of(line).ok_or("no row")?)?,
-        );
+        check_sector(&rt, line);
     }
-    Ok(())
 }

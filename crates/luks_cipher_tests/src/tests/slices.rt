@@ -1,10 +1,9 @@
 //! Sectors of one slice of 512 bytes, of several, of none, and of some blocks more.
 
-use super::{assert_in, bytes};
+use super::{assert_in, decrypt_sector, encrypt_sector, number_of, word};
 use luks_cipher::{Mode, SectorCipher};
 use sha2::{Digest, Sha256};
-use std::alloc::Global;
-use std::test::Fail;
+use std::process::Abort;
 
 // A line is a mode, the bytes of a key, a sector's number, its bytes, and the SHA-256 digest of the
 // sector of `plain_byte` encrypted under the key of `key_byte`. The digests are of what OpenSSL
@@ -62,74 +61,74 @@ fn key_byte(i: usize) -> u8 {
     (i.wrapping_mul(17).wrapping_add(5) % 256) as u8
 }
 
-#[derive(Clone, Copy)]
-enum Pattern {
-    Plain,
-    Key,
-}
-
-// `length` bytes of the pattern.
-fn filled(alloc: Global, length: usize, pattern: Pattern) -> Result<Vec<u8>, Fail> {
-    let mut all = Vec::new(alloc);
-    for i in 0..length {
-        all.push(match pattern {
-            Pattern::Plain => plain_byte(i),
-            Pattern::Key => key_byte(i),
-        })?;
+fn fill_plain(sector: &mut [u8]) {
+    for (i, byte) in sector.iter_mut().enumerate() {
+        *byte = plain_byte(i);
     }
-    Ok(all)
 }
 
-// A line of the table.
-#[derive(Clone, Copy)]
-struct Row<'a> {
-    mode: Mode,
-    key_length: usize,
+fn is_plain(sector: &[u8]) -> bool {
+    for (i, byte) in sector.iter().enumerate() {
+        if *byte != plain_byte(i) {
+            return false;
+        }
+    }
+    true
+}
+
+fn length_of(rt: &impl Abort, word: &str) -> usize {
+    word.parse().expect(rt, "a length")
+}
+
+// The cipher of this mode under a key of this many bytes.
+fn cipher_of(rt: &impl Abort, mode: &str, length: usize) -> SectorCipher {
+    let mode = Mode::from_name(mode).expect(rt, "a mode");
+    let mut key = [0; 64];
+    for i in 0..64 {
+        key[i] = key_byte(i);
+    }
+    SectorCipher::new(mode, &key[..length.min(64)]).expect(rt, "a length of a key")
+}
+
+// Whether these bytes have the digest that the digits spell.
+fn has_digest(rt: &impl Abort, sector: &[u8], digits: &str) -> bool {
+    let mut digest = [0; 32];
+    hex::decode_to_slice(digits, &mut digest).expect(rt, "a digest");
+    Sha256::digest(sector) == digest
+}
+
+// The plain sector is encrypted to what has the digest, and that is decrypted to the plain one.
+fn check_sector(
+    rt: &impl Abort,
+    line: &str,
+    cipher: &SectorCipher,
     number: u64,
-    length: usize,
-    digest: &'a str,
+    sector: &mut [u8],
+    digest: &str,
+) {
+    fill_plain(sector);
+    encrypt_sector(rt, cipher, number, sector);
+    assert_in(rt, &line, has_digest(rt, sector, digest));
+    decrypt_sector(rt, cipher, number, sector);
+    assert_in(rt, &line, is_plain(sector));
 }
 
-fn row_of(line: &str) -> Option<Row<'_>> {
-    let mut words = line.split(' ');
-    Some(Row {
-        mode: Mode::from_name(words.next()?)?,
-        key_length: words.next()?.parse().ok()?,
-        number: words.next()?.parse().ok()?,
-        length: words.next()?.parse().ok()?,
-        digest: words.next()?,
-    })
-}
-
-// The digest of the sector as it is encrypted. It is decrypted again.
-fn there_and_back(cipher: &SectorCipher, number: u64, sector: &mut [u8]) -> Result<[u8; 32], Fail> {
-    if sector.len() % 16 != 0 || sector.len() < 16 || sector.len() > 4096 {
-        return Err("no sector".into());
-    }
-    cipher.encrypt_unit(number, sector);
-    let digest = Sha256::digest(&*sector);
-    cipher.decrypt_unit(number, sector);
-    Ok(digest)
-}
-
-// The row's sector is encrypted to what has the digest, and that is decrypted to the plain one.
-fn holds(alloc: Global, row: &Row<'_>) -> Result<bool, Fail> {
-    let key = filled(alloc, row.key_length, Pattern::Key)?;
-    let cipher = SectorCipher::new(row.mode, &key).ok_or("no length of a key")?;
-    let plain = filled(alloc, row.length, Pattern::Plain)?;
-    let mut sector = plain.clone()?;
-    let digest = there_and_back(&cipher, row.number, &mut sector)?;
-    Ok(digest[..] == bytes(alloc, row.digest)?[..] && sector == plain)
+fn check_line(rt: &impl Abort, line: &str) {
+    let mode = word(line, 0);
+    let key_length = word(line, 1);
+    let number = word(line, 2);
+    let length = word(line, 3);
+    let digest = word(line, 4);
+    let cipher = cipher_of(rt, mode, length_of(rt, key_length));
+    let number = number_of(rt, number);
+    let mut room = [0; 4096];
+    let sector = &mut room[..length_of(rt, length).min(4096)];
+    check_sector(rt, line, &cipher, number, sector, digest);
 }
 
 #[test]
-fn sectors_of_slices_and_blocks(rt: HostRuntime) -> Result<(), Fail> {
+fn sectors_of_slices_and_blocks(rt: HostRuntime) {
     for line in SECTORS.lines() {
-        assert_in(
-            &rt,
-            &line,
-            holds(rt.alloc(), &row_of(line).ok_or("no row")?)?,
-        );
+        check_line(&rt, line);
     }
-    Ok(())
 }

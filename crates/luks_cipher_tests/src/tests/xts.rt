@@ -2,91 +2,91 @@ use super::xts_vectors::{
     KEY_256, KEY_512, LARGE_NUMBERS, NIST, SHORT, UNIT_00, UNIT_FD, UNIT_FF, WIDE_FF,
     WIDE_FFFFFFFFFF,
 };
-use super::{assert_in, assert_same_in, bytes};
+use super::{are_spelt, assert_in, assert_same_in, bytes, number_of, word};
 use luks_cipher::{AesKey, XtsKey};
-use std::alloc::Global;
-use std::test::Fail;
+use std::process::Abort;
 
-fn encrypt(key: &XtsKey, number: u64, unit: &mut [u8]) -> Result<(), Fail> {
-    let length = unit.len();
-    if length % 16 != 0 || length < 16 || length > 4096 {
-        return Err("no data unit".into());
-    }
+fn encrypt(rt: &impl Abort, key: &XtsKey, number: u64, unit: &mut [u8]) {
+    assert!(rt; unit.len() % 16 == 0);
+    assert!(rt; 16 <= unit.len() && unit.len() <= 4096);
     key.encrypt_unit(number, unit);
-    Ok(())
 }
 
-fn decrypt(key: &XtsKey, number: u64, unit: &mut [u8]) -> Result<(), Fail> {
-    let length = unit.len();
-    if length % 16 != 0 || length < 16 || length > 4096 {
-        return Err("no data unit".into());
-    }
+fn decrypt(rt: &impl Abort, key: &XtsKey, number: u64, unit: &mut [u8]) {
+    assert!(rt; unit.len() % 16 == 0);
+    assert!(rt; 16 <= unit.len() && unit.len() <= 4096);
     key.decrypt_unit(number, unit);
-    Ok(())
 }
 
-// A line of a table; bytes are hexadecimal digits.
-#[derive(Clone, Copy)]
-struct Row<'a> {
-    key: &'a str,
+fn check_encrypted(
+    rt: &(impl Abort + AllocGlobal),
+    line: &str,
+    key: &XtsKey,
     number: u64,
-    plain: &'a str,
-    encrypted: &'a str,
+    unit: &mut [u8],
+    encrypted: &str,
+) {
+    encrypt(rt, key, number, unit);
+    assert_in(rt, &line, are_spelt(rt, unit, encrypted));
 }
 
-fn row_of(line: &str) -> Option<Row<'_>> {
-    let mut words = line.split(' ');
-    Some(Row {
-        key: words.next()?,
-        number: words.next()?.parse().ok()?,
-        plain: words.next()?,
-        encrypted: words.next()?,
-    })
+fn check_decrypted(
+    rt: &(impl Abort + AllocGlobal),
+    line: &str,
+    key: &XtsKey,
+    number: u64,
+    unit: &mut [u8],
+    plain: &str,
+) {
+    decrypt(rt, key, number, unit);
+    assert_in(rt, &line, are_spelt(rt, unit, plain));
 }
 
-fn is_encrypted(alloc: Global, key: &XtsKey, row: &Row<'_>) -> Result<bool, Fail> {
-    let mut unit = bytes(alloc, row.plain)?;
-    encrypt(key, row.number, &mut unit)?;
-    Ok(unit == bytes(alloc, row.encrypted)?)
+fn key_of(rt: &(impl Abort + AllocGlobal), digits: &str) -> XtsKey {
+    XtsKey::new(&bytes(rt, digits)).expect(rt, "a length of a key")
 }
 
-fn is_decrypted(alloc: Global, key: &XtsKey, row: &Row<'_>) -> Result<bool, Fail> {
-    let mut unit = bytes(alloc, row.encrypted)?;
-    decrypt(key, row.number, &mut unit)?;
-    Ok(unit == bytes(alloc, row.plain)?)
+// The line's key takes its plain unit to its encrypted one, and back.
+fn check_line(rt: &(impl Abort + AllocGlobal), line: &str) {
+    let key = word(line, 0);
+    let number = word(line, 1);
+    let plain = word(line, 2);
+    let encrypted = word(line, 3);
+    let key = key_of(rt, key);
+    let number = number_of(rt, number);
+    check_encrypted(rt, line, &key, number, &mut bytes(rt, plain), encrypted);
+    check_decrypted(rt, line, &key, number, &mut bytes(rt, encrypted), plain);
 }
 
-fn key_of(alloc: Global, digits: &str) -> Result<XtsKey, Fail> {
-    Ok(XtsKey::new(&bytes(alloc, digits)?).ok_or("no length of a key")?)
-}
-
-// The row's key takes its plain unit to its encrypted one, and back.
-fn holds(alloc: Global, row: &Row<'_>) -> Result<bool, Fail> {
-    let key = key_of(alloc, row.key)?;
-    Ok(is_encrypted(alloc, &key, row)? && is_decrypted(alloc, &key, row)?)
+fn check_table(rt: &(impl Abort + AllocGlobal), table: &str) {
+    for line in table.lines() {
+        check_line(rt, line);
+    }
 }
 
 #[test]
-fn published_units(rt: HostRuntime) -> Result<(), Fail> {
-    for table in [NIST, SHORT, LARGE_NUMBERS] {
-        for line in table.lines() {
-            assert_in(
-                &rt,
-                &line,
-                holds(rt.alloc(), &row_of(line).ok_or("no row")?)?,
-            );
-        }
-    }
-    Ok(())
+fn published_units(rt: HostRuntime) {
+    check_table(&rt, NIST);
+    check_table(&rt, SHORT);
+    check_table(&rt, LARGE_NUMBERS);
 }
 
 // The bytes 00 to ff, over and over.
-fn rising(alloc: Global, length: usize) -> Result<Vec<u8>, Fail> {
-    let mut unit = Vec::new(alloc);
-    for i in 0..length {
-        unit.push((i % 256) as u8)?;
+fn rising<const N: usize>() -> [u8; N] {
+    let mut unit = [0; N];
+    for (i, byte) in unit.iter_mut().enumerate() {
+        *byte = (i % 256) as u8;
     }
-    Ok(unit)
+    unit
+}
+
+fn is_rising(unit: &[u8]) -> bool {
+    for (i, byte) in unit.iter().enumerate() {
+        if *byte != (i % 256) as u8 {
+            return false;
+        }
+    }
+    true
 }
 
 // What the standard publishes of the units that are encrypted one after the other.
@@ -100,51 +100,52 @@ fn published_under(number: u64) -> Option<&'static str> {
 }
 
 // Whether the unit is what the standard publishes of this number, where it publishes any.
-fn is_as_published(alloc: Global, number: u64, unit: &[u8]) -> Result<bool, Fail> {
+fn is_as_published(rt: &(impl Abort + AllocGlobal), number: u64, unit: &[u8]) -> bool {
     match published_under(number) {
-        Some(published) => Ok(bytes(alloc, published)?.as_slice() == unit),
-        None => Ok(true),
+        Some(published) => are_spelt(rt, unit, published),
+        None => true,
     }
 }
 
-#[test]
-fn units_of_512_bytes(rt: HostRuntime) -> Result<(), Fail> {
-    let alloc = rt.alloc();
-    let key = key_of(alloc, KEY_256)?;
-    let mut unit = rising(alloc, 512)?;
+fn check_encrypting(rt: &(impl Abort + AllocGlobal), key: &XtsKey, unit: &mut [u8]) {
     for number in 0..=255u64 {
-        encrypt(&key, number, &mut unit)?;
-        assert_in(&rt, &number, is_as_published(alloc, number, &unit)?);
+        encrypt(rt, key, number, unit);
+        assert_in(rt, &number, is_as_published(rt, number, unit));
     }
+}
+
+fn check_decrypting(rt: &impl Abort, key: &XtsKey, unit: &mut [u8]) {
     for number in (0..=255u64).rev() {
-        decrypt(&key, number, &mut unit)?;
+        decrypt(rt, key, number, unit);
     }
-    assert!(rt; unit == rising(alloc, 512)?);
-    Ok(())
+    assert!(rt; is_rising(unit));
 }
 
 #[test]
-fn units_of_512_bytes_under_long_keys(rt: HostRuntime) -> Result<(), Fail> {
-    let alloc = rt.alloc();
-    let key = key_of(alloc, KEY_512)?;
-    for (number, published) in [(0xff, WIDE_FF), (0xff_ffff_ffff, WIDE_FFFFFFFFFF)] {
-        let mut unit = rising(alloc, 512)?;
-        encrypt(&key, number, &mut unit)?;
-        assert_in(&rt, &number, unit == bytes(alloc, published)?);
-        decrypt(&key, number, &mut unit)?;
-        assert_in(&rt, &number, unit == rising(alloc, 512)?);
-    }
-    Ok(())
+fn units_of_512_bytes(rt: HostRuntime) {
+    let key = key_of(&rt, KEY_256);
+    let mut unit: [u8; 512] = rising();
+    check_encrypting(&rt, &key, &mut unit);
+    check_decrypting(&rt, &key, &mut unit);
 }
 
-// A key of XTS, and its halves: the keys for the data and for the tweaks.
-fn keys_of(key: &[u8]) -> Option<(XtsKey, AesKey, AesKey)> {
-    let (data_key, tweak_key) = key.split_at(key.len() / 2);
-    Some((
-        XtsKey::new(key)?,
-        AesKey::new(data_key)?,
-        AesKey::new(tweak_key)?,
-    ))
+fn check_wide(rt: &(impl Abort + AllocGlobal), key: &XtsKey, number: u64, published: &str) {
+    let mut unit: [u8; 512] = rising();
+    encrypt(rt, key, number, &mut unit);
+    assert_in(rt, &number, are_spelt(rt, &unit, published));
+    decrypt(rt, key, number, &mut unit);
+    assert_in(rt, &number, is_rising(&unit));
+}
+
+#[test]
+fn units_of_512_bytes_under_long_keys(rt: HostRuntime) {
+    let key = key_of(&rt, KEY_512);
+    check_wide(&rt, &key, 0xff, WIDE_FF);
+    check_wide(&rt, &key, 0xff_ffff_ffff, WIDE_FFFFFFFFFF);
+}
+
+fn aes_key(rt: &(impl Abort + AllocGlobal), digits: &str) -> AesKey {
+    AesKey::new(&bytes(rt, digits)).expect(rt, "a length of a key")
 }
 
 // The tweak of block `j`, doubled byte by byte from the first one on.
@@ -189,43 +190,58 @@ fn masked(block: [u8; 16], mask: [u8; 16]) -> [u8; 16] {
     next
 }
 
-#[test]
-fn a_unit_of_4096_bytes(rt: HostRuntime) -> Result<(), Fail> {
-    let alloc = rt.alloc();
-    let (key, data_key, tweak_key) = keys_of(&bytes(alloc, KEY_512)?).ok_or("no length of a key")?;
-    let number = 0xfedc_ba98_7654_3210;
-    let plain = rising(alloc, 4096)?;
-    let mut unit = plain.clone()?;
-    encrypt(&key, number, &mut unit)?;
-    assert!(rt; plain.len() == 4096);
-    assert!(rt; unit.len() == 4096);
+const NUMBER: u64 = 0xfedc_ba98_7654_3210;
+
+// Block `j` of the unit is that of the plain one, encrypted between two masks.
+fn check_block(rt: &impl Abort, keys: (&AesKey, &AesKey), j: usize, plain: &[u8], unit: &[u8]) {
+    let (data_key, tweak_key) = keys;
+    let tweak = tweak_of(tweak_key, NUMBER, j);
+    let mut block = masked(block_of(plain, j), tweak);
+    data_key.encrypt_block(&mut block);
+    assert_same_in(rt, &j, block_of(unit, j), masked(block, tweak));
+}
+
+// The halves of the key are the keys for the data and for the tweaks.
+fn check_blocks(rt: &(impl Abort + AllocGlobal), plain: &[u8], unit: &[u8]) {
+    let data_key = aes_key(rt, &KEY_512[..64]);
+    let tweak_key = aes_key(rt, &KEY_512[64..]);
     for j in 0..256usize {
-        let tweak = tweak_of(&tweak_key, number, j);
-        let mut block = masked(block_of(&plain, j), tweak);
-        data_key.encrypt_block(&mut block);
-        assert_same_in(&rt, &j, block_of(&unit, j), masked(block, tweak));
+        check_block(rt, (&data_key, &tweak_key), j, plain, unit);
     }
-    decrypt(&key, number, &mut unit)?;
-    assert!(rt; unit == plain);
-    Ok(())
 }
 
 #[test]
-fn lengths_of_keys(rt: HostRuntime) -> Result<(), Fail> {
-    for (length, is_xts) in [
-        (0, false),
-        (15, false),
-        (16, false),
-        (17, false),
-        (24, false),
-        (32, true),
-        (33, false),
-        (48, false),
-        (64, true),
-        (65, false),
-    ] {
-        let bytes = vec![in rt.alloc(); 0u8; length]?;
-        assert_same_in(&rt, &length, XtsKey::new(&bytes).is_some(), is_xts);
+fn a_unit_of_4096_bytes(rt: HostRuntime) {
+    let key = key_of(&rt, KEY_512);
+    let plain: [u8; 4096] = rising();
+    let mut unit: [u8; 4096] = rising();
+    encrypt(&rt, &key, NUMBER, &mut unit);
+    check_blocks(&rt, &plain, &unit);
+    decrypt(&rt, &key, NUMBER, &mut unit);
+    assert!(rt; is_rising(&unit));
+}
+
+static LENGTHS: [(usize, bool); 10] = [
+    (0, false),
+    (15, false),
+    (16, false),
+    (17, false),
+    (24, false),
+    (32, true),
+    (33, false),
+    (48, false),
+    (64, true),
+    (65, false),
+];
+
+// Whether so many zero bytes are a key.
+fn is_key(length: usize) -> bool {
+    XtsKey::new(&[0; 65][..length.min(65)]).is_some()
+}
+
+#[test]
+fn lengths_of_keys(rt: HostRuntime) {
+    for (length, is_xts) in &LENGTHS {
+        assert_in(&rt, length, is_key(*length) == *is_xts);
     }
-    Ok(())
 }

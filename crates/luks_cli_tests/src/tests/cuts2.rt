@@ -1,13 +1,10 @@
 //! Volumes of LUKS2 that are cut at each place where it matters.
 
-use super::run;
-use super::runs::{check_run, first_of};
-use super::volume::{PASSPHRASE, SMALL, plain_bytes, sealed};
-use super::volume2::{header2, sealed2};
-use crate::tests::same::{assert_same, assert_same_in};
-use std::alloc::Global;
+use super::runs::{check_left, check_run, first_of};
+use super::volume::{PASSPHRASE, plain_bytes};
+use super::volume2::{sealed2, sealed2_of};
+use crate::tests::same::assert_same_in;
 use std::process::Abort;
-use std::test::Fail;
 
 const CAT: &str = "luksCat --key-file f i";
 
@@ -25,20 +22,17 @@ fn check_cut(
     image: &[u8],
     plain: &[u8],
     (len, written, told): Row,
-) -> Result<(), Fail> {
+) {
     let status = if told.is_empty() { 0 } else { 4 };
     let ends = (first_of(plain, written), status, told);
-    let left = check_run(rt, CAT, first_of(image, len), PASSPHRASE, ends)?;
+    let left = check_run(rt, CAT, first_of(image, len), PASSPHRASE, ends);
     assert_same_in(rt, &len, left.0, 0);
-    Ok(())
 }
 
-fn check_cuts(rt: &(impl Abort + AllocGlobal), image: &[u8], rows: &[Row]) -> Result<(), Fail> {
-    let plain = plain_bytes(rt.alloc())?;
+fn check_cuts(rt: &(impl Abort + AllocGlobal), image: &[u8], plain: &[u8], rows: &[Row]) {
     for row in rows {
-        check_cut(rt, image, &plain, *row)?;
+        check_cut(rt, image, plain, *row);
     }
-    Ok(())
 }
 
 static CUTS: [Row; 20] = [
@@ -79,26 +73,8 @@ static CUTS: [Row; 20] = [
 // In the binary header, the JSON text, the secondary header, the key area, before the payload, and
 // in a sector.
 #[test]
-fn volumes_of_luks2_are_cut(rt: HostRuntime) -> Result<(), Fail> {
-    check_cuts(&rt, &sealed2(rt.alloc())?, &CUTS)
-}
-
-// A volume of LUKS2 whose payload has a fixed size of 1,024 bytes, and 512 bytes behind it.
-fn fixed_image(alloc: Global) -> Result<Vec<u8>, Fail> {
-    let first = sealed(alloc, SMALL, PASSPHRASE)?;
-    let mut image = header2(alloc, "36864", "1024")?;
-    image.resize(36_864, 0)?;
-    image.extend_from_slice(&first[first.len().min(36_864)..])?;
-    Ok(image)
-}
-
-// 1,024 bytes of plain text, and 512 bytes of the image that are left.
-fn check_whole(rt: &(impl Abort + AllocGlobal), image: &[u8]) -> Result<(), Fail> {
-    let whole = run(rt.alloc(), CAT, image, PASSPHRASE)?;
-    assert_same(rt, whole.status, 0);
-    assert_same(rt, whole.output.len(), 1024);
-    assert_same(rt, whole.image_left, 512);
-    Ok(())
+fn volumes_of_luks2_are_cut(rt: HostRuntime) {
+    check_cuts(&rt, &sealed2(&rt), &plain_bytes(&rt), &CUTS)
 }
 
 static FIXED_CUTS: [Row; 6] = [
@@ -126,10 +102,14 @@ static FIXED_CUTS: [Row; 6] = [
     (37_888, 1024, ""),
 ];
 
-// A payload of 1,024 bytes.
+// A payload of 1,024 bytes, cut and whole, with 512 bytes behind it.
+fn check_fixed(rt: &(impl Abort + AllocGlobal), image: &[u8], plain: &[u8]) {
+    check_cuts(rt, image, plain, &FIXED_CUTS);
+    let whole = (first_of(plain, 1024), 0, "");
+    check_left(rt, CAT, image, PASSPHRASE, whole, (512, 0))
+}
+
 #[test]
-fn a_fixed_size_is_cut(rt: HostRuntime) -> Result<(), Fail> {
-    let image = fixed_image(rt.alloc())?;
-    check_cuts(&rt, &image, &FIXED_CUTS)?;
-    check_whole(&rt, &image)
+fn a_fixed_size_is_cut(rt: HostRuntime) {
+    check_fixed(&rt, &sealed2_of(&rt, "1024"), &plain_bytes(&rt))
 }

@@ -1,146 +1,138 @@
 //! The commands over a header in a file of its own, whose devices move a few bytes a call, fail, or
 //! are refused memory.
 
-use super::detached::{detached, halves};
-use super::volume_devices::check_refused;
+ghost use Rattle.std.specs.Prelude.{◌≡◌, true};
+ghost use Rattle.luks_request.specs.Request.{is_detached, request_of};
+
+use super::detached::{CAT, detached, front_of, payload_of};
+use super::failing::Failing;
+use super::scarce::{Inputs, check_refusals};
 use super::volume2::header2;
 use crate::tests::same::{assert_in, assert_same_in};
-use crate::tests::volume::{KEY, PASSPHRASE, SMALL, plain_bytes};
-use luks_cipher::Mode;
+use crate::tests::volume::{PASSPHRASE, SMALL, plain_bytes, sealed};
 use luks_cli::execute::execute_detached;
-use luks_io::memory::{MemSink, MemSource};
 use luks_report::message::Message;
 use luks_report::report::Report;
+use luks_request::command::Command;
 use luks_testing::devices::{Flaky, Leaky};
-use luks_testing::scarce::Scarcity;
 use std::process::Abort;
-use std::test::Fail;
 
-const OPENED: &[u8] = b"Key slot 0 opens the volume.\n";
+// The number of the file with the header among the devices, behind those that there are without it.
+const HEADER: u32 = 3;
 
-// Runs with one failing call each, of the file with the header, the image, the key file and the
-// output, counted upwards until a run meets none. Each is told as what failed, and what it wrote is
-// a beginning of the whole: for a failed read of the image the whole sectors that were taken.
-fn check_failures(
-    rt: &(impl Abort + AllocGlobal),
-    name: &str,
-    header: &[u8],
-    image: &[u8],
+// What a run wrote, and how many bytes of the image it took.
+type Moved<'a> = (&'a [u8], usize);
+
+// What was written is a beginning of the whole, and all of it where the run ended well. Where a
+// read of the image failed, all whole sectors that were taken are written; where a write did, no
+// byte past the current sector was taken; and where another read did, nothing was.
+fn check_ending(
+    rt: &impl Abort,
+    failing: Failing,
+    report: Report,
+    (written, taken): Moved<'_>,
     whole: &[u8],
-) -> Result<(), Fail> {
-    let alloc = rt.alloc();
-    let words = [name, "--key-file", "f", "--header", "h", "i"];
-    let command = detached(alloc, &words)?;
-    for device in 0..4 {
-        for call in 0..900 {
-            let at = |which: u32| if which == device { call } else { u64::MAX };
-            let mut front = Flaky::new(header, 500, at(0));
-            let mut payload = Flaky::new(image, 100, at(1));
-            let mut secret = Flaky::new(PASSPHRASE, 5, at(2));
-            let mut out = Leaky::new(alloc, 4096, 300, at(3))?;
-            let report = execute_detached(
-                alloc,
-                &command,
-                &mut front,
-                &mut payload,
-                &mut secret,
-                &mut out,
-            );
-            assert_in(rt, &name, whole.starts_with(out.as_slice()));
-            if report.status == 0 {
-                assert_same_in(rt, &name, out.as_slice(), whole);
-                break;
-            }
-            let told = if device == 3 {
-                Message::WriteFailed
-            } else {
-                Message::ReadFailed
-            };
-            assert_same_in(rt, &(name, device, call), report, Report::of(told));
-            let taken = image.len() - payload.left().min(image.len());
-            let written = out.as_slice().len();
-            match device {
-                1 => assert_same_in(rt, &(name, call), written, taken / 512 * 512),
-                3 => assert_in(rt, &(name, call), taken <= (written / 512 + 1) * 512),
-                _ => assert_same_in(rt, &(name, device, call), (written, taken), (0, 0)),
-            }
-            assert!(rt; call < 899);
-        }
+) {
+    assert_in(rt, &failing, whole.starts_with(written));
+    if report.status == 0 {
+        assert_same_in(rt, &failing, written, whole);
+        return;
     }
-    Ok(())
+    assert_same_in(rt, &failing, report, Report::of(failing.told()));
+    match failing.device {
+        0 => assert_same_in(rt, &failing, written.len(), taken / 512 * 512),
+        2 => assert_in(rt, &failing, taken <= (written.len() / 512 + 1) * 512),
+        _ => assert_same_in(rt, &failing, (written.len(), taken), (0, 0)),
+    }
 }
 
-#[test]
-fn tells_a_failed_read_or_write(rt: HostRuntime) -> Result<(), Fail> {
-    let alloc = rt.alloc();
-    let plain = plain_bytes(alloc)?;
-    let (first, payload) = halves(alloc, Mode::XtsPlain64, KEY, SMALL, 4608)?;
-    check_failures(&rt, "luksCat", &first, &payload, &plain)?;
-    let second = header2(alloc, "0", "dynamic")?;
-    check_failures(&rt, "luksCat", &second, &payload, &plain)
-}
-
-// Runs with less and less memory refused, in pieces of so many bytes, until one meets no refusal.
-// Each refused run answers want of memory, writes nothing, and takes nothing of the image.
-fn check_refusals(
+// One run over the file with the header and the image; whether it ended well.
+fn run_failing(
     rt: &(impl Abort + AllocGlobal),
-    name: &str,
-    header: &[u8],
-    piece: usize,
-    image: &[u8],
+    command: &Command<'_>,
+    failing: Failing,
+    inputs: (&[u8], &[u8]),
     whole: &[u8],
-) -> Result<(), Fail> {
-    let alloc = rt.alloc();
-    let words = [name, "--key-file", "f", "--header", "h", "i"];
-    let command = detached(alloc, &words)?;
-    let mut out = MemSink::new(alloc, 4096)?;
-    let mut reports = Vec::with_capacity(alloc, 401)?;
-    // The stack grows in a first run, since it cannot once all memory is taken.
-    let mut front = MemSource::new(header);
-    let mut payload = MemSource::new(image);
-    let mut secret = MemSource::new(PASSPHRASE);
-    let first = execute_detached(
-        alloc,
-        &command,
+) -> bool
+    requires detached { is_detached (request_of command.now) ≡ true }
+{
+    let (header, image) = inputs;
+    let mut out = Leaky::new(rt.alloc(), 4096, 300, failing.call_of(2)).expect(rt, "room");
+    let mut front = Flaky::new(header, 500, failing.call_of(HEADER));
+    let mut payload = Flaky::new(image, 100, failing.call_of(0));
+    let mut secret = Flaky::new(PASSPHRASE, 5, failing.call_of(1));
+    let report = execute_detached(
+        rt.alloc(),
+        command,
         &mut front,
         &mut payload,
         &mut secret,
         &mut out,
     );
-    assert_same_in(rt, &name, first, Report::of(Message::Done));
-    let mut out = MemSink::new(alloc, 4096)?;
-    let mut scarcity = Scarcity::new(alloc, 400, piece)?;
-    for _ in 0..400 {
-        let mut front = MemSource::new(header);
-        let mut payload = MemSource::new(image);
-        let mut secret = MemSource::new(PASSPHRASE);
-        let report = execute_detached(
-            alloc,
-            &command,
-            &mut front,
-            &mut payload,
-            &mut secret,
-            &mut out,
-        );
-        let done = report.status == 0;
-        let _ = reports.push((report, out.as_slice().len(), payload.left().len()));
-        if done {
-            break;
+    let done = report.status == 0;
+    let taken = image.len() - payload.left().min(image.len());
+    check_ending(rt, failing, report, (out.as_slice(), taken), whole);
+    done
+}
+
+// Runs with one failing call of this device each, counted upwards until a run meets none.
+fn check_device(
+    rt: &(impl Abort + AllocGlobal),
+    command: &Command<'_>,
+    device: u32,
+    inputs: (&[u8], &[u8]),
+    whole: &[u8],
+)
+    requires detached { is_detached (request_of command.now) ≡ true }
+{
+    for call in 0..900 {
+        if run_failing(rt, command, Failing { device, call }, inputs, whole) {
+            return;
         }
-        scarcity.relent();
     }
-    drop(scarcity);
-    check_refused(rt, name, reports, image.len(), (out.as_slice(), whole))
+    assert_in(rt, &device, false);
+}
+
+// Runs of `luksCat` with one failing call each, of each device. Each is told as what failed.
+fn check_failures(rt: &(impl Abort + AllocGlobal), header: &[u8], image: &[u8], whole: &[u8]) {
+    let words = ["luksCat", "--key-file", "f", "--header", "h", "i"];
+    let command = detached(rt, &words);
+    for device in 0..4 {
+        check_device(rt, &command, device, (header, image), whole);
+    }
 }
 
 #[test]
-fn answers_memory_where_it_is_refused(rt: HostRuntime) -> Result<(), Fail> {
-    let alloc = rt.alloc();
-    let plain = plain_bytes(alloc)?;
-    let (first, payload) = halves(alloc, Mode::XtsPlain64, KEY, SMALL, 4608)?;
-    check_refusals(&rt, "luksCat", &first, 136, &payload, &plain)?;
-    check_refusals(&rt, "testPassphrase", &first, 136, &payload, OPENED)?;
-    let second = header2(alloc, "0", "dynamic")?;
-    check_refusals(&rt, "luksCat", &second, 1100, &payload, &plain)?;
-    check_refusals(&rt, "testPassphrase", &second, 1100, &payload, OPENED)
+fn tells_a_failed_read_or_write(rt: HostRuntime) {
+    let plain = plain_bytes(&rt);
+    let volume = sealed(&rt, SMALL, PASSPHRASE);
+    let payload = payload_of(&volume);
+    check_failures(&rt, &front_of(&rt, &volume, 4608), payload, &plain);
+    check_failures(&rt, &header2(&rt, "0", "dynamic"), payload, &plain)
+}
+
+// With memory refused, nothing of the image is taken.
+fn check_refused_memory(
+    rt: &(impl Abort + AllocGlobal),
+    header: &[u8],
+    image: &[u8],
+    plain: &[u8],
+    piece: usize,
+) {
+    let inputs: Inputs<'_> = [header, image, PASSPHRASE];
+    check_refusals(rt, CAT, inputs, (piece, 11), Message::Done, plain);
+    let line = "testPassphrase --key-file f --header h i";
+    let opened = b"Key slot 0 opens the volume.\n";
+    check_refusals(rt, line, inputs, (piece, 11), Message::Done, opened)
+}
+
+#[test]
+fn answers_memory_where_it_is_refused(rt: HostRuntime) {
+    let plain = plain_bytes(&rt);
+    let volume = sealed(&rt, SMALL, PASSPHRASE);
+    let payload = payload_of(&volume);
+    let first = front_of(&rt, &volume, 4608);
+    check_refused_memory(&rt, &first, payload, &plain, 136);
+    let second = header2(&rt, "0", "dynamic");
+    check_refused_memory(&rt, &second, payload, &plain, 1100)
 }

@@ -3,7 +3,7 @@
 ghost use Rattle.std.specs.Prelude.{◌≡◌, false};
 ghost use Rattle.luks_request.specs.Request.{is_detached, request_of};
 
-use super::attached;
+use super::runs::{attached, words_of};
 use crate::tests::same::assert_in;
 use luks_cli::execute::execute;
 use luks_report::message::Message;
@@ -11,19 +11,18 @@ use luks_report::report::Report;
 use luks_request::command::Command;
 use luks_testing::devices::{Flaky, Leaky};
 use std::process::Abort;
-use std::test::Fail;
 
 /// A call that fails: which device's (the image is 0, the second input 1, the output 2), and which
 /// one of its calls.
 #[derive(Clone, Copy, Debug)]
-struct Failing {
-    device: u32,
-    call: u64,
+pub(super) struct Failing {
+    pub(super) device: u32,
+    pub(super) call: u64,
 }
 
 impl Failing {
-    // Which call of this device fails.
-    fn call_of(self, device: u32) -> u64 {
+    /// Which call of this device fails.
+    pub(super) fn call_of(self, device: u32) -> u64 {
         if device == self.device {
             self.call
         } else {
@@ -31,8 +30,8 @@ impl Failing {
         }
     }
 
-    // What is told of it.
-    fn told(self) -> Message {
+    /// What is told of it.
+    pub(super) fn told(self) -> Message {
         if self.device == 2 {
             Message::WriteFailed
         } else {
@@ -45,8 +44,7 @@ impl Failing {
 fn check_ending(
     rt: &impl Abort,
     failing: Failing,
-    report: &Report,
-    failed: bool,
+    (report, failed): (Report, bool),
     written: &[u8],
     whole: &[u8],
 ) {
@@ -56,7 +54,7 @@ fn check_ending(
     } else {
         Message::Done
     };
-    assert_in(rt, &failing, *report == Report::of(message));
+    assert_in(rt, &failing, report == Report::of(message));
     assert_in(rt, &failing, failed || written == whole);
 }
 
@@ -68,18 +66,17 @@ fn run_failing(
     failing: Failing,
     inputs: [&[u8]; 2],
     whole: &[u8],
-) -> Result<bool, Fail>
+) -> bool
     requires attached { is_detached (request_of command.now) ≡ false }
 {
-    let alloc = rt.alloc();
     let piece = (inputs[0].len() / 100).max(5);
+    let mut out = Leaky::new(rt.alloc(), 4096, 3, failing.call_of(2)).expect(rt, "room");
     let mut image = Flaky::new(inputs[0], piece, failing.call_of(0));
     let mut secret = Flaky::new(inputs[1], 5, failing.call_of(1));
-    let mut out = Leaky::new(alloc, 4096, 3, failing.call_of(2))?;
-    let report = execute(alloc, command, &mut image, &mut secret, &mut out);
+    let report = execute(rt.alloc(), command, &mut image, &mut secret, &mut out);
     let failed = image.failures != 0 || secret.failures != 0 || out.failures() != 0;
-    check_ending(rt, failing, &report, failed, out.as_slice(), whole);
-    Ok(failed)
+    check_ending(rt, failing, (report, failed), out.as_slice(), whole);
+    failed
 }
 
 // Runs with one failing call of this device each, counted upwards until a run meets none.
@@ -89,15 +86,28 @@ fn check_device(
     device: u32,
     inputs: [&[u8]; 2],
     whole: &[u8],
-) -> Result<(), Fail>
+)
     requires attached { is_detached (request_of command.now) ≡ false }
 {
     for call in 0..600 {
-        if !run_failing(rt, command, Failing { device, call }, inputs, whole)? {
-            return Ok(());
+        if !run_failing(rt, command, Failing { device, call }, inputs, whole) {
+            return;
         }
     }
-    Err("a run without a failure".into())
+    assert_in(rt, &device, false);
+}
+
+fn check_command(
+    rt: &(impl Abort + AllocGlobal),
+    command: &Command<'_>,
+    inputs: [&[u8]; 2],
+    whole: &[u8],
+)
+    requires attached { is_detached (request_of command.now) ≡ false }
+{
+    for device in 0..3 {
+        check_device(rt, command, device, inputs, whole);
+    }
 }
 
 /// Runs with one failing call each, of each device in turn. Each is told as what failed, and what
@@ -108,12 +118,8 @@ pub(super) fn check_failures(
     image: &[u8],
     secret: &[u8],
     whole: &[u8],
-) -> Result<(), Fail> {
-    let alloc = rt.alloc();
-    let words: Vec<&str> = line.split(' ').collect(alloc)?;
-    let command = attached(alloc, words.as_slice())?;
-    for device in 0..3 {
-        check_device(rt, &command, device, [image, secret], whole)?;
-    }
-    Ok(())
+) {
+    let words = words_of(rt, line);
+    let command = attached(rt, &words);
+    check_command(rt, &command, [image, secret], whole)
 }

@@ -1,34 +1,30 @@
 //! Sealed volumes of two key slots, which are written out under either passphrase: of both formats,
 //! in each mode, with sectors of each length.
 
-use super::runs::report_over;
-use crate::tests::same::{assert_in, assert_same_in};
-use crate::tests::volume::KEY;
-use crate::tests::volumes2::{RANDOM, parameters, plain_of, slot};
+use super::runs::check_over;
+use crate::tests::volume::{KEY, plain_of};
+use crate::tests::volumes2::{RANDOM, parameters, slot};
 use luks_cipher::Mode;
-use luks_io::memory::{MemSink, MemSource};
+use luks_io::memory::MemSource;
 use luks_kdf::Hash;
 use luks_report::message::Message;
-use luks_report::report::Report;
-use luks_seal::parameters::{Seal1, Seal2, SealFault, Slot1, Slot2};
+use luks_seal::parameters::{Seal1, Seal2, Slot1, Slot2};
 use luks_verdict::sector_size::SectorSize;
 use luks1_seal::seal1;
 use luks2_seal::seal2;
-use std::alloc::Global;
 use std::process::Abort;
-use std::test::Fail;
 
 const PASSPHRASES: [&[u8]; 2] = [b"one", b"another"];
 
 /// The modes, and how many bytes of key each is tried with.
-const MODES: [(Mode, usize); 4] = [
+static MODES: [(Mode, usize); 4] = [
     (Mode::XtsPlain64, 64),
     (Mode::XtsPlain, 32),
     (Mode::CbcEssivSha256, 32),
     (Mode::CbcPlain64, 16),
 ];
 
-const SECTOR_SIZES: [SectorSize; 4] = [
+static SECTOR_SIZES: [SectorSize; 4] = [
     SectorSize::B512,
     SectorSize::B1024,
     SectorSize::B2048,
@@ -45,7 +41,7 @@ fn slot1<'a>(number: u32, passphrase: &'a [u8], random: &'a [u8]) -> Slot1<'a> {
     }
 }
 
-fn first(alloc: Global, mode: Mode, key: &[u8], plain: &[u8]) -> Result<Vec<u8>, SealFault> {
+fn first(rt: &(impl Abort + AllocGlobal), (mode, key): (Mode, &[u8]), plain: &[u8]) -> Vec<u8> {
     let random = &RANDOM[..3 * key.len().min(64)];
     let slots = [
         slot1(2, PASSPHRASES[0], random),
@@ -63,16 +59,15 @@ fn first(alloc: Global, mode: Mode, key: &[u8], plain: &[u8]) -> Result<Vec<u8>,
         slots: &slots,
         plain,
     };
-    seal1(alloc, &volume)
+    seal1(rt.alloc(), &volume).expect(rt, "a volume")
 }
 
 fn second(
-    alloc: Global,
-    mode: Mode,
-    key: &[u8],
+    rt: &(impl Abort + AllocGlobal),
+    (mode, key): (Mode, &[u8]),
     sector_size: SectorSize,
     plain: &[u8],
-) -> Result<Vec<u8>, SealFault> {
+) -> Vec<u8> {
     let random = &RANDOM[..3 * key.len().min(64)];
     let slots = [
         Slot2 {
@@ -93,7 +88,7 @@ fn second(
         area_key_size: 32,
         ..parameters(&slots, plain)
     };
-    seal2(alloc, &volume)
+    seal2(rt.alloc(), &volume).expect(rt, "a volume")
 }
 
 const CAT: [&str; 4] = ["luksCat", "--key-file", "f", "i"];
@@ -105,49 +100,51 @@ fn check_passphrase(
     image: &[u8],
     passphrase: &[u8],
     plain: &[u8],
-) -> Result<(), Fail> {
+) {
     let mut source = MemSource::new(image);
     let mut secret = MemSource::new(passphrase);
-    let mut out = MemSink::new(rt.alloc(), 8192)?;
-    let report = report_over(rt.alloc(), &CAT, &mut source, &mut secret, &mut out)?;
-    assert_in(rt, &mode, report == Report::of(Message::Done));
-    assert_same_in(rt, &mode, out.as_slice(), plain);
-    Ok(())
+    let inputs = (&mut source, &mut secret);
+    check_over(rt, &mode, &CAT, inputs, 8192, (Message::Done, plain))
 }
 
 // Either passphrase gives the plain bytes.
-fn check_written(
-    rt: &(impl Abort + AllocGlobal),
-    mode: Mode,
-    image: Result<Vec<u8>, SealFault>,
-    plain: &[u8],
-) -> Result<(), Fail> {
-    let image = image.ok().ok_or("a volume")?;
-    check_passphrase(rt, mode, &image, PASSPHRASES[0], plain)?;
-    check_passphrase(rt, mode, &image, PASSPHRASES[1], plain)
+fn check_written(rt: &(impl Abort + AllocGlobal), mode: Mode, image: &[u8], plain: &[u8]) {
+    check_passphrase(rt, mode, image, PASSPHRASES[0], plain);
+    check_passphrase(rt, mode, image, PASSPHRASES[1], plain)
+}
+
+// The volume key, or its first bytes.
+fn key_of(len: usize) -> &'static [u8] {
+    &KEY[..KEY.len().min(len)]
+}
+
+fn check_first(rt: &(impl Abort + AllocGlobal), plain: &[u8]) {
+    for (mode, len) in &MODES {
+        let image = first(rt, (*mode, key_of(*len)), plain);
+        check_written(rt, *mode, &image, plain);
+    }
 }
 
 #[test]
-fn a_volume_of_luks1_is_written_out_in_each_mode(rt: HostRuntime) -> Result<(), Fail> {
-    let alloc = rt.alloc();
-    let plain = plain_of(alloc, 8192)?;
-    for (mode, len) in MODES {
-        let key = &KEY[..KEY.len().min(len)];
-        check_written(&rt, mode, first(alloc, mode, key, &plain), &plain)?;
+fn a_volume_of_luks1_is_written_out_in_each_mode(rt: HostRuntime) {
+    check_first(&rt, &plain_of(&rt, 8192))
+}
+
+// A volume in this mode is written out with sectors of each length.
+fn check_second(rt: &(impl Abort + AllocGlobal), mode: Mode, len: usize, plain: &[u8]) {
+    for sector_size in &SECTOR_SIZES {
+        let image = second(rt, (mode, key_of(len)), *sector_size, plain);
+        check_written(rt, mode, &image, plain);
     }
-    Ok(())
+}
+
+fn check_seconds(rt: &(impl Abort + AllocGlobal), plain: &[u8]) {
+    for (mode, len) in &MODES {
+        check_second(rt, *mode, *len, plain);
+    }
 }
 
 #[test]
-fn a_volume_of_luks2_is_written_out_in_each_mode_and_size(rt: HostRuntime) -> Result<(), Fail> {
-    let alloc = rt.alloc();
-    let plain = plain_of(alloc, 8192)?;
-    for (mode, len) in MODES {
-        let key = &KEY[..KEY.len().min(len)];
-        for sector_size in SECTOR_SIZES {
-            let image = second(alloc, mode, key, sector_size, &plain);
-            check_written(&rt, mode, image, &plain)?;
-        }
-    }
-    Ok(())
+fn a_volume_of_luks2_is_written_out_in_each_mode_and_size(rt: HostRuntime) {
+    check_seconds(&rt, &plain_of(&rt, 8192))
 }

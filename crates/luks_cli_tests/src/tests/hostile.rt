@@ -1,11 +1,9 @@
 //! Volumes of which one number of the header is changed, from both sides of each bound.
 
-use super::runs::check_run;
-use crate::tests::same::assert_same;
-use crate::tests::volume::{PASSPHRASE, USUAL, changed, sealed};
-use std::alloc::Global;
+use super::runs::{check_left, check_run};
+use crate::tests::same::assert_same_in;
+use crate::tests::volume::{PASSPHRASE, USUAL, USUAL_LEN, changed, followed, put, sealed, text_of};
 use std::process::Abort;
-use std::test::Fail;
 
 // Places in a header of LUKS1.
 const CIPHER_NAME: usize = 8;
@@ -31,26 +29,37 @@ const NO_KEY: &str = "luksrd: no key opens the volume\n";
 const TEST: &str = "testPassphrase --key-file f i";
 
 // Runs `testPassphrase` on a volume whose key slot is skipped or whose segment is refused.
-fn check_refused(rt: &(impl Abort + AllocGlobal), image: &[u8], told: &str) -> Result<(), Fail> {
-    let left = check_run(rt, TEST, image, PASSPHRASE, (&[], 1, told))?;
-    let taken = image.len() - left.0.min(image.len());
-    assert_same(rt, (taken, left.1), (592, PASSPHRASE.len()));
-    Ok(())
+fn check_refused(rt: &(impl Abort + AllocGlobal), image: &[u8], told: &str) {
+    let left = (image.len() - 592.min(image.len()), PASSPHRASE.len());
+    check_left(rt, TEST, image, PASSPHRASE, (&[], 1, told), left)
 }
 
-// With this number at this place, the key slot is skipped for this reason.
-fn check_skipped(
+// The same on a volume with this number at this place.
+fn check_number(
     rt: &(impl Abort + AllocGlobal),
     image: &[u8],
-    (place, number, reason): (usize, u32, &str),
-) -> Result<(), Fail> {
-    let alloc = rt.alloc();
-    let told = format!(in alloc; "luksrd: no key slot can be tried; skipped: 0 ({reason})\n")?;
-    let other = changed(alloc, image, place, &number.to_be_bytes())?;
-    check_refused(rt, &other, told.as_str())
+    (place, number): (usize, u32),
+    told: &str,
+) {
+    let other = changed(rt, image, place, &number.to_be_bytes());
+    check_refused(rt, &other, told)
 }
 
-const SKIPPED: [(usize, u32, &str); 14] = [
+/// A number at a place, and why the key slot is skipped or the segment refused.
+type Number = (usize, u32, &'static str);
+
+// With this number at this place, the key slot is skipped for this reason.
+fn check_skipped(rt: &(impl Abort + AllocGlobal), image: &[u8], (place, number, reason): Number) {
+    let parts = [
+        "luksrd: no key slot can be tried; skipped: 0 (",
+        reason,
+        ")\n",
+    ];
+    let told = text_of(rt, &parts);
+    check_number(rt, image, (place, number), &told)
+}
+
+static SKIPPED: [Number; 14] = [
     (SLOT_STATE, 1, "state"),
     (SLOT_STATE, 0x00ac_71f2, "state"),
     (SLOT_STATE, 0x00ac_71f4, "state"),
@@ -67,13 +76,15 @@ const SKIPPED: [(usize, u32, &str); 14] = [
     (PAYLOAD_OFFSET, 507, "area"),
 ];
 
-#[test]
-fn skips_key_slots_by_their_numbers(rt: HostRuntime) -> Result<(), Fail> {
-    let image = sealed(rt.alloc(), USUAL, PASSPHRASE)?;
-    for row in SKIPPED {
-        check_skipped(&rt, &image, row)?;
+fn check_all_skipped(rt: &(impl Abort + AllocGlobal), image: &[u8]) {
+    for row in &SKIPPED {
+        check_skipped(rt, image, *row);
     }
-    Ok(())
+}
+
+#[test]
+fn skips_key_slots_by_their_numbers(rt: HostRuntime) {
+    check_all_skipped(&rt, &sealed(&rt, USUAL, PASSPHRASE))
 }
 
 // With this number at this place, the key slot is tried once so much is taken.
@@ -81,15 +92,13 @@ fn check_tried(
     rt: &(impl Abort + AllocGlobal),
     image: &[u8],
     (place, number, taken): (usize, u32, usize),
-) -> Result<(), Fail> {
-    let other = changed(rt.alloc(), image, place, &number.to_be_bytes())?;
-    let left = check_run(rt, TEST, &other, PASSPHRASE, (&[], 2, NO_KEY))?;
-    let took = image.len() - left.0.min(image.len());
-    assert_same(rt, (took, left.1), (taken, 0));
-    Ok(())
+) {
+    let other = changed(rt, image, place, &number.to_be_bytes());
+    let left = (USUAL_LEN - taken.min(USUAL_LEN), 0);
+    check_left(rt, TEST, &other, PASSPHRASE, (&[], 2, NO_KEY), left)
 }
 
-const TRIED: [(usize, u32, usize); 6] = [
+static TRIED: [(usize, u32, usize); 6] = [
     (SLOT_STRIPES, 1, 4608),
     (SLOT_STRIPES, 3999, 260_096),
     (SLOT_ITERATIONS, 1, 260_096),
@@ -98,60 +107,53 @@ const TRIED: [(usize, u32, usize); 6] = [
     (SLOT_OFFSET, 3596, 2_097_152),
 ];
 
-#[test]
-fn tries_key_slots_within_the_bounds(rt: HostRuntime) -> Result<(), Fail> {
-    let image = sealed(rt.alloc(), USUAL, PASSPHRASE)?;
-    for row in TRIED {
-        check_tried(&rt, &image, row)?;
+fn check_all_tried(rt: &(impl Abort + AllocGlobal), image: &[u8]) {
+    for row in &TRIED {
+        check_tried(rt, image, *row);
     }
-    Ok(())
 }
 
 #[test]
-fn key_material_may_end_where_the_payload_starts(rt: HostRuntime) -> Result<(), Fail> {
-    let image = sealed(rt.alloc(), USUAL, PASSPHRASE)?;
-    let other = changed(rt.alloc(), &image, PAYLOAD_OFFSET, &508u32.to_be_bytes())?;
-    let opened: &[u8] = b"Key slot 0 opens the volume.\n";
-    check_run(&rt, TEST, &other, PASSPHRASE, (opened, 0, ""))?;
-    Ok(())
+fn tries_key_slots_within_the_bounds(rt: HostRuntime) {
+    check_all_tried(&rt, &sealed(&rt, USUAL, PASSPHRASE))
+}
+
+const OPENED: (&[u8], u8, &str) = (b"Key slot 0 opens the volume.\n", 0, "");
+
+#[test]
+fn key_material_may_end_where_the_payload_starts(rt: HostRuntime) {
+    let image = sealed(&rt, USUAL, PASSPHRASE);
+    let other = changed(&rt, &image, PAYLOAD_OFFSET, &508u32.to_be_bytes());
+    check_run(&rt, TEST, &other, PASSPHRASE, OPENED);
 }
 
 // A usual volume whose payload starts behind 32 MiB, and whose key slot has this offset.
-fn far(alloc: Global, slot_offset: u32) -> Result<Vec<u8>, Fail> {
-    let image = sealed(alloc, USUAL, PASSPHRASE)?;
-    let image = changed(alloc, &image, PAYLOAD_OFFSET, &100_000u32.to_be_bytes())?;
-    Ok(changed(alloc, &image, SLOT_OFFSET, &slot_offset.to_be_bytes())?)
+fn far(rt: &(impl Abort + AllocGlobal), slot_offset: u32) -> Vec<u8> {
+    let mut image = sealed(rt, USUAL, PASSPHRASE);
+    put(&mut image, PAYLOAD_OFFSET, &100_000u32.to_be_bytes());
+    put(&mut image, SLOT_OFFSET, &slot_offset.to_be_bytes());
+    image
 }
 
 #[test]
-fn holds_no_more_than_32_mib(rt: HostRuntime) -> Result<(), Fail> {
-    let past = far(rt.alloc(), 65_037)?;
+fn holds_no_more_than_32_mib(rt: HostRuntime) {
     let told = "luksrd: no key slot can be tried; skipped: 0 (area)\n";
-    check_refused(&rt, &past, told)
+    check_refused(&rt, &far(&rt, 65_037), told)
 }
 
 #[test]
-fn holds_32_mib(rt: HostRuntime) -> Result<(), Fail> {
-    let mut last = far(rt.alloc(), 65_036)?;
-    last.resize(33_554_433, 0)?;
-    let left = check_run(&rt, TEST, &last, PASSPHRASE, (&[], 2, NO_KEY))?;
-    assert_same(&rt, left.0, 1);
-    Ok(())
+fn holds_32_mib(rt: HostRuntime) {
+    let last = followed(&rt, far(&rt, 65_036), 33_554_433, &[]);
+    check_left(&rt, TEST, &last, PASSPHRASE, (&[], 2, NO_KEY), (1, 0))
 }
 
 // With this number at this place, the segment is refused for this fault.
-fn check_segment(
-    rt: &(impl Abort + AllocGlobal),
-    image: &[u8],
-    (place, number, fault): (usize, u32, &str),
-) -> Result<(), Fail> {
-    let alloc = rt.alloc();
-    let told = format!(in alloc; "luksrd: segment refused: {fault}\n")?;
-    let other = changed(alloc, image, place, &number.to_be_bytes())?;
-    check_refused(rt, &other, told.as_str())
+fn check_segment(rt: &(impl Abort + AllocGlobal), image: &[u8], (place, number, fault): Number) {
+    let told = text_of(rt, &["luksrd: segment refused: ", fault, "\n"]);
+    check_number(rt, image, (place, number), &told)
 }
 
-const REFUSED: [(usize, u32, &str); 9] = [
+static REFUSED: [Number; 9] = [
     (PAYLOAD_OFFSET, 0, "offset"),
     (PAYLOAD_OFFSET, 1, "offset"),
     (KEY_BYTES, 0, "key bytes"),
@@ -163,20 +165,25 @@ const REFUSED: [(usize, u32, &str); 9] = [
     (KEY_BYTES, 0xffff_ffff, "key bytes"),
 ];
 
-#[test]
-fn refuses_segments(rt: HostRuntime) -> Result<(), Fail> {
-    let image = sealed(rt.alloc(), USUAL, PASSPHRASE)?;
-    for row in REFUSED {
-        check_segment(&rt, &image, row)?;
+fn check_segments(rt: &(impl Abort + AllocGlobal), image: &[u8]) {
+    for row in &REFUSED {
+        check_segment(rt, image, *row);
     }
-    Ok(())
 }
 
 #[test]
-fn refuses_segments_by_their_texts(rt: HostRuntime) -> Result<(), Fail> {
-    let image = sealed(rt.alloc(), USUAL, PASSPHRASE)?;
-    let other = changed(rt.alloc(), &image, HASH, b"ripemd160\x00")?;
-    check_refused(&rt, &other, "luksrd: segment refused: hash\n")?;
-    let other = changed(rt.alloc(), &other, CIPHER_NAME, b"serpent\x00")?;
-    check_refused(&rt, &other, "luksrd: segment refused: encryption\n")
+fn refuses_segments(rt: HostRuntime) {
+    check_segments(&rt, &sealed(&rt, USUAL, PASSPHRASE))
+}
+
+fn check_texts(rt: &(impl Abort + AllocGlobal), image: &mut [u8]) {
+    put(image, HASH, b"ripemd160\x00");
+    check_refused(rt, image, "luksrd: segment refused: hash\n");
+    put(image, CIPHER_NAME, b"serpent\x00");
+    check_refused(rt, image, "luksrd: segment refused: encryption\n")
+}
+
+#[test]
+fn refuses_segments_by_their_texts(rt: HostRuntime) {
+    check_texts(&rt, &mut sealed(&rt, USUAL, PASSPHRASE))
 }

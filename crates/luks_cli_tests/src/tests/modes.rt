@@ -1,25 +1,21 @@
 //! Whole runs over volumes in the older modes.
 
-use super::runs::check_run;
-use crate::tests::same::assert_same;
-use crate::tests::volume::{KEY, PASSPHRASE, USUAL, changed, plain_bytes, sealed_in};
+use super::runs::{check_left, check_run};
+use crate::tests::same::assert_same_in;
+use crate::tests::volume::{KEY, PASSPHRASE, USUAL, plain_bytes, put, sealed_in};
 use luks_cipher::Mode;
 use std::process::Abort;
-use std::test::Fail;
 
-// A volume in this mode under so many bytes of key is written out, once `held` bytes are taken.
-fn check_mode(
-    rt: &(impl Abort + AllocGlobal),
-    mode: Mode,
-    key_len: usize,
-    held: usize,
-) -> Result<(), Fail> {
-    let alloc = rt.alloc();
-    let key = &KEY[..key_len.min(KEY.len())];
-    let image = sealed_in(alloc, mode, key, USUAL, PASSPHRASE)?;
-    let plain = plain_bytes(alloc)?;
-    check_volume(rt, &image, &plain, held)
-}
+/// A mode, how many bytes of key there are, and how many bytes of the image are taken before the
+/// payload.
+static MODES: [(Mode, usize, usize); 6] = [
+    (Mode::CbcEssivSha256, 32, 132_096),
+    (Mode::CbcEssivSha256, 16, 68_096),
+    (Mode::CbcPlain64, 32, 132_096),
+    (Mode::CbcPlain64, 16, 68_096),
+    (Mode::XtsPlain, 64, 260_096),
+    (Mode::XtsPlain, 32, 132_096),
+];
 
 const CAT: &str = "luksCat --key-file f i";
 
@@ -27,63 +23,54 @@ const OPENED: (&[u8], u8, &str) = (b"Key slot 0 opens the volume.\n", 0, "");
 
 const NO_KEY: (&[u8], u8, &str) = (&[], 2, "luksrd: no key opens the volume\n");
 
-fn check_volume(
-    rt: &(impl Abort + AllocGlobal),
-    image: &[u8],
-    plain: &[u8],
-    held: usize,
-) -> Result<(), Fail> {
-    let left = check_run(rt, CAT, image, PASSPHRASE, (plain, 0, ""))?;
-    assert_same(rt, left, (0, 0));
-    let left = check_run(
-        rt,
-        "testPassphrase --key-file f i",
-        image,
-        PASSPHRASE,
-        OPENED,
-    )?;
-    assert_same(rt, image.len() - left.0.min(image.len()), held);
-    check_run(rt, CAT, image, b"wrong", NO_KEY)?;
-    Ok(())
+// A volume in this mode is written out, once so much is taken.
+fn check_volume(rt: &(impl Abort + AllocGlobal), image: &[u8], plain: &[u8], held: usize) {
+    check_left(rt, CAT, image, PASSPHRASE, (plain, 0, ""), (0, 0));
+    let line = "testPassphrase --key-file f i";
+    let left = (image.len().saturating_sub(held), 0);
+    check_left(rt, line, image, PASSPHRASE, OPENED, left);
+    check_run(rt, CAT, image, b"wrong", NO_KEY);
+}
+
+fn check_mode(rt: &(impl Abort + AllocGlobal), (mode, key_len, held): (Mode, usize, usize)) {
+    let key = &KEY[..key_len.min(KEY.len())];
+    let image = sealed_in(rt, mode, key, USUAL, PASSPHRASE);
+    check_volume(rt, &image, &plain_bytes(rt), held)
 }
 
 #[test]
-fn opens_volumes_in_older_modes(rt: HostRuntime) -> Result<(), Fail> {
-    check_mode(&rt, Mode::CbcEssivSha256, 32, 132_096)?;
-    check_mode(&rt, Mode::CbcEssivSha256, 16, 68_096)?;
-    check_mode(&rt, Mode::CbcPlain64, 32, 132_096)?;
-    check_mode(&rt, Mode::CbcPlain64, 16, 68_096)?;
-    check_mode(&rt, Mode::XtsPlain, 64, 260_096)?;
-    check_mode(&rt, Mode::XtsPlain, 32, 132_096)?;
-    Ok(())
+fn opens_volumes_in_older_modes(rt: HostRuntime) {
+    for row in &MODES {
+        check_mode(&rt, *row);
+    }
 }
 
-// The name of the mode and the length of the key, as a header has them, and what is told of them.
-fn check_length(
-    rt: &(impl Abort + AllocGlobal),
-    mode: &[u8],
-    key_len: u8,
-    told: &str,
-) -> Result<(), Fail> {
-    let alloc = rt.alloc();
-    let image = sealed_in(alloc, Mode::CbcEssivSha256, &KEY[..32], USUAL, PASSPHRASE)?;
-    let image = changed(alloc, &image, 40, mode)?;
-    let image = changed(alloc, &image, 111, &[key_len])?;
-    let left = check_run(rt, CAT, &image, PASSPHRASE, (&[], 1, told))?;
-    assert_same(rt, left.1, PASSPHRASE.len());
-    Ok(())
+/// The name of the mode and the length of the key, as a header has them, and what is told of them.
+static LENGTHS: [(&[u8], u8, &str); 7] = [
+    (b"cbc-essiv:sha256\0", 24, KEY_BYTES),
+    (b"cbc-essiv:sha256\0", 64, KEY_BYTES),
+    (b"cbc-plain64\0", 64, KEY_BYTES),
+    (b"xts-plain\0", 16, KEY_BYTES),
+    (b"cbc-essiv:sha1\0", 32, ENCRYPTION),
+    (b"cbc-plain\0", 32, ENCRYPTION),
+    (b"ecb\0", 32, ENCRYPTION),
+];
+
+const KEY_BYTES: &str = "luksrd: segment refused: key bytes\n";
+
+const ENCRYPTION: &str = "luksrd: segment refused: encryption\n";
+
+fn check_length(rt: &(impl Abort + AllocGlobal), (mode, key_len, told): (&[u8], u8, &str)) {
+    let mut image = sealed_in(rt, Mode::CbcEssivSha256, &KEY[..32], USUAL, PASSPHRASE);
+    put(&mut image, 40, mode);
+    put(&mut image, 111, &[key_len]);
+    let left = check_run(rt, CAT, &image, PASSPHRASE, (&[], 1, told));
+    assert_same_in(rt, &(mode, key_len), left.1, PASSPHRASE.len());
 }
 
 #[test]
-fn refuses_keys_of_other_lengths(rt: HostRuntime) -> Result<(), Fail> {
-    let key = "luksrd: segment refused: key bytes\n";
-    let other = "luksrd: segment refused: encryption\n";
-    check_length(&rt, b"cbc-essiv:sha256\0", 24, key)?;
-    check_length(&rt, b"cbc-essiv:sha256\0", 64, key)?;
-    check_length(&rt, b"cbc-plain64\0", 64, key)?;
-    check_length(&rt, b"xts-plain\0", 16, key)?;
-    check_length(&rt, b"cbc-essiv:sha1\0", 32, other)?;
-    check_length(&rt, b"cbc-plain\0", 32, other)?;
-    check_length(&rt, b"ecb\0", 32, other)?;
-    Ok(())
+fn refuses_keys_of_other_lengths(rt: HostRuntime) {
+    for row in &LENGTHS {
+        check_length(&rt, *row);
+    }
 }

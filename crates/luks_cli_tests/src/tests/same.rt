@@ -4,11 +4,6 @@
 use std::fmt::Debug;
 use std::process::Abort;
 
-/// Asserts that both values are the same.
-pub(super) fn assert_same<T: PartialEq + Debug + Drop>(rt: &impl Abort, left: T, right: T) {
-    assert_eq!(rt; left, right);
-}
-
 /// Asserts that both values are the same, in this case of a table.
 pub(super) fn assert_same_in<C: Debug, T: PartialEq + Debug + Drop>(
     rt: &impl Abort,

@@ -2,14 +2,11 @@
 //! refused memory.
 
 use super::failing::check_failures;
-use super::headers::check_refusals;
-use super::runs::{check_pieces, check_run, first_of};
-use crate::tests::same::{assert_same, assert_same_in};
+use super::runs::{Ends, check_left, check_pieces, first_of, words_of};
+use super::scarce::check_refusals;
 use luks_report::message::Message;
 use luks_testing::header2::{SIZE, image_of};
-use std::alloc::Global;
 use std::process::Abort;
-use std::test::Fail;
 
 // One key slot, one digest, and a payload behind both headers and the key material.
 const JSON: &str = "{\"keyslots\":{\"7\":{\"type\":\"luks2\",\"key_size\":64,\
@@ -35,7 +32,7 @@ const DUMP: &str = "Version: 2\nHeader: primary\nSequence: 258\nHeader size: 163
     Digest 0: USABLE hash=sha256 iterations=1500 bytes=32 keyslots=7 segments=0\n";
 
 // What the four commands print of the image above.
-const PRINTED: [(&str, &str); 4] = [
+static PRINTED: [(&str, &str); 4] = [
     ("isLuks i", ""),
     ("luksUUID i", UUID),
     ("luksDump i", DUMP),
@@ -43,69 +40,77 @@ const PRINTED: [(&str, &str); 4] = [
 ];
 
 // An image with both headers and ten bytes behind them.
-fn image(alloc: Global) -> Result<Vec<u8>, Fail> {
-    let mut image = image_of(alloc, 258, 258, JSON)?;
-    image.resize(2 * SIZE + 10, 0)?;
-    Ok(image)
+fn image(rt: &(impl Abort + AllocGlobal)) -> Vec<u8> {
+    let mut image = image_of(rt.alloc(), 258, 258, JSON).expect(rt, "room for headers");
+    image
+        .resize(2 * SIZE + 10, 0)
+        .expect(rt, "room for an image");
+    image
 }
 
-fn check_page(
-    rt: &(impl Abort + AllocGlobal),
-    image: &[u8],
-    line: &str,
-    page: &str,
-) -> Result<(), Fail> {
-    let words: Vec<&str> = line.split(' ').collect(rt.alloc())?;
+fn check_page(rt: &(impl Abort + AllocGlobal), image: &[u8], line: &str, page: &str) {
+    let words = words_of(rt, line);
     for piece in [1, 591, 4095, 4096, 32_768] {
         let pieces = (piece, 0, 4096);
-        let left = check_pieces(rt, words.as_slice(), (image, &[]), pieces, page.as_bytes())?;
-        assert_same_in(rt, &line, left.0, 10);
+        check_pieces(rt, &words, (image, &[]), pieces, page.as_bytes(), (10, 0));
     }
-    Ok(())
+}
+
+fn check_pages(rt: &(impl Abort + AllocGlobal), image: &[u8]) {
+    for (line, page) in &PRINTED {
+        check_page(rt, image, line, page);
+    }
 }
 
 #[test]
-fn prints_the_same_for_all_pieces(rt: HostRuntime) -> Result<(), Fail> {
-    let image = image(rt.alloc())?;
-    for (line, page) in PRINTED {
-        check_page(&rt, &image, line, page)?;
+fn prints_the_same_for_all_pieces(rt: HostRuntime) {
+    check_pages(&rt, &image(&rt))
+}
+
+fn check_failed_calls(rt: &(impl Abort + AllocGlobal), image: &[u8]) {
+    for (line, page) in &PRINTED {
+        check_failures(rt, line, image, &[], page.as_bytes());
     }
-    Ok(())
 }
 
 #[test]
-fn tells_each_failed_call(rt: HostRuntime) -> Result<(), Fail> {
-    let image = image(rt.alloc())?;
-    for (line, page) in PRINTED {
-        check_failures(&rt, line, &image, &[], page.as_bytes())?;
+fn tells_each_failed_call(rt: HostRuntime) {
+    check_failed_calls(&rt, &image(&rt))
+}
+
+fn check_refused_memory(rt: &(impl Abort + AllocGlobal), image: &[u8]) {
+    for (line, page) in &PRINTED {
+        let whole = page.as_bytes();
+        check_refusals(rt, line, [&[], image, &[]], (1100, 1), Message::Done, whole);
     }
-    Ok(())
 }
 
 #[test]
-fn answers_memory_where_it_is_refused(rt: HostRuntime) -> Result<(), Fail> {
-    let image = image(rt.alloc())?;
-    for (line, page) in PRINTED {
-        check_refusals(&rt, line, &image, 1100, page, Message::Done)?;
+fn answers_memory_where_it_is_refused(rt: HostRuntime) {
+    check_refused_memory(&rt, &image(&rt))
+}
+
+const ONE_HEADER: Ends<'static> = (
+    b"secondary header: not valid\n",
+    1,
+    "luksrd: the header has findings\n",
+);
+
+const NO_HEADER: Ends<'static> = (&[], 4, "luksrd: not a LUKS image\n");
+
+fn check_cuts(rt: &(impl Abort + AllocGlobal), image: &[u8]) {
+    for len in [SIZE, SIZE + 4096, 2 * SIZE - 1] {
+        let cut = first_of(image, len);
+        check_left(rt, "luksCheck i", cut, &[], ONE_HEADER, (0, 0));
     }
-    Ok(())
+    for len in [591, 4095, 4096, SIZE - 1] {
+        let cut = first_of(image, len);
+        check_left(rt, "luksUUID i", cut, &[], NO_HEADER, (0, 0));
+    }
 }
 
 // Cut behind the primary header, the image still has it; within it, it has none.
 #[test]
-fn a_cut_image_has_what_is_whole(rt: HostRuntime) -> Result<(), Fail> {
-    let image = image(rt.alloc())?;
-    for len in [SIZE, SIZE + 4096, 2 * SIZE - 1] {
-        let found: &[u8] = b"secondary header: not valid\n";
-        let ends = (found, 1, "luksrd: the header has findings\n");
-        let left = check_run(&rt, "luksCheck i", first_of(&image, len), &[], ends)?;
-        assert_same(&rt, left.0, 0);
-    }
-    for len in [591, 4095, 4096, SIZE - 1] {
-        let none: &[u8] = &[];
-        let ends = (none, 4, "luksrd: not a LUKS image\n");
-        let left = check_run(&rt, "luksUUID i", first_of(&image, len), &[], ends)?;
-        assert_same(&rt, left.0, 0);
-    }
-    Ok(())
+fn a_cut_image_has_what_is_whole(rt: HostRuntime) {
+    check_cuts(&rt, &image(&rt))
 }

@@ -1,16 +1,23 @@
 //! Lines that are no command line of luksrd.
 
-use super::words_of;
+use super::{assert_of, joined, words_of};
 use luks_command::planning::{PlanFault, plan};
-use luks_testing::same::{holds_in, same};
-use std::alloc::{AllocError, Global};
 use std::process::Abort;
-use std::test::Fail;
 
 #[test]
 fn refuses_no_words(rt: HostRuntime) {
     let words: [&str; 0] = [];
-    same(plan(rt.alloc(), words.as_slice()), Err(PlanFault::Usage)).expect(&rt, "the same");
+    check_words(&rt, "no words", words.as_slice());
+}
+
+// The words are no command line of luksrd.
+fn check_words(rt: &(impl Abort + AllocGlobal), line: &str, words: &[&str]) {
+    assert_of(rt, line, plan(rt.alloc(), words) == Err(PlanFault::Usage));
+}
+
+// The line is none.
+fn check_refused(rt: &(impl Abort + AllocGlobal), line: &str) {
+    check_words(rt, line, &words_of(rt, line));
 }
 
 // Lines that are no command line of luksrd.
@@ -145,18 +152,11 @@ static FAULTS: [&str; 120] = [
     "afSplit --hash sha256 --stripes 2 --random - - x",
 ];
 
-// The line is no command line of luksrd.
-fn is_refused(alloc: Global, line: &str) -> Result<bool, AllocError> {
-    let words = words_of(alloc, line)?;
-    Ok(plan(alloc, words.as_slice()) == Err(PlanFault::Usage))
-}
-
 #[test]
-fn refuses_other_lines(rt: HostRuntime) -> Result<(), Fail> {
+fn refuses_other_lines(rt: HostRuntime) {
     for line in &FAULTS {
-        holds_in(&line, is_refused(rt.alloc(), line)?).expect(&rt, "so");
+        check_refused(&rt, line);
     }
-    Ok(())
 }
 
 // Texts that are no number of stripes and no number of key bytes.
@@ -181,53 +181,41 @@ static NO_NUMBERS: [&str; 18] = [
     "4294967297",
 ];
 
-// The line of these three parts is none.
-fn check_refused(rt: &(impl Abort + AllocGlobal), parts: [&str; 3]) -> Result<(), Fail> {
-    let line = format!(in rt.alloc(); "{}{}{}", parts[0], parts[1], parts[2])?;
-    holds_in(&line, is_refused(rt.alloc(), line.as_str())?).expect(rt, "so");
-    Ok(())
+// What stands before a number and behind it.
+static AROUND: [(&str, &str); 3] = [
+    ("afSplit --hash sha1 --stripes=", " --random r k"),
+    ("afMerge --hash sha1 --stripes=", " --key-bytes 1 s"),
+    ("afMerge --hash sha1 --stripes 1 --key-bytes=", " s"),
+];
+
+fn check_number(rt: &(impl Abort + AllocGlobal), number: &str) {
+    for (before, behind) in &AROUND {
+        check_refused(rt, joined(rt, &[before, number, behind]).as_str());
+    }
 }
 
+static OTHER_NUMBERS: [&str; 13] = [
+    "afMerge --hash sha1 --stripes 1 --key-bytes 513 s",
+    "luksCat --key-file f --key-slot 32 i",
+    "luksCat --key-file f --key-slot= i",
+    "luksCat --key-file f --key-slot +1 i",
+    "luksCat --key-file f --key-slot=-1 i",
+    "luksCat --key-file f --key-slot 0x10 i",
+    "luksCat --key-file f --key-slot 00000000001 i",
+    "testPassphrase --key-file f --max-iterations 0 i",
+    "testPassphrase --key-file f --max-iterations= i",
+    "testPassphrase --key-file f --max-iterations +1 i",
+    "testPassphrase --key-file f --max-iterations 4294967296 i",
+    "testPassphrase --key-file f --max-iterations 9999999999 i",
+    "testPassphrase --key-file f --max-iterations 00000000001 i",
+];
+
 #[test]
-fn refuses_other_numbers(rt: HostRuntime) -> Result<(), Fail> {
+fn refuses_other_numbers(rt: HostRuntime) {
     for number in &NO_NUMBERS {
-        check_refused(
-            &rt,
-            ["afSplit --hash sha1 --stripes=", *number, " --random r k"],
-        )?;
-        check_refused(
-            &rt,
-            [
-                "afMerge --hash sha1 --stripes=",
-                *number,
-                " --key-bytes 1 s",
-            ],
-        )?;
-        check_refused(
-            &rt,
-            [
-                "afMerge --hash sha1 --stripes 1 --key-bytes=",
-                *number,
-                " s",
-            ],
-        )?;
+        check_number(&rt, number);
     }
-    for line in [
-        "afMerge --hash sha1 --stripes 1 --key-bytes 513 s",
-        "luksCat --key-file f --key-slot 32 i",
-        "luksCat --key-file f --key-slot= i",
-        "luksCat --key-file f --key-slot +1 i",
-        "luksCat --key-file f --key-slot=-1 i",
-        "luksCat --key-file f --key-slot 0x10 i",
-        "luksCat --key-file f --key-slot 00000000001 i",
-        "testPassphrase --key-file f --max-iterations 0 i",
-        "testPassphrase --key-file f --max-iterations= i",
-        "testPassphrase --key-file f --max-iterations +1 i",
-        "testPassphrase --key-file f --max-iterations 4294967296 i",
-        "testPassphrase --key-file f --max-iterations 9999999999 i",
-        "testPassphrase --key-file f --max-iterations 00000000001 i",
-    ] {
-        holds_in(&line, is_refused(rt.alloc(), line)?).expect(&rt, "so");
+    for line in &OTHER_NUMBERS {
+        check_refused(&rt, line);
     }
-    Ok(())
 }

@@ -1,6 +1,5 @@
 use super::{HASHES, assert_hex};
 use luks_kdf::{Hash, Work, digest, pbkdf2};
-use luks_testing::same::same;
 use std::process::Abort;
 
 // Asserts what is derived, as many bytes as the digits spell, and how far the work goes.
@@ -21,7 +20,7 @@ fn check(
     let mut counted = Work::new(0);
     pbkdf2(hash, pass, salt, iterations, &mut out[..len], &mut counted);
     assert_hex(rt, &out[..len], want);
-    same(counted.count(), work).expect(rt, "the same");
+    assert!(rt; counted.count() == work);
 }
 
 // RFC 6070, but for the case of 16,777,216 iterations.
@@ -82,50 +81,53 @@ fn check_front(rt: &impl Abort, hash: Hash, want: &[u8], len: usize, work: u128)
 }
 
 // One byte more than two digests. A shorter key is a beginning of a longer one.
+static KEYS_ABOUT_A_DIGEST: [&[u8]; 5] = [
+    b"6b4e26125c25cf21ae35ead955f479ea2e71f6ff9e400029f04810eece31355533bb2ed348e604da70",
+    b"947cf079cfc7f2016dcd7ec418840443edaabb90c496f98cabeec4bfb1a5a4aaff68cca92cf05a6d725502f8e0a8873b2660b7887a9bfd1478",
+    b"ad35240ac683febfaf3cd49d845473fbbbaa2437f5f82d5a415ae00ac76c6bfccf9a9b8d6d2fe4a1e700c4460b040dbed692c1cb85a747f35588c08930fcfc41ac",
+    b"1bfb451b6087e5d24eeffb57d7284448da95b581d35a1887d9a6e756af559b1fb4798a4529502f87cdf71f435d66d25e344483fb1f24ab37be82ed35c43762d01520cd6457ab0240e0b334cfc688f5da7cc7febb0af6bbb4a7d1def8190116bea3",
+    b"b6b07cb2cebf4ad84468391a543824fccffe0e0769dbe6bddf10a65673c4b648e612d44918f9ce9a19a1294cf5140628084ba994c3b21a4ef4741220b811c633cfc0641fccbcc4164f1bbfcb1f33f595ae9aa4a33ddcce570157775980362c0ee28aa340c842a3ae84710167aea2f9ba34833cbf66a8922e5f165d886868fd3fd4",
+];
+
 #[test]
 fn keys_about_a_digest(rt: HostRuntime) {
-    let wants: [&[u8]; 5] = [
-        b"6b4e26125c25cf21ae35ead955f479ea2e71f6ff9e400029f04810eece31355533bb2ed348e604da70",
-        b"947cf079cfc7f2016dcd7ec418840443edaabb90c496f98cabeec4bfb1a5a4aaff68cca92cf05a6d725502f8e0a8873b2660b7887a9bfd1478",
-        b"ad35240ac683febfaf3cd49d845473fbbbaa2437f5f82d5a415ae00ac76c6bfccf9a9b8d6d2fe4a1e700c4460b040dbed692c1cb85a747f35588c08930fcfc41ac",
-        b"1bfb451b6087e5d24eeffb57d7284448da95b581d35a1887d9a6e756af559b1fb4798a4529502f87cdf71f435d66d25e344483fb1f24ab37be82ed35c43762d01520cd6457ab0240e0b334cfc688f5da7cc7febb0af6bbb4a7d1def8190116bea3",
-        b"b6b07cb2cebf4ad84468391a543824fccffe0e0769dbe6bddf10a65673c4b648e612d44918f9ce9a19a1294cf5140628084ba994c3b21a4ef4741220b811c633cfc0641fccbcc4164f1bbfcb1f33f595ae9aa4a33ddcce570157775980362c0ee28aa340c842a3ae84710167aea2f9ba34833cbf66a8922e5f165d886868fd3fd4",
-    ];
     for i in 0..5 {
-        check_lengths(&rt, HASHES[i], wants[i]);
+        check_lengths(&rt, HASHES[i], KEYS_ABOUT_A_DIGEST[i]);
     }
 }
 
+static EMPTY: [&[u8]; 5] = [
+    b"620c000a06fed9c10bca11516b3ac0228d671700",
+    b"91565d346d1c1fe2036dd195f5e601d254b96f6f9c7b61e35e7f562f",
+    b"97398411d6aea43a77acef92226ab8278d4db0668bd1d7a76a725f7680ac45c5",
+    b"4e2b9109c23c305fc5c1d1e167741a52e9ebfd0805ff8662b323fd1169034a8cb3f626b2b97825d67adcc4183d30a062",
+    b"a422663fda8609a1e2fd53541260edf886ec636605814c2e17b4c78d8f9e233266f223f65cb2b7440b12c099ce1aa3279e29aa848e29825103d2bc5a5f4f4ad3",
+];
+
 #[test]
 fn empty_password_and_salt(rt: HostRuntime) {
-    let wants: [&[u8]; 5] = [
-        b"620c000a06fed9c10bca11516b3ac0228d671700",
-        b"91565d346d1c1fe2036dd195f5e601d254b96f6f9c7b61e35e7f562f",
-        b"97398411d6aea43a77acef92226ab8278d4db0668bd1d7a76a725f7680ac45c5",
-        b"4e2b9109c23c305fc5c1d1e167741a52e9ebfd0805ff8662b323fd1169034a8cb3f626b2b97825d67adcc4183d30a062",
-        b"a422663fda8609a1e2fd53541260edf886ec636605814c2e17b4c78d8f9e233266f223f65cb2b7440b12c099ce1aa3279e29aa848e29825103d2bc5a5f4f4ad3",
-    ];
     for i in 0..5 {
-        check(&rt, HASHES[i], b"", b"", 2, wants[i], 2);
+        check(&rt, HASHES[i], b"", b"", 2, EMPTY[i], 2);
     }
 }
 
 // A password of 129 bytes, longer than any block: sixteen times "password", and "x".
+static LONG: [&[u8]; 5] = [
+    b"2eab85e5e5c873d24613a93538fce2e5700e6be0",
+    b"48987426dbdc0c4ffe58b763f8351066dc083fdd",
+    b"f38c0a1e35403e732129a02955ffbdfa8f6ea21f",
+    b"6059fd789503d58427564c44d02933fc17f4e188",
+    b"681bada363405daecfc40e28d813e0b7f6e49fe2",
+];
+
 #[test]
 fn long_passwords(rt: HostRuntime) {
     let mut pass = [b'x'; 129];
     for i in 0..16 {
         pass[8 * i..8 * i + 8].copy_from_slice(b"password");
     }
-    let wants: [&[u8]; 5] = [
-        b"2eab85e5e5c873d24613a93538fce2e5700e6be0",
-        b"48987426dbdc0c4ffe58b763f8351066dc083fdd",
-        b"f38c0a1e35403e732129a02955ffbdfa8f6ea21f",
-        b"6059fd789503d58427564c44d02933fc17f4e188",
-        b"681bada363405daecfc40e28d813e0b7f6e49fe2",
-    ];
     for i in 0..5 {
-        check(&rt, HASHES[i], &pass, b"salt", 2, wants[i], 2);
+        check(&rt, HASHES[i], &pass, b"salt", 2, LONG[i], 2);
     }
 }
 
@@ -133,39 +135,40 @@ fn check_longest(rt: &impl Abort, hash: Hash, want: &[u8], work: u128) {
     let mut key = [0; 512];
     let mut counted = Work::new(0);
     pbkdf2(hash, b"password", b"salt", 2, &mut key, &mut counted);
-    same(counted.count(), work).expect(rt, "the same");
+    assert!(rt; counted.count() == work);
     let mut out = [0; 32];
     digest(Hash::Sha256, &key, b"", b"", &mut out);
     assert_hex(rt, &out, want);
 }
 
 // The SHA-256 of keys of 512 bytes.
+static LONGEST: [(&[u8], u128); 5] = [
+    (
+        b"5a5925da41f7326096589f1a1b5490b77cccf68f1927603d8333909b743de5a4",
+        52,
+    ),
+    (
+        b"58dac40ddbd0221bab911ae3176e6774d0bbdb16efd1530a20373ee538959091",
+        38,
+    ),
+    (
+        b"f9e195c05042d999165ed20d879873fb3495e610b036170783b0f83e9009d1b2",
+        32,
+    ),
+    (
+        b"d0cef4978bb35706f0070217e979b73848d184821a852c3eaac451152d2eda51",
+        22,
+    ),
+    (
+        b"cd0ef5fbc0d9c94c2e9c1e801407d9f0f4dbcb1fa0c33adbc0f023d156590326",
+        16,
+    ),
+];
+
 #[test]
 fn longest_keys(rt: HostRuntime) {
-    let wants: [(&[u8], u128); 5] = [
-        (
-            b"5a5925da41f7326096589f1a1b5490b77cccf68f1927603d8333909b743de5a4",
-            52,
-        ),
-        (
-            b"58dac40ddbd0221bab911ae3176e6774d0bbdb16efd1530a20373ee538959091",
-            38,
-        ),
-        (
-            b"f9e195c05042d999165ed20d879873fb3495e610b036170783b0f83e9009d1b2",
-            32,
-        ),
-        (
-            b"d0cef4978bb35706f0070217e979b73848d184821a852c3eaac451152d2eda51",
-            22,
-        ),
-        (
-            b"cd0ef5fbc0d9c94c2e9c1e801407d9f0f4dbcb1fa0c33adbc0f023d156590326",
-            16,
-        ),
-    ];
     for i in 0..5 {
-        let (want, work) = wants[i];
+        let (want, work) = LONGEST[i];
         check_longest(&rt, HASHES[i], want, work);
     }
 }
@@ -175,14 +178,14 @@ fn check_count(rt: &impl Abort, iterations: u32, work: &mut Work, count: u128) -
     let mut key = [0; 20];
     assert!(rt; iterations >= 1);
     pbkdf2(Hash::Sha1, b"password", b"salt", iterations, &mut key, work);
-    same(work.count(), count).expect(rt, "the same");
+    assert!(rt; work.count() == count);
     key
 }
 
 #[test]
 fn work_goes_on_and_stops(rt: HostRuntime) {
     let mut work = Work::new(7);
-    same(work.count(), 7).expect(&rt, "the same");
+    assert!(rt; work.count() == 7);
     check_count(&rt, 2, &mut work, 9);
     check_count(&rt, 3, &mut work, 12);
     let mut full = Work::new(u128::MAX - 1);

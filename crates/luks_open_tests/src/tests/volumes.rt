@@ -4,8 +4,12 @@
 //! and the package cryptography (AES in its mode XTS). cryptsetup opens a volume of that script by
 //! the passphrases that it was made with, and by no other. It does not open these two, since they
 //! have few stripes.
+//!
+//! Where a call is to succeed, an error ends the test on the spot: what is not handed up needs not
+//! be dropped on the way.
 
-use luks_header::header::read_header;
+use luks_header::area::HeaderArea;
+use luks_header::header::{Header, read_header};
 use luks_header::payload::segment;
 use luks_io::memory::MemSource;
 use luks_kdf::Work;
@@ -13,8 +17,7 @@ use luks_open::fault::OpenFault;
 use luks_open::opening::{Opened, open};
 use luks_open::order::order;
 use luks_open::tries::held_end;
-use std::alloc::Global;
-use std::test::Fail;
+use std::process::Abort;
 
 /// An image: its length, and rows of bytes, each with its place before it.
 #[derive(Clone, Copy)]
@@ -48,42 +51,33 @@ pub const LONG_KEY: Volume = Volume {
     key: "a2a9dfed4a37caad14836d5c1606e071f59979b9a501cff54940e687216babfba438fcb6041fa17d5c67141834ee994d19be8553fc1840d6e6c0b171886ad705",
 };
 
-// The bytes that the hexadecimal digits spell.
-fn bytes(alloc: Global, digits: &str) -> Result<Vec<u8>, Fail> {
-    let decoded = hex::decode(alloc, digits.as_bytes());
-    Ok(decoded.ok().ok_or("no hexadecimal digits")?)
+// Puts a row into an image.
+fn put_row(rt: &impl Abort, image: &mut [u8], row: &str) {
+    let (place, digits) = row.split_once(' ').expect(rt, "a row");
+    let mut at = [0; 2];
+    hex::decode_to_slice(place, &mut at).expect(rt, "a place");
+    let start = usize::from(u16::from_be_bytes(at));
+    assert!(rt; start + 32 <= image.len());
+    hex::decode_to_slice(digits, &mut image[start..start + 32]).expect(rt, "a row");
 }
 
-// Puts a row into an image.
-fn put_row(alloc: Global, image: &mut [u8], row: &str) -> Result<(), Fail> {
-    let (place, row) = row.split_once(' ').ok_or("no row")?;
-    let place = bytes(alloc, place)?;
-    let row = bytes(alloc, row)?;
-    if place.len() != 2 || row.len() > 32 {
-        return Err("no place".into());
+fn put_rows(rt: &impl Abort, image: &mut [u8], rows: &str) {
+    for row in rows.lines() {
+        put_row(rt, image, row);
     }
-    let start = 256 * usize::from(place[0]) + usize::from(place[1]);
-    let end = start + row.len();
-    if image.len() < end {
-        return Err("no room".into());
-    }
-    image[start..end].copy_from_slice(&row);
-    Ok(())
 }
 
 impl Volume {
     /// The bytes of the image.
-    pub fn image(&self, alloc: Global) -> Result<Vec<u8>, Fail> {
-        let mut image = vec![in alloc; 0; self.len]?;
-        for row in self.rows.lines() {
-            put_row(alloc, &mut image, row)?;
-        }
-        Ok(image)
+    pub fn image(&self, rt: &(impl Abort + AllocGlobal)) -> Vec<u8> {
+        let mut image = vec![in rt.alloc(); 0; self.len].expect(rt, "memory");
+        put_rows(rt, &mut image, self.rows);
+        image
     }
 
     /// The volume key.
-    pub fn key(&self, alloc: Global) -> Result<Vec<u8>, Fail> {
-        bytes(alloc, self.key)
+    pub fn key(&self, rt: &(impl Abort + AllocGlobal)) -> Vec<u8> {
+        hex::decode(rt.alloc(), self.key).expect(rt, "hexadecimal digits")
     }
 }
 
@@ -104,26 +98,38 @@ pub fn any(pass: &[u8]) -> Question<'_> {
     }
 }
 
+// What a passphrase opens of a header's image.
+fn opened(
+    rt: &(impl Abort + AllocGlobal),
+    header: &Header,
+    area: &mut HeaderArea,
+    source: &mut MemSource<'_>,
+    question: Question<'_>,
+    work: &mut Work,
+) -> Result<Opened, OpenFault> {
+    let Ok(_) = segment(header) else {
+        panic!(rt; "the segment is refused");
+    };
+    let order = match order(rt.alloc(), header, question.named, question.limit) {
+        Ok(order) => order,
+        Err(fault) => return Err(fault),
+    };
+    let Ok(true) = area.extend_to(source, held_end(&order)) else {
+        panic!(rt; "the image is cut");
+    };
+    open(header, area, &order, question.pass, work)
+}
+
 /// What a passphrase opens of an image.
 pub fn answer(
-    alloc: Global,
+    rt: &(impl Abort + AllocGlobal),
     image: &[u8],
     question: Question<'_>,
     work: &mut Work,
-) -> Result<Result<Opened, OpenFault>, Fail> {
+) -> Result<Opened, OpenFault> {
     let mut source = MemSource::new(image);
-    let (header, mut area) = read_header(alloc, &mut source)?;
-    let Ok(_) = segment(&header) else {
-        return Err("the segment is refused".into());
-    };
-    let order = match order(alloc, &header, question.named, question.limit) {
-        Ok(order) => order,
-        Err(fault) => return Ok(Err(fault)),
-    };
-    if !area.extend_to(&mut source, held_end(&order))? {
-        return Err("the image is cut".into());
-    }
-    Ok(open(&header, &area, &order, question.pass, work))
+    let (header, mut area) = read_header(rt.alloc(), &mut source).expect(rt, "a header");
+    opened(rt, &header, &mut area, &mut source, question, work)
 }
 
 const SHORT_KEY_ROWS: &str = "\

@@ -1,12 +1,10 @@
 //! What is printed of LUKS2 headers.
 
-use super::fixture2::read;
-use luks_findings::check::findings;
+use super::fixture::{assert_page, check_findings, read};
+use luks_header::header::Header;
 use luks_pages::dump::{dump_page, uuid_page};
 use luks_testing::header2::{SIZE, empty_image, image_of, write_header};
-use luks_testing::same::same;
 use std::process::Abort;
-use std::test::Fail;
 
 // Key slots out of order in the text, and digests with and without their members.
 const KEYSLOTS: &str = "{\"keyslots\":{\
@@ -54,18 +52,44 @@ const OTHER_LINES: &str = "Segment 0: offset=16777216 size=dynamic iv=0 \
     Digest 9: REFUSED\n\
     Digest 10: USABLE hash=sha1 iterations=1 bytes=20 keyslots= segments=a,\\x5cb,\n";
 
+// The parts, one behind the other.
+fn joined(rt: &(impl Abort + AllocGlobal), parts: &[&str]) -> String {
+    let mut text = String::new(rt.alloc());
+    for part in parts {
+        text.push_str(part).expect(rt, "memory");
+    }
+    text
+}
+
+// An image with two headers of these sequence numbers and this text.
+fn image(rt: &(impl Abort + AllocGlobal), numbers: (u64, u64), json: &str) -> Vec<u8> {
+    image_of(rt.alloc(), numbers.0, numbers.1, json).expect(rt, "memory")
+}
+
+// The header of such an image.
+fn header(rt: &(impl Abort + AllocGlobal), numbers: (u64, u64), json: &str) -> Header {
+    read(rt, &image(rt, numbers, json))
+}
+
+fn dump(rt: &(impl Abort + AllocGlobal), header: &Header) -> String {
+    dump_page(rt.alloc(), header).expect(rt, "memory")
+}
+
+fn uuid(rt: &(impl Abort + AllocGlobal), header: &Header) -> String {
+    uuid_page(rt.alloc(), header).expect(rt, "memory")
+}
+
+fn check_pages(rt: &(impl Abort + AllocGlobal), header: &Header) {
+    let wanted = joined(rt, &[HEADER_LINES, SLOT_LINES, OTHER_LINES]);
+    assert_page(rt, dump(rt, header).as_str(), wanted.as_str());
+    let wanted = "11111111-2222-3333-4444-555555555555\n";
+    assert_page(rt, uuid(rt, header).as_str(), wanted);
+}
+
 #[test]
-fn a_header_is_printed_whole(rt: HostRuntime) -> Result<(), Fail> {
-    let alloc = rt.alloc();
-    let json = format!(in alloc; "{KEYSLOTS}{REST}")?;
-    let image = image_of(alloc, 258, 258, json.as_str())?;
-    let header = read(alloc, image.as_slice())?;
-    let page = dump_page(alloc, &header)?;
-    let expected = format!(in alloc; "{HEADER_LINES}{SLOT_LINES}{OTHER_LINES}")?;
-    same(page.as_str(), expected.as_str()).expect(&rt, "the same");
-    let uuid = uuid_page(alloc, &header)?;
-    same(uuid.as_str(), "11111111-2222-3333-4444-555555555555\n").expect(&rt, "the same");
-    Ok(())
+fn a_header_is_printed_whole(rt: HostRuntime) {
+    let json = joined(&rt, &[KEYSLOTS, REST]);
+    check_pages(&rt, &header(&rt, (258, 258), json.as_str()));
 }
 
 // The lines behind the checksum's.
@@ -76,92 +100,79 @@ fn rest_of(page: &str) -> &str {
     }
 }
 
-fn expect_segment(rt: &(impl Abort + AllocGlobal), segments: &str, line: &str) -> Result<(), Fail> {
-    let alloc = rt.alloc();
-    let rest = "\"keyslots\":{},\"digests\":{}";
-    let json = format!(in alloc; "{{\"segments\":{{{segments}}},{rest}}}")?;
-    let image = image_of(alloc, 0, 1, json.as_str())?;
-    let header = read(alloc, image.as_slice())?;
-    let page = dump_page(alloc, &header)?;
-    same(rest_of(page.as_str()), line).expect(rt, "the same");
-    Ok(())
+fn check_segment(rt: &(impl Abort + AllocGlobal), segments: &str, line: &str) {
+    let rest = "},\"keyslots\":{},\"digests\":{}}";
+    let json = joined(rt, &["{\"segments\":{", segments, rest]);
+    let page = dump(rt, &header(rt, (0, 1), json.as_str()));
+    assert_page(rt, rest_of(page.as_str()), line);
 }
 
 #[test]
-fn a_segment_is_printed_or_its_fault(rt: HostRuntime) -> Result<(), Fail> {
+fn a_segment_is_printed_or_its_fault(rt: HostRuntime) {
     let fixed = "\"0\":{\"type\":\"crypt\",\"offset\":\"32768\",\"size\":\"8192\",\
         \"iv_tweak\":\"18446744073709551615\",\"encryption\":\"aes-cbc-essiv:sha256\",\
         \"sector_size\":4096}";
     let line = "Segment 0: offset=32768 size=8192 iv=18446744073709551615 \
         encryption=aes-cbc-essiv:sha256 sector=4096\n";
-    expect_segment(&rt, fixed, line)?;
-    expect_segment(
-        &rt,
-        "\"0\":{\"type\":\"linear\"}",
-        "Segment: REFUSED type\n",
-    )?;
-    expect_segment(&rt, "", "Segment: REFUSED segments\n")
-}
-
-#[test]
-fn a_secondary_header_says_so(rt: HostRuntime) -> Result<(), Fail> {
-    let alloc = rt.alloc();
-    let json = "{\"keyslots\":{},\"segments\":{},\"digests\":{}}";
-    let image = image_of(alloc, 1, u64::MAX, json)?;
-    let header = read(alloc, image.as_slice())?;
-    let page = dump_page(alloc, &header)?;
-    let start = "Version: 2\nHeader: secondary\nSequence: 18446744073709551615\n";
-    assert!(rt; page.as_str().starts_with(start));
-    Ok(())
+    check_segment(&rt, fixed, line);
+    let linear = "\"0\":{\"type\":\"linear\"}";
+    check_segment(&rt, linear, "Segment: REFUSED type\n");
+    check_segment(&rt, "", "Segment: REFUSED segments\n");
 }
 
 const PLAIN: &str = "{\"keyslots\":{},\"segments\":{},\"digests\":{}}";
 
+#[test]
+fn a_secondary_header_says_so(rt: HostRuntime) {
+    let page = dump(&rt, &header(&rt, (1, u64::MAX), PLAIN));
+    let start = "Version: 2\nHeader: secondary\nSequence: 18446744073709551615\n";
+    assert!(rt; page.as_str().starts_with(start));
+}
+
 // These lines, then that of the segment that is not there, then these of key slots.
-fn expect_findings(
-    rt: &(impl Abort + AllocGlobal),
-    image: &[u8],
-    first: &str,
-    slots: &str,
-) -> Result<(), Fail> {
-    let alloc = rt.alloc();
-    let page = findings(alloc, &read(alloc, image)?)?;
-    let expected = format!(in alloc; "{first}segment: segments\n{slots}")?;
-    same(page.as_str(), expected.as_str()).expect(rt, "the same");
-    Ok(())
+fn check_found(rt: &(impl Abort + AllocGlobal), image: &[u8], first: &str, slots: &str) {
+    let wanted = joined(rt, &[first, "segment: segments\n", slots]);
+    check_findings(rt, image, wanted.as_str());
+}
+
+// An image with one header, which stands at this place.
+fn image_with_one(rt: &(impl Abort + AllocGlobal), place: usize) -> Vec<u8> {
+    let mut image = empty_image(rt.alloc()).expect(rt, "memory");
+    write_header(image.as_mut_slice(), place, 5, PLAIN);
+    image
 }
 
 #[test]
-fn what_is_amiss_with_two_headers(rt: HostRuntime) -> Result<(), Fail> {
-    let alloc = rt.alloc();
-    expect_findings(&rt, image_of(alloc, 5, 5, PLAIN)?.as_slice(), "", "")?;
+fn what_is_amiss_with_two_headers(rt: HostRuntime) {
+    check_found(&rt, &image(&rt, (5, 5), PLAIN), "", "");
     let differ = "headers: sequence numbers differ\n";
-    expect_findings(&rt, image_of(alloc, 5, 6, PLAIN)?.as_slice(), differ, "")?;
-    expect_findings(&rt, image_of(alloc, 6, 5, PLAIN)?.as_slice(), differ, "")?;
-    let mut image = empty_image(alloc)?;
-    write_header(image.as_mut_slice(), 0, 5, PLAIN);
-    expect_findings(&rt, image.as_slice(), "secondary header: not valid\n", "")?;
-    let mut image = empty_image(alloc)?;
-    write_header(image.as_mut_slice(), SIZE, 5, PLAIN);
-    expect_findings(&rt, image.as_slice(), "primary header: not valid\n", "")
+    check_found(&rt, &image(&rt, (5, 6), PLAIN), differ, "");
+    check_found(&rt, &image(&rt, (6, 5), PLAIN), differ, "");
+    let secondary = "secondary header: not valid\n";
+    check_found(&rt, &image_with_one(&rt, 0), secondary, "");
+    let primary = "primary header: not valid\n";
+    check_found(&rt, &image_with_one(&rt, SIZE), primary, "");
+}
+
+fn check_name(rt: &(impl Abort + AllocGlobal), name: &str) {
+    let before = "{\"keyslots\":{\"0\":{},\"";
+    let behind = "\":{}},\"segments\":{},\"digests\":{}}";
+    let json = joined(rt, &[before, name, behind]);
+    let first = "headers: sequence numbers differ\nkeyslots: name out of range\n";
+    check_found(
+        rt,
+        &image(rt, (5, 6), json.as_str()),
+        first,
+        "slot 0: type\n",
+    );
 }
 
 #[test]
-fn a_name_out_of_range_is_found(rt: HostRuntime) -> Result<(), Fail> {
-    let alloc = rt.alloc();
-    for name in ["32", "00", "x", ""] {
-        let slots = format!(in alloc; "{{\"0\":{{}},\"{name}\":{{}}}}")?;
-        let rest = "\"segments\":{},\"digests\":{}";
-        let json = format!(in alloc; "{{\"keyslots\":{slots},{rest}}}")?;
-        let first = "headers: sequence numbers differ\nkeyslots: name out of range\n";
-        let image = image_of(alloc, 5, 6, json.as_str())?;
-        expect_findings(&rt, image.as_slice(), first, "slot 0: type\n")?;
-    }
+fn a_name_out_of_range_is_found(rt: HostRuntime) {
+    check_name(&rt, "32");
+    check_name(&rt, "00");
+    check_name(&rt, "x");
+    check_name(&rt, "");
     let json = "{\"keyslots\":{\"31\":{}},\"segments\":{},\"digests\":{\"x\":{}}}";
-    expect_findings(
-        &rt,
-        image_of(alloc, 5, 5, json)?.as_slice(),
-        "",
-        "slot 31: type\n",
-    )
+    check_found(&rt, &image(&rt, (5, 5), json), "", "slot 31: type\n");
 }

@@ -1,11 +1,11 @@
-//! LUKS1 headers.
+//! LUKS1 headers, and what is found in a header.
 
 ghost use Rattle.std.specs.Prelude.{◌≤◌};
 
+use luks_findings::check::findings;
 use luks_header::header::{Header, read_header};
 use luks_io::memory::MemSource;
-use std::alloc::Global;
-use std::test::Fail;
+use std::process::Abort;
 
 /// Puts bytes into a header, from a place on.
 pub fn patch(bytes: &mut [u8; 592], place: usize, with: &[u8]) {
@@ -54,8 +54,20 @@ pub fn header_bytes() -> [u8; 592] {
     bytes
 }
 
-/// The header that these bytes are.
-pub fn header_from(alloc: Global, bytes: &[u8; 592]) -> Result<Header, Fail> {
-    let (header, _area) = read_header(alloc, &mut MemSource::new(bytes))?;
-    Ok(header)
+/// The header of an image.
+pub fn read(rt: &(impl Abort + AllocGlobal), image: &[u8]) -> Header {
+    let read = read_header(rt.alloc(), &mut MemSource::new(image));
+    let (header, _area) = read.expect(rt, "a header");
+    header
+}
+
+/// Asserts that a page is as it has to be.
+pub fn assert_page(rt: &impl Abort, page: &str, wanted: &str) {
+    assert!(rt; page == wanted, "{page}, and not {wanted}");
+}
+
+/// This is found in the header of an image.
+pub fn check_findings(rt: &(impl Abort + AllocGlobal), image: &[u8], wanted: &str) {
+    let found = findings(rt.alloc(), &read(rt, image)).expect(rt, "memory");
+    assert_page(rt, found.as_str(), wanted);
 }

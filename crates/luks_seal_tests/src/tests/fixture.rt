@@ -1,14 +1,16 @@
 //! What is asked of volumes of either format.
+//!
+//! Where a call is to succeed, an error ends the test on the spot: what is not handed up needs not
+//! be dropped on the way.
 
 use luks_cipher::Mode;
 use luks_kdf::{Hash, digest};
 use luks_seal::parameters::SealFault;
-use luks_testing::same::same;
+use luks_seal_testing::bytes;
 use std::process::Abort;
-use std::test::Fail;
 
 /// Lengths of keys in bytes, and whether the mode has such keys.
-pub const KEY_LENGTHS: [(Mode, usize, bool); 16] = [
+pub static KEY_LENGTHS: [(Mode, usize, bool); 16] = [
     (Mode::XtsPlain64, 0, false),
     (Mode::XtsPlain64, 16, false),
     (Mode::XtsPlain64, 31, false),
@@ -28,29 +30,23 @@ pub const KEY_LENGTHS: [(Mode, usize, bool); 16] = [
 ];
 
 /// A volume is sealed where its parameters fit, and they are refused where not.
-pub fn check_fits(rt: &impl Abort, answer: Result<Vec<u8>, SealFault>, fits: bool) {
-    let fault = answer.err();
+pub fn check_fits(rt: &impl Abort, fault: Option<SealFault>, fits: bool) {
     let stated = if fits {
         None
     } else {
         Some(SealFault::Parameters)
     };
-    same(fault, stated).expect(rt, "the same");
+    assert!(rt; fault == stated, "{fault:?}");
 }
 
 /// The image has this length and this hash.
-pub fn check_image(
-    rt: &impl Abort,
-    image: Result<Vec<u8>, SealFault>,
-    len: usize,
-    hash: [u8; 32],
-) -> Result<(), Fail> {
-    let Ok(image) = image else {
-        return Err("not sealed".into());
-    };
-    same(image.len(), len).expect(rt, "the same");
+pub fn check_image(rt: &impl Abort, image: &[u8], len: usize, hash: [u8; 32]) {
     let mut found = [0; 32];
-    digest(Hash::Sha256, &image, b"", b"", &mut found);
-    same(found, hash).expect(rt, "the same");
-    Ok(())
+    digest(Hash::Sha256, image, b"", b"", &mut found);
+    assert!(rt; image.len() == len && found == hash, "{found:?}");
+}
+
+/// So many bytes that count up.
+pub fn counted(rt: &(impl Abort + AllocGlobal), len: usize) -> Vec<u8> {
+    bytes::counted(rt.alloc(), len).expect(rt, "memory")
 }

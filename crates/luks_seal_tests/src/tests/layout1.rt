@@ -3,15 +3,14 @@
 //! `cryptography`. An image of that program with 4000 stripes is opened by cryptsetup and read by
 //! qemu-img.
 
-use super::fixture::check_image;
+use super::fixture::{check_image, counted};
 use luks_cipher::Mode;
 use luks_kdf::Hash;
 use luks_seal::parameters::{Seal1, Slot1};
-use luks_seal_testing::bytes::{at, counted};
+use luks_seal_testing::bytes::at;
 use luks_seal_testing::parameters::{parameters1 as parameters, slot1 as slot};
 use luks1_seal::seal1;
 use std::process::Abort;
-use std::test::Fail;
 
 /// The SHA-256 of an image with a key of 32 bytes and areas of one sector.
 const SMALL: [u8; 32] = [
@@ -27,68 +26,57 @@ const LARGE: [u8; 32] = [
 ];
 
 // The image of these parameters has this length and this hash.
-fn check(
-    rt: &(impl Abort + AllocGlobal),
-    seal: Seal1<'_>,
-    len: usize,
-    hash: [u8; 32],
-) -> Result<(), Fail> {
-    check_image(rt, seal1(rt.alloc(), &seal), len, hash)
+fn check(rt: &(impl Abort + AllocGlobal), seal: &Seal1<'_>, len: usize, hash: [u8; 32]) {
+    let image = seal1(rt.alloc(), seal).expect(rt, "a volume");
+    check_image(rt, &image, len, hash);
 }
 
-fn check_small(rt: &(impl Abort + AllocGlobal)) -> Result<(), Fail> {
-    let plain = counted(rt.alloc(), 1024)?;
+#[test]
+fn a_small_volume_is_laid_out_as_specified(rt: HostRuntime) {
+    let plain = counted(&rt, 1024);
     let slots = [slot(5, [0x66; 32], b"sixth"), slot(0, [0x11; 32], b"first")];
-    check(rt, parameters(&slots, &plain), 37_888, SMALL)
+    check(&rt, &parameters(&slots, &plain), 37_888, SMALL);
 }
 
-fn check_large(rt: &(impl Abort + AllocGlobal)) -> Result<(), Fail> {
-    let bytes = counted(rt.alloc(), 6336)?;
+fn check_large(rt: &(impl Abort + AllocGlobal), bytes: &[u8]) {
     let fourth = Slot1 {
         number: 3,
         iterations: 1003,
         salt: [0x33; 32],
         passphrase: b"",
-        random: &bytes,
+        random: bytes,
     };
     let eighth = Slot1 {
         number: 7,
         iterations: 1,
         salt: [0x77; 32],
         passphrase: b"the last slot",
-        random: &bytes,
+        random: bytes,
     };
     let first = Slot1 {
         number: 0,
         iterations: 5,
         salt: [0x01; 32],
         passphrase: b"\x00\xff",
-        random: &bytes,
+        random: bytes,
     };
     let slots = [fourth, eighth, first];
     let seal = Seal1 {
         hash: Hash::Sha1,
         mode: Mode::XtsPlain64,
-        key: at(&bytes, 0, 64),
+        key: at(bytes, 0, 64),
         stripes: 100,
         payload_sectors: 136,
         uuid: b"0123456789012345678901234567890123456789",
         digest_salt: [0x2a; 32],
         digest_iterations: 1001,
         slots: &slots,
-        plain: at(&bytes, 0, 1536),
+        plain: at(bytes, 0, 1536),
     };
-    check(rt, seal, 71_168, LARGE)
+    check(rt, &seal, 71_168, LARGE);
 }
 
 #[test]
-fn a_small_volume_is_laid_out_as_specified(rt: HostRuntime) -> Result<(), Fail> {
-    check_small(&rt)
-}
-
-#[test]
-fn a_volume_with_areas_of_several_sectors_is_laid_out_as_specified(
-    rt: HostRuntime,
-) -> Result<(), Fail> {
-    check_large(&rt)
+fn a_volume_with_areas_of_several_sectors_is_laid_out_as_specified(rt: HostRuntime) {
+    check_large(&rt, &counted(&rt, 6336));
 }

@@ -2,16 +2,15 @@
 //! parameters by the LUKS2 On-Disk Format Specification, with hashlib, json and the AES, XTS and
 //! CBC of `cryptography`.
 
-use super::fixture::check_image;
+use super::fixture::{check_image, counted};
 use luks_cipher::Mode;
 use luks_kdf::Hash;
 use luks_seal::parameters::{Seal2, Slot2};
-use luks_seal_testing::bytes::{at, counted};
+use luks_seal_testing::bytes::at;
 use luks_seal_testing::parameters::{parameters2, slot2};
 use luks_verdict::sector_size::SectorSize;
 use luks2_seal::seal2;
 use std::process::Abort;
-use std::test::Fail;
 
 /// The SHA-256 of an image with a key of 32 bytes and two slots.
 const SMALL: [u8; 32] = [
@@ -34,33 +33,19 @@ const USUAL: [u8; 32] = [
 ];
 
 // The image of these parameters has this length and this hash.
-fn check(
-    rt: &(impl Abort + AllocGlobal),
-    seal: Seal2<'_>,
-    len: usize,
-    hash: [u8; 32],
-) -> Result<(), Fail> {
-    check_image(rt, seal2(rt.alloc(), &seal), len, hash)
+fn check(rt: &(impl Abort + AllocGlobal), seal: &Seal2<'_>, len: usize, hash: [u8; 32]) {
+    let image = seal2(rt.alloc(), seal).expect(rt, "a volume");
+    check_image(rt, &image, len, hash);
 }
 
-fn check_small(rt: &(impl Abort + AllocGlobal)) -> Result<(), Fail> {
-    let plain = counted(rt.alloc(), 1024)?;
-    let slots = [
-        slot2(5, [0x66; 32], b"sixth"),
-        slot2(0, [0x11; 32], b"first"),
-    ];
-    check(rt, parameters2(&slots, &plain), 66_560, SMALL)
-}
-
-fn check_large(rt: &(impl Abort + AllocGlobal)) -> Result<(), Fail> {
-    let bytes = counted(rt.alloc(), 8192)?;
+fn check_large(rt: &(impl Abort + AllocGlobal), bytes: &[u8]) {
     let eleventh = Slot2 {
         priority: 0,
         hash: Hash::Sha512,
         iterations: 1003,
         af_hash: Hash::Sha1,
         stripes: 200,
-        random: at(&bytes, 0, 6368),
+        random: at(bytes, 0, 6368),
         ..slot2(10, [0x33; 32], b"")
     };
     let last = Slot2 {
@@ -77,7 +62,7 @@ fn check_large(rt: &(impl Abort + AllocGlobal)) -> Result<(), Fail> {
         iterations: 5,
         af_hash: Hash::Sha224,
         stripes: 129,
-        random: at(&bytes, 0, 4096),
+        random: at(bytes, 0, 4096),
         ..slot2(2, [0x01; 32], b"\x00\xff")
     };
     let slots = [eleventh, last, third];
@@ -88,7 +73,7 @@ fn check_large(rt: &(impl Abort + AllocGlobal)) -> Result<(), Fail> {
         label: b"llllllllllllllllllllllllllllllllllllllllllllllll",
         subsystem: b"a \\ subsystem",
         mode: Mode::CbcEssivSha256,
-        key: at(&bytes, 0, 32),
+        key: at(bytes, 0, 32),
         sector_size: SectorSize::B4096,
         iv_tweak: 18_446_744_073_709_551_608,
         offset: 94_208,
@@ -98,18 +83,17 @@ fn check_large(rt: &(impl Abort + AllocGlobal)) -> Result<(), Fail> {
         digest_hash: Hash::Sha512,
         digest_salt: [0x2a; 32],
         digest_iterations: 1001,
-        ..parameters2(&slots, &bytes)
+        ..parameters2(&slots, bytes)
     };
-    check(rt, seal, 102_400, LARGE)
+    check(rt, &seal, 102_400, LARGE);
 }
 
-fn check_usual(rt: &(impl Abort + AllocGlobal)) -> Result<(), Fail> {
-    let bytes = counted(rt.alloc(), 255_936)?;
+fn check_usual(rt: &(impl Abort + AllocGlobal), bytes: &[u8]) {
     let first = Slot2 {
         iterations: 1000,
         af_hash: Hash::Sha1,
         stripes: 4000,
-        random: &bytes,
+        random: bytes,
         ..slot2(0, [0x20; 32], b"first passphrase")
     };
     let second = Slot2 {
@@ -117,32 +101,37 @@ fn check_usual(rt: &(impl Abort + AllocGlobal)) -> Result<(), Fail> {
         hash: Hash::Sha512,
         iterations: 1000,
         stripes: 4000,
-        random: &bytes,
+        random: bytes,
         ..slot2(1, [0x21; 32], b"second passphrase")
     };
     let slots = [second, first];
     let seal = Seal2 {
         uuid: b"11111111-2222-3333-4444-555555555555",
-        key: at(&bytes, 7, 64),
+        key: at(bytes, 7, 64),
         sector_size: SectorSize::B4096,
         offset: 1_048_576,
         digest_iterations: 1000,
-        ..parameters2(&slots, at(&bytes, 0, 16_384))
+        ..parameters2(&slots, at(bytes, 0, 16_384))
     };
-    check(rt, seal, 1_064_960, USUAL)
+    check(rt, &seal, 1_064_960, USUAL);
 }
 
 #[test]
-fn a_volume_as_they_usually_are_is_laid_out_as_specified(rt: HostRuntime) -> Result<(), Fail> {
-    check_usual(&rt)
+fn a_volume_as_they_usually_are_is_laid_out_as_specified(rt: HostRuntime) {
+    check_usual(&rt, &counted(&rt, 255_936));
 }
 
 #[test]
-fn a_small_volume_of_luks2_is_laid_out_as_specified(rt: HostRuntime) -> Result<(), Fail> {
-    check_small(&rt)
+fn a_small_volume_of_luks2_is_laid_out_as_specified(rt: HostRuntime) {
+    let plain = counted(&rt, 1024);
+    let slots = [
+        slot2(5, [0x66; 32], b"sixth"),
+        slot2(0, [0x11; 32], b"first"),
+    ];
+    check(&rt, &parameters2(&slots, &plain), 66_560, SMALL);
 }
 
 #[test]
-fn a_large_volume_of_luks2_is_laid_out_as_specified(rt: HostRuntime) -> Result<(), Fail> {
-    check_large(&rt)
+fn a_large_volume_of_luks2_is_laid_out_as_specified(rt: HostRuntime) {
+    check_large(&rt, &counted(&rt, 8192));
 }

@@ -13,8 +13,7 @@ use luks_testing::devices::{Flaky, Leaky};
 use luks_volume::fault::VolumeFault;
 use luks_volume::pump::Pump;
 use luks_volume::state::Step;
-use std::alloc::Global;
-use std::test::Fail;
+use std::process::Abort;
 
 /// An image, and the plain bytes of its sectors.
 #[derive(Drop)]
@@ -24,11 +23,8 @@ pub struct Volume {
 }
 
 /// The key of all payloads here.
-pub fn key() -> Result<SectorCipher, Fail> {
-    match SectorCipher::new(Mode::XtsPlain64, b"a key of XTS-AES-128 has 32 byte") {
-        Some(key) => Ok(key),
-        None => Err("no key".into()),
-    }
+pub fn key(rt: &impl Abort) -> SectorCipher {
+    SectorCipher::new(Mode::XtsPlain64, b"a key of XTS-AES-128 has 32 byte").expect(rt, "a key")
 }
 
 // The plain bytes of a sector, which no other sector has.
@@ -43,38 +39,38 @@ fn plain_sector(unit: u64) -> [u8; 4096] {
 
 // Appends the sector with this unit number.
 fn push_sector(
-    volume: &mut Volume,
-    key: &SectorCipher,
+    rt: &impl Abort,
+    image: &mut Vec<u8>,
+    plain: &mut Vec<u8>,
     unit: u64,
-    size: usize,
-) -> Result<(), Fail> {
+    size: SectorSize,
+) {
     let mut bytes = plain_sector(unit);
-    let sector = &mut bytes[..size.min(4096)];
-    volume.plain.extend_from_slice(sector)?;
-    if sector.len() != 512 && sector.len() != 4096 {
-        return Err("no sector".into());
+    let sector = &mut bytes[..size.bytes()];
+    plain.extend_from_slice(sector).expect(rt, "memory");
+    key(rt).encrypt_unit(unit, sector);
+    image.extend_from_slice(sector).expect(rt, "memory");
+}
+
+fn push_sectors(rt: &impl Abort, volume: &mut Volume, size: SectorSize, units: &[u64]) {
+    for unit in units {
+        push_sector(rt, &mut volume.image, &mut volume.plain, *unit, size);
     }
-    key.encrypt_unit(unit, sector);
-    volume.image.extend_from_slice(sector)?;
-    Ok(())
 }
 
 /// An image whose payload begins at `offset`, with one sector of this size for each unit number.
 pub fn make_volume(
-    alloc: Global,
+    rt: &(impl Abort + AllocGlobal),
     offset: usize,
     size: SectorSize,
     units: &[u64],
-) -> Result<Volume, Fail> {
-    let key = key()?;
+) -> Volume {
     let mut volume = Volume {
-        image: vec![in alloc; 0xee; offset]?,
-        plain: Vec::new(alloc),
+        image: vec![in rt.alloc(); 0xee; offset].expect(rt, "memory"),
+        plain: Vec::new(rt.alloc()),
     };
-    for unit in units {
-        push_sector(&mut volume, &key, *unit, size.bytes())?;
-    }
-    Ok(volume)
+    push_sectors(rt, &mut volume, size, units);
+    volume
 }
 
 /// So many bytes, each one more than the one before, and zero behind 250.
@@ -175,25 +171,43 @@ pub fn run_pump<S: Source, O: Sink>(pump: &mut Pump, source: &mut S, sink: &mut 
 }
 
 /// A sink with room for so many bytes, which takes `piece` at a time and fails at call `bad`.
-pub fn taker(alloc: Global, room: usize, piece: usize, bad: u64) -> Result<Leaky, Fail> {
-    Ok(Leaky::new(alloc, room, piece, bad)?)
+pub fn taker(rt: &(impl Abort + AllocGlobal), room: usize, piece: usize, bad: u64) -> Leaky {
+    Leaky::new(rt.alloc(), room, piece, bad).expect(rt, "memory")
 }
 
 /// No call fails.
 pub const NEVER: u64 = u64::MAX;
 
+/// What a pump over a source of an image comes to, with a sink in pieces of this size.
+pub fn pumped(
+    rt: &(impl Abort + AllocGlobal),
+    pump: &mut Pump<'_>,
+    source: &mut Flaky<'_>,
+    piece: usize,
+    (image, plain): (&[u8], &[u8]),
+) -> Outcome {
+    let mut sink = taker(rt, 65_536, piece, NEVER);
+    let run = run_pump(pump, source, &mut sink);
+    let taken = image.len().saturating_sub(source.left());
+    outcome_of(run, taken, sink.as_slice(), plain)
+}
+
 /// A run from the image's first byte, with source and sink in pieces of these sizes.
 pub fn whole_run(
-    alloc: Global,
+    rt: &(impl Abort + AllocGlobal),
     segment: Segment,
-    image: &[u8],
+    parts: (&[u8], &[u8]),
     pieces: (usize, usize),
-    plain: &[u8],
-) -> Result<Outcome, Fail> {
-    let mut pump = Pump::new(segment, key()?, 0);
-    let mut source = Flaky::new(image, pieces.0, NEVER);
-    let mut sink = taker(alloc, 65536, pieces.1, NEVER)?;
-    let run = run_pump(&mut pump, &mut source, &mut sink);
-    let taken = image.len().saturating_sub(source.left());
-    Ok(outcome_of(run, taken, sink.as_slice(), plain))
+) -> Outcome {
+    let mut pump = Pump::new(segment, key(rt), 0);
+    let mut source = Flaky::new(parts.0, pieces.0, NEVER);
+    pumped(rt, &mut pump, &mut source, pieces.1, parts)
+}
+
+/// Asserts that a run of this case comes to what it has to.
+pub fn assert_outcome(rt: &impl Abort, case: usize, outcome: Outcome, wanted: Outcome) {
+    assert!(rt;
+        outcome == wanted,
+        "{case}: {outcome:?}, and not {wanted:?}"
+    );
 }

@@ -1,20 +1,17 @@
 //! Payloads of all endings.
 
 use super::fixture::{
-    NEVER, Outcome, Run, Volume, dynamic, expected, first_of, fixed, key, make_volume, outcome_of,
-    run_pump, taker, whole_run,
+    NEVER, Outcome, Run, Volume, assert_outcome, dynamic, expected, first_of, fixed, key,
+    make_volume, outcome_of, run_pump, taker, whole_run,
 };
 use luks_header::sector_size::SectorSize;
 use luks_header::segment::Segment;
 use luks_io::memory::{MemSink, MemSource};
 use luks_testing::devices::{Flaky, Leaky};
-use luks_testing::same::same;
 use luks_volume::fault::VolumeFault;
 use luks_volume::pump::Pump;
 use luks_volume::state::Step;
-use std::alloc::Global;
 use std::process::Abort;
-use std::test::Fail;
 
 /// The unit numbers of three sectors from 5 on, and of three whose numbers wrap.
 const UNITS_512: [u64; 3] = [5, 6, 7];
@@ -32,16 +29,26 @@ type Row = (usize, u32, Result<Step, VolumeFault>, usize);
 fn check_row(
     rt: &(impl Abort + AllocGlobal),
     segment: Segment,
-    volume: &Volume,
+    (image, plain): (&[u8], &[u8]),
     pieces: (usize, usize),
     (len, sectors, last, taken): Row,
-) -> Result<(), Fail> {
-    let image = first_of(&volume.image, len);
-    let outcome = whole_run(rt.alloc(), segment, image, pieces, &volume.plain)?;
+) {
     let written = (sectors as usize).saturating_mul(segment.sector_size.bytes());
     let wanted = expected(sectors, last, taken, written);
-    same((len, outcome), (len, wanted)).expect(rt, "the same");
-    Ok(())
+    let outcome = whole_run(rt, segment, (first_of(image, len), plain), pieces);
+    assert_outcome(rt, len, outcome, wanted);
+}
+
+fn check_each(
+    rt: &(impl Abort + AllocGlobal),
+    segment: Segment,
+    volume: &Volume,
+    pieces: (usize, usize),
+    rows: &[Row],
+) {
+    for row in rows {
+        check_row(rt, segment, (&volume.image, &volume.plain), pieces, *row);
+    }
 }
 
 // A payload from byte 1000 on with sectors of these unit numbers, in each of these pieces.
@@ -51,12 +58,9 @@ fn check_rows(
     units: &[u64],
     pieces: (usize, usize),
     rows: &[Row],
-) -> Result<(), Fail> {
-    let volume = make_volume(rt.alloc(), 1000, segment.sector_size, units)?;
-    for row in rows {
-        check_row(rt, segment, &volume, pieces, *row)?;
-    }
-    Ok(())
+) {
+    let volume = make_volume(rt, 1000, segment.sector_size, units);
+    check_each(rt, segment, &volume, pieces, rows);
 }
 
 const PIECES: [(usize, usize); 5] = [(1, 700), (511, 1), (512, 700), (513, 512), (5000, 5000)];
@@ -79,35 +83,26 @@ const DYNAMIC_4096: [Row; 3] = [
 ];
 
 #[test]
-fn dynamic_payloads(rt: HostRuntime) -> Result<(), Fail> {
+fn dynamic_payloads(rt: HostRuntime) {
     let small = dynamic(1000, SectorSize::B512, 5);
     let large = dynamic(1000, SectorSize::B4096, 5);
     for pieces in PIECES {
-        check_rows(&rt, small, &UNITS_512, pieces, &DYNAMIC_512)?;
-        check_rows(&rt, large, &UNITS_4096, pieces, &DYNAMIC_4096)?;
+        check_rows(&rt, small, &UNITS_512, pieces, &DYNAMIC_512);
+        check_rows(&rt, large, &UNITS_4096, pieces, &DYNAMIC_4096);
     }
-    Ok(())
 }
 
+const WRAPPING_512: [Row; 1] = [(2536, 3, Ok(Step::End), 2536)];
+
+const WRAPPING_4096: [Row; 1] = [(13_288, 3, Ok(Step::End), 13_288)];
+
 #[test]
-fn unit_numbers_wrap(rt: HostRuntime) -> Result<(), Fail> {
-    let small = dynamic(1000, SectorSize::B512, u64::MAX);
-    let large = dynamic(1000, SectorSize::B4096, u64::MAX);
+fn unit_numbers_wrap(rt: HostRuntime) {
     let pieces = (5000, 5000);
-    check_rows(
-        &rt,
-        small,
-        &WRAPPED_512,
-        pieces,
-        &[(2536, 3, Ok(Step::End), 2536)],
-    )?;
-    check_rows(
-        &rt,
-        large,
-        &WRAPPED_4096,
-        pieces,
-        &[(13_288, 3, Ok(Step::End), 13_288)],
-    )
+    let small = dynamic(1000, SectorSize::B512, u64::MAX);
+    check_rows(&rt, small, &WRAPPED_512, pieces, &WRAPPING_512);
+    let large = dynamic(1000, SectorSize::B4096, u64::MAX);
+    check_rows(&rt, large, &WRAPPED_4096, pieces, &WRAPPING_4096);
 }
 
 const FIXED_512: [Row; 8] = [
@@ -130,49 +125,64 @@ const FIXED_EMPTY: [Row; 3] = [
 const FIXED_4096: [Row; 1] = [(13_288, 2, Ok(Step::End), 9192)];
 
 #[test]
-fn fixed_payloads(rt: HostRuntime) -> Result<(), Fail> {
+fn fixed_payloads(rt: HostRuntime) {
     let small = fixed(1000, SectorSize::B512, 5, 1024);
-    check_rows(&rt, small, &UNITS_512, (513, 700), &FIXED_512)?;
+    check_rows(&rt, small, &UNITS_512, (513, 700), &FIXED_512);
     let empty = fixed(1000, SectorSize::B512, 5, 0);
-    check_rows(&rt, empty, &UNITS_512, (513, 700), &FIXED_EMPTY)?;
+    check_rows(&rt, empty, &UNITS_512, (513, 700), &FIXED_EMPTY);
     let large = fixed(1000, SectorSize::B4096, 5, 8192);
-    check_rows(&rt, large, &UNITS_4096, (5000, 5000), &FIXED_4096)
+    check_rows(&rt, large, &UNITS_4096, (5000, 5000), &FIXED_4096);
 }
 
 // A second skip takes nothing.
 fn check_skips(rt: &impl Abort, pump: &mut Pump<'_>, source: &mut MemSource<'_>) {
     for _ in 0..2 {
-        same(pump.skip(source), Ok(())).expect(rt, "the same");
-        same(source.left().len(), 1536).expect(rt, "the same");
+        assert!(rt; pump.skip(source) == Ok(()));
+        assert!(rt; source.left().len() == 1536);
     }
 }
 
 // After the end neither a step nor a skip takes or writes anything.
 fn check_over(rt: &impl Abort, pump: &mut Pump<'_>, image: &[u8], sink: &mut MemSink) {
     let mut more = MemSource::new(image);
-    same(pump.step(&mut more, sink), Ok(Step::End)).expect(rt, "the same");
-    same(pump.skip(&mut more), Ok(())).expect(rt, "the same");
-    same(more.left().len(), 2536).expect(rt, "the same");
-    same(sink.as_slice().len(), 1536).expect(rt, "the same");
+    assert!(rt; pump.step(&mut more, sink) == Ok(Step::End));
+    assert!(rt; pump.skip(&mut more) == Ok(()));
+    assert!(rt; more.left().len() == 2536);
+    assert!(rt; sink.as_slice().len() == 1536);
 }
 
-fn check_skip(rt: &(impl Abort + AllocGlobal), image: &[u8], plain: &[u8]) -> Result<(), Fail> {
-    let mut pump = Pump::new(dynamic(1000, SectorSize::B512, 5), key()?, 592);
-    let mut sink = MemSink::new(rt.alloc(), 4096)?;
-    let mut source = MemSource::new(&image[image.len().min(592)..]);
-    check_skips(rt, &mut pump, &mut source);
-    let run = run_pump(&mut pump, &mut source, &mut sink);
+// The source stands behind the header's 592 bytes.
+fn check_run(
+    rt: &impl Abort,
+    pump: &mut Pump<'_>,
+    source: &mut MemSource<'_>,
+    sink: &mut MemSink,
+    (image, plain): (&[u8], &[u8]),
+) {
+    check_skips(rt, pump, source);
+    let run = run_pump(pump, source, sink);
     let taken = image.len().saturating_sub(source.left().len());
     let outcome = outcome_of(run, taken, sink.as_slice(), plain);
-    same(outcome, expected(3, Ok(Step::End), 2536, 1536)).expect(rt, "the same");
-    check_over(rt, &mut pump, image, &mut sink);
-    Ok(())
+    assert_outcome(rt, 592, outcome, expected(3, Ok(Step::End), 2536, 1536));
+    check_over(rt, pump, image, sink);
+}
+
+fn check_skip(rt: &(impl Abort + AllocGlobal), image: &[u8], plain: &[u8]) {
+    let mut pump = Pump::new(dynamic(1000, SectorSize::B512, 5), key(rt), 592);
+    let mut sink = MemSink::new(rt.alloc(), 4096).expect(rt, "memory");
+    let mut source = MemSource::new(&image[image.len().min(592)..]);
+    check_run(rt, &mut pump, &mut source, &mut sink, (image, plain));
+}
+
+// An image of sectors of 512 bytes.
+fn small_volume(rt: &(impl Abort + AllocGlobal)) -> Volume {
+    make_volume(rt, 1000, SectorSize::B512, &UNITS_512)
 }
 
 #[test]
-fn a_second_skip_and_a_step_after_the_end_touch_nothing(rt: HostRuntime) -> Result<(), Fail> {
-    let volume = make_volume(rt.alloc(), 1000, SectorSize::B512, &UNITS_512)?;
-    check_skip(&rt, &volume.image, &volume.plain)
+fn a_second_skip_and_a_step_after_the_end_touch_nothing(rt: HostRuntime) {
+    let volume = small_volume(&rt);
+    check_skip(&rt, &volume.image, &volume.plain);
 }
 
 // Whether further steps and skips answer alike, and call no device.
@@ -190,16 +200,17 @@ fn ends_for_good(
         && skipped.is_err() == last.is_err()
 }
 
-// A run in which read `bad.0` and write `bad.1` fail: what it came to, and whether for good.
-fn broken_run(alloc: Global, volume: &Volume, bad: (u64, u64)) -> Result<(Outcome, bool), Fail> {
-    let mut pump = Pump::new(dynamic(1000, SectorSize::B512, 5), key()?, 0);
-    let mut source = Flaky::new(&volume.image, 200, bad.0);
-    let mut sink = taker(alloc, 65536, 200, bad.1)?;
-    let run = run_pump(&mut pump, &mut source, &mut sink);
-    let taken = volume.image.len().saturating_sub(source.left());
-    let outcome = outcome_of(run, taken, sink.as_slice(), &volume.plain);
-    let for_good = ends_for_good(&mut pump, &mut source, &mut sink, run.last);
-    Ok((outcome, for_good))
+// What a run in which calls fail came to, and whether for good.
+fn broken_run(
+    pump: &mut Pump<'_>,
+    source: &mut Flaky<'_>,
+    sink: &mut Leaky,
+    (image, plain): (&[u8], &[u8]),
+) -> (Outcome, bool) {
+    let run = run_pump(pump, source, sink);
+    let taken = image.len().saturating_sub(source.left());
+    let outcome = outcome_of(run, taken, sink.as_slice(), plain);
+    (outcome, ends_for_good(pump, source, sink, run.last))
 }
 
 /// Which read or write fails, and what the run comes to: how many sectors are passed on, the answer
@@ -228,27 +239,30 @@ const BAD_WRITES: [BadCall; 5] = [
     ((NEVER, 9), 3, Ok(Step::End), 2536, 1536),
 ];
 
+// A run in which read `bad.0` and write `bad.1` fail.
 fn check_bad_call(
     rt: &(impl Abort + AllocGlobal),
-    volume: &Volume,
+    parts: (&[u8], &[u8]),
     (bad, sectors, last, taken, written): BadCall,
-) -> Result<(), Fail> {
-    let (outcome, for_good) = broken_run(rt.alloc(), volume, bad)?;
-    let wanted = expected(sectors, last, taken, written);
-    same((bad, outcome, for_good), (bad, wanted, true)).expect(rt, "the same");
-    Ok(())
+) {
+    let mut pump = Pump::new(dynamic(1000, SectorSize::B512, 5), key(rt), 0);
+    let mut source = Flaky::new(parts.0, 200, bad.0);
+    let mut sink = taker(rt, 65_536, 200, bad.1);
+    let answer = broken_run(&mut pump, &mut source, &mut sink, parts);
+    let wanted = (expected(sectors, last, taken, written), true);
+    assert!(rt; answer == wanted, "{bad:?}: {answer:?}");
 }
 
-fn check_bad_calls(rt: &(impl Abort + AllocGlobal), calls: &[BadCall]) -> Result<(), Fail> {
-    let volume = make_volume(rt.alloc(), 1000, SectorSize::B512, &UNITS_512)?;
+fn check_bad_calls(rt: &(impl Abort + AllocGlobal), parts: (&[u8], &[u8]), calls: &[BadCall]) {
     for call in calls {
-        check_bad_call(rt, &volume, *call)?;
+        check_bad_call(rt, parts, *call);
     }
-    Ok(())
 }
 
 #[test]
-fn failures_are_told_for_good(rt: HostRuntime) -> Result<(), Fail> {
-    check_bad_calls(&rt, &BAD_READS)?;
-    check_bad_calls(&rt, &BAD_WRITES)
+fn failures_are_told_for_good(rt: HostRuntime) {
+    let volume = small_volume(&rt);
+    let parts = (volume.image.as_slice(), volume.plain.as_slice());
+    check_bad_calls(&rt, parts, &BAD_READS);
+    check_bad_calls(&rt, parts, &BAD_WRITES);
 }

@@ -2,7 +2,7 @@
 
 ghost use Rattle.std.specs.Prelude.{◌≡◌, length};
 
-use super::fixture::{NEVER, counted, dynamic, expected, outcome_of, run_pump, taker};
+use super::fixture::{NEVER, assert_outcome, counted, dynamic, expected, pumped};
 use luks_cipher::{Mode, SectorCipher};
 use luks_header::sector_size::SectorSize;
 use luks_kdf::{Hash, Work, pbkdf2};
@@ -10,13 +10,10 @@ use luks_seal_testing::bytes::at;
 use luks_seal_testing::parameters::{KEY, SALT, parameters1, slot1};
 use luks_stripes::af_merge;
 use luks_testing::devices::Flaky;
-use luks_testing::same::same;
 use luks_volume::pump::Pump;
 use luks_volume::state::Step;
 use luks1_seal::seal1;
-use std::alloc::Global;
 use std::process::Abort;
-use std::test::Fail;
 
 /// PBKDF2 of the key with SHA-256, 32 bytes 5a as salt and 3 iterations: Python's
 /// hashlib.pbkdf2_hmac.
@@ -55,35 +52,22 @@ fn open_area(area_key: &[u8], area: &mut [u8], key: &mut [u8])
     merge(&area[..128], key);
 }
 
-// The key that the stripes at this place hold for a passphrase, after two iterations.
-fn opened(
-    alloc: Global,
-    image: &[u8],
-    place: usize,
-    salt: &[u8],
-    pass: &[u8],
-) -> Result<Vec<u8>, Fail> {
-    let mut area_key = vec![in alloc; 0; 32]?;
-    pbkdf2(
-        Hash::Sha256,
-        pass,
-        salt,
-        2,
-        &mut area_key,
-        &mut Work::new(0),
-    );
-    let mut area = Vec::new(alloc);
-    area.extend_from_slice(at(image, place, 512))?;
-    if area.len() != 512 {
-        return Err("no area".into());
-    }
-    let mut key = vec![in alloc; 0; 32]?;
+// Whether the stripes at this place hold the key for a passphrase, after two iterations.
+fn opens(rt: &impl Abort, image: &[u8], place: usize, salt: &[u8], pass: &[u8]) -> bool {
+    let mut area_key = [0; 32];
+    let mut work = Work::new(0);
+    pbkdf2(Hash::Sha256, pass, salt, 2, &mut area_key, &mut work);
+    let mut area = [0; 512];
+    let found = at(image, place, 512);
+    assert!(rt; found.len() == 512);
+    area.copy_from_slice(found);
+    let mut key = [0; 32];
     open_area(&area_key, &mut area, &mut key);
-    Ok(key)
+    key.as_slice() == KEY
 }
 
 // Texts and numbers of the header, each with its place.
-const HEADER: [(usize, &[u8]); 16] = [
+static HEADER: [(usize, &[u8]); 16] = [
     (0, b"LUKS\xba\xbe\x00\x01aes"),
     (40, b"xts-plain64\x00"),
     (72, b"sha256\x00"),
@@ -105,62 +89,38 @@ const HEADER: [(usize, &[u8]); 16] = [
 
 fn check_header(rt: &impl Abort, image: &[u8]) {
     for (place, bytes) in &HEADER {
-        let there = at(image, *place, bytes.len());
-        same((*place, there), (*place, *bytes)).expect(rt, "the same");
+        assert!(rt; at(image, *place, bytes.len()) == *bytes, "{place}");
     }
 }
 
-// Whether the stripes at this place hold the key for a passphrase.
-fn opens(
-    alloc: Global,
-    image: &[u8],
-    place: usize,
-    salt: &[u8],
-    pass: &[u8],
-) -> Result<bool, Fail> {
-    let key = opened(alloc, image, place, salt, pass)?;
-    Ok(key.as_slice() == KEY)
-}
-
 // The payload of 1024 bytes.
-fn check_payload(rt: &(impl Abort + AllocGlobal), image: &[u8], plain: &[u8]) -> Result<(), Fail> {
-    let Some(key) = SectorCipher::new(Mode::XtsPlain64, KEY) else {
-        return Err("no key".into());
-    };
+fn check_payload(rt: &(impl Abort + AllocGlobal), image: &[u8], plain: &[u8]) {
+    let key = SectorCipher::new(Mode::XtsPlain64, KEY).expect(rt, "a key");
     let mut pump = Pump::new(dynamic(36_864, SectorSize::B512, 0), key, 0);
     let mut source = Flaky::new(image, 5000, NEVER);
-    let mut sink = taker(rt.alloc(), 4096, 5000, NEVER)?;
-    let run = run_pump(&mut pump, &mut source, &mut sink);
-    let taken = image.len().saturating_sub(source.left());
-    let outcome = outcome_of(run, taken, sink.as_slice(), plain);
-    same(outcome, expected(2, Ok(Step::End), 37_888, 1024)).expect(rt, "the same");
-    Ok(())
+    let outcome = pumped(rt, &mut pump, &mut source, 5000, (image, plain));
+    assert_outcome(rt, 1024, outcome, expected(2, Ok(Step::End), 37_888, 1024));
 }
 
-fn sealed(alloc: Global, plain: &[u8]) -> Result<Vec<u8>, Fail> {
+fn sealed(rt: &(impl Abort + AllocGlobal), plain: &[u8]) -> Vec<u8> {
     let slots = [
         slot1(5, SIXTH_SALT, b"sixth"),
         slot1(0, FIRST_SALT, b"first"),
     ];
-    match seal1(alloc, &parameters1(&slots, plain)) {
-        Ok(image) => Ok(image),
-        Err(_) => Err("not sealed".into()),
-    }
+    seal1(rt.alloc(), &parameters1(&slots, plain)).expect(rt, "a volume")
 }
 
-fn check_sealed(rt: &(impl Abort + AllocGlobal), image: &[u8], plain: &[u8]) -> Result<(), Fail> {
-    let alloc = rt.alloc();
-    same(image.len(), 37_888).expect(rt, "the same");
+fn check_sealed(rt: &(impl Abort + AllocGlobal), image: &[u8], plain: &[u8]) {
+    assert!(rt; image.len() == 37_888);
     check_header(rt, image);
-    assert!(rt; opens(alloc, image, 4096, &FIRST_SALT, b"first")?);
-    assert!(rt; opens(alloc, image, 24_576, &SIXTH_SALT, b"sixth")?);
-    assert!(rt; !opens(alloc, image, 4096, &FIRST_SALT, b"sixth")?);
-    check_payload(rt, image, plain)
+    assert!(rt; opens(rt, image, 4096, &FIRST_SALT, b"first"));
+    assert!(rt; opens(rt, image, 24_576, &SIXTH_SALT, b"sixth"));
+    assert!(rt; !opens(rt, image, 4096, &FIRST_SALT, b"sixth"));
+    check_payload(rt, image, plain);
 }
 
 #[test]
-fn a_sealed_volume_opens(rt: HostRuntime) -> Result<(), Fail> {
+fn a_sealed_volume_opens(rt: HostRuntime) {
     let plain: [u8; 1024] = counted();
-    let image = sealed(rt.alloc(), &plain)?;
-    check_sealed(&rt, &image, &plain)
+    check_sealed(&rt, &sealed(&rt, &plain), &plain);
 }

@@ -3,24 +3,23 @@
 
 use super::fixture::{NEVER, counted, first_of, run_pump, taker};
 use luks_cipher::{Mode, SectorCipher};
-use luks_header::header::read_header;
+use luks_header::area::HeaderArea;
+use luks_header::header::{Header, read_header};
 use luks_header::payload::segment;
 use luks_header::sector_size::SectorSize;
 use luks_io::memory::MemSource;
 use luks_kdf::{Hash, Work};
+use luks_open::fault::OpenFault;
 use luks_open::opening::{Opened, open};
 use luks_open::order::order;
 use luks_open::tries::held_end;
 use luks_seal::parameters::{Seal1, Seal2, Slot1, Slot2};
 use luks_testing::devices::Flaky;
-use luks_testing::same::same;
 use luks_volume::pump::Pump;
 use luks_volume::state::Step;
 use luks1_seal::seal1;
 use luks2_seal::seal2;
-use std::alloc::Global;
 use std::process::Abort;
-use std::test::Fail;
 
 const MODES: [(Mode, usize); 8] = [
     (Mode::XtsPlain64, 32),
@@ -52,46 +51,47 @@ const KEY: &[u8] = b"a volume key of AES-256 has two halves, thirty-two bytes in
 /// How many stripes there are.
 const STRIPES: u32 = 3;
 
-/// The segment of an image, and what a passphrase opens of it, whether or not a slot is named.
+// What a passphrase opens of a header's image, whether or not a slot is named.
 fn opened(
-    alloc: Global,
-    image: &[u8],
+    rt: &(impl Abort + AllocGlobal),
+    header: &Header,
+    area: &mut HeaderArea,
+    source: &mut MemSource<'_>,
     named: Option<u8>,
     pass: &[u8],
-) -> Result<Option<(Pump<'static>, Opened)>, Fail> {
-    let mut source = MemSource::new(image);
-    let (header, mut area) = read_header(alloc, &mut source)?;
-    let Ok(payload) = segment(&header) else {
-        return Err("the segment is refused".into());
+) -> Result<Opened, OpenFault> {
+    let Ok(_) = segment(header) else {
+        panic!(rt; "the segment is refused");
     };
-    let Ok(order) = order(alloc, &header, named, None) else {
-        return Err("nothing is tried".into());
+    let Ok(order) = order(rt.alloc(), header, named, None) else {
+        panic!(rt; "nothing is tried");
     };
-    if !area.extend_to(&mut source, held_end(&order))? {
-        return Err("the image is cut".into());
-    }
-    let Ok(opened) = open(&header, &area, &order, pass, &mut Work::new(0)) else {
-        return Ok(None);
+    let Ok(true) = area.extend_to(source, held_end(&order)) else {
+        panic!(rt; "the image is cut");
     };
-    let Some(cipher) = SectorCipher::new(payload.mode, opened.key.as_slice()) else {
-        return Err("no key of the mode".into());
-    };
-    Ok(Some((Pump::new(payload, cipher, 0), opened)))
+    open(header, area, &order, pass, &mut Work::new(0))
 }
 
 // The pump writes this plain text, and ends.
-fn check_plain(
+fn check_plain(rt: &(impl Abort + AllocGlobal), pump: &mut Pump<'_>, image: &[u8], plain: &[u8]) {
+    let mut source = Flaky::new(image, 0, NEVER);
+    let mut sink = taker(rt, 65_536, 65_536, NEVER);
+    let run = run_pump(pump, &mut source, &mut sink);
+    assert!(rt; run.last == Ok(Step::End));
+    assert!(rt; sink.as_slice() == plain);
+}
+
+// The payload under this key is this plain text.
+fn check_payload(
     rt: &(impl Abort + AllocGlobal),
-    pump: &mut Pump<'_>,
+    header: &Header,
+    key: &[u8],
     image: &[u8],
     plain: &[u8],
-) -> Result<(), Fail> {
-    let mut source = Flaky::new(image, 0, NEVER);
-    let mut sink = taker(rt.alloc(), 65_536, 65_536, NEVER)?;
-    let run = run_pump(pump, &mut source, &mut sink);
-    same(run.last, Ok(Step::End)).expect(rt, "the same");
-    same(sink.as_slice(), plain).expect(rt, "the same");
-    Ok(())
+) {
+    let payload = segment(header).expect(rt, "a segment");
+    let cipher = SectorCipher::new(payload.mode, key).expect(rt, "a key of the mode");
+    check_plain(rt, &mut Pump::new(payload, cipher, 0), image, plain);
 }
 
 /// The passphrase opens this slot of the image, and the payload is this plain text.
@@ -102,23 +102,19 @@ fn check_opens(
     pass: &[u8],
     slot: u8,
     plain: &[u8],
-) -> Result<(), Fail> {
-    let Some((mut pump, opened)) = opened(rt.alloc(), image, named, pass)? else {
-        return Err("nothing opens".into());
-    };
-    same(opened.slot, slot).expect(rt, "the same");
-    check_plain(rt, &mut pump, image, plain)
+) {
+    let mut source = MemSource::new(image);
+    let (header, mut area) = read_header(rt.alloc(), &mut source).expect(rt, "a header");
+    let opened = opened(rt, &header, &mut area, &mut source, named, pass).expect(rt, "a key");
+    assert!(rt; opened.slot == slot);
+    check_payload(rt, &header, opened.key.as_slice(), image, plain);
 }
 
 // The passphrase opens no slot of the image, or not the named one.
-fn check_opens_none(
-    rt: &(impl Abort + AllocGlobal),
-    image: &[u8],
-    named: Option<u8>,
-    pass: &[u8],
-) -> Result<(), Fail> {
-    assert!(rt; opened(rt.alloc(), image, named, pass)?.is_none());
-    Ok(())
+fn check_opens_none(rt: &(impl Abort + AllocGlobal), image: &[u8], named: Option<u8>, pass: &[u8]) {
+    let mut source = MemSource::new(image);
+    let (header, mut area) = read_header(rt.alloc(), &mut source).expect(rt, "a header");
+    assert!(rt; opened(rt, &header, &mut area, &mut source, named, pass).is_err());
 }
 
 fn slot1<'a>(number: u32, passphrase: &'static [u8], random: &'a [u8]) -> Slot1<'a> {
@@ -185,52 +181,49 @@ fn volume2<'a>(mode: Mode, key: &'a [u8], slots: &'a [Slot2<'a>], plain: &'a [u8
     }
 }
 
-fn sealed1(alloc: Global, seal: &Seal1<'_>) -> Result<Vec<u8>, Fail> {
-    match seal1(alloc, seal) {
-        Ok(image) => Ok(image),
-        Err(_) => Err("not sealed".into()),
-    }
-}
-
-fn sealed2(alloc: Global, seal: &Seal2<'_>) -> Result<Vec<u8>, Fail> {
-    match seal2(alloc, seal) {
-        Ok(image) => Ok(image),
-        Err(_) => Err("not sealed".into()),
-    }
-}
-
 // A volume of LUKS1 with two slots.
-fn check_first(
+fn check_first(rt: &(impl Abort + AllocGlobal), image: &[u8], plain: &[u8]) {
+    check_opens(rt, image, None, FIRST, 1, plain);
+    check_opens(rt, image, None, SECOND, 6, plain);
+    check_opens(rt, image, Some(6), SECOND, 6, plain);
+    check_opens_none(rt, image, Some(1), SECOND);
+}
+
+fn sealed1(
     rt: &(impl Abort + AllocGlobal),
     mode: Mode,
     key: &[u8],
     random: &[u8],
     plain: &[u8],
-) -> Result<(), Fail> {
+) -> Vec<u8> {
     let slots = [slot1(6, SECOND, random), slot1(1, FIRST, random)];
-    let image = sealed1(rt.alloc(), &volume1(mode, key, &slots, plain))?;
-    check_opens(rt, &image, None, FIRST, 1, plain)?;
-    check_opens(rt, &image, None, SECOND, 6, plain)?;
-    check_opens(rt, &image, Some(6), SECOND, 6, plain)?;
-    check_opens_none(rt, &image, Some(1), SECOND)
+    seal1(rt.alloc(), &volume1(mode, key, &slots, plain)).expect(rt, "a volume")
 }
 
 #[test]
-fn each_passphrase_opens_a_volume_of_luks1_in_each_mode(rt: HostRuntime) -> Result<(), Fail> {
+fn each_passphrase_opens_a_volume_of_luks1_in_each_mode(rt: HostRuntime) {
     let plain: [u8; 1536] = counted();
     let random: [u8; 128] = counted();
     for (mode, len) in MODES {
-        check_first(&rt, mode, &KEY[..len], first_of(&random, 2 * len), &plain)?;
+        let random = first_of(&random, 2 * len);
+        check_first(
+            &rt,
+            &sealed1(&rt, mode, &KEY[..len], random, &plain),
+            &plain,
+        );
     }
-    Ok(())
 }
 
 // A volume of LUKS2 with three slots, of which the one with priority 0 opens by its number alone.
-fn check_second(
-    rt: &(impl Abort + AllocGlobal),
-    seal: Seal2<'_>,
-    random: &[u8],
-) -> Result<(), Fail> {
+fn check_image2(rt: &(impl Abort + AllocGlobal), image: &[u8], plain: &[u8]) {
+    check_opens(rt, image, None, FIRST, 10, plain);
+    check_opens(rt, image, None, SECOND, 31, plain);
+    check_opens(rt, image, Some(2), UNRANKED, 2, plain);
+    check_opens_none(rt, image, None, UNRANKED);
+    check_opens_none(rt, image, Some(2), FIRST);
+}
+
+fn sealed2(rt: &(impl Abort + AllocGlobal), seal: Seal2<'_>, random: &[u8]) -> Vec<u8> {
     let unranked = Slot2 {
         priority: 0,
         ..slot2(2, Hash::Sha256, UNRANKED, random)
@@ -244,16 +237,15 @@ fn check_second(
         slots: &slots,
         ..seal
     };
-    let image = sealed2(rt.alloc(), &seal)?;
-    check_opens(rt, &image, None, FIRST, 10, seal.plain)?;
-    check_opens(rt, &image, None, SECOND, 31, seal.plain)?;
-    check_opens(rt, &image, Some(2), UNRANKED, 2, seal.plain)?;
-    check_opens_none(rt, &image, None, UNRANKED)?;
-    check_opens_none(rt, &image, Some(2), FIRST)
+    seal2(rt.alloc(), &seal).expect(rt, "a volume")
+}
+
+fn check_second(rt: &(impl Abort + AllocGlobal), seal: Seal2<'_>, random: &[u8]) {
+    check_image2(rt, &sealed2(rt, seal, random), seal.plain);
 }
 
 #[test]
-fn each_passphrase_opens_a_volume_of_luks2_in_each_mode(rt: HostRuntime) -> Result<(), Fail> {
+fn each_passphrase_opens_a_volume_of_luks2_in_each_mode(rt: HostRuntime) {
     let plain: [u8; 8192] = counted();
     let random: [u8; 128] = counted();
     for (mode, len) in MODES {
@@ -262,14 +254,13 @@ fn each_passphrase_opens_a_volume_of_luks2_in_each_mode(rt: HostRuntime) -> Resu
                 sector_size,
                 ..volume2(mode, &KEY[..len], &[], &plain)
             };
-            check_second(&rt, seal, first_of(&random, 2 * len))?;
+            check_second(&rt, seal, first_of(&random, 2 * len));
         }
     }
-    Ok(())
 }
 
 #[test]
-fn key_material_is_in_a_mode_of_its_own(rt: HostRuntime) -> Result<(), Fail> {
+fn key_material_is_in_a_mode_of_its_own(rt: HostRuntime) {
     let plain: [u8; 512] = counted();
     let random: [u8; 128] = counted();
     for (area_mode, area_key_size) in MODES {
@@ -278,9 +269,8 @@ fn key_material_is_in_a_mode_of_its_own(rt: HostRuntime) -> Result<(), Fail> {
             area_key_size,
             ..volume2(Mode::XtsPlain64, KEY, &[], &plain)
         };
-        check_second(&rt, seal, &random)?;
+        check_second(&rt, seal, &random);
     }
-    Ok(())
 }
 
 /// Lengths of payloads, none among them, and whether they are fixed.
@@ -294,7 +284,7 @@ const LENGTHS: [(usize, bool); 5] = [
 
 // Unit numbers that wrap at 2^64, and lengths that are fixed, none among them.
 #[test]
-fn unit_numbers_wrap_and_sizes_are_kept(rt: HostRuntime) -> Result<(), Fail> {
+fn unit_numbers_wrap_and_sizes_are_kept(rt: HostRuntime) {
     let bytes: [u8; 12_288] = counted();
     let random: [u8; 128] = counted();
     for (len, fixed) in LENGTHS {
@@ -306,66 +296,56 @@ fn unit_numbers_wrap_and_sizes_are_kept(rt: HostRuntime) -> Result<(), Fail> {
                 plain: first_of(&bytes, len),
                 ..volume2(Mode::XtsPlain64, KEY, &[], &[])
             };
-            check_second(&rt, seal, &random)?;
+            check_second(&rt, seal, &random);
         }
     }
-    Ok(())
 }
 
-// A volume of LUKS2 with one slot, of a fixed size.
-fn fixed_volume(alloc: Global, plain: &[u8]) -> Result<Vec<u8>, Fail> {
+// A volume of LUKS2 with one slot.
+fn sealed_once(rt: &(impl Abort + AllocGlobal), seal: Seal2<'_>) -> Vec<u8> {
     let random: [u8; 128] = counted();
     let slots = [slot2(0, Hash::Sha256, FIRST, &random)];
     let seal = Seal2 {
-        fixed: true,
-        ..volume2(Mode::XtsPlain64, KEY, &slots, plain)
+        slots: &slots,
+        ..seal
     };
-    sealed2(alloc, &seal)
+    seal2(rt.alloc(), &seal).expect(rt, "a volume")
 }
 
 // Bytes behind a fixed size are no part of the payload.
 #[test]
-fn a_fixed_size_ends_the_payload(rt: HostRuntime) -> Result<(), Fail> {
+fn a_fixed_size_ends_the_payload(rt: HostRuntime) {
     let plain: [u8; 1024] = counted();
-    let mut image = fixed_volume(rt.alloc(), &plain)?;
-    image.extend_from_slice(&plain)?;
-    check_opens(&rt, &image, None, FIRST, 0, &plain)
-}
-
-// A volume of LUKS2 with one slot, and headers of this size.
-fn volume_under(alloc: Global, hdr_size: u64, plain: &[u8]) -> Result<Vec<u8>, Fail> {
-    let random: [u8; 128] = counted();
-    let slots = [slot2(0, Hash::Sha256, FIRST, &random)];
     let seal = Seal2 {
-        hdr_size,
-        offset: hdr_size.saturating_mul(2).saturating_add(4096),
-        ..volume2(Mode::XtsPlain64, KEY, &slots, plain)
+        fixed: true,
+        ..volume2(Mode::XtsPlain64, KEY, &[], &plain)
     };
-    sealed2(alloc, &seal)
+    let mut image = sealed_once(&rt, seal);
+    image.extend_from_slice(&plain).expect(&rt, "memory");
+    check_opens(&rt, &image, None, FIRST, 0, &plain);
 }
 
 // The secondary header is chosen where the primary one is broken.
-fn check_secondary(
-    rt: &(impl Abort + AllocGlobal),
-    hdr_size: u64,
-    plain: &[u8],
-) -> Result<(), Fail> {
-    let mut image = volume_under(rt.alloc(), hdr_size, plain)?;
-    check_opens(rt, &image, None, FIRST, 0, plain)?;
+fn check_secondary(rt: &(impl Abort + AllocGlobal), image: &mut [u8], plain: &[u8]) {
+    check_opens(rt, image, None, FIRST, 0, plain);
     if 4096 < image.len() {
         image[4096] = b'}';
     }
-    check_opens(rt, &image, None, FIRST, 0, plain)
+    check_opens(rt, image, None, FIRST, 0, plain);
 }
 
 /// The sizes of headers.
 const HEADERS: [u64; 7] = [16_384, 32_768, 65_536, 131_072, 262_144, 524_288, 1_048_576];
 
 #[test]
-fn both_headers_are_valid(rt: HostRuntime) -> Result<(), Fail> {
+fn both_headers_are_valid(rt: HostRuntime) {
     let plain: [u8; 1024] = counted();
     for hdr_size in HEADERS {
-        check_secondary(&rt, hdr_size, &plain)?;
+        let seal = Seal2 {
+            hdr_size,
+            offset: hdr_size.saturating_mul(2).saturating_add(4096),
+            ..volume2(Mode::XtsPlain64, KEY, &[], &plain)
+        };
+        check_secondary(&rt, &mut sealed_once(&rt, seal), &plain);
     }
-    Ok(())
 }
