@@ -1,5 +1,5 @@
-//! What the tests of several crates share: comparisons, devices of which one call fails, and memory
-//! that is taken away.
+//! What the tests of several crates share: comparisons, devices of which one call fails, memory
+//! that is taken away, and headers of LUKS2.
 //!
 //! Nothing but tests uses it.
 #![tactic(auto)]
