@@ -27,9 +27,9 @@ fn assert_same_in<C: Debug, T: PartialEq + Debug + Drop>(
     assert_eq!(rt; left, right, "{case:?}");
 }
 
-// A line's word of this number, from 0, or nothing where the line has fewer.
-fn word(line: &str, number: usize) -> &str {
-    line.split(' ').nth(number).unwrap_or("")
+// A line's word of this number, from 0.
+fn word<'a>(rt: &impl Abort, line: &'a str, number: usize) -> &'a str {
+    line.split(' ').nth(number).expect(rt, "a word")
 }
 
 fn number_of(rt: &impl Abort, word: &str) -> u64 {

@@ -107,10 +107,10 @@ fn check_decrypted_chain(
 
 // The line's unit is encrypted to the other one, and back.
 fn check_chain(rt: &(impl Abort + AllocGlobal), line: &str) {
-    let key = word(line, 0);
-    let vector = word(line, 1);
-    let plain = word(line, 2);
-    let encrypted = word(line, 3);
+    let key = word(rt, line, 0);
+    let vector = word(rt, line, 1);
+    let plain = word(rt, line, 2);
+    let encrypted = word(rt, line, 3);
     let key = slice_key(rt, key);
     let first = vector_of(rt, vector);
     check_encrypted_chain(rt, line, key.key(), first, &mut bytes(rt, plain), encrypted);
@@ -155,11 +155,11 @@ fn check_decrypted(
 
 // The line's sector is encrypted to the other one under a key of the mode, and back.
 fn check_sector(rt: &(impl Abort + AllocGlobal), line: &str) {
-    let mode = word(line, 0);
-    let key = word(line, 1);
-    let number = word(line, 2);
-    let plain = word(line, 3);
-    let encrypted = word(line, 4);
+    let mode = word(rt, line, 0);
+    let key = word(rt, line, 1);
+    let number = word(rt, line, 2);
+    let plain = word(rt, line, 3);
+    let encrypted = word(rt, line, 4);
     let cipher = cipher_of(rt, mode, key);
     let number = number_of(rt, number);
     check_encrypted(rt, line, &cipher, number, &mut bytes(rt, plain), encrypted);

@@ -114,11 +114,11 @@ fn check_sector(
 }
 
 fn check_line(rt: &impl Abort, line: &str) {
-    let mode = word(line, 0);
-    let key_length = word(line, 1);
-    let number = word(line, 2);
-    let length = word(line, 3);
-    let digest = word(line, 4);
+    let mode = word(rt, line, 0);
+    let key_length = word(rt, line, 1);
+    let number = word(rt, line, 2);
+    let length = word(rt, line, 3);
+    let digest = word(rt, line, 4);
     let cipher = cipher_of(rt, mode, length_of(rt, key_length));
     let number = number_of(rt, number);
     let mut room = [0; 4096];

@@ -48,10 +48,10 @@ fn key_of(rt: &(impl Abort + AllocGlobal), digits: &str) -> XtsKey {
 
 // The line's key takes its plain unit to its encrypted one, and back.
 fn check_line(rt: &(impl Abort + AllocGlobal), line: &str) {
-    let key = word(line, 0);
-    let number = word(line, 1);
-    let plain = word(line, 2);
-    let encrypted = word(line, 3);
+    let key = word(rt, line, 0);
+    let number = word(rt, line, 1);
+    let plain = word(rt, line, 2);
+    let encrypted = word(rt, line, 3);
     let key = key_of(rt, key);
     let number = number_of(rt, number);
     check_encrypted(rt, line, &key, number, &mut bytes(rt, plain), encrypted);
