@@ -30,13 +30,14 @@ fn fault_of(alloc: Global, volume: Volume<'_>) -> Option<SealFault> {
     }
 }
 
-// Calls until one does not answer want of memory: whether that one ends well, and how many were
-// before it.
+// Calls until one does not answer want of memory: whether that one ends well, and so another one
+// after it, and how many were before them.
 fn first_answer(alloc: Global, volume: Volume<'_>, scarcity: &mut Scarcity) -> (bool, usize) {
     for refused in 0..PIECES {
         let fault = fault_of(alloc, volume);
         if fault != Some(SealFault::Memory) {
-            return (fault.is_none(), refused);
+            let ends_well = fault.is_none() && fault_of(alloc, volume).is_none();
+            return (ends_well, refused);
         }
         scarcity.relent();
     }
