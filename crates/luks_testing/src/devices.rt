@@ -1,12 +1,22 @@
 //! Devices over memory that move a few bytes a call, and of which one call fails.
 
-ghost use Rattle.std.specs.Prelude.{◌≡◌, ◌<◌, ℕ, List, [], Some, IfOk, length};
+ghost use Rattle.std.specs.Prelude.{◌≡◌, ◌<◌, ◌==◌, ℕ, List, [], Some, IfOk, length};
+ghost use Rattle.luks_io.specs.Bytes.{counted};
 
 use luks_io::DeviceFault;
 use luks_io::memory::MemSink;
 use luks_io::sink::Sink;
 use luks_io::source::{Source, count_end};
 use std::alloc::{AllocError, Global};
+
+// Counts a call that moves no byte, since it has none or no room for one.
+fn count_empty(empty_calls: &mut u64, len: usize)
+    ensures { empty_calls.new ≡ counted (len == 0) empty_calls.old }
+{
+    if len == 0 {
+        *empty_calls = empty_calls.saturating_add(1);
+    }
+}
 
 /// A source that gives at most `piece` bytes a call, or all that are asked for where `piece` is 0.
 /// Call number `failing`, from 0, fails, and later ones go on.
@@ -18,7 +28,10 @@ pub struct Flaky<'a> {
     calls: u64,
     /// How many calls failed.
     pub failures: u64,
-    ends: u64,
+    /// How many calls found the end.
+    pub ends: u64,
+    /// How many calls had no room for a byte.
+    pub empty_calls: u64,
 }
 
 impl<'a> Flaky<'a> {
@@ -34,6 +47,7 @@ impl<'a> Flaky<'a> {
             calls: 0,
             failures: 0,
             ends: 0,
+            empty_calls: 0,
         }
     }
 
@@ -63,6 +77,7 @@ impl<'a> Source for Flaky<'a> {
     fn read(&mut self, buf: &mut [u8]) -> Result<usize, DeviceFault> {
         let call = self.calls;
         self.calls = call.wrapping_add(1);
+        count_empty(&mut self.empty_calls, buf.len());
         if call == self.failing {
             self.failures = self.failures.saturating_add(1);
             return Err(DeviceFault);
@@ -88,6 +103,8 @@ pub struct Leaky {
     failing: u64,
     calls: u64,
     failures: u64,
+    /// How many calls brought no byte.
+    pub empty_calls: u64,
     ghost some: { 0 < piece },
 }
 
@@ -103,6 +120,7 @@ impl Leaky {
             failing,
             calls: 0,
             failures: 0,
+            empty_calls: 0,
         })
     }
 
@@ -136,6 +154,7 @@ impl Sink for Leaky {
     fn write(&mut self, buf: &[u8]) -> Result<usize, DeviceFault> {
         let call = self.calls;
         self.calls = call.wrapping_add(1);
+        count_empty(&mut self.empty_calls, buf.len());
         if call == self.failing {
             self.failures = self.failures.saturating_add(1);
             return Err(DeviceFault);

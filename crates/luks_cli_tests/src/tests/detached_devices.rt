@@ -5,7 +5,7 @@ ghost use Rattle.std.specs.Prelude.{◌≡◌, true};
 ghost use Rattle.luks_request.specs.Request.{is_detached, request_of};
 
 use super::detached::{CAT, detached, front_of, payload_of};
-use super::failing::Failing;
+use super::failing::{Failing, check_asked, check_brought};
 use super::scarce::{Inputs, check_refusals};
 use super::volume2::header2;
 use crate::tests::same::{assert_in, assert_same_in};
@@ -69,6 +69,10 @@ fn run_failing(
         &mut secret,
         &mut out,
     );
+    check_asked(rt, failing, &front);
+    check_asked(rt, failing, &payload);
+    check_asked(rt, failing, &secret);
+    check_brought(rt, failing, &out);
     let done = report.status == 0;
     let taken = image.len() - payload.left().min(image.len());
     check_ending(rt, failing, report, (out.as_slice(), taken), whole);

@@ -58,6 +58,21 @@ fn check_ending(
     assert_in(rt, &failing, failed || written == whole);
 }
 
+/// The source was asked for nothing in vain: for no bytes, nor once more after its end, nor again
+/// after the call that failed.
+pub(super) fn check_asked(rt: &impl Abort, failing: Failing, source: &Flaky<'_>) {
+    assert_in(rt, &failing, source.ends <= 1 && source.empty_calls == 0);
+    let last = source.failures == 0 || source.calls() == failing.call.saturating_add(1);
+    assert_in(rt, &failing, last);
+}
+
+/// The output was brought nothing in vain: no bytes, nor any after the call that failed.
+pub(super) fn check_brought(rt: &impl Abort, failing: Failing, out: &Leaky) {
+    assert_in(rt, &failing, out.empty_calls == 0);
+    let last = out.failures() == 0 || out.calls() == failing.call.saturating_add(1);
+    assert_in(rt, &failing, last);
+}
+
 // One run; whether the call was made and failed. The image comes in a hundred pieces or so, of 5
 // bytes at least.
 fn run_failing(
@@ -74,6 +89,9 @@ fn run_failing(
     let mut image = Flaky::new(inputs[0], piece, failing.call_of(0));
     let mut secret = Flaky::new(inputs[1], 5, failing.call_of(1));
     let report = execute(rt.alloc(), command, &mut image, &mut secret, &mut out);
+    check_asked(rt, failing, &image);
+    check_asked(rt, failing, &secret);
+    check_brought(rt, failing, &out);
     let failed = image.failures != 0 || secret.failures != 0 || out.failures() != 0;
     check_ending(rt, failing, (report, failed), out.as_slice(), whole);
     failed
