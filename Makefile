@@ -19,7 +19,7 @@ PAGES = $(DESTDIR)$(PREFIX)/share/man/man1
 BASH_WORDS = $(DESTDIR)$(PREFIX)/share/bash-completion/completions
 ZSH_WORDS = $(DESTDIR)$(ZSH_FUNCTIONS)
 
-.PHONY: all demo check scripts test bench install uninstall deb
+.PHONY: all demo check scripts program-scripts test bench install uninstall deb
 
 all: $(PROGRAM)
 
@@ -43,16 +43,16 @@ demo: all
 check: all $(SEALER) scripts
 
 # The programs are taken as they are. Four scripts run side by side; what each prints comes when it
-# has ended.
+# has ended. One of them asks for the sealer too.
 TESTS := stripes volumes devices memory hostile completions package
 INTEROP := headers headers2 volumes volumes2 detached filesystems
-SCRIPTS := $(TESTS:%=test-%) $(INTEROP:%=interop-%) interop-sealed
+PROGRAM_SCRIPTS := $(TESTS:%=test-%) $(INTEROP:%=interop-%)
 
-.PHONY: $(SCRIPTS)
+.PHONY: $(PROGRAM_SCRIPTS) interop-sealed
 
-scripts:
+scripts program-scripts:
 	tests/packages
-	+$(MAKE) -k -j 4 --output-sync=target --no-print-directory $(SCRIPTS)
+	+$(MAKE) -k -j 4 --output-sync=target --no-print-directory $(PROGRAM_SCRIPTS) $(if $(filter scripts,$@),interop-sealed)
 
 $(TESTS:%=test-%): test-%:
 	tests/$*.sh $(PROGRAM)
