@@ -1,8 +1,8 @@
 # make            builds the program, crates/luksrd/out/luksrd, which proves all it stands on
 # make demo       builds it and reads both sample volumes, from pipes
 # make check      runs the built program on files and pipes, and beside cryptsetup and qemu-img: all of `make test` but the gate
-# make test       what CI runs: the gate, which proves everything from nothing, and beside it the same scripts on the program that it builds, and
-#                 the wrong bodies of must-fail/, each of which has to be refused
+# make test       what CI runs: the gate, which proves everything, tries each wrong body of must-fail/ and runs the tests, and beside it the same
+#                 scripts on the program that it builds
 # make bench      measures key derivation, decryption and whole volumes beside other implementations
 # make install    puts the program, its man page and its completions below PREFIX (/usr/local where
 #                 it is not given), in DESTDIR where that is given

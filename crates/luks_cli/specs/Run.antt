@@ -5,7 +5,7 @@ use Rattle.luks_cli.specs.VolumeParts.{cat_promptly}
 use Rattle.luks_request.specs.Request.{Request, is_luks, luks_uuid, luks_dump, luks_check, test_passphrase, luks_cat}
 use Rattle.luks_request.specs.Request.{af_split, af_merge}
 use Rattle.luks_cli.specs.Outcome.{outcome_of}
-use Rattle.luks_runs.specs.Run.{Promptness, Runs, TookNone, at_any_pace}
+use Rattle.luks_runs.specs.Run.{FindsEndOnce, FindsEndTwice, Promptness, Runs, TookNone, at_any_pace}
 use Rattle.luks_runs.specs.Stripe.{longest_key}
 use Rattle.luks_runs.specs.StripeParts.{split_promptly}
 use Rattle.luks_cli.specs.Volume.{volume_of}
@@ -71,3 +71,10 @@ NeedsNoSecret (test_passphrase o) image = is_err (volume_of o image) ≡ true
 NeedsNoSecret (luks_cat o) image = is_err (volume_of o image) ≡ true
 NeedsNoSecret (af_split s) image = (length image ≡ 0) ⊎ (longest_key < length image)
 NeedsNoSecret _ image = Unit {0}
+
+-- the end of the first input is found at most once; that of a volume, which may end within its second header, is found
+-- there and once more behind it
+abbrev pub FindsFirstEnd : Request → ℕ → ℕ → Type 0
+FindsFirstEnd (test_passphrase o) before after = FindsEndTwice before after
+FindsFirstEnd (luks_cat o) before after = FindsEndTwice before after
+FindsFirstEnd _ before after = FindsEndOnce before after

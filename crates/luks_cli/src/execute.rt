@@ -4,8 +4,9 @@ ghost use Rattle.std.specs.Prelude.{◌≡◌, ◌≢◌, IfErr, None, false};
 ghost use Rattle.luks_io.specs.Bytes.{WhereKnown};
 ghost use Rattle.luks_report.specs.Report.{report_of};
 ghost use Rattle.luks_request.specs.Request.{is_detached, request_of, secret_of};
-ghost use Rattle.luks_runs.specs.Run.{Counts, failures_of, message_of};
-ghost use Rattle.luks_cli.specs.Run.{NeedsNoSecret, ReadsFirst, RunsAsStated, TakesNoMemory};
+ghost use Rattle.luks_runs.specs.Run.{Counts, failures_of, FindsEndOnce, message_of};
+ghost use Rattle.luks_cli.specs.Run.{FindsFirstEnd, NeedsNoSecret, ReadsFirst, RunsAsStated};
+ghost use Rattle.luks_cli.specs.Run.{TakesNoMemory};
 ghost use Rattle.luks_cli.specs.Honest.{WritesPlain};
 ghost use Rattle.luks_cli.specs.MayEnd.{MayTell};
 
@@ -65,6 +66,9 @@ pub fn execute<I: Source, K: Source, O: Sink>(
     ensures counts { Counts result.message
         (failures_of (I.failures image.old) (K.failures secret.old) (O.failures out.old))
         (failures_of (I.failures image.new) (K.failures secret.new) (O.failures out.new)) }
+    ensures image_end { FindsFirstEnd (request_of command.now) (I.ends image.old)
+        (I.ends image.new) }
+    ensures secret_end { FindsEndOnce (K.ends secret.old) (K.ends secret.new) }
 {
     match perform(alloc, command, image, secret, out) {
         Ok(()) => Report::of(Message::Done),
@@ -94,6 +98,9 @@ fn perform<I: Source, K: Source, O: Sink>(
     ensures counts { Counts (message_of result)
         (failures_of (I.failures image.old) (K.failures secret.old) (O.failures out.old))
         (failures_of (I.failures image.new) (K.failures secret.new) (O.failures out.new)) }
+    ensures image_end { FindsFirstEnd (request_of command.now) (I.ends image.old)
+        (I.ends image.new) }
+    ensures secret_end { FindsEndOnce (K.ends secret.old) (K.ends secret.new) }
 {
     let standing = Standing::Attached;
     match command {

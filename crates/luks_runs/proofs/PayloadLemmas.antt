@@ -1,7 +1,7 @@
 -- Passing on a payload sector by sector.
 use Rattle.std.proofs.Common.{◌≡◌, ◌≢◌, ℕ, zero, suc, ◌+◌, ◌-◌, ◌*◌, ◌/◌, ◌%◌, ◌^◌, ◌<◌, ◌≤◌, ◌⊎◌, inl, inr, List, []}
 use Rattle.std.proofs.Common.{◌++◌, Option, None, Some, Result, Ok, Err, ◌∙◌, ap, sym, refl, take, drop, length}
-use Rattle.std.proofs.Common.{take_all, length-take-le, length-drop, length-append, append-nil, add-one, max, arith}
+use Rattle.std.proofs.Common.{take_all, length-take-le, length-drop, length-append, append-nil, add-one, max, arith, true, false}
 use Rattle.std.proofs.lemmas.Bool.{cases_lt}
 use Rattle.std.proofs.lemmas.List.{drop-drop, drop-take, drop_all, take-append-le}
 use Rattle.std.proofs.Math.Nat.{div-eq_of_lt-le, div-mul-le_self, mul-le-mul_left, mul-le-mul_right}
@@ -19,7 +19,7 @@ use Rattle.luks_volume.specs.Passing.{is_failed_read as is_lost, is_failed_write
 use Rattle.luks_volume.specs.Plain.{end_within, ending_of, payload_end_of, plain_of, sector_len, sector_of}
 use Rattle.luks_volume.specs.Plain.{sector_start, sectors_of, unit_plain, within_size}
 use Rattle.luks_volume.specs.Pumped.{Ends, Pumped, StandsIn, Steps, WritesSectors, after_step, place_in, position}
-use Rattle.luks_volume.specs.Pumped.{reach_of}
+use Rattle.luks_volume.specs.Pumped.{is_found_end, reach_of}
 use Rattle.luks_volume.specs.declared.fault.VolumeFault.{VolumeFault}
 use Rattle.luks_volume.specs.declared.fault.VolumeFault.TheVariants.{CutBeforePayload as IsCutBefore, Tail as HasTail}
 use Rattle.luks_volume.specs.declared.fault.VolumeFault.TheVariants.{Short as IsShort, Read, Write}
@@ -27,10 +27,11 @@ use Rattle.luks_volume.specs.declared.state.State.{State}
 use Rattle.luks_volume.specs.declared.state.State.TheVariants.{BeforePayload, InPayload, Ended, Faulted}
 use Rattle.luks_volume.specs.declared.state.Step.{Step}
 use Rattle.luks_volume.specs.declared.state.Step.TheVariants.{Sector, End}
-use Rattle.luks_runs.specs.Payload.{PassesPayload}
+use Rattle.luks_runs.specs.Payload.{FindsPayloadEnd, PassesPayload}
 use Rattle.luks_report.specs.Faults.{message_at_end, message_for_payload}
-use Rattle.luks_runs.specs.Run.{is_failed_read, is_failed_write}
-use Rattle.luks_report.specs.declared.message.Message.TheVariants.{Done, OutOfMemory}
+use Rattle.luks_runs.specs.Run.{FindsEndOnce, is_failed_read, is_failed_write}
+use Rattle.luks_report.specs.declared.message.Message.{Message}
+use Rattle.luks_report.specs.declared.message.Message.TheVariants.{Done, OutOfMemory, ReadFailed, WriteFailed}
 
 -- ---- lengths
 
@@ -343,7 +344,21 @@ module _ (held image : List ℕ) (offset : ℕ) (within : offset ≤ length held
       ∙ drop-take offset (length held - offset) image
       ∙ ap (λ n. take n (drop offset image)) (sym front_len)
 
--- ---- counts of failures
+-- ---- counts of ends and of failures
+
+pub ends_are : (s : Segment) (count : ℕ) (fault : VolumeFault) (n n' : ℕ)
+    → n' ≡ counted (is_found_end s count (Err fault)) n → FindsPayloadEnd (message_for_payload fault) n n'
+ends_are s count IsCutBefore n n' is = is
+ends_are s count (HasTail bytes) n n' is = is
+ends_are s count (IsShort bytes) n n' is = is
+ends_are s count Read n n' is = is
+ends_are s count Write n n' is = is
+
+pub payload_ends_once : (message : Message) (n n' : ℕ) → FindsPayloadEnd message n n' → FindsEndOnce n n'
+payload_ends_once Done n n' is = is
+payload_ends_once ReadFailed n n' is = (false, is)
+payload_ends_once WriteFailed n n' is = (false, is)
+payload_ends_once _ n n' is = (true, is)
 
 pub reads_are : (fault : VolumeFault) (n : ℕ)
     → counted (is_lost {T = Step} (Err fault)) n ≡ counted (is_failed_read (message_for_payload fault)) n

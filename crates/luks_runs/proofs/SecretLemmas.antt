@@ -1,13 +1,13 @@
 -- Reading a key file by pieces.
 use Rattle.std.proofs.Common.{◌≡◌, ℕ, ◌+◌, ◌<◌, ◌≤◌, ◌⊎◌, inl, inr, List, ◌++◌, Option, ◌∙◌, ap, sym, take, drop}
-use Rattle.std.proofs.Common.{length, take_all, length-drop, min, arith}
+use Rattle.std.proofs.Common.{length, take_all, length-drop, min, arith, true, false}
 use Rattle.std.proofs.Math.Seq.{take-add}
 use Rattle.luks_io.proofs.Taking.{took-all, took_behind, took_more}
 use Rattle.luks_io.specs.Bytes.{Took, TookUpTo, WhereKnown}
-use Rattle.luks_runs.specs.Secret.{NoSecretRead}
-use Rattle.luks_runs.specs.Secret.{longest_key_file}
+use Rattle.luks_runs.specs.Run.{FindsEndOnce}
+use Rattle.luks_runs.specs.Secret.{FindsSecretEnd, NoSecretRead, longest_key_file}
 use Rattle.luks_report.specs.declared.message.Message.{Message}
-use Rattle.luks_report.specs.declared.message.Message.TheVariants.{OutOfMemory, ReadFailed}
+use Rattle.luks_report.specs.declared.message.Message.TheVariants.{Done, OutOfMemory, ReadFailed}
 
 module _ (known : List ℕ) (n : ℕ) (s s' : Option (List ℕ)) (took : Took known s n) where
   -- the next bytes stand behind those so far
@@ -38,3 +38,9 @@ module _ (known : List ℕ) (n : ℕ) (s s' : Option (List ℕ)) (took : Took kn
       let up : TookUpTo known s' (min (length known) (longest_key_file + 1)) =
       (n + some.0, omega (arith, some.1, all.within), all) in
       elim why [ inl is ↦ rw is up | inr is ↦ rw is up ]
+
+-- however reading a key file ended
+pub secret_ends_once : (message : Message) (n n' : ℕ) → FindsSecretEnd message n n' → FindsEndOnce n n'
+secret_ends_once Done n n' is = (true, is)
+secret_ends_once OutOfMemory n n' is = is
+secret_ends_once _ n n' is = (false, is)

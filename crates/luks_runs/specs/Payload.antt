@@ -1,12 +1,13 @@
 -- What passing on a payload leaves in its devices.
 use Rattle.std.specs.Prelude.{◌≡◌, ℕ, ◌+◌, ◌-◌, ◌*◌, ◌/◌, ◌^◌, ◌<◌, ◌≤◌, List, length, max, take, Option}
 use Rattle.luks_cipher.specs.Sector.{Cipher}
-use Rattle.luks_io.specs.Bytes.{Adds, Took}
+use Rattle.luks_io.specs.Bytes.{Adds, Took, raised}
 use Rattle.luks_verdict.specs.declared.segment.Segment.{Segment}
 use Rattle.luks_volume.specs.Plain.{ending_of, payload_end_of, plain_of, sector_len, sector_start, sectors_of}
 use Rattle.luks_report.specs.Faults.{message_at_end}
 use Rattle.luks_report.specs.declared.message.Message.{Message}
-use Rattle.luks_report.specs.declared.message.Message.TheVariants.{ReadFailed, WriteFailed}
+use Rattle.luks_report.specs.declared.message.Message.TheVariants.{Done, ReadFailed, WriteFailed}
+use Rattle.luks_runs.specs.Run.{FindsEndOnce}
 
 -- passing on the payload of an image, of which so many bytes were taken before, ended with this message: all of it was
 -- written and taken, or it was broken off within a sector
@@ -31,3 +32,11 @@ abbrev pub PassesHeld : Segment → Cipher → List ℕ → Option (List ℕ) �
 PassesHeld s cipher held rest left before after message =
     (image : List ℕ) → length image < 2 ^ 64 → held ≡ take (length held) image → Took image rest (length held)
     → PassesPayload s cipher image (length held) left before after message
+
+-- how often passing on a payload found the end of the image: once where it is told that the image ended, not where a
+-- read or a write failed, and where all was well at most once, since a payload of fixed size may end before its image
+abbrev pub FindsPayloadEnd : Message → ℕ → ℕ → Type 0
+FindsPayloadEnd Done before after = FindsEndOnce before after
+FindsPayloadEnd ReadFailed before after = after ≡ before
+FindsPayloadEnd WriteFailed before after = after ≡ before
+FindsPayloadEnd _ before after = after ≡ raised before

@@ -2,7 +2,7 @@
 -- run takes so many bytes of the image and of the second input, and writes these; what that means for a device is a
 -- fact of its own.
 use Rattle.std.specs.Prelude.{◌≡◌, ℕ, ◌<◌, ◌≤◌, List, length, take, Bool, true, false, MatchBool, ◌⊎◌, Result, Ok, Err}
-use Rattle.luks_io.specs.Bytes.{raised}
+use Rattle.luks_io.specs.Bytes.{counted, raised}
 use Rattle.luks_runs.specs.Ending.{Outcome}
 use Rattle.luks_report.specs.declared.message.Message.{Message}
 use Rattle.luks_report.specs.declared.message.Message.TheVariants.{Done, OutOfMemory, ReadFailed, WriteFailed}
@@ -91,6 +91,14 @@ is_failed_read _ = false
 abbrev pub is_failed_write : Message → Bool
 is_failed_write WriteFailed = true
 is_failed_write _ = false
+
+-- the end of a source was found at most once
+abbrev pub FindsEndOnce : ℕ → ℕ → Type 0
+FindsEndOnce before after = (found : Bool) × (after ≡ counted found before)
+
+-- at most twice
+abbrev pub FindsEndTwice : ℕ → ℕ → Type 0
+FindsEndTwice before after = (first : Bool) × (second : Bool) × (after ≡ counted second (counted first before))
 
 -- how many reads of the image and of the secret and how many writes have failed
 pub record Failures : Type 0 where

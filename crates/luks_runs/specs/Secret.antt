@@ -1,8 +1,9 @@
 -- The key file.
-use Rattle.std.specs.Prelude.{ℕ, ◌+◌, ◌<◌, List, length, min, Option}
-use Rattle.luks_io.specs.Bytes.{Took, TookUpTo}
+use Rattle.std.specs.Prelude.{◌≡◌, ℕ, ◌+◌, ◌<◌, List, length, min, Option}
+use Rattle.luks_io.specs.Bytes.{Took, TookUpTo, raised}
+use Rattle.luks_runs.specs.Run.{FindsEndOnce}
 use Rattle.luks_report.specs.declared.message.Message.{Message}
-use Rattle.luks_report.specs.declared.message.Message.TheVariants.{KeyFileLength, OutOfMemory, ReadFailed}
+use Rattle.luks_report.specs.declared.message.Message.TheVariants.{Done, KeyFileLength, OutOfMemory, ReadFailed}
 
 -- the longest key file
 abbrev pub longest_key_file : ℕ
@@ -14,3 +15,10 @@ NoSecretRead secret left KeyFileLength = (longest_key_file < length secret) × T
 NoSecretRead secret left OutOfMemory = TookUpTo secret left (min (length secret) (longest_key_file + 1))
 NoSecretRead secret left ReadFailed = TookUpTo secret left (min (length secret) (longest_key_file + 1))
 NoSecretRead secret left _ = ⊥
+
+-- how often reading a key file found its end: once where all of it was read, and not where it was too long or a read
+-- failed; where memory was refused, the end may be that of the last piece
+abbrev pub FindsSecretEnd : Message → ℕ → ℕ → Type 0
+FindsSecretEnd Done before after = after ≡ raised before
+FindsSecretEnd OutOfMemory before after = FindsEndOnce before after
+FindsSecretEnd _ before after = after ≡ before

@@ -1,5 +1,6 @@
 -- What the parts of the stripe commands leave in their devices.
-use Rattle.std.specs.Prelude.{◌≡◌, ℕ, ◌+◌, ◌*◌, ◌/◌, ◌<◌, ◌≤◌, ◌⊎◌, List, length, take, min, Option}
+use Rattle.std.specs.Prelude.{◌≡◌, ℕ, ◌+◌, ◌*◌, ◌/◌, ◌<◌, ◌≤◌, ◌⊎◌, Bool, true, false, List, length, take, min}
+use Rattle.std.specs.Prelude.{Option}
 use Rattle.luks_io.specs.Bytes.{Adds, Took, TookUpTo}
 use Rattle.luks_report.specs.declared.message.Message.{Message}
 use Rattle.luks_report.specs.declared.message.Message.TheVariants.{KeyLength, FewRandomBytes, FewStripes, ReadFailed}
@@ -56,3 +57,9 @@ abbrev pub split_promptly : ℕ → Message → ℕ → ℕ → ℕ → Type 0
 split_promptly len WriteFailed image secret output = secret ≤ (output / len + 1) * len
 split_promptly len ReadFailed image secret output = output ≡ secret / len * len
 split_promptly len _ image secret output = Unit {0}
+
+-- there were too few bytes, and so the end of the stripes or of the random bytes was found
+abbrev pub is_few : Message → Bool
+is_few FewRandomBytes = true
+is_few FewStripes = true
+is_few _ = false

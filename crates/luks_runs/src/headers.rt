@@ -5,7 +5,8 @@ ghost use Rattle.luks_io.specs.Bytes.{Adds, Took, WhereKnown, counted};
 ghost use Rattle.luks_runs.specs.Header.{answer_to_is_luks, is_luks_outcome, print_outcome_by};
 ghost use Rattle.luks_runs.specs.Header.{text_of, told_of};
 ghost use Rattle.luks_runs.specs.Printing.{Prints};
-ghost use Rattle.luks_runs.specs.Run.{Counts, failures_of, Runs, TookNone, at_any_pace};
+ghost use Rattle.luks_runs.specs.Run.{Counts, failures_of, FindsEndOnce, Runs, TookNone};
+ghost use Rattle.luks_runs.specs.Run.{at_any_pace};
 ghost use Rattle.luks_runs.specs.Run.{is_failed_write, message_of};
 ghost use Rattle.luks_runs.specs.MayEnd.{IsLuksMessage, PageMessage};
 ghost use Rattle.luks_runs.specs.Standing.{reading_of};
@@ -29,6 +30,7 @@ pub fn is_luks<S: Source>(alloc: Global, image: &mut S) -> Result<(), Message>
     ensures counts { (secret written : ℕ) → Counts (message_of result)
         (failures_of (S.failures image.old) secret written)
         (failures_of (S.failures image.new) secret written) }
+    ensures ends { FindsEndOnce (S.ends image.old) (S.ends image.new) }
 {
     match read_header(alloc, image) {
         Ok(_) => Ok(()),
@@ -97,6 +99,7 @@ pub fn print<S: Source, O: Sink>(
     ensures counts { (secret : ℕ) → Counts (message_of result)
         (failures_of (S.failures image.old) secret (O.failures out.old))
         (failures_of (S.failures image.new) secret (O.failures out.new)) }
+    ensures ends { FindsEndOnce (S.ends image.old) (S.ends image.new) }
 {
     let (header, _held) = find_header(alloc, standing, image)?;
     print_page(alloc, page, &header, out)

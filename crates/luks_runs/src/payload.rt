@@ -2,7 +2,7 @@
 
 ghost use Rattle.std.specs.Prelude.{◌≡◌, ◌≢◌, ◌<◌, ◌≤◌, ◌⊎◌, ◌^◌, List, [], ℕ, Option, IfErr, true};
 ghost use Rattle.std.specs.Prelude.{length, take};
-ghost use Rattle.luks_runs.specs.Payload.{PassesHeld};
+ghost use Rattle.luks_runs.specs.Payload.{FindsPayloadEnd, PassesHeld};
 ghost use Rattle.luks_runs.specs.MayEnd.{PayloadMessage};
 ghost use Rattle.luks_runs.specs.Run.{is_failed_read, is_failed_write, message_of};
 ghost use Rattle.luks_io.specs.Bytes.{Took, counted};
@@ -54,6 +54,7 @@ pub fn write_payload<I: Source, O: Sink>(
         ≡ counted (is_failed_read (message_of result)) (I.failures image.old) }
     ensures writes { O.failures out.new
         ≡ counted (is_failed_write (message_of result)) (O.failures out.old) }
+    ensures ends { FindsPayloadEnd (message_of result) (I.ends image.old) (I.ends image.new) }
 {
     let mut pump = pump_behind(segment, cipher, held);
     'sectors: for _ in 0..u64::MAX {

@@ -1,11 +1,10 @@
 //! The key file, whose bytes are the passphrase.
 
 ghost use Rattle.std.specs.Prelude.{◌≡◌, ◌+◌, ◌<◌, ◌≤◌, ◌⊎◌, ◌++◌, List, ℕ, IfOk, IfErr, length};
-ghost use Rattle.std.specs.Prelude.{min, take, vec_len};
+ghost use Rattle.std.specs.Prelude.{min, nat_lt, take, vec_len};
 ghost use Rattle.luks_io.specs.Bytes.{Took, TookUpTo, WhereKnown, counted};
 ghost use Rattle.luks_runs.specs.Run.{is_failed_read, message_of};
-ghost use Rattle.luks_runs.specs.Secret.{NoSecretRead};
-ghost use Rattle.luks_runs.specs.Secret.{longest_key_file};
+ghost use Rattle.luks_runs.specs.Secret.{FindsSecretEnd, NoSecretRead, longest_key_file};
 
 use luks_io::source::{Source, fill};
 use luks_report::message::Message;
@@ -29,6 +28,7 @@ pub fn read_secret<S: Source>(alloc: Global, source: &mut S) -> Result<Vec<u8>, 
         ⊎ ((message ≡ Message.OutOfMemory) ⊎ (message ≡ Message.ReadFailed))) }
     ensures reads { S.failures source.new
         ≡ counted (is_failed_read (message_of result)) (S.failures source.old) }
+    ensures ends { FindsSecretEnd (message_of result) (S.ends source.old) (S.ends source.new) }
 {
     let mut buffer = [0; PIECE];
     let mut secret = Vec::new(alloc);
@@ -61,6 +61,10 @@ fn take_piece<S: Source>(
         (λ message. (message ≡ Message.OutOfMemory) ⊎ (message ≡ Message.ReadFailed)) }
     ensures reads { S.failures source.new
         ≡ counted (is_failed_read (message_of result)) (S.failures source.old) }
+    ensures ends { IfOk result (λ got. S.ends source.new
+        ≡ counted (nat_lt got (length piece.old)) (S.ends source.old)) }
+    ensures ends_lost { IfErr result
+        (λ message. FindsSecretEnd message (S.ends source.old) (S.ends source.new)) }
 {
     let got = fill(source, piece)?;
     secret.extend_from_slice(&piece[..got])?;

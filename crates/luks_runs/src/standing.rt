@@ -4,6 +4,7 @@ ghost use Rattle.std.specs.Prelude.{◌≡◌, Ok, IfOk, IfErr, length, take};
 ghost use Rattle.luks_io.specs.Bytes.{Took, WhereKnown, counted};
 ghost use Rattle.luks_area.specs.Area.{is_read};
 ghost use Rattle.luks_header.specs.Header.{BreaksReading, cost_of};
+ghost use Rattle.luks_runs.specs.Run.{FindsEndOnce};
 ghost use Rattle.luks_runs.specs.Standing.{reading_of};
 
 use luks_header::area::HeaderArea;
@@ -36,6 +37,7 @@ pub fn find_header<S: Source>(
     ensures held { IfOk result (λ read. reading_of standing read.1 ≡ Ok read.0) }
     ensures only { IfOk result (λ read. length read.1 ≡ cost_of read.1) }
     ensures reads { S.failures source.new ≡ counted (is_read result) (S.failures source.old) }
+    ensures ends { FindsEndOnce (S.ends source.old) (S.ends source.new) }
 {
     let (header, area) = read_header(alloc, source)?;
     match standing {

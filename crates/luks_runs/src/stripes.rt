@@ -5,11 +5,11 @@ ghost use Rattle.std.specs.Prelude.{Option, length, take};
 ghost use Rattle.luks_stripes.specs.Stripes.{chain_after, merged};
 ghost use Rattle.luks_io.specs.Bytes.{Adds, Took, WhereKnown, counted};
 ghost use Rattle.luks_runs.specs.Run.{Counts, failures_of, Runs, TookNone, at_any_pace};
-ghost use Rattle.luks_runs.specs.Run.{is_failed_read, is_failed_write, message_of};
+ghost use Rattle.luks_runs.specs.Run.{FindsEndOnce, is_failed_read, is_failed_write, message_of};
 ghost use Rattle.luks_runs.specs.MayEnd.{MergeMessage, SplitMessage};
 ghost use Rattle.luks_runs.specs.Stripe.{merge_outcome, split_outcome};
 ghost use Rattle.luks_runs.specs.StripeParts.{NoKeyRead, Passed, StopsAtStripe, StopsInStripe};
-ghost use Rattle.luks_runs.specs.StripeParts.{StopsTaking, split_promptly};
+ghost use Rattle.luks_runs.specs.StripeParts.{StopsTaking, is_few, split_promptly};
 ghost use Rattle.luks_runs.specs.Stripe.{longest_key};
 
 use luks_io::sink::{Sink, put_all};
@@ -37,6 +37,7 @@ fn read_key<S: Source>(source: &mut S, buf: &mut [u8]) -> Result<usize, Message>
         (message ≡ Message.KeyLength) ⊎ (message ≡ Message.ReadFailed)) }
     ensures reads { S.failures source.new
         ≡ counted (is_failed_read (message_of result)) (S.failures source.old) }
+    ensures ends { FindsEndOnce (S.ends source.old) (S.ends source.new) }
 {
     let len = fill(source, buf)?;
     if len == 0 || len > LONGEST_KEY {
@@ -69,6 +70,8 @@ fn pass_stripes<R: Source, O: Sink>(
     ensures memory { IfErr result (λ message. message ≢ Message.OutOfMemory) }
     ensures reads { R.failures random.new
         ≡ counted (is_failed_read (message_of result)) (R.failures random.old) }
+    ensures ends { R.ends random.new
+        ≡ counted (is_few (message_of result)) (R.ends random.old) }
     ensures writes { O.failures out.new
         ≡ counted (is_failed_write (message_of result)) (O.failures out.old) }
 {
@@ -95,6 +98,8 @@ fn pass_stripe<R: Source, O: Sink>(
         (R.to_come random.new) (O.written out.old) (O.written out.new) message)) }
     ensures reads { R.failures random.new
         ≡ counted (is_failed_read (message_of result)) (R.failures random.old) }
+    ensures ends { R.ends random.new
+        ≡ counted (is_few (message_of result)) (R.ends random.old) }
     ensures writes { O.failures out.new
         ≡ counted (is_failed_write (message_of result)) (O.failures out.old) }
     ensures only { SplitMessage (message_of result) }
@@ -128,6 +133,9 @@ pub fn split<K: Source, R: Source, O: Sink>(
     ensures counts { Counts (message_of result)
         (failures_of (K.failures key.old) (R.failures random.old) (O.failures out.old))
         (failures_of (K.failures key.new) (R.failures random.new) (O.failures out.new)) }
+    ensures key_end { FindsEndOnce (K.ends key.old) (K.ends key.new) }
+    ensures random_end { R.ends random.new
+        ≡ counted (is_few (message_of result)) (R.ends random.old) }
 {
     let mut key_buf = [0; LONGEST_KEY + 1];
     let len = read_key(key, &mut key_buf)?;
@@ -151,6 +159,8 @@ fn split_key<R: Source, O: Sink>(
         (Adds (O.written out.old) (O.written out.new))) }
     ensures only { SplitMessage (message_of result) }
     ensures memory { IfErr result (λ message. message ≢ Message.OutOfMemory) }
+    ensures ends { R.ends random.new
+        ≡ counted (is_few (message_of result)) (R.ends random.old) }
     ensures reads { R.failures random.new
         ≡ counted (is_failed_read (message_of result)) (R.failures random.old) }
     ensures writes { O.failures out.new
@@ -189,6 +199,8 @@ fn take_stripes<S: Source>(
         (message ≡ Message.FewStripes) ⊎ (message ≡ Message.ReadFailed)) }
     ensures reads { S.failures stripes.new
         ≡ counted (is_failed_read (message_of result)) (S.failures stripes.old) }
+    ensures ends { S.ends stripes.new
+        ≡ counted (is_few (message_of result)) (S.ends stripes.old) }
 {
     let mut splitter = AfSplitter::new(hash, stripe.len());
     'stripes: for _ in 0..count {
@@ -209,6 +221,8 @@ fn take_stripe<S: Source>(stripe: &mut [u8], stripes: &mut S) -> Result<(), Mess
         (message ≡ Message.FewStripes) ⊎ (message ≡ Message.ReadFailed)) }
     ensures reads { S.failures stripes.new
         ≡ counted (is_failed_read (message_of result)) (S.failures stripes.old) }
+    ensures ends { S.ends stripes.new
+        ≡ counted (is_few (message_of result)) (S.ends stripes.old) }
 {
     if fill(stripes, stripe)? < stripe.len() {
         return Err(Message::FewStripes);
@@ -234,6 +248,8 @@ fn take_key<S: Source>(
         (message ≡ Message.FewStripes) ⊎ (message ≡ Message.ReadFailed)) }
     ensures reads { S.failures stripes.new
         ≡ counted (is_failed_read (message_of result)) (S.failures stripes.old) }
+    ensures ends { S.ends stripes.new
+        ≡ counted (is_few (message_of result)) (S.ends stripes.old) }
 {
     let mut stripe_buf = [0; LONGEST_KEY];
     let stripe = &mut stripe_buf[..key.len()];
@@ -259,6 +275,8 @@ pub fn merge<S: Source, O: Sink>(
     ensures counts { (secret : ℕ) → Counts (message_of result)
         (failures_of (S.failures stripes.old) secret (O.failures out.old))
         (failures_of (S.failures stripes.new) secret (O.failures out.new)) }
+    ensures ends { S.ends stripes.new
+        ≡ counted (is_few (message_of result)) (S.ends stripes.old) }
 {
     let mut key_buf = [0; LONGEST_KEY];
     let key = &mut key_buf[..merging.key_bytes.get()];

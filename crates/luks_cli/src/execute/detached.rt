@@ -6,8 +6,8 @@ ghost use Rattle.luks_report.specs.Report.{report_of};
 ghost use Rattle.luks_request.specs.Request.{is_detached, request_of, secret_of};
 ghost use Rattle.luks_cli.specs.Detached.{CountsDetached, EndsWithoutKey, NeedsNoPayload};
 ghost use Rattle.luks_cli.specs.Detached.{NeedsNoSecretDetached, RunsDetached};
-ghost use Rattle.luks_cli.specs.Run.{ReadsFirst};
-ghost use Rattle.luks_runs.specs.Run.{failures_of, message_of};
+ghost use Rattle.luks_cli.specs.Run.{FindsFirstEnd, ReadsFirst};
+ghost use Rattle.luks_runs.specs.Run.{failures_of, FindsEndOnce, message_of};
 ghost use Rattle.luks_cli.specs.MayEnd.{MayTell};
 
 use super::volumes;
@@ -51,6 +51,10 @@ pub fn execute_detached<H: Source, I: Source, K: Source, O: Sink>(
     ensures counts { CountsDetached result.message (H.failures header.old) (H.failures header.new)
         (failures_of (I.failures image.old) (K.failures secret.old) (O.failures out.old))
         (failures_of (I.failures image.new) (K.failures secret.new) (O.failures out.new)) }
+    ensures header_end { FindsFirstEnd (request_of command.now) (H.ends header.old)
+        (H.ends header.new) }
+    ensures image_end { FindsEndOnce (I.ends image.old) (I.ends image.new) }
+    ensures secret_end { FindsEndOnce (K.ends secret.old) (K.ends secret.new) }
 {
     match perform_detached(alloc, command, header, image, secret, out) {
         Ok(()) => Report::of(Message::Done),
@@ -83,6 +87,10 @@ fn perform_detached<H: Source, I: Source, K: Source, O: Sink>(
         (H.failures header.new)
         (failures_of (I.failures image.old) (K.failures secret.old) (O.failures out.old))
         (failures_of (I.failures image.new) (K.failures secret.new) (O.failures out.new)) }
+    ensures header_end { FindsFirstEnd (request_of command.now) (H.ends header.old)
+        (H.ends header.new) }
+    ensures image_end { FindsEndOnce (I.ends image.old) (I.ends image.new) }
+    ensures secret_end { FindsEndOnce (K.ends secret.old) (K.ends secret.new) }
 {
     let standing = Standing::Detached;
     match command {

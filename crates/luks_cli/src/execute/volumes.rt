@@ -14,7 +14,8 @@ ghost use Rattle.luks_cli.specs.Volume.{volume_outcome, volume_outcome_by};
 ghost use Rattle.luks_cli.specs.VolumeParts.{cat_promptly};
 ghost use Rattle.luks_request.specs.Request.{opening_request};
 ghost use Rattle.luks_cli.specs.Detached.{CountsDetached, EndsWithoutKey};
-ghost use Rattle.luks_runs.specs.Run.{Counts, failures_of, Runs, RunsApart, at_any_pace};
+ghost use Rattle.luks_runs.specs.Run.{Counts, failures_of, FindsEndOnce, FindsEndTwice};
+ghost use Rattle.luks_runs.specs.Run.{Runs, RunsApart, at_any_pace};
 ghost use Rattle.luks_runs.specs.Run.{is_failed_read, is_failed_write, message_of};
 ghost use Rattle.luks_cli.specs.MayEnd.{OpeningMessage};
 ghost use Rattle.luks_runs.specs.MayEnd.{PayloadMessage};
@@ -23,7 +24,7 @@ ghost use Rattle.luks_runs.specs.Standing.{reading_of};
 ghost use Rattle.luks_cli.specs.Unlocking.{OpensVolume, TellsSlot, TriesSlots, Unlocks};
 ghost use Rattle.luks_cli.specs.Unlocking.{opens_promptly};
 ghost use Rattle.luks_cli.specs.Volume.{volume_of};
-ghost use Rattle.luks_runs.specs.Payload.{PassesHeld};
+ghost use Rattle.luks_runs.specs.Payload.{FindsPayloadEnd, PassesHeld};
 ghost use Rattle.luks_cli.specs.VolumeParts.{StopsFinding, TakesHeld, detached_cat_promptly};
 
 use luks_cipher::SectorCipher;
@@ -133,6 +134,7 @@ fn find_volume<I: Source>(
     ensures writes { IfErr result (λ message. message ≢ Message.WriteFailed) }
     ensures reads { I.failures image.new
         ≡ counted (is_failed_read (message_of result)) (I.failures image.old) }
+    ensures end { FindsEndOnce (I.ends image.old) (I.ends image.new) }
 {
     let (header, area) = find_header(alloc, standing, image)?;
     match find_slots(alloc, opening, &header) {
@@ -166,6 +168,8 @@ fn try_slots<I: Source>(
         is_mode_key_length volume.old.segment.mode (length opened.key) ≡ true) }
     ensures reads { I.failures image.new
         ≡ counted (is_failed_read (message_of result)) (I.failures image.old) }
+    ensures image_end { FindsEndOnce (I.ends image.old) (I.ends image.new) }
+    ensures still { IfOk result (λ _. I.ends image.new ≡ I.ends image.old) }
 {
     if !volume.area.extend_to(image, held_end(&volume.order))? {
         return Err(Message::Cut);
@@ -204,6 +208,9 @@ fn open_volume<I: Source, K: Source>(
     ensures counts { (written : ℕ) → Counts (message_of result)
         (failures_of (I.failures image.old) (K.failures secret.old) written)
         (failures_of (I.failures image.new) (K.failures secret.new) written) }
+    ensures image_end { FindsEndOnce (I.ends image.old) (I.ends image.new) }
+    ensures still { IfOk result (λ _. I.ends image.new ≡ I.ends image.old) }
+    ensures secret_end { FindsEndOnce (K.ends secret.old) (K.ends secret.new) }
 {
     let pass = read_secret(alloc, secret)?;
     try_slots(opening, volume, image, &pass)
@@ -246,6 +253,9 @@ fn unlock<I: Source, K: Source>(
     ensures counts { (written : ℕ) → Counts (message_of result)
         (failures_of (I.failures image.old) (K.failures secret.old) written)
         (failures_of (I.failures image.new) (K.failures secret.new) written) }
+    ensures once { IfOk result (λ _. FindsEndOnce (I.ends image.old) (I.ends image.new)) }
+    ensures image_end { FindsEndTwice (I.ends image.old) (I.ends image.new) }
+    ensures secret_end { FindsEndOnce (K.ends secret.old) (K.ends secret.new) }
 {
     let mut volume = find_volume(alloc, standing, opening, image)?;
     let opened = open_volume(alloc, opening, &mut volume, image, secret);
@@ -294,6 +304,8 @@ pub(super) fn test_passphrase<I: Source, K: Source, O: Sink>(
     ensures counts { Counts (message_of result)
         (failures_of (I.failures image.old) (K.failures secret.old) (O.failures out.old))
         (failures_of (I.failures image.new) (K.failures secret.new) (O.failures out.new)) }
+    ensures image_end { FindsEndTwice (I.ends image.old) (I.ends image.new) }
+    ensures secret_end { FindsEndOnce (K.ends secret.old) (K.ends secret.new) }
 {
     let unlocked = unlock(alloc, standing, opening, image, secret)?;
     tell_slot(alloc, &unlocked, out)
@@ -311,6 +323,7 @@ fn write_plain<I: Source, O: Sink>(
     ensures run { PassesHeld unlocked.now.segment
         (unlocked.now.segment.mode, unlocked.now.opened.key) held.now (I.to_come image.old)
         (I.to_come image.new) (O.written out.old) (O.written out.new) (message_of result) }
+    ensures ends { FindsPayloadEnd (message_of result) (I.ends image.old) (I.ends image.new) }
     ensures only { PayloadMessage (message_of result) }
     ensures memory { IfErr result (λ message. message ≢ Message.OutOfMemory) }
     ensures reads { I.failures image.new
@@ -346,6 +359,8 @@ pub(super) fn cat<I: Source, K: Source, O: Sink>(
     ensures counts { Counts (message_of result)
         (failures_of (I.failures image.old) (K.failures secret.old) (O.failures out.old))
         (failures_of (I.failures image.new) (K.failures secret.new) (O.failures out.new)) }
+    ensures image_end { FindsEndTwice (I.ends image.old) (I.ends image.new) }
+    ensures secret_end { FindsEndOnce (K.ends secret.old) (K.ends secret.new) }
 {
     let unlocked = unlock(alloc, Standing::Attached, opening, image, secret)?;
     write_plain(&unlocked, unlocked.area.as_slice(), image, out)
@@ -376,6 +391,9 @@ pub(super) fn cat_detached<H: Source, I: Source, K: Source, O: Sink>(
         (H.failures header.new)
         (failures_of (I.failures image.old) (K.failures secret.old) (O.failures out.old))
         (failures_of (I.failures image.new) (K.failures secret.new) (O.failures out.new)) }
+    ensures header_end { FindsEndTwice (H.ends header.old) (H.ends header.new) }
+    ensures image_end { FindsEndOnce (I.ends image.old) (I.ends image.new) }
+    ensures secret_end { FindsEndOnce (K.ends secret.old) (K.ends secret.new) }
 {
     let unlocked = unlock(alloc, Standing::Detached, opening, header, secret)?;
     write_plain(&unlocked, &[], image, out)

@@ -1,6 +1,7 @@
-use Rattle.std.proofs.Common.{◌+◌, ◌∙◌, ap, refl, arith}
+use Rattle.std.proofs.Common.{◌+◌, ◌∙◌, nat_lt, false, ap, refl, arith}
+use Rattle.luks_volume.specs.Passing.{limit_of}
 use Rattle.std.proofs.lemmas.Result.{err_from_is_err_and}
-use Rattle.luks_runs.proofs.PayloadLemmas.{few_sectors, never_memory, passing_breaks, passing_ends, passing_more}
+use Rattle.luks_runs.proofs.PayloadLemmas.{ends_are, few_sectors, never_memory, passing_breaks, passing_ends, passing_more}
 use Rattle.luks_runs.proofs.PayloadLemmas.{passing_start, reads_are, writes_are}
 use Rattle.luks_report.specs.Faults.{message_for_payload}
 use Rattle.luks_io.specs.Bytes.{counted}
@@ -16,6 +17,7 @@ sectors-init g c =
       count = made.count;
       running = made.running;
       reads = refl;
+      ends = refl;
       writes = refl;
       passing = λ whole few front took.
           passing_start _ whole _ _ _ made.count (rw (← made.segment) at made.early) made.bare made.reach
@@ -32,6 +34,7 @@ sectors-preserved g c =
       count = ap (λ n. n + 1) so_far.count;
       running = refl;
       reads = step.reads so_far.running ∙ so_far.reads;
+      ends = step.ends so_far.running ∙ so_far.ends;
       writes = step.writes so_far.running ∙ so_far.writes;
       passing = λ whole few front took.
           let passing = so_far.passing whole few front took in
@@ -100,3 +103,19 @@ returns-clause-reads g c = c.sectors.invariant.reads
 
 pub returns-clause-writes : goal.returns-clause-writes
 returns-clause-writes g c = c.sectors.invariant.writes
+
+pub returns-in_err-step-clause-ends : goal.returns-in_err-step-clause-ends
+returns-in_err-step-clause-ends g c =
+    let p = err_from_is_err_and c.from_residual.result c.from_residual.ensures.1 in
+    let so_far = c.sectors.invariant in
+    rw (p.1, p.2) (ends_are c.sectors.pump.segment c.sectors.pump.count _ _ _
+    (rw so_far.ends at (c.in_err-step.ensures.ends so_far.running)))
+
+pub returns-in-End-clause-ends : goal.returns-in-End-clause-ends
+returns-in-End-clause-ends g c =
+    let step = rw c.in-End.is at c.in_ok-step.ensures in
+    let so_far = c.sectors.invariant in
+    (nat_lt c.sectors.pump.count (limit_of c.sectors.pump.segment), rw so_far.ends at (step.ends so_far.running))
+
+pub returns-clause-ends : goal.returns-clause-ends
+returns-clause-ends g c = (false, c.sectors.invariant.ends)

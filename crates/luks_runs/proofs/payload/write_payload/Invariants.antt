@@ -12,6 +12,7 @@ invariant-sectors g l = record {
   count : l.pump.count ≡ l.counter;
   running : is_running l.pump.state ≡ true;
   reads : g.I.Source.failures l.image ≡ g.I.Source.failures l.initial.image;
+  ends : g.I.Source.ends l.image ≡ g.I.Source.ends l.initial.image;
   writes : g.O.Sink.failures l.out ≡ g.O.Sink.failures l.initial.out;
   passing : (whole : List ℕ) → length whole < 2 ^ 64 → l.fn.held ≡ take (length l.fn.held) whole
       → Took whole (g.I.Source.to_come l.initial.image) (length l.fn.held)

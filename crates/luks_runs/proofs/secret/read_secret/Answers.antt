@@ -1,4 +1,5 @@
 use Rattle.std.proofs.Common.{◌≡◌, ◌∙◌, ◌+◌, length-take-le, vec_len, arith}
+use Rattle.std.proofs.lemmas.Bool.{le-ltb}
 use Rattle.std.proofs.lemmas.Result.{err_from_is_err_and}
 use Rattle.luks_runs.proofs.SecretLemmas.{piece_last, piece_lost, piece_more}
 use Rattle.luks_runs.specs.Secret.{longest_key_file}
@@ -30,6 +31,7 @@ pieces-preserved g c =
     record {
       within = omega (arith, c.in_ok-take_piece.ensures.size);
       reads = c.in_ok-take_piece.ensures.reads ∙ c.pieces.invariant.reads;
+      ends = rw (sized, le-ltb _ _ c.if-branch-size.false) at c.in_ok-take_piece.ensures.ends ∙ c.pieces.invariant.ends;
       taken = λ known is.
           let so_far = c.pieces.invariant.taken known is in
           rw len (piece_more known _ _ _ so_far.1 _ _ _ so_far.0 (λ rest left. (next rest left).1)

@@ -8,6 +8,7 @@ abbrev pub invariant-pieces : goal.invariant-pieces
 invariant-pieces g l = record {
   within : vec_len l.secret ≤ longest_key_file + 1;
   reads : g.S.Source.failures l.source ≡ g.S.Source.failures l.initial.source;
+  ends : g.S.Source.ends l.source ≡ g.S.Source.ends l.initial.source;
   taken : WhereKnown (g.S.Source.to_come l.initial.source)
       (λ known. (l.secret.items ≡ take (vec_len l.secret) known)
       × Took known (g.S.Source.to_come l.source) (vec_len l.secret));

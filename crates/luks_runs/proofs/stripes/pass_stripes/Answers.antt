@@ -7,6 +7,7 @@ use Rattle.luks_runs.proofs.stripes.pass_stripes.Goals as goal
 pub stripes-init : goal.stripes-init
 stripes-init g c = record {
   reads = refl;
+  ends = refl;
   writes = refl;
   len = c.new-splitter.ensures.len;
   passed = λ bytes is. (chain_start _ _ bytes _ c.new-splitter.ensures.start, passed_none bytes _ _ _ is);
@@ -24,6 +25,7 @@ stripes-preserved g c =
     let next = rw c.pass_stripe.auto.stripe at c.in_ok-pass_stripe.ensures.ok in
     record {
       reads = c.in_ok-pass_stripe.ensures.reads ∙ c.stripes.invariant.reads;
+      ends = c.in_ok-pass_stripe.ensures.ends ∙ c.stripes.invariant.ends;
       writes = c.in_ok-pass_stripe.ensures.writes ∙ c.stripes.invariant.writes;
       len = c.stripe.ensures.len ∙ c.stripes.invariant.len ∙ sym c.pass_stripe.auto.stripe;
       passed = λ bytes is.

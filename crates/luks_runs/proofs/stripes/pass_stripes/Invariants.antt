@@ -8,6 +8,7 @@ use Rattle.luks_runs.proofs.stripes.pass_stripes.Given as goal
 abbrev pub invariant-stripes : goal.invariant-stripes
 invariant-stripes g l = record {
   reads : g.R.Source.failures l.random ≡ g.R.Source.failures l.initial.random;
+  ends : g.R.Source.ends l.random ≡ g.R.Source.ends l.initial.random;
   writes : g.O.Sink.failures l.out ≡ g.O.Sink.failures l.initial.out;
   len : length l.splitter.block ≡ length l.stripe;
   passed : WhereKnown (g.R.Source.to_come l.initial.random)

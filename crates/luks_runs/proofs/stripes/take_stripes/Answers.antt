@@ -8,6 +8,7 @@ use Rattle.luks_runs.proofs.stripes.take_stripes.Goals as goal
 pub stripes-init : goal.stripes-init
 stripes-init g c = record {
   reads = refl;
+  ends = refl;
   len = c.new-splitter.ensures.len;
   taken = λ bytes is. (chain_start _ _ bytes _ c.new-splitter.ensures.start, taken_none bytes _ _ is);
 }
@@ -25,6 +26,7 @@ stripes-preserved g c =
     let next = rw c.take_stripe.auto.stripe at c.in_ok-take_stripe.ensures.ok in
     record {
       reads = c.in_ok-take_stripe.ensures.reads ∙ c.stripes.invariant.reads;
+      ends = c.in_ok-take_stripe.ensures.ends ∙ c.stripes.invariant.ends;
       len = c.stripe.ensures.len ∙ c.stripes.invariant.len ∙ sym c.take_stripe.auto.stripe;
       taken = λ bytes is.
           let taken = c.stripes.invariant.taken bytes is in

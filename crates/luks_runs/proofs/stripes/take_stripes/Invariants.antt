@@ -7,6 +7,7 @@ use Rattle.luks_runs.proofs.stripes.take_stripes.Given as goal
 abbrev pub invariant-stripes : goal.invariant-stripes
 invariant-stripes g l = record {
   reads : g.S.Source.failures l.stripes ≡ g.S.Source.failures l.initial.stripes;
+  ends : g.S.Source.ends l.stripes ≡ g.S.Source.ends l.initial.stripes;
   len : length l.splitter.block ≡ length l.stripe;
   taken : WhereKnown (g.S.Source.to_come l.initial.stripes)
       (λ known. (l.splitter ≡ chain_after l.fn.hash (length l.stripe) known l.counter)

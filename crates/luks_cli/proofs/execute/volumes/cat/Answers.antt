@@ -1,5 +1,7 @@
 use Rattle.luks_runs.specs.Run.{message_of}
 use Rattle.luks_cli.proofs.OpenedRuns.{counts_passed, never_memory, runs_passed}
+use Rattle.luks_runs.proofs.PayloadLemmas.{payload_ends_once}
+use Rattle.luks_runs.proofs.Counting.{ends_then}
 use Rattle.luks_cli.proofs.execute.volumes.cat.Goals as goal
 
 pub returns-clause-run : goal.returns-clause-run
@@ -13,3 +15,8 @@ pub returns-clause-counts : goal.returns-clause-counts
 returns-clause-counts g c =
     counts_passed (message_of c.write_plain.result) _ _ _ _ _ _ _ c.in_ok-unlocked.ensures.counts
     c.write_plain.ensures.reads c.write_plain.ensures.writes
+
+pub returns-clause-image_end : goal.returns-clause-image_end
+returns-clause-image_end g c =
+    ends_then _ _ _ c.in_ok-unlocked.ensures.once
+    (payload_ends_once (message_of c.write_plain.result) _ _ c.write_plain.ensures.ends)

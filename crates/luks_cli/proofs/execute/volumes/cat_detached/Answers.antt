@@ -1,5 +1,5 @@
 use Rattle.std.proofs.lemmas.Result.{err_from_is_err_and}
-use Rattle.std.proofs.Common.{refl}
+use Rattle.std.proofs.Common.{false, refl}
 use Rattle.luks_io.proofs.Taking.{took-none}
 use Rattle.luks_request.specs.Request.{opening_request}
 use Rattle.luks_runs.specs.Run.{message_of}
@@ -7,6 +7,7 @@ use Rattle.luks_cli.specs.Volume.{detached_payload_outcome}
 use Rattle.luks_cli.proofs.DetachedRuns.{counts_passed_apart, counts_apart, runs_passed_apart, runs_unopened_apart}
 use Rattle.luks_cli.proofs.DetachedRuns.{takes_detached_payload, with_key}
 use Rattle.luks_cli.proofs.OpenedRuns.{never_memory}
+use Rattle.luks_runs.proofs.PayloadLemmas.{payload_ends_once}
 use Rattle.luks_cli.proofs.execute.volumes.cat_detached.Goals as goal
 
 pub returns-in_err-unlocked-clause-run : goal.returns-in_err-unlocked-clause-run
@@ -37,3 +38,9 @@ pub returns-clause-counts : goal.returns-clause-counts
 returns-clause-counts g c =
     counts_passed_apart (message_of c.write_plain.result) _ _ _ _ _ _ _ _ c.in_ok-unlocked.ensures.counts
     c.write_plain.ensures.reads c.write_plain.ensures.writes
+
+pub returns-clause-image_end : goal.returns-clause-image_end
+returns-clause-image_end g c = payload_ends_once (message_of c.write_plain.result) _ _ c.write_plain.ensures.ends
+
+pub returns-in_err-unlocked-clause-image_end : goal.returns-in_err-unlocked-clause-image_end
+returns-in_err-unlocked-clause-image_end g c = (false, refl)

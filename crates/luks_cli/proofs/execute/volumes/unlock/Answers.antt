@@ -3,6 +3,7 @@ use Rattle.std.proofs.Common.{[], Some, ap, refl}
 use Rattle.luks_request.specs.Request.{opening_request}
 use Rattle.luks_cli.specs.declared.execute.volumes.Volume.{Volume}
 use Rattle.luks_cli.proofs.VolumeRuns.{runs_without_key, runs_without_volume, unlocks_volume}
+use Rattle.luks_runs.proofs.Counting.{ends_then, ends_twice}
 use Rattle.luks_cli.proofs.execute.volumes.unlock.Goals as goal
 
 pub returns-in_err-volume-clause-err : goal.returns-in_err-volume-clause-err
@@ -35,3 +36,16 @@ returns-clause-ok g c known is pass has =
 pub returns-clause-counts : goal.returns-clause-counts
 returns-clause-counts g c written =
     rw c.in_ok-volume.ensures.reads at (c.in_ok-opened.ensures.counts written)
+
+pub returns-in_err-volume-clause-image_end : goal.returns-in_err-volume-clause-image_end
+returns-in_err-volume-clause-image_end g c = ends_twice _ _ c.in_err-volume.ensures.end
+
+pub returns-in_err-opened-clause-image_end : goal.returns-in_err-opened-clause-image_end
+returns-in_err-opened-clause-image_end g c =
+    ends_then _ _ _ c.in_ok-volume.ensures.end c.in_err-opened.ensures.image_end
+
+pub returns-clause-image_end : goal.returns-clause-image_end
+returns-clause-image_end g c = ends_then _ _ _ c.in_ok-volume.ensures.end c.in_ok-opened.ensures.image_end
+
+pub returns-clause-once : goal.returns-clause-once
+returns-clause-once g c = rw c.in_ok-opened.ensures.still c.in_ok-volume.ensures.end
