@@ -85,18 +85,19 @@ same 'none at all' "$("$program" luksCat --key-file pass volume <&- >&- 2>&-; ec
 
 # what is not needed of a pipe stays in it
 mkfifo pipe
-# taken BYTES WORD..: a run over a named pipe, into which the volume and more are written, takes so many bytes of it
+# taken BYTES WORD..: a run over a named pipe, into which an image and more are written, takes so many bytes of it
+piped=volume
 taken() {
     local count=$1 writer
     shift
     exec 3<>pipe
-    (cat volume; printf 'the rest') >pipe &
+    (cat "$piped"; printf 'the rest') >pipe &
     writer=$!
     run "$@"
-    timeout 60 head -c $(($(stat -c %s volume) + 8 - count)) <&3 >rest
+    timeout 60 head -c $(($(stat -c %s "$piped") + 8 - count)) <&3 >rest
     wait $writer
     exec 3>&-
-    same "$*: the rest of the pipe" "$(sha256sum <rest)" "$( (tail -c +$((count + 1)) volume; printf 'the rest') | sha256sum)"
+    same "$*: the rest of the pipe behind $count bytes" "$(sha256sum <rest)" "$( (tail -c +$((count + 1)) "$piped"; printf 'the rest') | sha256sum)"
 }
 taken $held testPassphrase --key-file pass pipe
 expect 'a named pipe' 0 "$opens" ''
@@ -121,6 +122,45 @@ for command in luksUUID luksDump luksCheck; do
     taken 0 $command --header header pipe
     expect "$command beside a header" 0 "$(hex wanted)" ''
 done
+
+# a payload is read ahead, but not past its end
+gzip -dc "$sample/volume2.img.gz" >dynamic
+truncate -s +200k dynamic
+"$program" luksCat --key-file pass dynamic >whole
+# sized BYTES: the same volume with a payload of a fixed size, of whose two headers the checksums agree
+sized() {
+    python3 - "$1" <<'PYTHON'
+import hashlib, sys
+image = bytearray(open("dynamic", "rb").read())
+size = b'"size":"%s"' % sys.argv[1].encode()
+for place in 0, 16384:
+    header = image[place : place + 16384].replace(b'"size":"dynamic"', size)
+    header += bytes(16384 - len(header))
+    header[448:512] = bytes(64)
+    header[448:480] = hashlib.sha256(header).digest()
+    image[place : place + 16384] = header
+sys.stdout.buffer.write(image)
+PYTHON
+}
+piped=sized
+for sectors in 1 2 3 127 128 129 400; do
+    sized $((sectors * 512)) >sized
+    taken $((1048576 + sectors * 512)) luksCat --key-file pass pipe
+    head -c $((sectors * 512)) whole >wanted
+    expect "a payload of $sectors sectors in a named pipe" 0 "$(hex wanted)" ''
+    taken $((1048576 + sectors * 512)) luksCat --key-file pass --header sized pipe
+    expect "a payload of $sectors sectors in a named pipe beside a header" 0 "$(hex wanted)" ''
+done
+run luksCat --key-file pass <(cat dynamic)
+expect 'a payload without an end from a pipe' 0 "$(hex whole)" ''
+rm in
+ln -s pipe in
+taken $((1048576 + sectors * 512)) luksCat --key-file pass -
+expect 'a payload of a fixed size from standard input' 0 "$(hex wanted)" ''
+rm in
+: >in
+piped=volume
+
 run luksCat --key-file <(cat pass) <(cat volume)
 expect 'pipes of the shell' 0 "$plain" ''
 run luksCat --key-file <(cat pass) --header <(cat header) <(cat volume)
@@ -189,6 +229,13 @@ for file in header volume pass; do
     traced read "$work/$file" error=EIO:when=1 luksCat --key-file pass --header header volume
     expect "a read of $file beside a header that fails" 6 '' "$read_failed"
 done
+# so many sectors come in fewer calls than there are, though a pipe may give as little as a page
+cat sized >pipe &
+strace -qq -o trace -P "$work/pipe" -e trace=read "$program" luksCat --key-file pass pipe >out 2>err
+echo $? >status
+wait $!
+expect 'a pipe that is traced' 0 "$(hex wanted)" ''
+same "fewer reads than $sectors" "$([ "$(grep -c '^read' trace)" -lt "$sectors" ] && echo fewer)" fewer
 for call in $(seq 2 40); do
     traced read "$work/volume" "error=EIO:when=$call" luksCat --key-file pass volume
     grep -q INJECTED trace || break

@@ -38,9 +38,9 @@ mod volumes;
 /// Of an honestly sealed volume `luksCat` writes the plain text that went into it, where the
 /// passphrase is that of a key slot which is tried.
 ///
-/// `luksCat` writes each sector as it comes: where a write fails, nothing of the image past the
-/// current sector was taken, and where a read fails, all whole sectors that were taken are written.
-/// Its image is shorter than 2^64 bytes.
+/// `luksCat` announces how much of the image it will ask for, and writes each sector as it comes:
+/// where a write fails, nothing past the current sector was asked for, and where a read fails, all
+/// whole sectors that were taken are written. Its image is shorter than 2^64 bytes.
 pub fn execute<I: Source, K: Source, O: Sink>(
     alloc: Global,
     command: &Command<'_>,

@@ -1,5 +1,6 @@
 //! Whole runs over memory: worked examples, and devices that fail.
 
+mod ahead;
 mod argon;
 mod cuts2;
 mod detached;

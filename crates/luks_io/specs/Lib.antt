@@ -1,3 +1,4 @@
+pub mod Ahead
 pub mod Answers
 pub mod Bytes
 pub mod Memory

@@ -10,6 +10,7 @@ ghost use Rattle.std.specs.Prelude.{◌≡◌};
 ghost use Rattle.luks_io.specs.Bytes.{raised};
 
 pub mod adapters;
+pub mod ahead;
 pub mod memory;
 pub mod sink;
 pub mod source;

@@ -28,6 +28,15 @@ pub trait Source {
         ensures bytes { ReadConsumes (to_come self.old) (to_come self.new) result buf.new }
         ensures counts { failures self.new ≡ counted (is_err result) (failures self.old) }
         ensures ends { ends self.new ≡ counted (is_end result (length buf.new)) (ends self.old) };
+
+    /// Announces that the next `count` bytes will be asked for, unless the source ends or a call of
+    /// some device fails before. A source may take them ahead; what it gives is the same. A later
+    /// announcement takes the place of an earlier one.
+    fn announce(&mut self, _count: u64)
+        ensures bytes { to_come self.new ≡ to_come self.old }
+        ensures failures { failures self.new ≡ failures self.old }
+        ensures ends { ends self.new ≡ ends self.old }
+    {}
 }
 
 /// Counts a read that found the end: it gave nothing to a buffer with room. For a source's own

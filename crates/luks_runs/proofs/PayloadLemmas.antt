@@ -1,7 +1,8 @@
 -- Passing on a payload sector by sector.
 use Rattle.std.proofs.Common.{◌≡◌, ◌≢◌, ℕ, zero, suc, ◌+◌, ◌-◌, ◌*◌, ◌/◌, ◌%◌, ◌^◌, ◌<◌, ◌≤◌, ◌⊎◌, inl, inr, List, []}
 use Rattle.std.proofs.Common.{◌++◌, Option, None, Some, Result, Ok, Err, ◌∙◌, ap, sym, refl, take, drop, length}
-use Rattle.std.proofs.Common.{take_all, length-take-le, length-drop, length-append, append-nil, add-one, max, arith, true, false}
+use Rattle.std.proofs.Common.{take_all, length-take-le, length-drop, length-append, append-nil, add-one, max, arith}
+use Rattle.std.proofs.Common.{true, false}
 use Rattle.std.proofs.lemmas.Bool.{cases_lt}
 use Rattle.std.proofs.lemmas.List.{drop-drop, drop-take, drop_all, take-append-le}
 use Rattle.std.proofs.Math.Nat.{div-eq_of_lt-le, div-mul-le_self, mul-le-mul_left, mul-le-mul_right}

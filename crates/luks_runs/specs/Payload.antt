@@ -1,13 +1,19 @@
 -- What passing on a payload leaves in its devices.
 use Rattle.std.specs.Prelude.{◌≡◌, ℕ, ◌+◌, ◌-◌, ◌*◌, ◌/◌, ◌^◌, ◌<◌, ◌≤◌, List, length, max, take, Option}
 use Rattle.luks_cipher.specs.Sector.{Cipher}
-use Rattle.luks_io.specs.Bytes.{Adds, Took, raised}
+use Rattle.luks_io.specs.Bytes.{Adds, Took, greatest_count, raised}
 use Rattle.luks_verdict.specs.declared.segment.Segment.{Segment}
-use Rattle.luks_volume.specs.Plain.{ending_of, payload_end_of, plain_of, sector_len, sector_start, sectors_of}
+use Rattle.luks_volume.specs.Plain.{end_within, ending_of, payload_end_of, plain_of, sector_len, sector_start}
+use Rattle.luks_volume.specs.Plain.{sectors_of}
 use Rattle.luks_report.specs.Faults.{message_at_end}
 use Rattle.luks_report.specs.declared.message.Message.{Message}
 use Rattle.luks_report.specs.declared.message.Message.TheVariants.{Done, ReadFailed, WriteFailed}
 use Rattle.luks_runs.specs.Run.{FindsEndOnce}
+
+-- how many bytes of an image, however long it is, are asked for at most to pass on a payload of this size from this
+-- offset on, where so many of the first ones are held: those behind them, up to the payload's end
+abbrev pub most_needed : Option ℕ → ℕ → ℕ → ℕ
+most_needed size offset held = end_within size offset greatest_count - held
 
 -- passing on the payload of an image, of which so many bytes were taken before, ended with this message: all of it was
 -- written and taken, or it was broken off within a sector

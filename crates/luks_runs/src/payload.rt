@@ -2,7 +2,7 @@
 
 ghost use Rattle.std.specs.Prelude.{◌≡◌, ◌≢◌, ◌<◌, ◌≤◌, ◌⊎◌, ◌^◌, List, [], ℕ, Option, IfErr, true};
 ghost use Rattle.std.specs.Prelude.{length, take};
-ghost use Rattle.luks_runs.specs.Payload.{FindsPayloadEnd, PassesHeld};
+ghost use Rattle.luks_runs.specs.Payload.{FindsPayloadEnd, PassesHeld, most_needed};
 ghost use Rattle.luks_runs.specs.MayEnd.{PayloadMessage};
 ghost use Rattle.luks_runs.specs.Run.{is_failed_read, is_failed_write, message_of};
 ghost use Rattle.luks_io.specs.Bytes.{Took, counted};
@@ -37,6 +37,18 @@ fn pump_behind<'a>(segment: Segment, cipher: SectorCipher, held: &'a [u8]) -> Pu
     Pump::with_front(segment, cipher, &held[segment.offset as usize..])
 }
 
+/// How many bytes of an image, however long it is, are asked for at most to pass its payload on,
+/// where so many of its first ones are held: those behind them, up to the payload's end.
+fn bytes_needed(segment: &Segment, held: usize) -> u64
+    ensures { result ≡ most_needed segment.now.size segment.now.offset held }
+{
+    let end = match segment.size {
+        Some(size) => segment.offset.saturating_add(size),
+        None => u64::MAX,
+    };
+    end.saturating_sub(held as u64)
+}
+
 /// Writes the payload of an image, whose first bytes are held, as plain text: each sector as it
 /// comes.
 pub fn write_payload<I: Source, O: Sink>(
@@ -56,6 +68,7 @@ pub fn write_payload<I: Source, O: Sink>(
         ≡ counted (is_failed_write (message_of result)) (O.failures out.old) }
     ensures ends { FindsPayloadEnd (message_of result) (I.ends image.old) (I.ends image.new) }
 {
+    image.announce(bytes_needed(&segment, held.len()));
     let mut pump = pump_behind(segment, cipher, held);
     'sectors: for _ in 0..u64::MAX {
         match pump.step(image, out)? {

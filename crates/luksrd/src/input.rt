@@ -5,8 +5,9 @@ use std::fs::{self, File, Metadata};
 use std::io::{self, BufReader, ErrorKind, Read, Stdin};
 use std::os::unix::fs::{FileTypeExt, MetadataExt};
 
-/// An input that is open. A regular file is read ahead; a pipe, a device and standard input are
-/// not, so that what a run leaves of them stays for the program that reads on.
+/// An input that is open. A regular file is read ahead. Of a pipe, a device and standard input only
+/// what is asked for is taken, so that what a run leaves of them stays for the program that reads
+/// on.
 #[derive(Drop)]
 pub enum Input {
     File(BufReader<File>),

@@ -11,13 +11,14 @@ use input::{Input, OpenFault};
 use luks_cli::execute::{execute, execute_detached};
 use luks_cli::{Command, Message, NOT_OPENED, Report, not_opened_page, plan};
 use luks_io::adapters::{ReadSource, WriteSink};
+use luks_io::ahead::AheadSource;
 use luks_io::sink::put_all;
 use output::{Patient, stand_in};
 use std::env;
 use std::io::{BufWriter, ErrorKind, Write};
 use std::process::ExitCode;
 
-/// How many bytes of a file are read, and of the output written, at once.
+/// How many bytes of a file or a payload are read, and of the output written, at most at once.
 const BUFFER: usize = 65536;
 
 fn main(rt: HostRuntime) -> ExitCode {
@@ -41,7 +42,10 @@ fn main(rt: HostRuntime) -> ExitCode {
 /// Opens the inputs, the image first and the file with its header next, and runs the command over
 /// them. Where one does not open, the status that tells so is the error.
 fn run(rt: &HostRuntime, command: &Command<'_>) -> Result<ExitCode, ExitCode> {
-    let mut image = ReadSource::new(open(rt, Some(command.image()))?);
+    let image = ReadSource::new(open(rt, Some(command.image()))?);
+    let Ok(mut image) = AheadSource::new(rt.alloc(), BUFFER, image) else {
+        return Err(tell(rt, Message::OutOfMemory));
+    };
     let mut header = ReadSource::new(open(rt, command.header())?);
     let mut secret = ReadSource::new(open(rt, command.secret())?);
     let Ok(writer) = BufWriter::with_capacity(rt.alloc(), BUFFER, Patient::new(rt.stdout())) else {

@@ -1,8 +1,8 @@
 use Rattle.std.proofs.Common.{◌+◌, ◌∙◌, nat_lt, false, ap, refl, arith}
 use Rattle.luks_volume.specs.Passing.{limit_of}
 use Rattle.std.proofs.lemmas.Result.{err_from_is_err_and}
-use Rattle.luks_runs.proofs.PayloadLemmas.{ends_are, few_sectors, never_memory, passing_breaks, passing_ends, passing_more}
-use Rattle.luks_runs.proofs.PayloadLemmas.{passing_start, reads_are, writes_are}
+use Rattle.luks_runs.proofs.PayloadLemmas.{ends_are, few_sectors, never_memory, passing_breaks, passing_ends}
+use Rattle.luks_runs.proofs.PayloadLemmas.{passing_more, passing_start, reads_are, writes_are}
 use Rattle.luks_report.specs.Faults.{message_for_payload}
 use Rattle.luks_io.specs.Bytes.{counted}
 use Rattle.luks_runs.specs.Run.{is_failed_read, is_failed_write}
@@ -46,7 +46,7 @@ returns-in_err-step-clause-run g c =
     let p = err_from_is_err_and c.from_residual.result c.from_residual.ensures.1 in
     let so_far = c.sectors.invariant in
     let step = c.in_err-step.ensures in
-    rw (p.1, p.2, ← so_far.segment, ← so_far.cipher) (λ whole few front took.
+    rw (p.1, p.2, ← so_far.segment, ← so_far.cipher, ← c.announce.ensures.bytes) (λ whole few front took.
     let passing = so_far.passing whole few front took in
     passing_breaks _ whole _ _ _ _ _ _ passing _ _ (λ same. ap g.O.Sink.written same) step.writes_sectors
     (step.run whole few passing.stands))
@@ -56,7 +56,8 @@ returns-in_err-step-clause-reads g c =
     let p = err_from_is_err_and c.from_residual.result c.from_residual.ensures.1 in
     let so_far = c.sectors.invariant in
     let fault = c.in_err-step.field-0.0 in
-    rw (p.1, p.2) (c.in_err-step.ensures.reads so_far.running ∙ reads_are fault (g.I.Source.failures c.sectors.image)
+    rw (p.1, p.2, ← c.announce.ensures.failures) (c.in_err-step.ensures.reads so_far.running
+    ∙ reads_are fault (g.I.Source.failures c.sectors.image)
     ∙ ap (counted (is_failed_read (message_for_payload fault))) so_far.reads)
 
 pub returns-in_err-step-clause-writes : goal.returns-in_err-step-clause-writes
@@ -76,7 +77,7 @@ pub returns-in-End-clause-run : goal.returns-in-End-clause-run
 returns-in-End-clause-run g c =
     let so_far = c.sectors.invariant in
     let step = rw c.in-End.is at c.in_ok-step.ensures in
-    rw (← so_far.segment, ← so_far.cipher) (λ whole few front took.
+    rw (← so_far.segment, ← so_far.cipher, ← c.announce.ensures.bytes) (λ whole few front took.
     let passing = so_far.passing whole few front took in
     passing_ends _ whole _ _ _ _ _ _ passing (step.run whole few passing.stands)
     (ap g.O.Sink.written step.writes_sectors))
@@ -84,14 +85,14 @@ returns-in-End-clause-run g c =
 pub returns-clause-run : goal.returns-clause-run
 returns-clause-run g c whole few front took =
     let so_far = c.sectors.invariant in
-    let passing = so_far.passing whole few front took in
+    let passing = so_far.passing whole few front (rw (← c.announce.ensures.bytes) at took) in
     let all = few_sectors c.sectors.pump.segment whole few in
     absurd (omega (arith, passing.few, so_far.count))
 
 pub returns-in-End-clause-reads : goal.returns-in-End-clause-reads
 returns-in-End-clause-reads g c =
     let step = rw c.in-End.is at c.in_ok-step.ensures in
-    step.reads c.sectors.invariant.running ∙ c.sectors.invariant.reads
+    step.reads c.sectors.invariant.running ∙ c.sectors.invariant.reads ∙ c.announce.ensures.failures
 
 pub returns-in-End-clause-writes : goal.returns-in-End-clause-writes
 returns-in-End-clause-writes g c =
@@ -99,7 +100,7 @@ returns-in-End-clause-writes g c =
     step.writes c.sectors.invariant.running ∙ c.sectors.invariant.writes
 
 pub returns-clause-reads : goal.returns-clause-reads
-returns-clause-reads g c = c.sectors.invariant.reads
+returns-clause-reads g c = c.sectors.invariant.reads ∙ c.announce.ensures.failures
 
 pub returns-clause-writes : goal.returns-clause-writes
 returns-clause-writes g c = c.sectors.invariant.writes
@@ -108,14 +109,15 @@ pub returns-in_err-step-clause-ends : goal.returns-in_err-step-clause-ends
 returns-in_err-step-clause-ends g c =
     let p = err_from_is_err_and c.from_residual.result c.from_residual.ensures.1 in
     let so_far = c.sectors.invariant in
-    rw (p.1, p.2) (ends_are c.sectors.pump.segment c.sectors.pump.count _ _ _
+    rw (p.1, p.2, ← c.announce.ensures.ends) (ends_are c.sectors.pump.segment c.sectors.pump.count _ _ _
     (rw so_far.ends at (c.in_err-step.ensures.ends so_far.running)))
 
 pub returns-in-End-clause-ends : goal.returns-in-End-clause-ends
 returns-in-End-clause-ends g c =
     let step = rw c.in-End.is at c.in_ok-step.ensures in
     let so_far = c.sectors.invariant in
+    rw (← c.announce.ensures.ends)
     (nat_lt c.sectors.pump.count (limit_of c.sectors.pump.segment), rw so_far.ends at (step.ends so_far.running))
 
 pub returns-clause-ends : goal.returns-clause-ends
-returns-clause-ends g c = (false, c.sectors.invariant.ends)
+returns-clause-ends g c = (false, c.sectors.invariant.ends ∙ c.announce.ensures.ends)

@@ -1,0 +1,204 @@
+//! A source that takes many bytes at once, but none that is not asked for or announced.
+
+ghost use Rattle.std.specs.Prelude.{◌≡◌, ◌≢◌, ◌+◌, ◌-◌, ◌<◌, ◌≤◌, ◌++◌, ◌⊎◌, [], IfOk};
+ghost use Rattle.std.specs.Prelude.{IsErr, MatchResult, is_err, length, min, take};
+ghost use Rattle.std.specs.Io.{ReadsAtMost};
+ghost use Rattle.std.specs.Io.KnownBytes.{Consumes, IsAtEnd, Keeps, ReadConsumes, prepend_known};
+ghost use Rattle.luks_io.specs.Ahead.{most_taken};
+ghost use Rattle.luks_io.specs.Bytes.{TookUpTo, WhereKnown, counted, is_end};
+
+use crate::DeviceFault;
+use crate::source::Source;
+use std::alloc::{AllocError, Global};
+use std::marker::Model;
+
+/// A source over another one, each call of which is dear: as long as bytes are announced, it takes
+/// as many of these at once as its buffer has room for, and hands them on. It takes no others
+/// before they are asked for, so what is not needed stays where it is.
+///
+/// A clause sees the source below, which of its bytes were taken and not yet handed on, how many
+/// behind these are announced, and the buffer's room.
+#[derive(Drop)]
+pub struct AheadSource<S> {
+    source: S,
+    buffer: Vec<u8>,
+    start: usize,
+    end: usize,
+    announced: u64,
+}
+
+impl<S> Model for AheadSource<S> {
+    ghost use Rattle.std.specs.Prelude.{◌≤◌, slice_range, vec_len};
+    ghost use Rattle.luks_io.specs.Ahead.{Ahead};
+
+    ghost Value = { Ahead S };
+
+    ghost view = { λ a.
+        record {
+          source = a.source;
+          held = slice_range a.buffer.items a.start a.end;
+          announced = a.announced;
+          room = vec_len a.buffer;
+        } };
+
+    ghost invariant = { λ a. (a.start ≤ a.end) × (a.end ≤ vec_len a.buffer) };
+}
+
+/// Reads at most `count` bytes into the front of a buffer.
+fn read_front<S: Source>(
+    source: &mut S,
+    buffer: &mut [u8],
+    count: usize,
+) -> Result<usize, DeviceFault>
+    requires { count ≤ length buffer.old }
+    ensures len { length buffer.new ≡ length buffer.old }
+    ensures bound { IfOk result (λ n. n ≤ count) }
+    ensures bytes { MatchResult result
+        (λ n. Consumes (S.to_come source.old) (S.to_come source.new) (take n buffer.new)
+        × (n ≡ 0 → 0 < count → IsAtEnd (S.to_come source.new)))
+        (λ _. Keeps (S.to_come source.old) (S.to_come source.new)) }
+    ensures counts { S.failures source.new ≡ counted (is_err result) (S.failures source.old) }
+    ensures ends { S.ends source.new ≡ counted (is_end result count) (S.ends source.old) }
+{
+    source.read(&mut buffer[..count])
+}
+
+impl<S: Source + Drop> AheadSource<S> {
+    /// A source over this one, which takes at most `room` bytes ahead. The memory for them is taken
+    /// here.
+    pub fn new(alloc: Global, room: usize, source: S) -> Result<AheadSource<S>, AllocError>
+        ensures { IfOk result (λ a.
+            a ≡ record { source = source; held = []; announced = 0; room = room }) }
+    {
+        let buffer = vec![in alloc; 0; room]?;
+        Ok(AheadSource {
+            source,
+            buffer,
+            start: 0,
+            end: 0,
+            announced: 0,
+        })
+    }
+}
+
+impl<S: Source> AheadSource<S> {
+    /// The source below.
+    pub fn get_ref(&self) -> &S
+        ensures { result.now ≡ self.now.source }
+    {
+        &self.source
+    }
+
+    /// Reads what is asked for, past the buffer.
+    fn pass(&mut self, buf: &mut [u8]) -> Result<usize, DeviceFault>
+        ensures bound { ReadsAtMost result buf.new }
+        ensures bytes { ReadConsumes (S.to_come self.old.source) (S.to_come self.new.source)
+            result buf.new }
+        ensures counts { S.failures self.new.source
+            ≡ counted (is_err result) (S.failures self.old.source) }
+        ensures ends { S.ends self.new.source
+            ≡ counted (is_end result (length buf.new)) (S.ends self.old.source) }
+        ensures held { self.new.held ≡ self.old.held }
+        ensures announced { IfOk result (λ n. self.new.announced ≡ self.old.announced - n) }
+        ensures kept { IsErr result → self.new.announced ≡ self.old.announced }
+        ensures room { self.new.room ≡ self.old.room }
+    {
+        let count = self.source.read(buf)?;
+        self.announced = self.announced.saturating_sub(count as u64);
+        Ok(count)
+    }
+
+    /// Reads so many bytes into the buffer, which holds nothing, and answers how many came.
+    fn refill(&mut self, count: usize) -> Result<usize, DeviceFault>
+        requires room { count ≤ self.old.room }
+        requires empty { self.old.held ≡ [] }
+        ensures bound { IfOk result (λ n. n ≤ count) }
+        ensures held { IfOk result (λ n. length self.new.held ≡ n) }
+        ensures bytes { MatchResult result
+            (λ n. Consumes (S.to_come self.old.source) (S.to_come self.new.source) self.new.held
+            × (n ≡ 0 → 0 < count → IsAtEnd (S.to_come self.new.source)))
+            (λ _. Keeps (S.to_come self.old.source) (S.to_come self.new.source)) }
+        ensures counts { S.failures self.new.source
+            ≡ counted (is_err result) (S.failures self.old.source) }
+        ensures ends { S.ends self.new.source
+            ≡ counted (is_end result count) (S.ends self.old.source) }
+        ensures announced { IfOk result (λ n. self.new.announced ≡ self.old.announced - n) }
+        ensures kept { IsErr result → (self.new.held ≡ self.old.held)
+            × (self.new.announced ≡ self.old.announced) }
+        ensures room { self.new.room ≡ self.old.room }
+    {
+        self.start = 0;
+        self.end = 0;
+        let got = read_front(&mut self.source, &mut self.buffer, count)?;
+        self.end = got;
+        self.announced = self.announced.saturating_sub(got as u64);
+        Ok(got)
+    }
+
+    /// Hands on as many of the bytes that are held as there is room for, and answers how many.
+    fn hand_on(&mut self, buf: &mut [u8]) -> usize
+        ensures count { result ≡ min (length buf.old) (length self.old.held) }
+        ensures len { length buf.new ≡ length buf.old }
+        ensures bytes { self.old.held ≡ take result buf.new ++ self.new.held }
+        ensures source { self.new.source ≡ self.old.source }
+        ensures announced { self.new.announced ≡ self.old.announced }
+        ensures room { self.new.room ≡ self.old.room }
+    {
+        let (start, end) = (self.start, self.end);
+        let count = buf.len().min(end - start);
+        buf[..count].copy_from_slice(&self.buffer[start..start + count]);
+        self.start = start + count;
+        count
+    }
+}
+
+impl<S: Source> Source for AheadSource<S> {
+    ghost use Rattle.std.specs.Io.KnownBytes.{prepend_known};
+
+    ghost to_come = { λ a. prepend_known a.held (S.to_come a.source) };
+
+    ghost failures = { λ a. S.failures a.source };
+
+    ghost ends = { λ a. S.ends a.source };
+
+    /// Hands on what is held. Where nothing is, the source below is asked once: for as many bytes
+    /// as are announced and fit into this one's buffer, or as this call asks for, where that is
+    /// not less.
+    fn read(&mut self, buf: &mut [u8]) -> Result<usize, DeviceFault>
+        ensures bound { ReadsAtMost result buf.new }
+        ensures bytes { ReadConsumes (prepend_known self.old.held (S.to_come self.old.source))
+            (prepend_known self.new.held (S.to_come self.new.source)) result buf.new }
+        ensures counts { S.failures self.new.source
+            ≡ counted (is_err result) (S.failures self.old.source) }
+        ensures ends { S.ends self.new.source
+            ≡ counted (is_end result (length buf.new)) (S.ends self.old.source) }
+        ensures alone { (self.old.held ≢ []) ⊎ (length buf.old ≡ 0)
+            → self.new.source ≡ self.old.source }
+        ensures within { WhereKnown (S.to_come self.old.source)
+            (λ known. TookUpTo known (S.to_come self.new.source)
+            (most_taken (length buf.old) self.old.announced self.old.room)) }
+        ensures most { IfOk result (λ n. n + length self.new.held ≤ length self.old.held
+            + most_taken (length buf.old) self.old.announced self.old.room) }
+        ensures announced { IfOk result (λ n. self.new.announced
+            ≡ self.old.announced - (n + length self.new.held - length self.old.held)) }
+        ensures kept { IsErr result → (self.new.held ≡ self.old.held)
+            × (self.new.announced ≡ self.old.announced) }
+        ensures room { self.new.room ≡ self.old.room }
+    {
+        if self.start == self.end && !buf.is_empty() {
+            let ahead = self.announced.min(self.buffer.len() as u64) as usize;
+            if ahead <= buf.len() {
+                return self.pass(buf);
+            }
+            self.refill(ahead)?;
+        }
+        Ok(self.hand_on(buf))
+    }
+
+    /// Announces that the next `count` bytes will be asked for, those among them that are held.
+    fn announce(&mut self, count: u64)
+        ensures { self.new ≡ record self.old { announced = count - length self.old.held } }
+    {
+        self.announced = count.saturating_sub((self.end - self.start) as u64);
+    }
+}
