@@ -1,11 +1,13 @@
 -- What is handed on of the bytes that are held, and what is taken of a source at most.
 use Rattle.std.proofs.Common.{◌≡◌, ℕ, ◌+◌, ◌-◌, ◌≤◌, List, ◌++◌, Option, Some, None, Result, Ok, Err, ap, sym, ◌∙◌}
-use Rattle.std.proofs.Common.{arith, drop, length, take}
+use Rattle.std.proofs.Common.{arith, drop, length, take, length-take, length-drop, ◌<◌, OnOk, IfErr, append_assoc}
 use Rattle.std.proofs.lemmas.List.{drop-drop}
-use Rattle.std.proofs.Math.Seq.{take-add, take-append_seam}
+use Rattle.std.proofs.Math.Seq.{drop-append_seam, take-add, take-append_seam}
 use Rattle.std.specs.Io.{ReadsAtMost}
-use Rattle.std.specs.Io.KnownBytes.{Keeps, ReadConsumes}
-use Rattle.luks_io.specs.Bytes.{TookUpTo, WhereKnown}
+use Rattle.std.specs.Io.KnownBytes.{Consumes, Keeps, ReadConsumes, prepend_known}
+use Rattle.luks_io.specs.Bytes.{Adds, TookUpTo, WhereKnown}
+use Rattle.luks_io.specs.Passing.{PassesOn}
+use Rattle.luks_io.specs.declared.sink.WriteFault.{WriteFault}
 use Rattle.luks_io.proofs.Moves.{took-front}
 use Rattle.luks_io.proofs.Taking.{took-none}
 
@@ -35,3 +37,75 @@ takes_at_most a b (Ok n) buf most fits bound took known is =
     (n, omega (arith, bound.0), (took-front a b buf n bound.0 took.0 known is).0)
 takes_at_most a b (Err e) buf most fits bound kept known is =
     (0, omega arith, took-none known b (kept_known a b kept known is))
+
+-- the first bytes that are held are the next ones
+consumes_first : (piece rest : List ℕ) (behind : Option (List ℕ))
+    → Consumes (prepend_known (piece ++ rest) behind) (prepend_known rest behind) piece
+consumes_first piece rest None = tt
+consumes_first piece rest (Some more) = append_assoc piece rest more
+
+-- what is held is the piece that is passed on, and what stays
+piece_first : (items after : List ℕ) (start end count : ℕ) → count ≤ end - start
+    → drop (start + count) after ≡ drop (start + count) items
+    → take (end - start) (drop start items)
+    ≡ take count (drop start items) ++ take (end - (start + count)) (drop (start + count) after)
+piece_first items after start end count few behind =
+    let all : end - start ≡ count + (end - (start + count)) = omega arith in
+    ap (λ n. take n (drop start items)) all ∙ take-add count (end - (start + count)) (drop start items)
+    ∙ ap (λ l. take count (drop start items) ++ take (end - (start + count)) l)
+    (drop-drop count start items ∙ sym behind)
+
+-- a piece that was taken and changed is written, or the write is broken off
+passes : (piece : List ℕ) (count : ℕ) (left left' before after : Option (List ℕ)) (changed : List ℕ → List ℕ)
+    (answer : Result (Unit {0}) WriteFault) (untouched : Type 0) → length piece ≡ count → Consumes left left' piece
+    → OnOk answer (Adds before after (changed piece))
+    → IfErr answer (λ fault. (fault.written < count) × Adds before after (take fault.written (changed piece)))
+    → PassesOn (Some answer) untouched count changed left left' before after
+passes piece count left left' before after changed (Ok done) untouched sized taken ok err = (piece, sized, taken, ok)
+passes piece count left left' before after changed (Err fault) untouched sized taken ok err =
+    (err.0, (piece, sized, taken, err.1))
+
+-- the buffer after its piece was changed is all of the bytes that a vector shows
+all_of : (items buf : List ℕ) (len : ℕ) → length buf ≡ len → take len (buf ++ drop (length buf) items) ≡ buf
+all_of items buf len long =
+    ap (λ n. take n (buf ++ drop (length buf) items)) (sym long) ∙ take-append_seam buf (drop (length buf) items)
+
+piece_length : (items : List ℕ) (len start end count : ℕ) → count ≤ end - start → end ≤ len → length items ≡ len
+    → length (take count (drop start items)) ≡ count
+piece_length items len start end count few inside long =
+    omega (arith, length-take count (drop start items), length-drop start items)
+
+-- what is behind a piece that was passed on stays held
+pub stays_held : (items buf : List ℕ) (len start end count : ℕ) → count ≤ end - start → end ≤ len → length items ≡ len
+    → length buf ≡ len → drop (start + count) buf ≡ drop (start + count) items
+    → take (end - (start + count)) (drop (start + count) (take len (buf ++ drop (length buf) items)))
+    ≡ drop count (take (end - start) (drop start items))
+stays_held items buf len start end count few inside long long' behind =
+    let piece = take count (drop start items) in
+    let rest = take (end - (start + count)) (drop (start + count) buf) in
+    let held = piece_first items buf start end count few behind in
+    let skipped : drop count (piece ++ rest) ≡ rest =
+    ap (λ n. drop n (piece ++ rest)) (sym (piece_length items len start end count few inside long))
+    ∙ drop-append_seam piece rest in
+    ap (λ l. take (end - (start + count)) (drop (start + count) l)) (all_of items buf len long')
+    ∙ sym (ap (λ l. drop count l) held ∙ skipped)
+
+-- a piece of a buffer was passed on: what is behind it stays held
+pub passes_on : (items buf : List ℕ) (len start end count : ℕ) (below before after : Option (List ℕ))
+    (changed : List ℕ → List ℕ) (answer : Result (Unit {0}) WriteFault) (untouched : Type 0)
+    → count ≤ end - start → end ≤ len → length items ≡ len → length buf ≡ len
+    → drop (start + count) buf ≡ drop (start + count) items
+    → OnOk answer (Adds before after (changed (take count (drop start items))))
+    → IfErr answer (λ fault. (fault.written < count)
+    × Adds before after (take fault.written (changed (take count (drop start items)))))
+    → PassesOn (Some answer) untouched count changed (prepend_known (take (end - start) (drop start items)) below)
+    (prepend_known (take (end - (start + count)) (drop (start + count) (take len (buf ++ drop (length buf) items)))) below)
+    before after
+passes_on items buf len start end count below before after changed answer untouched few inside long long' behind ok err =
+    let whole = all_of items buf len long' in
+    let piece = take count (drop start items) in
+    let sized = piece_length items len start end count few inside long in
+    let rest = take (end - (start + count)) (drop (start + count) buf) in
+    let taken : Consumes (prepend_known (take (end - start) (drop start items)) below) (prepend_known rest below) piece =
+    rw (piece_first items buf start end count few behind) (consumes_first piece rest below) in
+    rw whole (passes piece count _ _ before after changed answer untouched sized taken ok err)

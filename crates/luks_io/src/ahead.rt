@@ -1,13 +1,16 @@
 //! A source that takes many bytes at once, but none that is not asked for or announced.
 
 ghost use Rattle.std.specs.Prelude.{◌≡◌, ◌≢◌, ◌+◌, ◌-◌, ◌<◌, ◌≤◌, ◌++◌, ◌⊎◌, [], IfOk};
-ghost use Rattle.std.specs.Prelude.{IsErr, MatchResult, is_err, length, min, take};
+ghost use Rattle.std.specs.Prelude.{IsErr, MatchResult, is_err, is_some, length, min, nat_le, take};
 ghost use Rattle.std.specs.Io.{ReadsAtMost};
 ghost use Rattle.std.specs.Io.KnownBytes.{Consumes, IsAtEnd, Keeps, ReadConsumes, prepend_known};
 ghost use Rattle.luks_io.specs.Ahead.{most_taken};
 ghost use Rattle.luks_io.specs.Bytes.{TookUpTo, WhereKnown, counted, is_end};
+ghost use Rattle.luks_io.specs.Passing.{PassesOn, held_after, is_broken_off};
 
 use crate::DeviceFault;
+use crate::change::{Change, put_changed};
+use crate::sink::{Sink, WriteFault};
 use crate::source::Source;
 use std::alloc::{AllocError, Global};
 use std::marker::Model;
@@ -184,6 +187,8 @@ impl<S: Source> Source for AheadSource<S> {
         ensures kept { IsErr result → (self.new.held ≡ self.old.held)
             × (self.new.announced ≡ self.old.announced) }
         ensures room { self.new.room ≡ self.old.room }
+        ensures held { self.old.held ≢ []
+            → IfOk result (λ n. n ≡ min (length buf.old) (length self.old.held)) }
     {
         if self.start == self.end && !buf.is_empty() {
             let ahead = self.announced.min(self.buffer.len() as u64) as usize;
@@ -200,5 +205,34 @@ impl<S: Source> Source for AheadSource<S> {
         ensures { self.new ≡ record self.old { announced = count - length self.old.held } }
     {
         self.announced = count.saturating_sub((self.end - self.start) as u64);
+    }
+
+    /// Passes on only bytes that are held, and asks the source below for none.
+    fn pass_on<C: Change, O: Sink>(
+        &mut self,
+        count: usize,
+        change: &C,
+        sink: &mut O,
+    ) -> Option<Result<(), WriteFault>>
+        requires { C.takes change.now count }
+        ensures passes { PassesOn result ((self.new ≡ self.old) × (sink.new ≡ sink.old)) count
+            (C.changed change.now) (prepend_known self.old.held (S.to_come self.old.source))
+            (prepend_known self.new.held (S.to_come self.new.source))
+            (O.written sink.old) (O.written sink.new) }
+        ensures writes { O.failures sink.new
+            ≡ counted (is_broken_off result) (O.failures sink.old) }
+        ensures enough { is_some result ≡ nat_le count (length self.old.held) }
+        ensures held { self.new.held ≡ held_after result count self.old.held }
+        ensures source { self.new.source ≡ self.old.source }
+        ensures announced { self.new.announced ≡ self.old.announced }
+        ensures room { self.new.room ≡ self.old.room }
+    {
+        let start = self.start;
+        if self.end - start < count {
+            return None;
+        }
+        let answer = put_changed(&mut self.buffer, start, count, change, sink);
+        self.start += count;
+        Some(answer)
     }
 }

@@ -11,6 +11,7 @@ ghost use Rattle.luks_io.specs.Bytes.{raised};
 
 pub mod adapters;
 pub mod ahead;
+pub mod change;
 pub mod memory;
 pub mod sink;
 pub mod source;

@@ -5,9 +5,12 @@ ghost use Rattle.std.specs.Prelude.{nat_lt, is_err, IfOk, MatchResult};
 ghost use Rattle.std.specs.Io.{ReadsAtMost};
 ghost use Rattle.std.specs.Io.KnownBytes.{ReadConsumes};
 ghost use Rattle.luks_io.specs.Bytes.{TookInto, WhereKnown, counted, is_end, is_short};
+ghost use Rattle.luks_io.specs.Passing.{PassesOn, is_broken_off};
 ghost use Rattle.luks_io.specs.Reads.{got_in};
 
 use crate::DeviceFault;
+use crate::change::Change;
+use crate::sink::{Sink, WriteFault};
 
 /// Gives bytes, the next ones at each call.
 pub trait Source {
@@ -37,6 +40,27 @@ pub trait Source {
         ensures failures { failures self.new ≡ failures self.old }
         ensures ends { ends self.new ≡ ends self.old }
     {}
+
+    /// Passes the next `count` bytes on to the sink, changed, where the source holds so many. They
+    /// are taken, whether the writing fails or not. At `None` nothing was done, and they are to be
+    /// read.
+    fn pass_on<C: Change, O: Sink>(
+        &mut self,
+        count: usize,
+        change: &C,
+        sink: &mut O,
+    ) -> Option<Result<(), WriteFault>>
+        requires { C.takes change.now count }
+        ensures passes { PassesOn result ((self.new ≡ self.old) × (sink.new ≡ sink.old)) count
+            (C.changed change.now) (to_come self.old) (to_come self.new)
+            (O.written sink.old) (O.written sink.new) }
+        ensures failures { failures self.new ≡ failures self.old }
+        ensures ends { ends self.new ≡ ends self.old }
+        ensures writes { O.failures sink.new
+            ≡ counted (is_broken_off result) (O.failures sink.old) }
+    {
+        None
+    }
 }
 
 /// Counts a read that found the end: it gave nothing to a buffer with room. For a source's own

@@ -2,4 +2,5 @@
 
 mod ahead;
 mod devices;
+mod passing;
 mod testing;

@@ -1,14 +1,18 @@
 -- The sector that fills a buffer.
-use Rattle.std.proofs.Common.{◌≡◌, ℕ, ◌+◌, ◌-◌, ◌<◌, ◌≤◌, inl, inr, List, [], ◌++◌, Option, ◌∙◌, ap, sym, subst, take}
+use Rattle.std.proofs.Common.{◌≡◌, ℕ, ◌+◌, ◌-◌, ◌<◌, ◌≤◌, inl, inr, List, [], ◌∷◌, ◌++◌, Option, Some, ◌∙◌, ap, sym}
 use Rattle.std.proofs.Common.{drop, length, length-append, length-drop, length-take-le, append-nil, min, take_all}
-use Rattle.std.proofs.Common.{arith}
+use Rattle.std.proofs.Common.{arith, subst, take}
 use Rattle.std.proofs.lemmas.Bool.{cases_lt}
 use Rattle.std.proofs.lemmas.List.{drop_all, take-append-le}
 use Rattle.std.proofs.Math.Seq.{take-append-add, take-append_seam}
 use Rattle.luks_cipher.specs.Sector.{Cipher, sector_decrypted}
+use Rattle.std.specs.Io.KnownBytes.{Consumes}
 use Rattle.luks_io.specs.Bytes.{Took}
-use Rattle.luks_volume.specs.Passing.{BeginsWith, Gathers}
+use Rattle.luks_io.specs.Passing.{PassedOn}
+use Rattle.luks_io.proofs.Moves.{took-front}
+use Rattle.luks_volume.specs.Passing.{BeginsWith, Gathers, StopsInSector}
 use Rattle.luks_volume.specs.Plain.{unit_plain}
+use Rattle.luks_volume.specs.declared.fault.VolumeFault.TheVariants.{Write}
 use borrow.Rule.Slice.PartMut.{put_mid}
 
 -- what a buffer decrypts to, in the payload's words
@@ -117,3 +121,23 @@ module _ (len : ℕ) (front piece sector : List ℕ) (is : sector ≡ take (min 
     gathered held first =
         subst (λ m. Gathers len front known left' sector (m + n)) (sym first)
         (elim (cases_lt len (length front)) [ inl many ↦ gathered_many many | inr few ↦ gathered_few few ])
+
+-- the next bytes of a source, where it knew them, are those that were passed on
+passed_bytes : (known bytes : List ℕ) (left left' : Option (List ℕ)) (len : ℕ) → length bytes ≡ len
+    → Consumes left left' bytes → left ≡ Some known → Took known left' len × (take len known ≡ bytes)
+passed_bytes known bytes left left' len sized taken is =
+    let whole : take len bytes ≡ bytes = take_all len bytes (omega arith) in
+    let took = took-front left left' bytes len (omega arith) (rw whole taken) known is in
+    (took.0, sym took.1 ∙ whole)
+
+-- a sector that was passed on, with none of its bytes in front
+module _ (cipher : Cipher) (number len : ℕ) (known : List ℕ) (left left' before after : Option (List ℕ)) where
+  -- the write was broken off
+  pub stops_passed : (front : List ℕ) (written : ℕ) → length front ≡ 0 → written < len
+      → PassedOn len (λ bytes. take written (unit_plain cipher number bytes)) left left' before after
+      → left ≡ Some known → StopsInSector cipher number len front known left' before after Write
+  stops_passed [] written none few passed is =
+      let p = passed_bytes known passed.0 left left' len passed.1 passed.2 is in
+      let all : len - 0 ≡ len = omega arith in
+      (rw all p.0, (written, few, rw p.1 passed.3))
+  stops_passed (x ∷ front) written none few passed is = absurd (omega arith)

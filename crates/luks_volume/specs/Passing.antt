@@ -1,8 +1,8 @@
 -- What the parts of a pump leave in its source and its sink.
-use Rattle.std.specs.Prelude.{◌≡◌, ℕ, ◌+◌, ◌-◌, ◌/◌, ◌^◌, ◌<◌, ◌++◌, min, Bool, true, false, List, drop, length, take}
-use Rattle.std.specs.Prelude.{Option, None, Some, Result, Err}
+use Rattle.std.specs.Prelude.{◌≡◌, ℕ, ◌+◌, ◌-◌, ◌/◌, ◌^◌, ◌<◌, ◌≤◌, ◌⊎◌, ◌++◌, min, Bool, true, false}
+use Rattle.std.specs.Prelude.{List, drop, length, take, Option, None, Some, Result, Err, IfOk, IfErr}
 use Rattle.luks_cipher.specs.Sector.{Cipher}
-use Rattle.luks_io.specs.Bytes.{Adds, Took, TookFewer}
+use Rattle.luks_io.specs.Bytes.{Adds, Took, TookFewer, WhereKnown}
 use Rattle.luks_verdict.specs.declared.segment.Segment.{Segment}
 use Rattle.luks_volume.specs.Plain.{unit_plain, sector_len}
 use Rattle.luks_volume.specs.declared.fault.VolumeFault.{VolumeFault}
@@ -63,6 +63,21 @@ StopsInSector cipher number len front known left before after Write =
 StopsInSector cipher number len front known left before after CutBeforePayload = ⊥
 StopsInSector cipher number len front known left before after (Tail _) = ⊥
 StopsInSector cipher number len front known left before after (Short _) = ⊥
+
+-- what passing on the sector of a unit number did, whose first bytes stand in front: it is whole, torn or broken off
+pub record PassesSector (cipher : Cipher) (number len : ℕ) (front : List ℕ) (answer : Result ℕ VolumeFault)
+    (left left' before after : Option (List ℕ)) (unwritten : Type 0) : Type 0 where
+  pub most : IfOk answer (λ got. got ≤ len)
+  pub taken : IfOk answer (λ got. WhereKnown left
+      (λ known. (got ≡ min len (length (front ++ known))) × Took known left' (got - length front)))
+  pub written : IfOk answer (λ got. got ≡ len → WhereKnown left
+      (λ known. Adds before after (unit_plain cipher number (take got (front ++ known)))))
+  pub whole : IfOk answer (λ got. got ≡ len → AddsUnit cipher number len front before after)
+  pub torn : IfOk answer (λ got. got < len → unwritten)
+  pub err : IfErr answer
+      (λ fault. WhereKnown left (λ known. StopsInSector cipher number len front known left' before after fault))
+  pub unread : IfErr answer (λ fault. fault ≡ Read → unwritten)
+  pub only : IfErr answer (λ fault. (fault ≡ Read) ⊎ (fault ≡ Write))
 
 -- the most sectors that are passed on: those of a fixed size, and else as many as a count of them can say
 abbrev pub limit_within : Option ℕ → ℕ → ℕ

@@ -4,6 +4,7 @@
 //! it comes.
 #![tactic(auto)]
 
+mod decryption;
 pub mod fault;
 mod passing;
 pub mod pump;

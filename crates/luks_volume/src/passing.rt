@@ -4,10 +4,11 @@ ghost use Rattle.std.specs.Prelude.{◌≡◌, ◌-◌, ◌%◌, ◌<◌, ◌≤
 ghost use Rattle.std.specs.Prelude.{OnOk, length, take, min};
 ghost use Rattle.luks_io.specs.Bytes.{Adds, Took, TookFewer, WhereKnown, counted, is_short};
 ghost use Rattle.luks_volume.specs.Passing.{AddsUnit, BeginsWith, Gathers, StopsDiscarding};
-ghost use Rattle.luks_volume.specs.Passing.{StopsInSector};
+ghost use Rattle.luks_volume.specs.Passing.{PassesSector};
 ghost use Rattle.luks_volume.specs.Passing.{is_cut, is_failed_read, is_failed_write};
 ghost use Rattle.luks_volume.specs.Plain.{unit_plain};
 
+use crate::decryption::Decryption;
 use crate::fault::VolumeFault;
 use luks_cipher::SectorCipher;
 use luks_io::sink::{Sink, put_all};
@@ -65,7 +66,8 @@ fn gather<S: Source>(front: &[u8], sector: &mut [u8], source: &mut S) -> Result<
 }
 
 /// Takes the sector of this unit number, whose first bytes stand in front, and writes its plain
-/// bytes where it is whole. Answers how many bytes there were.
+/// bytes where it is whole. Where the source holds all of it, it is decrypted there, and else in
+/// `sector`. Answers how many bytes there were.
 pub(crate) fn pass_sector<S: Source, O: Sink>(
     cipher: &SectorCipher,
     number: u64,
@@ -77,30 +79,23 @@ pub(crate) fn pass_sector<S: Source, O: Sink>(
     requires whole_blocks { length sector.old % 16 ≡ 0 }
     requires shortest { 16 ≤ length sector.old }
     requires longest { length sector.old ≤ 4096 }
-    ensures most { IfOk result (λ got. got ≤ length sector.old) }
-    ensures taken { IfOk result (λ got. WhereKnown (S.to_come source.old)
-        (λ known. (got ≡ min (length sector.old) (length (front.now ++ known)))
-        × Took known (S.to_come source.new) (got - length front.now))) }
-    ensures written { IfOk result (λ got. got ≡ length sector.old
-        → WhereKnown (S.to_come source.old)
-        (λ known. Adds (O.written sink.old) (O.written sink.new) (unit_plain cipher.now number
-        (take got (front.now ++ known))))) }
-    ensures whole { IfOk result (λ got. got ≡ length sector.old
-        → AddsUnit cipher.now number (length sector.old) front.now
-        (O.written sink.old) (O.written sink.new)) }
-    ensures torn { IfOk result (λ got. got < length sector.old → sink.new ≡ sink.old) }
-    ensures err { IfErr result (λ fault. WhereKnown (S.to_come source.old)
-        (λ known. StopsInSector cipher.now number (length sector.old) front.now known
-        (S.to_come source.new) (O.written sink.old) (O.written sink.new) fault)) }
-    ensures unread { IfErr result (λ fault. fault ≡ VolumeFault.Read → sink.new ≡ sink.old) }
-    ensures only { IfErr result
-        (λ fault. (fault ≡ VolumeFault.Read) ⊎ (fault ≡ VolumeFault.Write)) }
+    ensures passes { PassesSector cipher.now number (length sector.old) front.now result
+        (S.to_come source.old) (S.to_come source.new) (O.written sink.old) (O.written sink.new)
+        (sink.new ≡ sink.old) }
     ensures reads { S.failures source.new ≡ counted (is_failed_read result)
         (S.failures source.old) }
     ensures ends { S.ends source.new ≡ counted (is_short result (length sector.old))
         (S.ends source.old) }
     ensures writes { O.failures sink.new ≡ counted (is_failed_write result) (O.failures sink.old) }
 {
+    // Bytes in front are not the source's: a sector that begins with them is gathered.
+    if front.is_empty() {
+        let decryption = Decryption { cipher, number };
+        if let Some(answer) = source.pass_on(sector.len(), &decryption, sink) {
+            answer?;
+            return Ok(sector.len());
+        }
+    }
     let got = gather(front, sector, source)?;
     if got < sector.len() {
         return Ok(got);

@@ -14,9 +14,9 @@ use luks_volume::state::Step;
 use std::process::Abort;
 
 /// The unit numbers of three sectors from 5 on, and of three whose numbers wrap.
-const UNITS_512: [u64; 3] = [5, 6, 7];
+pub const UNITS_512: [u64; 3] = [5, 6, 7];
 
-const UNITS_4096: [u64; 3] = [5, 13, 21];
+pub const UNITS_4096: [u64; 3] = [5, 13, 21];
 
 const WRAPPED_512: [u64; 3] = [18_446_744_073_709_551_615, 0, 1];
 
@@ -24,7 +24,7 @@ const WRAPPED_4096: [u64; 3] = [18_446_744_073_709_551_615, 7, 15];
 
 /// How a run over an image's first bytes ends: how many bytes these are, how many sectors are
 /// passed on, the answer that ends it, and how many bytes are taken.
-type Row = (usize, u32, Result<Step, VolumeFault>, usize);
+pub type Row = (usize, u32, Result<Step, VolumeFault>, usize);
 
 fn check_row(
     rt: &(impl Abort + AllocGlobal),
@@ -65,7 +65,7 @@ fn check_rows(
 
 const PIECES: [(usize, usize); 5] = [(1, 700), (511, 1), (512, 700), (513, 512), (5000, 5000)];
 
-const DYNAMIC_512: [Row; 8] = [
+pub const DYNAMIC_512: [Row; 8] = [
     (0, 0, Err(VolumeFault::CutBeforePayload), 0),
     (999, 0, Err(VolumeFault::CutBeforePayload), 999),
     (1000, 0, Ok(Step::End), 1000),
@@ -76,7 +76,7 @@ const DYNAMIC_512: [Row; 8] = [
     (2536, 3, Ok(Step::End), 2536),
 ];
 
-const DYNAMIC_4096: [Row; 3] = [
+pub const DYNAMIC_4096: [Row; 3] = [
     (5095, 0, Err(VolumeFault::Tail(4095)), 5095),
     (5096, 1, Ok(Step::End), 5096),
     (13_288, 3, Ok(Step::End), 13_288),
@@ -105,7 +105,7 @@ fn unit_numbers_wrap(rt: HostRuntime) {
     check_rows(&rt, large, &WRAPPED_4096, pieces, &WRAPPING_4096);
 }
 
-const FIXED_512: [Row; 8] = [
+pub const FIXED_512: [Row; 8] = [
     (999, 0, Err(VolumeFault::CutBeforePayload), 999),
     (1000, 0, Err(VolumeFault::Short(1024)), 1000),
     (1001, 0, Err(VolumeFault::Short(1023)), 1001),
@@ -122,7 +122,7 @@ const FIXED_EMPTY: [Row; 3] = [
     (2536, 0, Ok(Step::End), 1000),
 ];
 
-const FIXED_4096: [Row; 1] = [(13_288, 2, Ok(Step::End), 9192)];
+pub const FIXED_4096: [Row; 1] = [(13_288, 2, Ok(Step::End), 9192)];
 
 #[test]
 fn fixed_payloads(rt: HostRuntime) {
@@ -175,7 +175,7 @@ fn check_skip(rt: &(impl Abort + AllocGlobal), image: &[u8], plain: &[u8]) {
 }
 
 // An image of sectors of 512 bytes.
-fn small_volume(rt: &(impl Abort + AllocGlobal)) -> Volume {
+pub fn small_volume(rt: &(impl Abort + AllocGlobal)) -> Volume {
     make_volume(rt, 1000, SectorSize::B512, &UNITS_512)
 }
 
@@ -215,7 +215,7 @@ fn broken_run(
 
 /// Which read or write fails, and what the run comes to: how many sectors are passed on, the answer
 /// that ends it, and how many bytes are taken and written.
-type BadCall = ((u64, u64), u32, Result<Step, VolumeFault>, usize, usize);
+pub type BadCall = ((u64, u64), u32, Result<Step, VolumeFault>, usize, usize);
 
 // Reads are of 200 bytes: five before the payload, then 200, 200 and 112 for each sector, and one
 // at the end.
@@ -231,7 +231,7 @@ const BAD_READS: [BadCall; 8] = [
 ];
 
 // So are writes.
-const BAD_WRITES: [BadCall; 5] = [
+pub const BAD_WRITES: [BadCall; 5] = [
     ((NEVER, 0), 0, Err(VolumeFault::Write), 1512, 0),
     ((NEVER, 2), 0, Err(VolumeFault::Write), 1512, 400),
     ((NEVER, 3), 1, Err(VolumeFault::Write), 2024, 512),
