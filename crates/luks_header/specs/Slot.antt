@@ -15,7 +15,8 @@ unfoldable pub verdict_at : Header → Option ℕ → ℕ → Option Verdict
 verdict_at (V1 header) limit number = verdict1_at header limit number
 verdict_at (V2 header tree) limit number = verdict2_at tree (bounds2_of header) limit number
 
--- what it takes to open the key slot of this number, where it is there and its numbers are in range
+-- what it takes to open the key slot of this number: in LUKS1 if it is there and its numbers are in range, whatever its
+-- state and its digest, in LUKS2 if it is there and there is no reason to skip it but a limit on iterations
 unfoldable pub slot_at : Header → ℕ → Option Slot
 slot_at (V1 header) number = slot1_at header number
 slot_at (V2 header tree) number = slot2_at tree (bounds2_of header) number

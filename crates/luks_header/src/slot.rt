@@ -25,8 +25,9 @@ pub fn judge(header: &Header, limit: Option<u32>, number: u8) -> Option<Judgemen
     }
 }
 
-/// What it takes to open the key slot of this number, where it is there and its numbers are in
-/// range.
+/// What it takes to open the key slot of this number. In LUKS1 it is given if the header has the
+/// slot and its numbers are in range, whatever its state and its digest. In LUKS2 it is given if
+/// the header has the slot and there is no reason to skip it but a limit on iterations.
 #[tactic(auto, unfolding(crate::specs::Slot::slot_at))]
 pub fn slot(alloc: Global, header: &Header, number: u8) -> Result<Option<Slot>, AllocError>
     ensures { IfOk result (λ slot. slot ≡ slot_at header.now number) }

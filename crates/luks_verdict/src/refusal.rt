@@ -21,16 +21,18 @@ pub enum SkipReason {
     Kdf,
     /// LUKS2: a hash function's name is not known.
     Hash,
-    /// LUKS2: the key material is encrypted in another way than `aes-xts-plain64`.
+    /// LUKS2: the encryption of the key material is not `aes-` and the name of a mode.
     Encryption,
-    /// LUKS2: the length of the volume key or of the key material's key is not 32 or 64 bytes.
+    /// LUKS2: the key material's key has no length of its mode, or the volume key has no length of
+    /// the payload's mode; if the segment is refused, the volume key may have a length of any mode.
     KeySize,
     /// The number of stripes is not 1 to 4000.
     Stripes,
     /// The number of iterations is 0, above 4,294,967,295 or above the limit.
     Iterations,
     /// The key material starts inside the header, or it ends past byte 33,554,432 or past the
-    /// payload's start, which does not bound that of a detached header.
+    /// payload's start. LUKS2: or the area's size is below what the key material needs. The
+    /// payload's start is no bound for a detached header, nor, in LUKS2, if the segment is refused.
     Area,
     /// LUKS2: no usable digest lists the slot and the segment. Or the digest's iterations are 0 or
     /// above the limit.
@@ -73,11 +75,11 @@ pub enum SegmentFault {
     Kind,
     /// LUKS2: the segment has integrity tags.
     Integrity,
-    /// The payload is encrypted in another way than by AES in mode `xts-plain64`.
+    /// The payload's cipher is not AES, or its mode is not known.
     Encryption,
     /// LUKS1: the hash function's name is not known.
     Hash,
-    /// LUKS1: the length of the volume key is not 32 or 64 bytes.
+    /// LUKS1: the volume key has no length of the mode: 32 or 64 bytes for XTS, 16 or 32 for CBC.
     KeyBytes,
     /// LUKS2: the length of a sector is not 512, 1024, 2048 or 4096 bytes.
     SectorSize,
