@@ -46,7 +46,7 @@ check: all $(SEALER) scripts
 # The programs are taken as they are. Four scripts run side by side; what each prints comes when it
 # has ended. One of them asks for the sealer too.
 TESTS := stripes volumes devices memory hostile completions package
-INTEROP := headers headers2 volumes volumes2 detached filesystems
+INTEROP := headers headers2 volumes volumes2 detached filesystems recipes
 PROGRAM_SCRIPTS := $(TESTS:%=test-%) $(INTEROP:%=interop-%)
 
 .PHONY: $(PROGRAM_SCRIPTS) interop-sealed

@@ -1,0 +1,168 @@
+#!/usr/bin/env bash
+# Runs README's recipes as they are written there, in bash and in zsh, on volumes that cryptsetup and qemu-img make: what they write is the plain text, and no image
+# changes, one with a damaged secondary header among them. What mounts is left out.
+readme=$(realpath "$(dirname "$0")/../README.md")
+# shellcheck source=interop/common.sh
+. "$(dirname "$0")/common.sh"
+ln -s "$program" luksrd
+PATH=$work:$PATH
+
+# recipe TEXT: the lines of README's recipe that follows this text
+recipe() {
+    awk -v text="$1" 'index($0, text) { found = 1 } found && /^    / { inside = 1; print substr($0, 5) } inside && !/^    / { exit }' "$readme"
+}
+
+# cooks FOLDER NEEDED TEXT..: runs these recipes beside the images of a folder, in each shell, with links to the other files that they need; no image changes
+cooks() {
+    local folder=$1 needed=$2 shell text
+    shift 2
+    (cd "$folder" && sha256sum -- *) >before
+    {
+        recipe 'Begin with these lines'
+        echo "for file in $needed; do ln -s ../\$file .; done"
+        for text in "$@"; do recipe "$text" | grep -v '^mount '; done
+    } >script
+    for shell in bash 'zsh -o interactive_comments'; do
+        (cd "$folder" && $shell ../script <../typed) >"$folder, ${shell%% *}" 2>&1
+        mv "$folder/rescue" "rescue $folder, ${shell%% *}"
+        same "$1 in $shell: the images" "$(cd "$folder" && sha256sum -- *)" "$(cat before)"
+    done
+}
+
+# gives FOLDER FILE WANTED: in both shells the recipes left this file with these bytes
+gives() {
+    local shell
+    for shell in bash zsh; do
+        same "$1 in $shell: $2" "$(sha256sum <"rescue $1, $shell/$2")" "$(sha256sum <"$3")"
+    done
+}
+
+# says FOLDER TEXT: in both shells this is among what the recipes printed, or all of it
+says() {
+    local shell
+    for shell in bash zsh; do
+        case $(cat "$1, $shell") in
+        *"$2"*) passed=$((passed + 1)) ;;
+        *) same "$1 in $shell: what it says" "$(cat "$1, $shell")" "$2" ;;
+        esac
+    done
+}
+
+# damaged IMAGE: its secondary header has another byte
+damaged() {
+    printf '\377' | dd of="$1" bs=1 seek=$((16384 + 5000)) conv=notrunc status=none
+}
+
+printf 'a secret' >pass
+printf 'another one' >pass2
+printf 'a secret\n' >typed
+truncate -s 8M plain
+mke2fs -q -t ext4 plain
+echo 'inside' >inside
+debugfs -w -R 'write inside inside' plain >err 2>&1
+
+# from the image, from a pipe and from an archive; what is in it
+mkdir volume
+format1 volume/disk.img aes-xts-plain64 sha256 512
+fill volume/disk.img
+zstd -q volume/disk.img -o volume/disk.img.zst
+cooks volume disk.img.zst 'Rescue and migration' 'Look into the file system'
+for image in plain.img plain2.img plain3.img; do gives volume $image plain; done
+says volume 'Key slot 0 opens the volume.'
+says volume 'TYPE="ext4"'
+says volume ' inside'
+
+# a partition of a whole disk, which is as long as README says
+mkdir partition
+seal partition/disk.img aes-xts-plain64 512
+truncate -s 16M partition/whole.img
+echo 'start=2048, size=24576' | sfdisk -q partition/whole.img
+dd if=partition/disk.img of=partition/whole.img bs=512 seek=2048 conv=notrunc status=none
+same 'the partition' "$(stat -c %s partition/disk.img)" $((24576 * 512))
+same 'isLuks of a whole disk' "$(told isLuks partition/whole.img)" 1
+cooks partition whole.img 'A partition of a whole disk'
+gives partition plain.img plain
+says partition 'start=        2048, size=       24576'
+
+# a header in a file of its own
+mkdir detached
+cp plain detached/disk.img
+cryptsetup -q reencrypt --encrypt --type luks2 --force-offline-reencrypt --pbkdf pbkdf2 --pbkdf-force-iterations 1000 --key-file pass \
+    --header detached/disk.header detached/disk.img >err 2>&1 || { cat err; exit 1; }
+cooks detached disk.header 'A header on another medium'
+gives detached plain.img plain
+
+# a damaged front, and a backup of the header
+mkdir backup
+seal backup/disk.img aes-xts-plain64 512
+cryptsetup luksHeaderBackup --header-backup-file backup/backup backup/disk.img
+dd if=/dev/urandom of=backup/disk.img bs=1M count=1 conv=notrunc status=none
+cooks backup backup 'A damaged front and a header backup'
+gives backup plain.img plain
+says backup "clean
+Key slot 0 opens the volume."
+says backup 'TYPE="ext4"'
+
+# key slots by Argon2 alone, and a damaged secondary header
+mkdir argon2
+cp plain argon2/disk.img
+truncate -s +4M argon2/disk.img
+cryptsetup -q reencrypt --encrypt --type luks2 --reduce-device-size 4M --force-offline-reencrypt --luks2-metadata-size 16k --luks2-keyslots-size 1m \
+    --pbkdf argon2id --pbkdf-force-iterations 4 --pbkdf-memory 32768 --pbkdf-parallel 1 --key-file pass argon2/disk.img >err 2>&1 || { cat err; exit 1; }
+damaged argon2/disk.img
+same 'a volume of Argon2' "$(told testPassphrase --key-file pass argon2/disk.img)" 'luksrd: no key slot can be tried; skipped: 0 (argon2id)
+1'
+cooks argon2 '' 'Key slots by Argon2 alone'
+gives argon2 plain.img plain
+
+# images of all kinds
+mkdir audit
+cp volume/disk.img audit/1.img
+cp backup/disk.img audit/2.img
+cp partition/disk.img audit/3.img
+cryptsetup -q luksAddKey --pbkdf argon2id --pbkdf-force-iterations 4 --pbkdf-memory 32768 --pbkdf-parallel 1 --key-file pass audit/3.img pass2
+damaged audit/3.img
+cp partition/whole.img audit/4.img
+head -c 500 volume/disk.img >audit/5.img
+cp volume/disk.img audit/6.img
+printf '\377\377\377\377' | dd of=audit/6.img bs=1 seek=212 conv=notrunc status=none
+: >audit/disk.img
+cooks audit '' 'Audit: of the images'
+uuid1=$("$program" luksUUID audit/1.img)
+says audit "../1.img:
+Version: 1
+UUID: $uuid1
+clean
+Key slot 0 opens the volume.
+../2.img:
+isLuks ends with 1
+../3.img:
+Version: 2
+UUID: $("$program" luksUUID audit/3.img)
+secondary header: not valid
+luksrd: the header has findings
+Key slot 0 opens the volume.
+../4.img:
+isLuks ends with 1
+../5.img:
+luksrd: image ends inside the header or a key area
+isLuks ends with 4
+../6.img:
+Version: 1
+UUID: $uuid1
+clean
+luksrd: no key opens the volume; skipped: 0 (iterations)
+../disk.img:
+isLuks ends with 1"
+
+# stripes
+mkdir stripes
+: >stripes/disk.img
+head -c 64 /dev/urandom >stripes/key
+printf 'what follows' >stripes/more
+cooks stripes 'key more' 'Split a key of 64 bytes'
+gives stripes key.again stripes/key
+gives stripes key.piped stripes/key
+gives stripes more.again stripes/more
+
+finish
