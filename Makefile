@@ -1,8 +1,9 @@
 # make            builds the program, crates/luksrd/out/luksrd, which proves all it stands on
-# make demo       builds it and reads both sample volumes, from pipes
+# make demo       reads both sample volumes by a program that is built without proofs
 # make check      runs the built program on files and pipes, and beside cryptsetup and qemu-img: all of `make test` but the gate
 # make test       what CI runs: the gate, which proves everything, tries each wrong body of must-fail/ and runs the tests, and beside it the same
 #                 scripts on the program that it builds
+# make times      the same, and then a table of the processor time that each crate took
 # make bench      measures key derivation, decryption and whole volumes beside other implementations
 # make install    puts the program, its man page and its completions below PREFIX (/usr/local where
 #                 it is not given), in DESTDIR where that is given
@@ -20,26 +21,26 @@ PAGES = $(DESTDIR)$(PREFIX)/share/man/man1
 BASH_WORDS = $(DESTDIR)$(PREFIX)/share/bash-completion/completions
 ZSH_WORDS = $(DESTDIR)$(ZSH_FUNCTIONS)
 
-.PHONY: all demo check scripts program-scripts test bench install uninstall deb
+.PHONY: all demo check scripts program-scripts test times bench install uninstall deb toolchain built
 
 all: $(PROGRAM)
 
 # `rt run` proves, builds and runs; the run here merges one stripe into the key that it is.
-$(PROGRAM): FORCE
+$(PROGRAM): FORCE | toolchain
 	cd crates/luksrd && rt run -- afMerge --hash sha256 --stripes 1 --key-bytes 32 data/stripes >/dev/null
 
 .PHONY: FORCE
 FORCE:
 
 # It writes volumes that the library seals, for interop/sealed.sh; with no arguments it does nothing.
-$(SEALER): FORCE
+$(SEALER): FORCE | toolchain
 	cd crates/sealed_image && rt run >/dev/null
 
-demo: all
-	gzip -dc sample/volume.img.gz | $(PROGRAM) testPassphrase --key-file sample/passphrase -
-	gzip -dc sample/volume.img.gz | $(PROGRAM) luksCat --key-file sample/passphrase -
-	gzip -dc sample/volume2.img.gz | $(PROGRAM) luksDump -
-	gzip -dc sample/volume2.img.gz | $(PROGRAM) luksCat --key-file sample/passphrase -
+demo: toolchain
+	@tests/demo
+
+toolchain:
+	@command -v rt >/dev/null || { echo "rt is missing: put the Rattle toolchain on the path" >&2; exit 1; }
 
 check: all $(SEALER) scripts
 
@@ -64,8 +65,11 @@ $(INTEROP:%=interop-%): interop-%:
 interop-sealed:
 	interop/sealed.sh $(PROGRAM) $(SEALER)
 
-test:
+test: toolchain
 	tests/gate
+
+times: toolchain
+	tests/times
 
 bench: all
 	bench/pbkdf2
@@ -74,8 +78,10 @@ bench: all
 	bench/plot
 
 # What is built already is installed as it is, so that this needs no toolchain.
-install:
-	test -x "$(PROGRAM)"
+built:
+	@test -f "$(PROGRAM)" -a -x "$(PROGRAM)" || { echo "luksrd is not built: run make first" >&2; exit 1; }
+
+install: built
 	install -d "$(BINARIES)" "$(PAGES)" "$(BASH_WORDS)" "$(ZSH_WORDS)"
 	install -m 755 "$(PROGRAM)" "$(BINARIES)/luksrd"
 	install -m 644 docs/luksrd.1 "$(PAGES)/luksrd.1"
@@ -86,6 +92,6 @@ uninstall:
 	rm -f "$(BINARIES)/luksrd" "$(PAGES)/luksrd.1" "$(BASH_WORDS)/luksrd" "$(ZSH_WORDS)/_luksrd"
 
 # This too takes the program as it is.
-deb:
+deb: built
 	packaging/deb "$(PROGRAM)" "$(VERSION)" "$(DEB)"
 	@echo "$(DEB)"

@@ -11,6 +11,23 @@ made() {
     make -s -C "$sources" deb PROGRAM="$program" DEB="$1"
 }
 
+# what is missing, and which command makes it
+nothing=$work/nothing
+mkdir "$nothing"
+lacking() {
+    local path=$1
+    shift
+    PATH=$path "$(command -v make)" -s -C "$sources" "$@" 2>&1 | sed '/^make.*\*\*\*/d'
+}
+same 'install of no program' "$(lacking "$PATH" install PROGRAM=absent DESTDIR="$nothing")" \
+    'luksrd is not built: run make first'
+same 'a package of no program' "$(lacking "$PATH" deb PROGRAM=absent DEB="$nothing/luksrd.deb")" \
+    'luksrd is not built: run make first'
+same 'nothing is made' "$(ls "$nothing")" ''
+same 'a demo with no toolchain' "$(lacking "$nothing" demo)" 'rt is missing: put the Rattle toolchain on the path'
+same 'a package with no tools' "$(PATH=$nothing "$BASH" "$sources/packaging/deb" "$program" 1.0.0 luksrd.deb 2>&1)" \
+    'strip is missing: run apt-get install binutils'
+
 package="$work/a folder/luksrd.deb"
 same 'what make says' "$(made "$package" 2>&1)" "$package"
 made "$work/again" >log
