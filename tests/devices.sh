@@ -1,6 +1,6 @@
 #!/usr/bin/env bash
-# Runs the built program on devices as a shell hands them over: files that are their own output, pipes, folders, closed descriptors, and calls of the
-# system that are interrupted or fail (by strace, where a program may be traced).
+# Runs the built program on devices as a shell hands them over: files and block devices that are their own output, pipes, folders, closed
+# descriptors, and system calls that are interrupted or fail (by strace, if a program may be traced).
 sample=$(realpath "$(dirname "$0")/../sample")
 sources=$(realpath "$(dirname "$0")/..")
 # shellcheck source=tests/common.sh
@@ -15,18 +15,28 @@ head -c $held volume >header
 printf 'another one' >wrong
 : >in
 
-# onto NAME MESSAGE FILE WORD..: a run that appends to a file, and one that writes into it, end with this message and leave the file as it is
+# into NAME MESSAGE FILE WORD..: a run that writes into a file or a device ends with this message and leaves it as it is
+into() {
+    local name=$1 message=$2 file=$3 before
+    shift 3
+    before=$(sha256sum <"$file")
+    : >out
+    timeout 60 "$program" "$@" <in 1<>"$file" 2>err
+    echo $? >status
+    expect "$name, written into" 4 '' "$message"
+    same "$name: what it writes into" "$(sha256sum <"$file")" "$before"
+}
+
+# onto NAME MESSAGE FILE WORD..: the same of a file, and of a run that appends to it
 onto() {
     local name=$1 message=$2 file=$3 before
+    into "$@"
     shift 3
     before=$(sha256sum <"$file")
     : >out
     timeout 60 "$program" "$@" <in >>"$file" 2>err
     echo $? >status
     expect "$name, appended" 4 '' "$message"
-    timeout 60 "$program" "$@" <in 1<>"$file" 2>err
-    echo $? >status
-    expect "$name, written into" 4 '' "$message"
     same "$name: the file" "$(sha256sum <"$file")" "$before"
 }
 
@@ -46,6 +56,43 @@ echo $? >status
 : >out
 expect '/dev/null as input and output' 1 '' ''
 
+# block devices: one has many names, and a loop device and its file show the same bytes
+loops=()
+# loop FILE: a loop device over a file, in $device
+loop() {
+    device=$(losetup -f --show "$1" 2>/dev/null) || return
+    loops+=("$device")
+}
+release() {
+    local device
+    for device in "${loops[@]}"; do
+        losetup -d "$device"
+    done
+    rm -rf "$work"
+}
+trap release EXIT
+cp volume mapped
+head -c 1M /dev/zero >blank
+if loop mapped && image=$device && loop mapped && other=$device && loop blank && target=$device; then
+    mknod node b $((0x$(stat -c %t "$image"))) $((0x$(stat -c %T "$image")))
+    into 'a device onto itself' "luksrd: cannot open $image" "$image" luksCat --key-file pass "$image"
+    into 'a device onto another node of it' "luksrd: cannot open $image" node luksCat --key-file pass "$image"
+    into 'another node of a device onto it' 'luksrd: cannot open node' "$image" luksCat --key-file pass node
+    into 'a loop device onto its file' "luksrd: cannot open $image" mapped luksCat --key-file pass "$image"
+    into 'a file onto its loop device' 'luksrd: cannot open mapped' "$image" luksCat --key-file pass mapped
+    into 'a loop device onto another one over its file' "luksrd: cannot open $image" "$other" luksCat --key-file pass "$image"
+    into 'a key file onto its loop device' 'luksrd: cannot open mapped' "$image" luksCat --key-file mapped volume
+    into 'a header onto its loop device' 'luksrd: cannot open mapped' "$image" luksDump --header mapped volume
+    "$program" luksCat --key-file pass "$image" 1<>"$target" 2>err
+    echo $? >status
+    head -c $((${#plain} / 2)) "$target" >out
+    expect 'a device onto another' 0 "$plain" ''
+    run luksCat --key-file pass node
+    expect 'a device by another node' 0 "$plain" ''
+else
+    echo 'loop devices cannot be made here: inputs that standard output writes to by another name are not tried'
+fi
+
 # folders
 run luksCat --key-file pass .
 expect 'a folder' 4 '' 'luksrd: cannot open .'
@@ -55,6 +102,17 @@ run luksCat --key-file pass --header . volume
 expect 'a folder for a header' 4 '' 'luksrd: cannot open .'
 run luksCat --key-file . --header header volume
 expect 'a folder for a key file beside a header' 4 '' 'luksrd: cannot open .'
+mkdir nested
+rm in
+ln -s nested in
+run isLuks -
+expect 'a folder for standard input' 4 '' 'luksrd: cannot open -'
+run luksCat --key-file - volume
+expect 'a folder for standard input as a key file' 4 '' 'luksrd: cannot open -'
+run luksDump --header - volume
+expect 'a folder for standard input as a header' 4 '' 'luksrd: cannot open -'
+rm in
+: >in
 
 # descriptors that are closed: no input comes in their place
 : >out
@@ -73,15 +131,32 @@ expect 'no standard input, and none needed' 0 "$plain" ''
 "$program" luksCat --key-file pass --header header volume <&- >out 2>err
 echo $? >status
 expect 'no standard input, and none needed beside a header' 0 "$plain" ''
-"$program" testPassphrase --key-file pass volume >&- 2>err
-echo $? >status
-: >out
-expect 'no standard output' 0 '' ''
+# closed WORD..: a run with a closed standard output
+closed() {
+    : >out
+    "$program" "$@" <in >&- 2>err
+    echo $? >status
+}
+head -c 64 /dev/zero >key
+for command in 'luksUUID volume' 'luksDump volume' 'luksCheck volume' 'testPassphrase --key-file pass volume' \
+    'luksCat --key-file pass volume' 'luksDump --header header volume' 'luksCat --key-file pass --header header volume' \
+    'afSplit --hash sha256 --stripes 2 --random volume key' 'afMerge --hash sha256 --stripes 1 --key-bytes 64 volume'; do
+    # shellcheck disable=SC2086
+    closed $command
+    expect "no standard output for $command" 6 '' 'luksrd: write failed'
+done
+closed isLuks volume
+expect 'no standard output for isLuks' 0 '' ''
+closed isLuks pass
+expect 'no standard output for isLuks of another file' 1 '' ''
+closed luksCat --key-file wrong volume
+expect 'no standard output, and nothing to write' 2 '' 'luksrd: no key opens the volume'
 "$program" luksCat --key-file pass volume 2>&- >out
 echo $? >status
 : >err
 expect 'no standard error' 0 "$plain" ''
-same 'none at all' "$("$program" luksCat --key-file pass volume <&- >&- 2>&-; echo $?)" 0
+same 'none at all' "$("$program" luksCat --key-file pass volume <&- >&- 2>&-; echo $?)" 6
+same 'none at all, and none needed' "$("$program" isLuks volume <&- >&- 2>&-; echo $?)" 0
 
 # what is not needed of a pipe stays in it
 mkfifo pipe

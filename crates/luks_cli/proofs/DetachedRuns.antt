@@ -23,7 +23,7 @@ use Rattle.luks_report.specs.declared.message.Message.{Message}
 use Rattle.luks_report.specs.declared.message.Message.TheVariants.{Done, Cut, KeyFileLength, CutBeforePayload, Tail}
 use Rattle.luks_report.specs.declared.message.Message.TheVariants.{Short, OutOfMemory, ReadFailed, WriteFailed}
 use Rattle.luks_runs.proofs.PayloadLemmas.{plain_len}
-use Rattle.luks_cli.proofs.PromptLemmas.{same_segment_by}
+use Rattle.luks_cli.proofs.PromptLemmas.{no_sectors_before, same_segment_by}
 use Rattle.luks_cli.specs.Detached.{CountsDetached, EndsWithoutKey}
 use Rattle.luks_runs.specs.Ending.{Outcome, unwritten}
 use Rattle.luks_runs.specs.Header.{is_luks_outcome, print_outcome_by}
@@ -124,7 +124,7 @@ runs_apart is_prompt out message TookHeader TookSecret Wrote none run =
 
 -- before anything is written or taken, a run is prompt
 prompt_at_first : (file : List ℕ) (message : Message) (a b : ℕ) → detached_cat_promptly file 0 message a b 0
-prompt_at_first file ReadFailed a b segment has = λ past. absurd (omega arith)
+prompt_at_first file ReadFailed a b segment has = λ passes. no_sectors_before segment 0 (omega arith)
 prompt_at_first file WriteFailed a b segment has = omega arith
 prompt_at_first file _ a b segment has = tt
 
@@ -217,7 +217,7 @@ module _ (o : OpeningRequest) (file image pass : List ℕ) (segment : Segment) (
           secret_within = omega arith;
           output_within = omega (arith, plain_len segment image (segment.mode, opened.key));
           is_silent = tt;
-          is_prompt = λ other is past.
+          is_prompt = λ other is passes.
               rw (same_segment_by detached_header_of file segment other u.has is)
               (ap (λ n. n * sector_len segment) passed.2);
           image = u.image_taken;

@@ -188,7 +188,7 @@ module _ (o : OpeningRequest) (image pass : List ℕ) (segment : Segment) (opene
           secret_within = omega arith;
           output_within = omega (arith, plain_len segment image (segment.mode, opened.key));
           is_silent = tt;
-          is_prompt = λ other is past.
+          is_prompt = λ other is passes.
               rw (same_segment_by header_of image segment other u.has is) (ap (λ n. n * sector_len segment) passed.2);
           image = passed.5;
           secret = u.secret_taken;

@@ -1,5 +1,5 @@
 -- How much of the image is taken for what is promised of a run on a volume that is broken off.
-use Rattle.std.proofs.Common.{◌≡◌, ℕ, ◌-◌, ◌≤◌, inl, inr, List, Option, Ok, refl, arith, max}
+use Rattle.std.proofs.Common.{◌≡◌, ℕ, ◌-◌, ◌*◌, ◌/◌, ◌≤◌, inl, inr, List, Option, Ok, refl, arith, max}
 use Rattle.std.proofs.lemmas.Bool.{cases_lt}
 use Rattle.std.proofs.Math.Nat.{zero-div}
 use Rattle.luks_header.specs.Header.{cost_of, header_of}
@@ -28,9 +28,19 @@ same_segment_by read image s t one other =
     let fourth : segment_of other.0 ≡ Ok t = other.2 in
     cc
 
+-- no sector stands before the payload's start
+pub no_sectors_before : (segment : Segment) (a : ℕ) → a ≤ segment.offset
+    → 0 ≡ (a - segment.offset) / sector_len segment * sector_len segment
+no_sectors_before segment a few =
+    let none : a - segment.offset ≡ 0 = omega arith in rw (none, zero-div (sector_len segment)) (omega arith)
+
 -- nothing past the header was taken
 cat_in_header : (image : List ℕ) (message : Message) (a b : ℕ) → a ≤ cost_of image → cat_promptly image message a b 0
-cat_in_header image ReadFailed a b few segment has = λ past. absurd (omega arith)
+cat_in_header image ReadFailed a b few segment has = λ passes.
+    elim passes [
+      | inl before ↦ no_sectors_before segment a (omega arith)
+      | inr past ↦ absurd (omega arith)
+    ]
 cat_in_header image WriteFailed a b few segment has = omega arith
 cat_in_header image _ a b few segment has = tt
 
@@ -47,10 +57,9 @@ prompt_refused Detached image a b = refl
 -- nothing past the payload's start was taken
 prompt_to_payload : (image : List ℕ) (message : Message) (a b : ℕ) (segment : Segment) → HasSegment image segment
     → a ≤ segment.offset → cat_promptly image message a b 0
-prompt_to_payload image ReadFailed a b segment has few other is = λ past.
+prompt_to_payload image ReadFailed a b segment has few other is = λ passes.
     let same = same_segment_by header_of image segment other has is in
-    let none : a - other.offset ≡ 0 = rw same (omega arith) in
-    rw (none, zero-div (sector_len other)) (omega arith)
+    no_sectors_before other a (rw same few)
 prompt_to_payload image WriteFailed a b segment has few other is =
     let same = same_segment_by header_of image segment other has is in
     let start : a ≤ other.offset = rw same few in

@@ -1,5 +1,5 @@
 -- What the parts of the commands on volumes leave in their devices.
-use Rattle.std.specs.Prelude.{◌≡◌, ℕ, ◌+◌, ◌-◌, ◌*◌, ◌/◌, ◌<◌, ◌≤◌, List, length, max, Option, Ok, Err}
+use Rattle.std.specs.Prelude.{◌≡◌, ◌⊎◌, ℕ, ◌+◌, ◌-◌, ◌*◌, ◌/◌, ◌<◌, ◌≤◌, List, length, max, Option, Ok, Err}
 use Rattle.luks_io.specs.Bytes.{Took, TookUpTo}
 use Rattle.luks_header.specs.Header.{cost_of, header_of}
 use Rattle.luks_header.specs.Segment.{segment_of}
@@ -39,12 +39,16 @@ pub record TakesHeld (secret : List ℕ) (on_opened : OnOpened) : Type 0 where
 
 -- ---- the payload
 
--- passing on a payload is broken off: where a write fails, no byte of the image past the sector of the last byte
--- written was taken, but for the header's; where a read fails past the header, the whole sectors that were taken are
--- written
+-- the header ends before the payload starts, or more than the header was consumed: only a damaged primary header, whose
+-- size reaches into the payload, can end a run without either
+abbrev pub PassesHeader : Segment → ℕ → ℕ → Type 0
+PassesHeader s cost taken = (cost ≤ s.offset) ⊎ (cost < taken)
+
+-- passing on a payload is aborted: if a write fails, no byte of the image past the sector of the last byte written was
+-- consumed, except for the header's; if a read fails, the output is the whole sectors that were consumed
 abbrev pub passed_promptly : Segment → ℕ → Message → ℕ → ℕ → Type 0
 passed_promptly s cost WriteFailed taken output = taken ≤ max cost (sector_start s (output / sector_len s + 1))
-passed_promptly s cost ReadFailed taken output = cost < taken
+passed_promptly s cost ReadFailed taken output = PassesHeader s cost taken
     → output ≡ (taken - s.offset) / sector_len s * sector_len s
 passed_promptly s cost _ taken output = Unit {0}
 

@@ -35,12 +35,14 @@ mod volumes;
 /// header, the segment, the order of the key slots or the length of a key. But for `luksCat` and
 /// `afSplit`, nothing is written where a read fails.
 ///
-/// Of an honestly sealed volume `luksCat` writes the plain text that went into it, where the
-/// passphrase is that of a key slot which is tried.
+/// `luksCat` writes the plain text of an honestly sealed volume if the passphrase is that of a key
+/// slot which is tried, no slot tried before gives another key, the image is shorter than 2^64
+/// bytes, both inputs know their bytes, and no memory, read or write fails.
 ///
 /// `luksCat` announces how much of the image it will ask for, and writes each sector as it comes:
-/// where a write fails, nothing past the current sector was asked for, and where a read fails, all
-/// whole sectors that were taken are written. Its image is shorter than 2^64 bytes.
+/// if a write fails, nothing past the current sector was asked for, and if a read fails, all whole
+/// sectors that were taken are written. No clause says yet how much it announces, so none says what
+/// a source that reads ahead takes of a pipe. Its image is shorter than 2^64 bytes.
 pub fn execute<I: Source, K: Source, O: Sink>(
     alloc: Global,
     command: &Command<'_>,
@@ -112,7 +114,38 @@ fn perform<I: Source, K: Source, O: Sink>(
             volumes::test_passphrase(alloc, standing, opening, image, secret, out)
         }
         Command::LuksCat(opening) => volumes::cat(alloc, opening, image, secret, out),
+        Command::AfSplit(_) => perform_stripes(command, image, secret, out),
+        Command::AfMerge(_) => perform_stripes(command, image, secret, out),
+    }
+}
+
+/// Does what `afSplit` or `afMerge` asks for. It has no allocator, so neither takes memory.
+fn perform_stripes<I: Source, K: Source, O: Sink>(
+    command: &Command<'_>,
+    image: &mut I,
+    secret: &mut K,
+    out: &mut O,
+) -> Result<(), Message>
+    requires stripes { TakesNoMemory (request_of command.now) }
+    ensures run { RunsAsStated (request_of command.now) (message_of result)
+        (I.to_come image.old) (I.to_come image.new) (K.to_come secret.old) (K.to_come secret.new)
+        (O.written out.old) (O.written out.new) }
+    ensures only { MayTell (request_of command.now) (message_of result) }
+    ensures memory { IfErr result (λ message. message ≢ Message.OutOfMemory) }
+    ensures unread { secret_of (request_of command.now) ≡ None → secret.new ≡ secret.old }
+    ensures unneeded { WhereKnown (I.to_come image.old) (λ known.
+        NeedsNoSecret (request_of command.now) known → secret.new ≡ secret.old) }
+    ensures reads_first { ReadsFirst (request_of command.now)
+        → message_of result ≡ Message.ReadFailed → out.new ≡ out.old }
+    ensures counts { Counts (message_of result)
+        (failures_of (I.failures image.old) (K.failures secret.old) (O.failures out.old))
+        (failures_of (I.failures image.new) (K.failures secret.new) (O.failures out.new)) }
+    ensures image_end { FindsEndOnce (I.ends image.old) (I.ends image.new) }
+    ensures secret_end { FindsEndOnce (K.ends secret.old) (K.ends secret.new) }
+{
+    match command {
         Command::AfSplit(splitting) => stripes::split(splitting, image, secret, out),
         Command::AfMerge(merging) => stripes::merge(merging, image, out),
+        _ => unreachable!(),
     }
 }

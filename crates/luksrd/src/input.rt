@@ -1,9 +1,9 @@
 //! The inputs of a run: files by name, standard input by `-`.
 
 use crate::BUFFER;
-use std::fs::{self, File, Metadata};
+use crate::target::is_output;
+use std::fs::{self, File};
 use std::io::{self, BufReader, ErrorKind, Read, Stdin};
-use std::os::unix::fs::{FileTypeExt, MetadataExt};
 
 /// An input that is open. A regular file is read ahead. Of a pipe, a device and standard input only
 /// what is asked for is taken, so that what a run leaves of them stays for the program that reads
@@ -25,11 +25,11 @@ pub enum OpenFault {
 
 impl Input {
     /// Opens the file of this name, or standard input for `-`. A folder does not open, nor does
-    /// what standard output writes to: a run would read what it writes, without end.
+    /// what standard output writes to.
     pub fn open(rt: &HostRuntime, name: &str) -> Result<Input, OpenFault> {
         if name == "-" {
             return match fs::metadata(rt, "/dev/stdin") {
-                Ok(kind) if is_output(rt, &kind) => Err(OpenFault::NotOpened),
+                Ok(kind) if kind.is_dir() || is_output(rt, &kind) => Err(OpenFault::NotOpened),
                 _ => Ok(Input::Standard(rt.stdin())),
             };
         }
@@ -43,18 +43,6 @@ impl Input {
         }
         let reader = BufReader::with_capacity(rt.alloc(), BUFFER, file).map_err(fault_of)?;
         Ok(Input::File(reader))
-    }
-}
-
-/// Whether standard output writes to what this says of an input. A terminal, a pipe and `/dev/null`
-/// do not give back what is written to them.
-fn is_output(rt: &HostRuntime, input: &Metadata) -> bool {
-    if !input.is_file() && !input.file_type().is_block_device() {
-        return false;
-    }
-    match fs::metadata(rt, "/dev/stdout") {
-        Ok(output) => input.dev() == output.dev() && input.ino() == output.ino(),
-        Err(_) => false,
     }
 }
 

@@ -6,6 +6,7 @@
 
 mod input;
 mod output;
+mod target;
 
 use input::{Input, OpenFault};
 use luks_cli::execute::{execute, execute_detached};

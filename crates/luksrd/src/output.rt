@@ -1,7 +1,7 @@
 //! Standard output, and the descriptors that a program may be started without.
 
 use luks_io::adapters::REPEATS;
-use std::fs::{File, OpenOptions};
+use std::fs::{self, File};
 use std::io::{self, ErrorKind, Write};
 use std::os::fd::AsRawFd;
 
@@ -51,12 +51,10 @@ impl<W: Write> Write for Patient<W> {
 }
 
 /// Opens `/dev/null` in place of one of the descriptors 0 to 2, if one is closed: else the first
-/// input would become standard input, or what is written would go into it. It stands there as long
-/// as it is kept.
+/// input would become standard input, or the output would go into it. It stands there as long as it
+/// is kept. It is open for reading alone, so that a write to a closed output fails and is reported.
 pub fn stand_in(rt: &HostRuntime) -> Option<File> {
-    let mut options = OpenOptions::new();
-    options.read(true).write(true);
-    let file = options.open(rt, "/dev/null").ok()?;
+    let file = fs::open(rt, "/dev/null").ok()?;
     if file.as_raw_fd() > 2 {
         return None;
     }

@@ -79,9 +79,10 @@ fn check_broken(
     assert_same_in(rt, &given, taken, given);
 }
 
-static READS: [(usize, usize); 8] = [
+static READS: [(usize, usize); 9] = [
     (0, 0),
     (591, 0),
+    (592, 0),
     (260_095, 0),
     (2_097_151, 0),
     (2_097_152, 0),

@@ -1,0 +1,67 @@
+//! What standard output writes to. No input may be that: a run would read what it writes, without
+//! end, or write over what it reads.
+
+use std::fs::{self, Metadata};
+use std::os::unix::fs::{FileTypeExt, MetadataExt};
+
+/// What gives back the bytes that are written to it.
+#[derive(Clone, Copy, PartialEq, Eq)]
+enum Storage {
+    /// A regular file, by its file system and its inode.
+    File { device: u64, inode: u64 },
+    /// A block device, by its number: it may have several nodes.
+    Device { number: u64 },
+}
+
+/// Whether standard output writes to this input, by whatever name. Either of them may be a loop
+/// device over the other, or both over one file. A root without `/dev` or `/sys` shows less.
+pub fn is_output(rt: &HostRuntime, input: &Metadata) -> bool {
+    let (Some(input), Ok(output)) = (storage_of(input), fs::metadata(rt, "/dev/stdout")) else {
+        return false;
+    };
+    let Some(output) = storage_of(&output) else {
+        return false;
+    };
+    let input_below = backing_of(rt, input);
+    let output_below = backing_of(rt, output);
+    input == output
+        || input_below == Some(output)
+        || output_below == Some(input)
+        || (input_below.is_some() && input_below == output_below)
+}
+
+/// What a file's metadata stands for, if it gives back what is written to it. A terminal, a pipe
+/// and `/dev/null` do not.
+fn storage_of(file: &Metadata) -> Option<Storage> {
+    if file.is_file() {
+        let (device, inode) = (file.dev(), file.ino());
+        return Some(Storage::File { device, inode });
+    }
+    if file.file_type().is_block_device() {
+        let number = file.rdev();
+        return Some(Storage::Device { number });
+    }
+    None
+}
+
+/// What a loop device is over, as far as `/sys` shows it.
+fn backing_of(rt: &HostRuntime, storage: Storage) -> Option<Storage> {
+    let Storage::Device { number } = storage else {
+        return None;
+    };
+    let (major, minor) = (major_of(number), minor_of(number));
+    let entry = format!(in rt.alloc(); "/sys/dev/block/{major}:{minor}/loop/backing_file").ok()?;
+    let name = fs::read_to_string(rt, &entry).ok()?;
+    let file = fs::metadata(rt, name.trim_end_matches('\n')).ok()?;
+    storage_of(&file)
+}
+
+/// The major part of a device's number, as Linux puts it together.
+fn major_of(number: u64) -> u64 {
+    ((number >> 8) & 0xfff) | ((number >> 32) & 0xffff_f000)
+}
+
+/// The minor part.
+fn minor_of(number: u64) -> u64 {
+    (number & 0xff) | ((number >> 12) & 0xffff_ff00)
+}
