@@ -1,6 +1,6 @@
 #!/usr/bin/env bash
-# Runs README's recipes as they are written there, in bash and in zsh, on volumes that cryptsetup and qemu-img make: what they write is the plain text, and no image
-# changes, one with a damaged secondary header among them. What mounts is left out.
+# Runs README's recipes as they are written there, in bash and in zsh, on volumes of cryptsetup and qemu-img: they
+# write the plain text, and no image changes, also not one with a damaged secondary header. Mounting is left out.
 readme=$(realpath "$(dirname "$0")/../README.md")
 # shellcheck source=interop/common.sh
 . "$(dirname "$0")/common.sh"
@@ -12,7 +12,8 @@ recipe() {
     awk -v text="$1" 'index($0, text) { found = 1 } found && /^    / { inside = 1; print substr($0, 5) } inside && !/^    / { exit }' "$readme"
 }
 
-# cooks FOLDER NEEDED TEXT..: runs these recipes beside the images of a folder, in each shell, with links to the other files that they need; no image changes
+# cooks FOLDER NEEDED TEXT..: runs these recipes in a folder with images, in each shell, with links to the other files that
+# they need; no image changes
 cooks() {
     local folder=$1 needed=$2 shell text
     shift 2
@@ -29,11 +30,12 @@ cooks() {
     done
 }
 
-# gives FOLDER FILE WANTED: in both shells the recipes left this file with these bytes
+# gives FOLDER FILE WANTED: in both shells the recipes left this file, which begins with these bytes (a volume that
+# cryptsetup encrypts has more than was asked for)
 gives() {
     local shell
     for shell in bash zsh; do
-        same "$1 in $shell: $2" "$(sha256sum <"rescue $1, $shell/$2")" "$(sha256sum <"$3")"
+        same "$1 in $shell: $2" "$(head -c "$(stat -c %s "$3")" "rescue $1, $shell/$2" | sha256sum)" "$(sha256sum <"$3")"
     done
 }
 
@@ -53,6 +55,7 @@ damaged() {
     printf '\377' | dd of="$1" bs=1 seek=$((16384 + 5000)) conv=notrunc status=none
 }
 
+by_argon2=(--pbkdf argon2id --pbkdf-force-iterations 4 --pbkdf-memory 32768 --pbkdf-parallel 1)
 printf 'a secret' >pass
 printf 'another one' >pass2
 printf 'a secret\n' >typed
@@ -87,8 +90,8 @@ says partition 'start=        2048, size=       24576'
 # a header in a file of its own
 mkdir detached
 cp plain detached/disk.img
-cryptsetup -q reencrypt --encrypt --type luks2 --force-offline-reencrypt --pbkdf pbkdf2 --pbkdf-force-iterations 1000 --key-file pass \
-    --header detached/disk.header detached/disk.img >err 2>&1 || { cat err; exit 1; }
+cryptsetup -q reencrypt --encrypt --type luks2 --force-offline-reencrypt --pbkdf pbkdf2 --pbkdf-force-iterations 1000 \
+    --key-file pass --header detached/disk.header detached/disk.img >err 2>&1 || { cat err; exit 1; }
 cooks detached disk.header 'A header on another medium'
 gives detached plain.img plain
 
@@ -107,8 +110,8 @@ says backup 'TYPE="ext4"'
 mkdir argon2
 cp plain argon2/disk.img
 truncate -s +4M argon2/disk.img
-cryptsetup -q reencrypt --encrypt --type luks2 --reduce-device-size 4M --force-offline-reencrypt --luks2-metadata-size 16k --luks2-keyslots-size 1m \
-    --pbkdf argon2id --pbkdf-force-iterations 4 --pbkdf-memory 32768 --pbkdf-parallel 1 --key-file pass argon2/disk.img >err 2>&1 || { cat err; exit 1; }
+cryptsetup -q reencrypt --encrypt --type luks2 --reduce-device-size 4M --force-offline-reencrypt --luks2-metadata-size 16k \
+    --luks2-keyslots-size 1m "${by_argon2[@]}" --key-file pass argon2/disk.img >err 2>&1 || { cat err; exit 1; }
 damaged argon2/disk.img
 same 'a volume of Argon2' "$(told testPassphrase --key-file pass argon2/disk.img)" 'luksrd: no key slot can be tried; skipped: 0 (argon2id)
 1'
@@ -120,7 +123,7 @@ mkdir audit
 cp volume/disk.img audit/1.img
 cp backup/disk.img audit/2.img
 cp partition/disk.img audit/3.img
-cryptsetup -q luksAddKey --pbkdf argon2id --pbkdf-force-iterations 4 --pbkdf-memory 32768 --pbkdf-parallel 1 --key-file pass audit/3.img pass2
+cryptsetup -q luksAddKey "${by_argon2[@]}" --key-file pass audit/3.img pass2
 damaged audit/3.img
 cp partition/whole.img audit/4.img
 head -c 500 volume/disk.img >audit/5.img
