@@ -1,19 +1,19 @@
 -- What is known of a header whose segment is not refused.
-use Rattle.std.proofs.Common.{◌≡◌, ◌*◌, ◌≤◌, ap, refl, Bool, true, false, List, [], ◌∷◌, Option, Some, None, Ok}
-use Rattle.std.specs.Prelude.{not, nat_lt, is_none}
+use Rattle.std.proofs.Common.{◌≡◌, ◌*◌, ◌≤◌, ap, refl, Bool, true, false, List, [], ◌∷◌, Option, Some, None, Ok, Err}
+use Rattle.std.specs.Prelude.{not, is_none}
 use Rattle.std.proofs.lemmas.Bool.{ltb-false}
 use Rattle.luks_cipher.specs.declared.mode.Mode.{Mode}
 use Rattle.luks_kdf.specs.declared.hash.Hash.{Hash}
 use Rattle.luks_verdict.specs.Digest.{digest_of}
-use Rattle.luks_verdict.specs.Segment.{refused_or, segment_by, segment_from}
+use Rattle.luks_verdict.specs.Segment.{segment_by, segment_from}
 use Rattle.luks_verdict.specs.declared.digest.KeyDigest.{KeyDigest}
 use Rattle.luks_verdict.specs.declared.refusal.SegmentFault.{SegmentFault}
 use Rattle.luks_verdict.specs.declared.refusal.SegmentFault.TheVariants.{Encryption, KeyBytes, Offset}
 use Rattle.luks_verdict.specs.declared.refusal.SegmentFault.TheVariants.{Hash as UnknownHash}
 use Rattle.luks_verdict.specs.declared.segment.Segment.{Segment}
-use Rattle.luks_verdict.proofs.MadeLemmas.{digest_from-some}
+use Rattle.luks_verdict.proofs.MadeLemmas.{digest_from-some, refused_or-fault, refused_or-none, refused_or-ok}
 use Rattle.luks_verdict.proofs.TableLemmas.{first_not}
-use Rattle.luks1_header.specs.Segment1.{fault1_of, is_key_length1, segment1_of, segment_parts1_of, starts_inside}
+use Rattle.luks1_header.specs.Segment1.{fault1_of, is_key_length1, made1, segment1_of, segment_parts1_of, starts_inside}
 use Rattle.luks1_header.specs.Slot1.{digest1_of, digest_parts1_of, hash1_of, mode1_of}
 use Rattle.luks1_header.specs.declared.header.Header1.{Header1}
 
@@ -74,17 +74,23 @@ segment_made header segment mode known made = of_mode (mode1_of header) refl
 pub IsReadable-ok : (header : Header1) (segment : Segment) → segment1_of header ≡ Ok segment
     → IsSegment1 header segment × IsReadable header
 unfolding segment1_of
-IsReadable-ok header segment is = of_fault (fault1_of header) refl (segment_from (segment_parts1_of header)) refl is
-  where
-    of_fault : (fault : Option SegmentFault) → fault1_of header ≡ fault
-        → (made : Option Segment) → segment_from (segment_parts1_of header) ≡ made
-        → refused_or fault made ≡ Ok segment
-        → IsSegment1 header segment × IsReadable header
-    of_fault None none (Some made) m h =
-        let readable = IsReadable-none header none in
-        (segment_made header segment readable.mode.0 readable.mode.1 cc, readable)
-    of_fault None none None m h = absurd cc
-    of_fault (Some fault) some made m h = absurd cc
+IsReadable-ok header segment is =
+    let made = refused_or-ok (fault1_of header) (segment_from (segment_parts1_of header)) (made1 header) segment is in
+    let readable = IsReadable-none header made.0 in
+    (segment_made header segment readable.mode.0 readable.mode.1 made.1, readable)
+
+-- the segment, by its fault
+pub segment1-fault : (header : Header1) (fault : SegmentFault) → fault1_of header ≡ Some fault
+    → segment1_of header ≡ Err fault
+unfolding segment1_of
+segment1-fault header fault is =
+    refused_or-fault (fault1_of header) (segment_from (segment_parts1_of header)) (made1 header) fault is
+
+pub segment1-none : (header : Header1) (segment : Segment) → fault1_of header ≡ None
+    → segment_from (segment_parts1_of header) ≡ Some segment → segment1_of header ≡ Ok segment
+unfolding segment1_of
+segment1-none header segment none made =
+    refused_or-none (fault1_of header) (segment_from (segment_parts1_of header)) (made1 header) segment none made
 
 -- the digest has the header's hash
 pub digest_hash : (header : Header1) (digest : KeyDigest) → digest1_of header ≡ Some digest

@@ -1,8 +1,9 @@
 -- Where the payload of LUKS1 lies, or why it cannot be read.
-use Rattle.std.specs.Prelude.{◌*◌, ◌&&◌, ℕ, not, nat_lt, Bool, false, [], ◌∷◌, Option, Some, None, Result, is_none}
+use Rattle.std.specs.Prelude.{◌≡◌, ◌≢◌, ◌*◌, ◌&&◌, ℕ, not, nat_lt, Bool, false, List, [], ◌∷◌, Option, Some, None}
+use Rattle.std.specs.Prelude.{Result, is_none}
 use Rattle.luks_cipher.specs.Sector.{is_mode_key_length}
 use Rattle.luks_cipher.specs.declared.mode.Mode.{Mode}
-use Rattle.luks_verdict.specs.Segment.{refused_or, segment_from}
+use Rattle.luks_verdict.specs.Segment.{refused_or, segment_from, segment_of_all}
 use Rattle.luks_verdict.specs.Table.{first_holding}
 use Rattle.luks_verdict.specs.declared.refusal.SegmentFault.{SegmentFault}
 use Rattle.luks_verdict.specs.declared.refusal.SegmentFault.TheVariants.{Encryption, Hash, KeyBytes, Offset}
@@ -41,6 +42,23 @@ segment_parts1_of header = record {
   mode = mode1_of header;
 }
 
+-- a segment whose mode is known is made
+made_in : (mode : Option Mode) (others : List (Bool × SegmentFault)) (offset : ℕ)
+    → first_holding ((is_none mode, Encryption) ∷ others) ≡ None
+    → segment_of_all (Some offset) (Some None) (Some 0) (Some B512) mode ≢ None
+made_in None others offset no_fault none = cc
+made_in (Some mode) others offset no_fault none = cc
+
+-- a segment without a fault is made: its mode is known
+pub made1 : (header : Header1) → fault1_of header ≡ None → segment_from (segment_parts1_of header) ≢ None
+unfolding fault1_of segment_from
+made1 header =
+    made_in (mode1_of header) (
+    (is_none (hash1_of header), Hash)
+    ∷ (not (is_key_length1 (mode1_of header) header.key_bytes), KeyBytes)
+    ∷ (starts_inside header, Offset)
+    ∷ []) (512 * header.payload_offset)
+
 -- the segment, or its first fault
 unfoldable pub segment1_of : Header1 → Result Segment SegmentFault
-segment1_of header = refused_or (fault1_of header) (segment_from (segment_parts1_of header))
+segment1_of header = refused_or (fault1_of header) (segment_from (segment_parts1_of header)) (made1 header)

@@ -222,7 +222,6 @@ fn fault(header: &Header1) -> Option<SegmentFault>
 }
 
 /// The segment of a header, or its first fault. This takes no memory.
-#[tactic(auto, unfolding(crate::specs::Segment1::segment1_of))]
 pub fn segment(header: &Header1) -> Result<Segment, SegmentFault>
     ensures { result ≡ segment1_of header.now }
 {
@@ -238,6 +237,6 @@ pub fn segment(header: &Header1) -> Result<Segment, SegmentFault>
     };
     match Segment::from_parts(parts) {
         Some(segment) => Ok(segment),
-        None => Err(SegmentFault::Member),
+        None => unreachable!(),
     }
 }

@@ -1,6 +1,7 @@
 //! What the text of a JSON area says as a whole.
 
-ghost use Rattle.std.specs.Prelude.{◌≡◌, ◌⊎◌, Some, None, Err, IfOk, IfErr};
+ghost use Rattle.std.specs.Prelude.{◌≡◌, ◌<◌, ◌⊎◌, ◌↔◌, Some, None, Ok, Err, IfOk, IfErr};
+ghost use Rattle.std.specs.Prelude.{if◌then◌else◌, length};
 ghost use Rattle.luks2_members.specs.Tree.{has_objects, is_object_at, tree_of};
 ghost use Rattle.serde_json.specs.Errors.{IsMemory};
 ghost use Rattle.serde_json.specs.View.{view as data_of};
@@ -47,9 +48,10 @@ fn complete(tree: &Value) -> bool
     object_at(tree, "keyslots") && object_at(tree, "segments") && object_at(tree, "digests")
 }
 
-// How a text that was not read says so: memory was refused, or it is no JSON.
+// Why a text was not read: Memory exactly if memory was refused, and else Json.
 fn fault_of(error: serde_json::Error) -> HeaderFault
-    ensures json { result ≡ HeaderFault.Json → ¬ IsMemory error }
+    ensures memory { (result ≡ HeaderFault.Memory) ↔ IsMemory error }
+    ensures json { (result ≡ HeaderFault.Json) ↔ (¬ IsMemory error) }
     ensures refusals { (result ≡ HeaderFault.Json) ⊎ (result ≡ HeaderFault.Memory) }
 {
     if error.is_memory() {
@@ -60,23 +62,32 @@ fn fault_of(error: serde_json::Error) -> HeaderFault
 }
 
 impl Metadata {
+    // What a text says that was read as this tree, where the tree has the objects.
+    fn with_tree(tree: Value) -> Result<Metadata, HeaderFault>
+        ensures { result
+            ≡ (if has_objects (data_of tree) then Ok (data_of tree) else Err HeaderFault.Json) }
+    {
+        if complete(&tree) {
+            Ok(Metadata { tree })
+        } else {
+            Err(HeaderFault::Json)
+        }
+    }
+
     /// What the text of a JSON area says.
     ///
     /// [`HeaderFault::Json`] is for a text that is no JSON in UTF-8, nests deeper than 127, or is
     /// no object with objects `keyslots`, `segments` and `digests`; [`HeaderFault::Memory`] for
-    /// refused memory. There are no other faults.
+    /// refused memory, which an empty text takes none of. There are no other faults.
     pub fn read(alloc: Global, text: &[u8]) -> Result<Metadata, HeaderFault>
         ensures ok { IfOk result (λ metadata. tree_of text.now ≡ Some metadata) }
         ensures json { result ≡ Err HeaderFault.Json → tree_of text.now ≡ None }
+        ensures memory { result ≡ Err HeaderFault.Memory → 0 < length text.now }
         ensures refusals { IfErr result (λ fault.
             (fault ≡ HeaderFault.Json) ⊎ (fault ≡ HeaderFault.Memory)) }
     {
         match Value::from_slice(alloc, text) {
-            Ok(tree) => if complete(&tree) {
-                Ok(Metadata { tree })
-            } else {
-                Err(HeaderFault::Json)
-            }
+            Ok(tree) => Metadata::with_tree(tree),
             Err(error) => Err(fault_of(error)),
         }
     }

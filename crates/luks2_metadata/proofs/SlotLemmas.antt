@@ -20,7 +20,7 @@ use Rattle.luks_verdict.specs.declared.slot.Judgement.TheVariants.{Usable as Ope
 use Rattle.luks_kdf.specs.declared.hash.Hash.{Hash}
 use Rattle.luks_cipher.specs.Sector.{is_mode_key_length}
 use Rattle.luks2_members.specs.Numbered.{numbered}
-use Rattle.luks2_segment.proofs.SegmentLemmas.{none_holds}
+use Rattle.luks_verdict.proofs.TableLemmas.{none_holds}
 use Rattle.luks2_members.specs.Encryption.{is_length_for}
 use Rattle.luks2_members.specs.Member.{is_type}
 use Rattle.luks2_metadata.specs.Digest2.{digest2_for}

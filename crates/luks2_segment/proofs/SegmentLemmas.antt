@@ -1,5 +1,5 @@
 -- The segment of a header.
-use Rattle.std.proofs.Common.{◌≡◌, ◌∙◌, ◌≢◌, ◌≤◌, ℕ, Bool, false, List, [], ◌∷◌, Option, Some, None, Result, Ok}
+use Rattle.std.proofs.Common.{◌≡◌, ◌∙◌, ◌≢◌, ◌≤◌, ℕ, true, false, List, [], ◌∷◌, Option, Some, None, Result, Ok, Err}
 use Rattle.std.proofs.Common.{Ordering, Less, Equal, Greater, String, Global, nat_cmp, is_eq, ap, subst, sym, refl}
 use Rattle.std.proofs.Common.{arith, length}
 use Rattle.std.specs.Prelude.{◌==◌, ◌%◌, ◌||◌, not, nat_lt, codes, is_none, option_map, if◌then◌else◌, string_bytes}
@@ -8,15 +8,17 @@ use Rattle.std.specs.Ordering.{match_ordering}
 use Rattle.std.specs.Result.{result_ok}
 use Rattle.std.proofs.lemmas.Map.Text.{is_eq-slice_cmp}
 use Rattle.std.proofs.lemmas.Bool.{ne_eqb}
-use Rattle.luks2_segment.specs.Segment2.{are_none, fault2_of, has_requirement, is_empty_list, offset_of, only_member}
+use Rattle.luks2_segment.specs.Segment2.{are_none, fault2_of, has_requirement, is_empty_list, made2, offset_of}
+use Rattle.luks2_segment.specs.Segment2.{only_member}
 use Rattle.luks2_segment.specs.Segment2.{payload2_of, payload_mode2_of, segment2_of, segment_faults, segment_parts2_of}
 use Rattle.luks2_segment.specs.Segment2.{segment_said, starts_inside, starts_wrong, the_segment}
 use Rattle.luks2_segment.specs.declared.bounds.Bounds.{Bounds}
 use Rattle.luks_cipher.specs.declared.mode.Mode.{Mode}
-use Rattle.luks_verdict.proofs.TableLemmas.{first_not}
+use Rattle.luks_verdict.proofs.MadeLemmas.{refused_or-fault, refused_or-none, refused_or-ok}
+use Rattle.luks_verdict.proofs.TableLemmas.{none_holds}
 use Rattle.luks_verdict.specs.Evidence.{where_true}
 use Rattle.luks_verdict.specs.SectorSize.{are_sectors}
-use Rattle.luks_verdict.specs.Segment.{refused_or, segment_by, segment_from, segment_of_all}
+use Rattle.luks_verdict.specs.Segment.{segment_by, segment_from, segment_of_all}
 use Rattle.luks_verdict.specs.Table.{first_holding}
 use Rattle.luks_verdict.specs.declared.refusal.SegmentFault.{SegmentFault}
 use Rattle.luks_verdict.specs.declared.refusal.SegmentFault.TheVariants.{Requirement, Segments}
@@ -24,7 +26,6 @@ use Rattle.luks_verdict.specs.declared.sector_size.SectorSize.{SectorSize as Sec
 use Rattle.luks_verdict.specs.declared.segment.Segment.{Segment}
 use Rattle.std.proofs.lemmas.Bool.Decides.{nat_tests}
 use Rattle.std.proofs.lemmas.Option.{same_Some}
-use Rattle.std.specs.List.{AllByRecursion}
 use Rattle.serde_json.specs.Data.{Data, object}
 use Rattle.serde_json.specs.Data as json
 use Rattle.serde_json.specs.Find.{as_array, as_object, get, get_member}
@@ -88,13 +89,44 @@ pub segment_none : (tree segments : Data) (entries : List (String Global × Valu
 unfolding the_segment
 segment_none tree segments entries there all more = rw (← there, ← all) (sym (none_only (codes "0") entries more))
 
--- ---- a segment that is not refused
+-- ---- the fault of a segment
 
-made_from : (fault : Option SegmentFault) (made : Option Segment) (segment : Segment)
-    → refused_or fault made ≡ Ok segment → (fault ≡ None) × (made ≡ Some segment)
-made_from (Some fault) made segment is = absurd cc
-made_from None (Some made) segment is = (refl, cc)
-made_from None None segment is = absurd cc
+pub fault2-requirement : (tree : Data) (bounds : Bounds) → has_requirement tree ≡ true
+    → fault2_of tree bounds ≡ Some Requirement
+unfolding fault2_of
+fault2-requirement tree bounds requires = rw requires refl
+
+pub fault2-segments : (tree : Data) (bounds : Bounds) → has_requirement tree ≡ false → the_segment tree ≡ None
+    → fault2_of tree bounds ≡ Some Segments
+unfolding fault2_of
+fault2-segments tree bounds requires none = rw (requires, none) refl
+
+-- where nothing is required and there is one, it is that of its members
+pub fault2-there : (tree : Data) (bounds : Bounds) (segment : Data) → has_requirement tree ≡ false
+    → the_segment tree ≡ Some segment → fault2_of tree bounds ≡ first_holding (segment_faults bounds segment)
+unfolding fault2_of
+fault2-there tree bounds segment requires there = rw (requires, there) refl
+
+-- the segment, by its fault
+pub segment2-fault : (tree : Data) (bounds : Bounds) (fault : SegmentFault) → fault2_of tree bounds ≡ Some fault
+    → segment2_of tree bounds ≡ Err fault
+unfolding segment2_of
+segment2-fault tree bounds fault is =
+    refused_or-fault (fault2_of tree bounds) (segment_from (segment_parts2_of (segment_said tree)))
+    (made2 tree bounds) fault is
+
+pub segment2-none : (tree : Data) (bounds : Bounds) (segment : Segment) → fault2_of tree bounds ≡ None
+    → segment_from (segment_parts2_of (segment_said tree)) ≡ Some segment → segment2_of tree bounds ≡ Ok segment
+unfolding segment2_of
+segment2-none tree bounds segment none made =
+    refused_or-none (fault2_of tree bounds) (segment_from (segment_parts2_of (segment_said tree)))
+    (made2 tree bounds) segment none made
+
+-- what is said of the segment that is there
+pub said-there : (tree segment : Data) → the_segment tree ≡ Some segment → segment_said tree ≡ segment
+said-there tree segment there = rw there refl
+
+-- ---- a segment that is not refused
 
 mapped : {A B : Type 0} (f : A → B) (o : Option A) (y : B) → option_map f o ≡ Some y → (x : A) × (f x ≡ y)
 mapped f (Some x) y is = (x, same_Some _ _ is)
@@ -110,14 +142,6 @@ offset_made (Some offset) (Some size) (Some iv_tweak) (Some sector_size) (Some m
     segment is in
     ap (λ (s : Segment). Some s.offset) made.1
 offset_made _ _ _ _ _ segment is = absurd cc
-
--- of a table of which no line holds, none does
-pub none_holds : {T : Type 0} (lines : List (Bool × T)) → first_holding lines ≡ None
-    → AllByRecursion (λ (line : Bool × T). line.0 ≡ false) lines
-none_holds [] none = tt
-none_holds ((holds, name) ∷ lines) none =
-    let first = first_not holds name lines none in
-    (first.0, none_holds lines first.1)
 
 -- a payload in the header's image that does not start wrong starts behind the header
 starts_right : (bounds : Bounds) (offset : ℕ) → starts_wrong bounds (Some offset) ≡ false → bounds.detached ≡ false
@@ -147,7 +171,8 @@ pub segment2-ok : (tree : Data) (bounds : Bounds) (segment : Segment) → segmen
     → IsSegment2 tree bounds segment
 unfolding segment2_of payload2_of payload_mode2_of fault2_of segment_from segment_parts2_of
 segment2-ok tree bounds segment is =
-    let made = made_from (fault2_of tree bounds) (segment_from (segment_parts2_of (segment_said tree))) segment is in
+    let made = refused_or-ok (fault2_of tree bounds) (segment_from (segment_parts2_of (segment_said tree)))
+    (made2 tree bounds) segment is in
     let all = none_holds ((has_requirement tree, Requirement) ∷ (is_none (the_segment tree), Segments)
     ∷ segment_faults bounds (segment_said tree)) made.0 in
     let offset : offset_of (segment_said tree) ≡ Some segment.offset = offset_made _ _ _ _ _ segment made.1 in

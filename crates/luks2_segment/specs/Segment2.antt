@@ -1,13 +1,16 @@
 -- Where the payload of LUKS2 lies, or why it cannot be read (LUKS2 On-Disk Format Specification 1.1, section 3, the
 -- segments object and the config object).
-use Rattle.std.specs.Prelude.{ℕ, ◌%◌, ◌==◌, ◌&&◌, ◌||◌, not, nat_lt, Bool, true, false, List, [], ◌∷◌, Option, Some}
-use Rattle.std.specs.Prelude.{None, Result, bytes_eq, codes, is_none, is_some, if◌then◌else◌, option_and_then}
-use Rattle.std.specs.Prelude.{option_map, unwrap_or}
+use Rattle.std.specs.Prelude.{◌≡◌, ◌≢◌, ℕ, ◌%◌, ◌==◌, ◌&&◌, ◌||◌, not, nat_lt, Bool, true, false, List, [], ◌∷◌}
+use Rattle.std.specs.Prelude.{Option, Some, None, Result, bytes_eq, codes, is_none, is_some, if◌then◌else◌}
+use Rattle.std.specs.Prelude.{option_and_then, option_map, unwrap_or}
 use Rattle.std.specs.Result.{result_ok}
+use Rattle.std.proofs.lemmas.Bool.{and_parts}
 use Rattle.luks_cipher.specs.declared.mode.Mode.{Mode}
+use Rattle.luks_verdict.specs.Evidence.{where_true}
 use Rattle.luks_verdict.specs.SectorSize.{are_sectors}
-use Rattle.luks_verdict.specs.Segment.{refused_or, segment_from}
+use Rattle.luks_verdict.specs.Segment.{refused_or, segment_by, segment_from, segment_of_all}
 use Rattle.luks_verdict.specs.Table.{first_holding}
+use Rattle.luks_verdict.proofs.TableLemmas.{none_holds}
 use Rattle.luks_verdict.specs.declared.refusal.SegmentFault.{SegmentFault}
 use Rattle.luks_verdict.specs.declared.refusal.SegmentFault.TheVariants.{Requirement, Segments, Member, Kind, Integrity}
 use Rattle.luks_verdict.specs.declared.refusal.SegmentFault.TheVariants.{Encryption, SectorSize, Offset, Size}
@@ -151,9 +154,52 @@ segment_parts2_of segment = record {
   mode = mode2_of segment;
 }
 
+-- ---- a segment without a fault is made
+
+-- what a test lets through is made if it holds
+made_of_test : (test : Bool) (make : test ≡ true → Segment) → not test ≡ false → option_map make (where_true test) ≢ None
+made_of_test true make holds none = cc
+made_of_test false make holds none = cc
+
+-- parts that are there make a segment, if its length is one of whole sectors
+made_of_parts : (offset : Option ℕ) (size : Option (Option ℕ)) (iv_tweak : Option ℕ) (sector_size : Option Sector)
+    (mode : Option Mode) → is_some offset ≡ true → is_some size ≡ true → is_some iv_tweak ≡ true
+    → is_none sector_size ≡ false → is_none mode ≡ false → is_torn size sector_size ≡ false
+    → segment_of_all offset size iv_tweak sector_size mode ≢ None
+unfolding is_torn
+made_of_parts (Some offset) (Some size) (Some iv_tweak) (Some sector_size) (Some mode) o s i z m whole =
+    made_of_test (are_sectors size sector_size) (segment_by offset size iv_tweak sector_size mode) whole
+made_of_parts _ _ _ _ _ o s i z m whole = absurd cc
+
+-- the members of a segment of type crypt are there
+members_there : (typed crypt members : Bool) → not (typed && (not crypt || members)) ≡ false → not crypt ≡ false
+    → members ≡ true
+members_there true true true is kind = cc
+members_there _ _ _ is kind = absurd cc
+
+-- what is said of a segment without a fault makes one
+pub made2 : (tree : Data) (bounds : Bounds) → fault2_of tree bounds ≡ None
+    → segment_from (segment_parts2_of (segment_said tree)) ≢ None
+unfolding fault2_of segment_from segment_parts2_of is_segment has_segment_members
+made2 tree bounds no_fault =
+    let segment = segment_said tree in
+    let all = none_holds ((has_requirement tree, Requirement) ∷ (is_none (the_segment tree), Segments)
+    ∷ segment_faults bounds segment) no_fault in
+    let lines = all.1.1 in
+    let members = members_there _ _ _ lines.0 lines.1.0 in
+    let whole = and_parts _ _ members in
+    let encryption = and_parts _ _ whole.0 in
+    let iv_tweak = and_parts _ _ encryption.0 in
+    let size = and_parts _ _ iv_tweak.0 in
+    made_of_parts (offset_of segment) (size_of segment) (iv_tweak_of segment) (sector_size_of segment)
+    (mode2_of segment) size.0 size.1 iv_tweak.1 lines.1.1.1.1.0 lines.1.1.1.0 lines.1.1.1.1.1.1.0
+
+-- ---- the segment
+
 -- the segment, or its first fault
 unfoldable pub segment2_of : Data → Bounds → Result Segment SegmentFault
-segment2_of tree bounds = refused_or (fault2_of tree bounds) (segment_from (segment_parts2_of (segment_said tree)))
+segment2_of tree bounds =
+    refused_or (fault2_of tree bounds) (segment_from (segment_parts2_of (segment_said tree))) (made2 tree bounds)
 
 -- ---- what key slots are judged by
 

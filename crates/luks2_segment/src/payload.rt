@@ -208,7 +208,6 @@ fn parts(segment: &Value) -> SegmentParts
 }
 
 // The segment of a tree, or its first fault.
-#[tactic(auto, unfolding(crate::specs::Segment2::fault2_of, crate::specs::Segment2::segment2_of))]
 fn segment_in(tree: &Value, bounds: Bounds) -> Result<Segment, SegmentFault>
     ensures { result ≡ segment2_of (data_of tree.now) bounds }
 {
@@ -223,7 +222,7 @@ fn segment_in(tree: &Value, bounds: Bounds) -> Result<Segment, SegmentFault>
     }
     match Segment::from_parts(parts(segment)) {
         Some(segment) => Ok(segment),
-        None => Err(SegmentFault::Member),
+        None => unreachable!(),
     }
 }
 

@@ -1,5 +1,5 @@
 -- Decryption and encryption of a chain undo each other.
-use Rattle.std.proofs.Common.{◌≡◌, ℕ, zero, suc, ◌*◌, ◌%◌, ◌/◌, ◌<◌, ◌≤◌, List, length, arith, refl, sym, ap, subst}
+use Rattle.std.proofs.Common.{◌≡◌, ℕ, zero, suc, ◌*◌, ◌%◌, ◌/◌, ◌<◌, ◌≤◌, List, length, arith, refl, sym, ap}
 use Rattle.std.proofs.Common.{◌∙◌}
 use Rattle.std.proofs.lemmas.List.{take_all}
 use Rattle.luks_aes.specs.Aes.{encrypted, decrypted}
@@ -134,6 +134,5 @@ pub to_key : (f : List ℕ → List ℕ → List ℕ → List ℕ) (key other v 
 to_key f key other v unit new same is = is ∙ ap (λ x. f x v unit) same
 
 pub from_key : (f : List ℕ → List ℕ → List ℕ → List ℕ) (key other v unit old : List ℕ) → key ≡ other
-    → (IsBytes key → f key v unit ≡ old) → IsBytes other → f other v unit ≡ old
-from_key f key other v unit old same is bytes =
-    sym (ap (λ x. f x v unit) same) ∙ is (subst (λ (x : List ℕ). IsBytes x) (sym same) bytes)
+    → f key v unit ≡ old → f other v unit ≡ old
+from_key f key other v unit old same is = sym (ap (λ x. f x v unit) same) ∙ is

@@ -1,6 +1,6 @@
 //! CBC (NIST SP 800-38A, 6.2) over units of whole blocks.
 
-ghost use Rattle.std.specs.Prelude.{◌≡◌, ◌%◌, length, ℕ};
+ghost use Rattle.std.specs.Prelude.{◌≡◌, ◌%◌, List, length, ℕ};
 ghost use Rattle.luks_aes.specs.Aes.{encrypted, decrypted};
 ghost use Rattle.luks_aes.specs.Bytes.{IsBytes};
 ghost use Rattle.luks_cipher.specs.Xts.{block_sum, block_at, joined};
@@ -10,6 +10,14 @@ use crate::block::{add_vector, block_of, block_sum};
 use luks_aes::AesKey;
 use luks_blocks::SliceKey;
 use std::simd::prelude::*;
+
+// What a key holds are bytes. It says so beside its number of rounds.
+#[inline(always)]
+fn holds_bytes(key: &AesKey)
+    ensures { IsBytes key.now }
+{
+    let _rounds = key.rounds();
+}
 
 // Encrypts one block of a chain, and gives it for the next one.
 fn encrypt_link(key: &AesKey, before: [u8; 16], piece: &mut [u8]) -> [u8; 16]
@@ -72,8 +80,9 @@ fn decrypt_slice(key: &SliceKey, before: [u8; 16], slice: &mut [u8]) -> [u8; 16]
 pub fn encrypt_chain(key: &AesKey, vector: [u8; 16], unit: &mut [u8])
     requires { length unit.old % 16 ≡ 0 }
     ensures value { unit.new ≡ cbc_encrypted key.now vector unit.old }
-    ensures undone { IsBytes key.now → cbc_decrypted key.now vector unit.new ≡ unit.old }
+    ensures undone { cbc_decrypted key.now vector unit.new ≡ unit.old }
 {
+    holds_bytes(key);
     let mut before = vector;
     for j in 0..unit.len() / 16 {
         let next = encrypt_link(key, before, &mut unit[16 * j..16 * j + 16]);
@@ -85,8 +94,14 @@ pub fn encrypt_chain(key: &AesKey, vector: [u8; 16], unit: &mut [u8])
 pub fn decrypt_chain(key: &SliceKey, vector: [u8; 16], unit: &mut [u8])
     requires { length unit.old % 16 ≡ 0 }
     ensures value { unit.new ≡ cbc_decrypted key.now vector unit.old }
-    ensures undone { IsBytes key.now → cbc_encrypted key.now vector unit.new ≡ unit.old }
+
+    // A unit that is some plain one encrypted becomes that one.
+    ensures undoes { (plain : List ℕ) → IsBytes plain → length plain ≡ length unit.old
+        → unit.old ≡ cbc_encrypted key.now vector plain → unit.new ≡ plain }
+    ensures undone { cbc_encrypted key.now vector unit.new ≡ unit.old }
 {
+    let block_key = key.key();
+    holds_bytes(block_key);
     let mut before = vector;
     let slices = unit.len() / 512;
     for i in 0..slices {
@@ -94,7 +109,7 @@ pub fn decrypt_chain(key: &SliceKey, vector: [u8; 16], unit: &mut [u8])
         before = next;
     }
     for j in 32 * slices..unit.len() / 16 {
-        let next = decrypt_link(key.key(), before, &mut unit[16 * j..16 * j + 16]);
+        let next = decrypt_link(block_key, before, &mut unit[16 * j..16 * j + 16]);
         before = next;
     }
 }

@@ -8,6 +8,7 @@ ghost use Rattle.luks_cipher.specs.declared.mode.Mode.TheVariants.{CbcEssivSha25
 ghost use Rattle.luks_cipher.specs.Sector.{is_mode_key_length, sector_encrypted, sector_decrypted};
 ghost use Rattle.luks_cipher.specs.Sector.{essiv_vector};
 ghost use Rattle.luks_cipher.specs.SectorKey.{mode_of, key_of, IsSectorKey};
+ghost use Rattle.luks_aes.specs.Bytes.{IsBytes};
 ghost use Rattle.sha2.specs.Sha256.{sha256};
 ghost use Rattle.std.specs.Int.{w128, to_le_bytes};
 
@@ -144,6 +145,11 @@ impl SectorCipher {
         requires shortest { 16 ≤ length unit.old }
         requires longest { length unit.old ≤ 4096 }
         ensures value { unit.new ≡ sector_decrypted self.now.0 self.now.1 number unit.old }
+
+        // A sector that is some plain one encrypted becomes that one.
+        ensures undoes { (plain : List ℕ) → IsBytes plain → length plain ≡ length unit.old
+            → unit.old ≡ sector_encrypted self.now.0 self.now.1 number plain
+            → unit.new ≡ plain }
         ensures undone { sector_encrypted self.now.0 self.now.1 number unit.new ≡ unit.old }
     {
         match &self.keys {

@@ -1,8 +1,9 @@
 -- The digests of a header.
-use Rattle.std.specs.Prelude.{ℕ, Option}
+use Rattle.std.specs.Prelude.{ℕ, List, [], Option}
 use Rattle.luks_verdict.specs.declared.digest.KeyDigest.{KeyDigest}
 use Rattle.luks1_header.specs.Slot1.{digest1_of}
-use Rattle.luks2_metadata.specs.Digest2.{digest2_for}
+use Rattle.luks2_metadata.specs.Digest2.{digest2_for, digests2_of}
+use Rattle.luks2_metadata.specs.declared.digest.Digest.{Digest}
 use Rattle.luks_header.specs.declared.header.Header.{Header}
 use Rattle.luks_header.specs.declared.header.Header.TheVariants.{V1, V2}
 
@@ -10,3 +11,8 @@ use Rattle.luks_header.specs.declared.header.Header.TheVariants.{V1, V2}
 unfoldable pub digest_for : Header → ℕ → Option KeyDigest
 digest_for (V1 header) number = digest1_of header
 digest_for (V2 header tree) number = digest2_for tree number
+
+-- the digests by rising number, each with the names that it lists, where it is usable. LUKS1 numbers no digest
+unfoldable pub digests_of : Header → List (ℕ × Option Digest)
+digests_of (V1 header) = []
+digests_of (V2 header tree) = digests2_of tree

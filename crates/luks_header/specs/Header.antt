@@ -16,7 +16,7 @@ use Rattle.serde_json.specs.Data.{Data}
 use Rattle.luks_header.specs.declared.header.Header.{Header}
 use Rattle.luks_header.specs.declared.header.Header.TheVariants.{V1, V2}
 use Rattle.luks_area.specs.declared.fault.HeaderFault.{HeaderFault}
-use Rattle.luks_area.specs.declared.fault.HeaderFault.TheVariants.{NotLuks, Cut, Json, Read, Memory}
+use Rattle.luks_area.specs.declared.fault.HeaderFault.TheVariants.{Cut, Json, Read, Memory}
 
 -- the header stands apart from the payload's image
 unfoldable pub is_detached : Header → Bool

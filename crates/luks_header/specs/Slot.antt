@@ -1,10 +1,11 @@
 -- What becomes of the key slots of a header: whether each can be tried, and if not, why.
-use Rattle.std.specs.Prelude.{ℕ, List, Option, option_map}
+use Rattle.std.specs.Prelude.{ℕ, Bool, false, List, Option, option_map}
 use Rattle.luks_verdict.specs.Rule.{most_slots}
 use Rattle.luks_verdict.specs.Table.{rising}
 use Rattle.luks_verdict.specs.declared.slot.Slot.{Slot}
 use Rattle.luks_verdict.specs.declared.slot.Verdict.{Verdict}
 use Rattle.luks1_header.specs.Slot1.{slot1_at, verdict1_at}
+use Rattle.luks2_members.specs.Numbered.{passes_over}
 use Rattle.luks2_metadata.specs.Slot2.{slot2_at, verdict2_at}
 use Rattle.luks_header.specs.Header.{bounds2_of}
 use Rattle.luks_header.specs.declared.header.Header.{Header}
@@ -28,3 +29,8 @@ numbered header limit number = option_map (λ verdict. (number, verdict)) (verdi
 -- the key slots of a header and what becomes of them, by rising number
 unfoldable pub verdicts_of : Header → Option ℕ → List (ℕ × Verdict)
 verdicts_of header limit = rising (numbered header limit) most_slots
+
+-- a member of the object of key slots is passed over. The key slots of LUKS1 have no names
+unfoldable pub has_name_out_of_range : Header → Bool
+has_name_out_of_range (V1 header) = false
+has_name_out_of_range (V2 header tree) = passes_over tree

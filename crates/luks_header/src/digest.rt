@@ -1,10 +1,12 @@
 //! The digests of a header.
 
-ghost use Rattle.std.specs.Prelude.{◌≡◌, IfOk};
-ghost use Rattle.luks_header.specs.Digest.{digest_for};
+ghost use Rattle.std.specs.Prelude.{◌≡◌, ◌≤◌, IfOk, vec_len};
+ghost use Rattle.luks_verdict.specs.Rule.{most_slots};
+ghost use Rattle.luks_header.specs.Digest.{digest_for, digests_of};
 
 use crate::header::Header;
 pub use luks_verdict::digest::KeyDigest;
+pub use luks2_metadata::digest::Digest;
 use std::alloc::{AllocError, Global};
 
 /// The digest that the key slot of this number is opened against, where there is one. LUKS1 has one
@@ -20,5 +22,18 @@ pub fn digest_for(
     match header {
         Header::V1(header) => luks1_header::judging::digest(alloc, header),
         Header::V2(_, metadata) => luks2_metadata::digest::digest_for(alloc, metadata, number),
+    }
+}
+
+/// The digests of a header by rising number, at most 32: each with the names that it lists, or
+/// `None` where it is not usable. LUKS1 numbers no digest, so it has none here.
+#[tactic(auto, unfolding(crate::specs::Digest::digests_of))]
+pub fn digests(alloc: Global, header: &Header) -> Result<Vec<(u8, Option<Digest>)>, AllocError>
+    ensures value { IfOk result (λ digests. digests.items ≡ digests_of header.now) }
+    ensures few { IfOk result (λ digests. vec_len digests ≤ most_slots) }
+{
+    match header {
+        Header::V1(_) => Ok(Vec::new(alloc)),
+        Header::V2(_, metadata) => luks2_metadata::digest::digests(alloc, metadata),
     }
 }

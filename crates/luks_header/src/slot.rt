@@ -3,12 +3,13 @@
 ghost use Rattle.std.specs.Prelude.{◌≡◌, ◌≤◌, IfOk, option_map, vec_len};
 ghost use Rattle.luks_verdict.specs.Rule.{most_slots};
 ghost use Rattle.luks_verdict.specs.Slot.{judgement_of};
-ghost use Rattle.luks_header.specs.Slot.{slot_at, verdict_at, verdicts_of};
+ghost use Rattle.luks_header.specs.Slot.{has_name_out_of_range, slot_at, verdict_at, verdicts_of};
 
 use crate::header::{Header, bounds};
 use luks_verdict::refusal::SkipReason;
 use luks_verdict::rule::MOST_SLOTS;
 pub use luks_verdict::slot::{Judgement, Slot, Verdict};
+use luks2_members::numbered::passes_over;
 use std::alloc::{AllocError, Global};
 
 /// What becomes of the key slot of this number, where the header has one, without what it takes to
@@ -77,4 +78,16 @@ pub fn slots(
         }
     }
     Ok(verdicts)
+}
+
+/// Whether the object of key slots has a member whose name is not a number from 0 to 31: `slots`
+/// passes over it. The key slots of LUKS1 have no names. This takes no memory.
+#[tactic(auto, unfolding(crate::specs::Slot::has_name_out_of_range))]
+pub fn has_name_out_of_range(header: &Header) -> bool
+    ensures { result ≡ has_name_out_of_range header.now }
+{
+    match header {
+        Header::V1(_) => false,
+        Header::V2(_, metadata) => passes_over(metadata),
+    }
 }

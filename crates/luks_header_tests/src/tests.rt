@@ -2,6 +2,7 @@
 //! program, and sources that give few bytes at a time or fail.
 
 mod detached;
+mod digests;
 mod drawn;
 mod fixture;
 mod header;

@@ -1,5 +1,5 @@
 -- What is made of what was read, where it is in range.
-use Rattle.std.proofs.Common.{◌≡◌, ◌∙◌, ℕ, Bool, true, false, Option, Some, None, ap, sym, refl, length}
+use Rattle.std.proofs.Common.{◌≡◌, ◌≢◌, ◌∙◌, ℕ, Bool, true, false, Option, Some, None, Ok, Err, ap, sym, refl, length}
 use Rattle.std.specs.Prelude.{option_map}
 use Rattle.std.specs.Coded.{le_prop}
 use Rattle.std.proofs.Math.Bool.{Bool-set}
@@ -10,11 +10,13 @@ use Rattle.luks_verdict.specs.Digest.{digest_from, digest_of, is_undigested, is_
 use Rattle.luks_verdict.specs.Evidence.{where_true}
 use Rattle.luks_verdict.specs.Rule.{InRange, IsDigest, in_range, is_beyond, usable_digest}
 use Rattle.luks_verdict.specs.SectorSize.{AreWhole, are_sectors, whole_sectors}
-use Rattle.luks_verdict.specs.Segment.{segment_by, segment_of_all, segment_with}
+use Rattle.luks_verdict.specs.Segment.{refused_or, segment_by, segment_of_all, segment_with}
 use Rattle.luks_verdict.specs.Slot.{are_in_range, parts_end, slot_from, slot_of, slot_with}
 use Rattle.luks_verdict.specs.declared.digest.DigestParts.{DigestParts}
 use Rattle.luks_verdict.specs.declared.digest.KeyDigest.{KeyDigest}
+use Rattle.luks_verdict.specs.declared.refusal.SegmentFault.{SegmentFault}
 use Rattle.luks_verdict.specs.declared.sector_size.SectorSize.{SectorSize}
+use Rattle.luks_verdict.specs.declared.segment.Segment.{Segment}
 use Rattle.luks_verdict.specs.declared.slot.SlotParts.{SlotParts}
 
 -- where a test holds there is evidence, and there is but one
@@ -99,6 +101,26 @@ segment_made offset size iv_tweak sector_size mode whole is =
     ap (λ (w : AreWhole size sector_size). Some (segment_with offset size iv_tweak sector_size mode w))
     (all whole (whole_sectors size sector_size is))
     ∙ sym (segment_of_all-yes offset size iv_tweak sector_size mode is)
+
+-- a segment with a fault is refused for it
+pub refused_or-fault : (found : Option SegmentFault) (segment : Option Segment) (made : found ≡ None → segment ≢ None)
+    (fault : SegmentFault) → found ≡ Some fault → refused_or found segment made ≡ Err fault
+refused_or-fault (Some found) segment made fault is = ap Err (same_Some found fault is)
+refused_or-fault None segment made fault is = absurd (none-some fault is)
+
+-- one without a fault is the one that was made
+pub refused_or-none : (found : Option SegmentFault) (there : Option Segment) (made : found ≡ None → there ≢ None)
+    (segment : Segment) → found ≡ None → there ≡ Some segment → refused_or found there made ≡ Ok segment
+refused_or-none (Some found) there made segment none is = absurd (none-some found (sym none))
+refused_or-none None (Some there) made segment none is = ap Ok (same_Some there segment is)
+refused_or-none None None made segment none is = absurd (none-some segment is)
+
+-- and a segment that is not refused has no fault and was made
+pub refused_or-ok : (found : Option SegmentFault) (there : Option Segment) (made : found ≡ None → there ≢ None)
+    (segment : Segment) → refused_or found there made ≡ Ok segment → (found ≡ None) × (there ≡ Some segment)
+refused_or-ok (Some found) there made segment is = absurd cc
+refused_or-ok None (Some there) made segment is = (refl, cc)
+refused_or-ok None None made segment is = absurd (made refl refl)
 
 -- whether a slot is tried against the digest of which this was read
 pub undigested-yes : (limit : Option ℕ) (parts : DigestParts) → is_usable parts ≡ true

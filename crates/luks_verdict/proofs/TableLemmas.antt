@@ -14,6 +14,14 @@ pub first_not : {T : Type 0} (b : Bool) (name : T) (lines : List (Bool × T)) �
 first_not true name lines h = absurd (none-some name (sym h))
 first_not false name lines h = (refl, h)
 
+-- of a table of which no line holds, none does
+pub none_holds : {T : Type 0} (lines : List (Bool × T)) → first_holding lines ≡ None
+    → AllByRecursion (λ (line : Bool × T). line.0 ≡ false) lines
+none_holds [] none = tt
+none_holds ((holds, name) ∷ lines) none =
+    let first = first_not holds name lines none in
+    (first.0, none_holds lines first.1)
+
 -- nothing is made of no number
 pub rising_none : {T : Type 0} (f : ℕ → Option T) → rising f 0 ≡ []
 unfolding rising

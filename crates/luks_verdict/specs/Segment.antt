@@ -1,10 +1,9 @@
 -- Segments, made of what was read of them.
-use Rattle.std.specs.Prelude.{◌≡◌, ℕ, true, Option, Some, None, Result, Ok, Err, option_map}
+use Rattle.std.specs.Prelude.{◌≡◌, ◌≢◌, ℕ, true, Option, Some, None, Result, Ok, Err, option_map, refl}
 use Rattle.luks_cipher.specs.declared.mode.Mode.{Mode}
 use Rattle.luks_verdict.specs.Evidence.{where_true}
 use Rattle.luks_verdict.specs.SectorSize.{AreWhole, are_sectors, whole_sectors}
 use Rattle.luks_verdict.specs.declared.refusal.SegmentFault.{SegmentFault}
-use Rattle.luks_verdict.specs.declared.refusal.SegmentFault.TheVariants.{Member}
 use Rattle.luks_verdict.specs.declared.sector_size.SectorSize.{SectorSize}
 use Rattle.luks_verdict.specs.declared.segment.Segment.{Segment}
 use Rattle.luks_verdict.specs.declared.segment.SegmentParts.{SegmentParts}
@@ -37,8 +36,9 @@ segment_of_all _ _ _ _ _ = None
 unfoldable pub segment_from : SegmentParts → Option Segment
 segment_from parts = segment_of_all parts.offset parts.size parts.iv_tweak parts.sector_size parts.mode
 
--- a segment without a fault is the payload's. (Where there is none, the parts are there and in range.)
-abbrev pub refused_or : Option SegmentFault → Option Segment → Result Segment SegmentFault
-refused_or (Some fault) segment = Err fault
-refused_or None (Some segment) = Ok segment
-refused_or None None = Err Member
+-- the payload's segment, or its fault. If it has no fault, its parts are there and in range: a segment was made of them
+abbrev pub refused_or : (fault : Option SegmentFault) (segment : Option Segment) → (fault ≡ None → segment ≢ None)
+    → Result Segment SegmentFault
+refused_or (Some fault) segment made = Err fault
+refused_or None (Some segment) made = Ok segment
+refused_or None None made = absurd (made refl refl)

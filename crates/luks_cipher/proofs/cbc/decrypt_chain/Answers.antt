@@ -1,10 +1,11 @@
 use Rattle.std.proofs.Common.{◌≡◌, ◌*◌, ◌/◌, length, ap, arith, ◌∙◌, add-one, refl, rules}
+use Rattle.luks_aes.specs.Bytes.{IsBytes}
 use Rattle.luks_aes.specs.Aes.{decrypted}
 use Rattle.luks_cipher.specs.Xts.{block_sum}
 use Rattle.luks_cipher.specs.Cbc.{block_before, cbc_encrypted, cbc_decrypted}
 use Rattle.luks_cipher.proofs.TweakLemmas.{done_none, done_more, done_all, block_is}
 use Rattle.luks_cipher.proofs.SliceLemmas.{done_moved, slice_done, slice_block, cbc_unit_slice, before_next}
-use Rattle.luks_cipher.proofs.ChainsUndone.{cbc_encrypted-cbc_decrypted}
+use Rattle.luks_cipher.proofs.ChainsUndone.{cbc_decrypted-cbc_encrypted, cbc_encrypted-cbc_decrypted}
 use Rattle.luks_cipher.proofs.cbc.decrypt_chain.Goals as goal
 
 pub loop-i-init : goal.loop-i-init
@@ -50,7 +51,7 @@ loop-j-preserved c =
     let before = c.loop-j.invariant in
     let block = block_is c.args.unit.now c.loop-j.unit j before.done.left in
     let last = before.last in
-    let held = c.key.ensures in
+    let held = c.key-block_key.ensures in
     record {
       bytes = before.bytes;
       vector = before.vector;
@@ -66,8 +67,17 @@ returns-clause-value c =
     done_all _ c.args.unit.now c.loop-j.unit last (length c.args.unit.now / 16) c.loop-j.invariant.done (omega arith)
     (omega arith)
 
+pub returns-clause-undoes : goal.returns-clause-undoes
+returns-clause-undoes c plain bytes same is =
+    let keys : IsBytes c.args.key.now = rw (← c.key-block_key.ensures) c.holds_bytes.ensures in
+    returns-clause-value c
+    ∙ (ap (cbc_decrypted c.args.key.now c.args.vector) is
+    ∙ cbc_decrypted-cbc_encrypted c.args.key.now c.args.vector plain keys c.loop-j.invariant.vector bytes
+    (rw same c.requires))
+
 pub returns-clause-undone : goal.returns-clause-undone
-returns-clause-undone c = λ keys.
+returns-clause-undone c =
+    let keys : IsBytes c.args.key.now = rw (← c.key-block_key.ensures) c.holds_bytes.ensures in
     ap (cbc_encrypted c.args.key.now c.args.vector) (returns-clause-value c)
     ∙ cbc_encrypted-cbc_decrypted c.args.key.now c.args.vector c.args.unit.now keys c.loop-j.invariant.vector
     c.loop-j.invariant.bytes (omega arith)

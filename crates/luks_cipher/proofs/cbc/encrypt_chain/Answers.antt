@@ -36,7 +36,7 @@ returns-clause-value c =
     (omega arith)
 
 pub returns-clause-undone : goal.returns-clause-undone
-returns-clause-undone c = λ keys.
+returns-clause-undone c =
     ap (cbc_decrypted c.args.key.now c.args.vector) (returns-clause-value c)
-    ∙ cbc_decrypted-cbc_encrypted c.args.key.now c.args.vector c.args.unit.now keys c.loop-j.invariant.vector
-    c.loop-j.invariant.bytes (omega arith)
+    ∙ cbc_decrypted-cbc_encrypted c.args.key.now c.args.vector c.args.unit.now c.holds_bytes.ensures
+    c.loop-j.invariant.vector c.loop-j.invariant.bytes (omega arith)

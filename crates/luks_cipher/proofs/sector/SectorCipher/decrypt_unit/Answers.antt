@@ -1,4 +1,4 @@
-use Rattle.std.proofs.Common.{◌∙◌}
+use Rattle.std.proofs.Common.{◌∙◌, sym}
 use Rattle.luks_aes.specs.Aes.{encrypted}
 use Rattle.luks_cipher.specs.Cbc.{cbc_decrypted, cbc_encrypted}
 use Rattle.luks_cipher.proofs.ChainsUndone.{to_vector, from_vector}
@@ -9,9 +9,8 @@ returns-in-CbcEssivSha256-clause-undone c =
     let view = c.self.view_is in
     let arm = c.in-CbcEssivSha256.is in
     let digest = rw arm at c.self.invariant.digest in
-    let bytes = rw arm at c.self.invariant.bytes in
     let vector = c.encrypt_block.ensures.value ∙ (λ i. encrypted (digest i) (c.number_block-vector.ensures i)) in
-    rw (← view, arm) (from_vector cbc_encrypted _ _ _ _ _ vector (c.decrypt_chain.ensures.undone bytes))
+    rw (← view, arm) (from_vector cbc_encrypted _ _ _ _ _ vector c.decrypt_chain.ensures.undone)
 
 pub returns-in-CbcPlain64-clause-value : goal.returns-in-CbcPlain64-clause-value
 returns-in-CbcPlain64-clause-value c =
@@ -24,7 +23,23 @@ pub returns-in-CbcPlain64-clause-undone : goal.returns-in-CbcPlain64-clause-undo
 returns-in-CbcPlain64-clause-undone c =
     let view = c.self.view_is in
     let arm = c.in-CbcPlain64.is in
-    let bytes = rw arm at c.self.invariant.bytes in
     rw (← view, arm)
     (from_vector cbc_encrypted _ _ _ _ _ c.number_block.ensures
-    (c.decrypt_chain-in-CbcPlain64.ensures.undone bytes))
+    c.decrypt_chain-in-CbcPlain64.ensures.undone)
+
+pub returns-in-CbcEssivSha256-clause-undoes : goal.returns-in-CbcEssivSha256-clause-undoes
+returns-in-CbcEssivSha256-clause-undoes c =
+    let view = c.self.view_is in
+    let arm = c.in-CbcEssivSha256.is in
+    let digest = rw arm at c.self.invariant.digest in
+    let vector = c.encrypt_block.ensures.value ∙ (λ i. encrypted (digest i) (c.number_block-vector.ensures i)) in
+    rw (← view, arm) (λ plain bytes same is.
+    c.decrypt_chain.ensures.undoes plain bytes same (to_vector cbc_encrypted _ _ _ _ _ (sym vector) is))
+
+pub returns-in-CbcPlain64-clause-undoes : goal.returns-in-CbcPlain64-clause-undoes
+returns-in-CbcPlain64-clause-undoes c =
+    let view = c.self.view_is in
+    let arm = c.in-CbcPlain64.is in
+    rw (← view, arm) (λ plain bytes same is.
+    c.decrypt_chain-in-CbcPlain64.ensures.undoes plain bytes same
+    (to_vector cbc_encrypted _ _ _ _ _ (sym c.number_block.ensures) is))

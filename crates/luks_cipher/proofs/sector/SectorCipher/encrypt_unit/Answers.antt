@@ -19,11 +19,10 @@ returns-in-CbcEssivSha256-clause-undone c =
     let view = c.self.view_is in
     let arm = c.in-CbcEssivSha256.is in
     let digest = rw arm at c.self.invariant.digest in
-    let bytes = rw arm at c.self.invariant.bytes in
     let vector = c.encrypt_block.ensures.value ∙ (λ i. encrypted (digest i) (c.number_block-vector.ensures i)) in
     rw (← view, arm)
     (from_vector cbc_decrypted _ _ _ _ _ vector
-    (from_key cbc_decrypted _ _ _ _ _ c.key.ensures c.encrypt_chain.ensures.undone bytes))
+    (from_key cbc_decrypted _ _ _ _ _ c.key.ensures c.encrypt_chain.ensures.undone))
 
 pub returns-in-CbcPlain64-clause-value : goal.returns-in-CbcPlain64-clause-value
 returns-in-CbcPlain64-clause-value c =
@@ -37,7 +36,6 @@ pub returns-in-CbcPlain64-clause-undone : goal.returns-in-CbcPlain64-clause-undo
 returns-in-CbcPlain64-clause-undone c =
     let view = c.self.view_is in
     let arm = c.in-CbcPlain64.is in
-    let bytes = rw arm at c.self.invariant.bytes in
     rw (← view, arm)
     (from_vector cbc_decrypted _ _ _ _ _ c.number_block.ensures
-    (from_key cbc_decrypted _ _ _ _ _ c.key-in-CbcPlain64.ensures c.encrypt_chain-in-CbcPlain64.ensures.undone bytes))
+    (from_key cbc_decrypted _ _ _ _ _ c.key-in-CbcPlain64.ensures c.encrypt_chain-in-CbcPlain64.ensures.undone))
