@@ -1,0 +1,6 @@
+pub mod ChMaj
+pub mod ChainLemmas
+pub mod Lane256Lemmas
+pub mod Padded256Lemmas
+pub mod TwiceLemmas
+pub mod WordLemmas
