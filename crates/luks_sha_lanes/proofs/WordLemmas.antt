@@ -6,7 +6,9 @@ use Rattle.std.specs.Prelude.{slice_index}
 use Rattle.std.specs.Int.{to_be_bytes, w32}
 use Rattle.std.specs.Simd.Lanes.{zip2}
 use Rattle.std.proofs.lemmas.Bool.{cases_lt}
-use Rattle.std.proofs.lemmas.List.{get_or-drop, get_or_append_left, get_or_push, length_push, take_all, take_more}
+use Rattle.std.proofs.lemmas.List.{get_or-drop, get_or_append_left, get_or_push, length-take, length_push}
+use Rattle.std.proofs.lemmas.List.{take-append-drop, take-append-le, take_all, take_more}
+use Rattle.std.proofs.Math.Nat.{mul-le-mul_left}
 use Rattle.std.proofs.Math.Seq.{take-append_seam, drop-append_seam}
 use Rattle.std.proofs.lemmas.Nat.{be_bytes_4, xor_mod, xor_shr}
 use Rattle.sha2.specs.Sha256.{digest_bytes, word_at}
@@ -178,3 +180,33 @@ two_digests f a b size one two is_a is_b =
     rw (is_a, is_b) (below_two (λ j. digest_at size j (f 0 ++ f 1) ≡ f j)
     (rw none (take_front size (f 0) (f 1) one))
     (rw (all, drop_front size (f 0) (f 1) one) (take_all size (f 1) (omega arith))))
+
+-- ---- digests that are written one after the other
+
+front_alone : (a n : ℕ) (front x y : List ℕ) → a + n ≤ length front
+    → take n (drop a (front ++ x)) ≡ take n (drop a (front ++ y))
+front_alone zero n front x y inside =
+    take-append-le n front x (omega arith) ∙ sym (take-append-le n front y (omega arith))
+front_alone (suc a) n [] x y inside = absurd (omega arith)
+front_alone (suc a) n (b ∷ front) x y inside = front_alone a n front x y (omega arith)
+
+-- digest j, which was written last
+pub written_at : (size j : ℕ) (now digest rest : List ℕ) → size * j ≤ length now → length digest ≡ size
+    → digest_at size j (take (size * j) now ++ (digest ++ rest)) ≡ digest
+written_at size j now digest rest inside whole =
+    let front : length (take (size * j) now) ≡ size * j = omega (arith, length-take (size * j) now) in
+    rw (drop_front (size * j) (take (size * j) now) (digest ++ rest) front) (take_front size digest rest whole)
+
+-- a digest before it
+pub written_before : (size j k : ℕ) (now rest : List ℕ) → size * j ≤ length now → k < j
+    → digest_at size k (take (size * j) now ++ rest) ≡ digest_at size k now
+written_before size j k now rest inside before =
+    let place : size * k + size ≤ size * j =
+    omega (arith, mul-le-mul_left {m = k + 1} {n = j} size (omega arith)) in
+    let front : length (take (size * j) now) ≡ size * j = omega (arith, length-take (size * j) now) in
+    front_alone (size * k) size (take (size * j) now) rest (drop (size * j) now) (omega arith)
+    ∙ ap (λ (l : List ℕ). digest_at size k l) (take-append-drop (size * j) now)
+
+pub below_five : (P : ℕ → Type 0) → P 0 → P 1 → P 2 → P 3 → P 4 → (k : ℕ) → k < 5 → P k
+below_five P p0 p1 p2 p3 p4 zero h = p0
+below_five P p0 p1 p2 p3 p4 (suc k) h = below_four (λ j. P (suc j)) p1 p2 p3 p4 k (omega arith)

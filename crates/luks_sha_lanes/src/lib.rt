@@ -4,9 +4,12 @@
 //! Two blocks go side by side by SHA-256, and four by SHA-1. Nothing here takes memory.
 #![tactic(auto)]
 
+pub mod chains1;
 pub mod chains256;
 
+mod block1;
 mod block256;
 mod constants;
+mod turns1;
 mod turns256;
 mod words;
