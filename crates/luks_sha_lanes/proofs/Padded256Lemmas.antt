@@ -1,5 +1,5 @@
 -- A digest and its padding as one block, in two lanes.
-use Rattle.std.proofs.Common.{◌≡◌, ℕ, ◌+◌, ◌*◌, ◌%◌, ◌^◌, ◌<◌, List, [], ◌∷◌, ◌++◌, bit_xor, length, arith, refl, sym}
+use Rattle.std.proofs.Common.{◌≡◌, ℕ, ◌*◌, ◌^◌, ◌<◌, List, [], ◌∷◌, ◌++◌, bit_xor, length, arith, refl, sym}
 use Rattle.std.proofs.Common.{ap, ◌∙◌, append_assoc, length-append}
 use Rattle.std.specs.Prelude.{slice_index, slice_index_or}
 use Rattle.std.specs.Int.{from_be_bytes, to_be_bytes, w32}

@@ -1,5 +1,5 @@
 -- A word that stands twice in 64 bits, shifted to the right, has in its low half the word rotated.
-use Rattle.std.proofs.Common.{◌≡◌, ℕ, zero, suc, ◌+◌, ◌-◌, ◌*◌, ◌/◌, ◌%◌, ◌^◌, ◌<◌, List, [], ◌∷◌, length, bit_and}
+use Rattle.std.proofs.Common.{◌≡◌, ℕ, ◌+◌, ◌-◌, ◌*◌, ◌/◌, ◌%◌, ◌^◌, ◌<◌, List, [], ◌∷◌, length, bit_and}
 use Rattle.std.proofs.Common.{bit_or, bit_xor, ap, ap₂, sym, ◌∙◌, arith, refl, pow-add, add_comm, mod-lt, pow_pos}
 use Rattle.std.specs.Int.{w32}
 use Rattle.std.specs.Int.Bits.{or_shifted_r}

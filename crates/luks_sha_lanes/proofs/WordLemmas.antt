@@ -190,22 +190,34 @@ front_alone zero n front x y inside =
 front_alone (suc a) n [] x y inside = absurd (omega arith)
 front_alone (suc a) n (b ∷ front) x y inside = front_alone a n front x y (omega arith)
 
--- digest j, which was written last
-pub written_at : (size j : ℕ) (now digest rest : List ℕ) → size * j ≤ length now → length digest ≡ size
-    → digest_at size j (take (size * j) now ++ (digest ++ rest)) ≡ digest
-written_at size j now digest rest inside whole =
-    let front : length (take (size * j) now) ≡ size * j = omega (arith, length-take (size * j) now) in
-    rw (drop_front (size * j) (take (size * j) now) (digest ++ rest) front) (take_front size digest rest whole)
+-- digest k, which was written last
+written_at : (size k : ℕ) (now digest rest : List ℕ) → size * k ≤ length now → length digest ≡ size
+    → digest_at size k (take (size * k) now ++ (digest ++ rest)) ≡ digest
+written_at size k now digest rest inside whole =
+    let front : length (take (size * k) now) ≡ size * k = omega (arith, length-take (size * k) now) in
+    rw (drop_front (size * k) (take (size * k) now) (digest ++ rest) front) (take_front size digest rest whole)
 
 -- a digest before it
-pub written_before : (size j k : ℕ) (now rest : List ℕ) → size * j ≤ length now → k < j
-    → digest_at size k (take (size * j) now ++ rest) ≡ digest_at size k now
-written_before size j k now rest inside before =
-    let place : size * k + size ≤ size * j =
-    omega (arith, mul-le-mul_left {m = k + 1} {n = j} size (omega arith)) in
-    let front : length (take (size * j) now) ≡ size * j = omega (arith, length-take (size * j) now) in
-    front_alone (size * k) size (take (size * j) now) rest (drop (size * j) now) (omega arith)
-    ∙ ap (λ (l : List ℕ). digest_at size k l) (take-append-drop (size * j) now)
+written_before : (size k j : ℕ) (now rest : List ℕ) → size * k ≤ length now → j < k
+    → digest_at size j (take (size * k) now ++ rest) ≡ digest_at size j now
+written_before size k j now rest inside before =
+    let place : size * j + size ≤ size * k =
+    omega (arith, mul-le-mul_left {m = j + 1} {n = k} size (omega arith)) in
+    let front : length (take (size * k) now) ≡ size * k = omega (arith, length-take (size * k) now) in
+    front_alone (size * j) size (take (size * k) now) rest (drop (size * k) now) (omega arith)
+    ∙ ap (λ (l : List ℕ). digest_at size j l) (take-append-drop (size * k) now)
+
+-- digest k is written too, where those before it were what they should be
+pub written_next : (size k j : ℕ) (now digest rest : List ℕ) (f : ℕ → List ℕ)
+    → size * k ≤ length now → length digest ≡ size
+    → ((i : ℕ) → i < k → digest_at size i now ≡ f i) → digest ≡ f k → j < k + 1
+    → digest_at size j (take (size * k) now ++ (digest ++ rest)) ≡ f j
+written_next size k j now digest rest f inside whole so_far is_next below = elim (cases_lt j k) [
+  | inl before ↦ written_before size k j now (digest ++ rest) inside before ∙ so_far j before
+  | inr at ↦
+      let last : k ≡ j = omega arith in
+      rw (← last) (written_at size k now digest rest inside whole ∙ is_next)
+]
 
 pub below_five : (P : ℕ → Type 0) → P 0 → P 1 → P 2 → P 3 → P 4 → (k : ℕ) → k < 5 → P k
 below_five P p0 p1 p2 p3 p4 zero h = p0

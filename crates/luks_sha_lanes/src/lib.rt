@@ -4,11 +4,10 @@
 //! Two blocks go side by side by SHA-256, and four by SHA-1. Nothing here takes memory.
 #![tactic(auto)]
 
-pub mod chains1;
-pub mod chains256;
-
 mod block1;
 mod block256;
+pub mod chains1;
+pub mod chains256;
 mod constants;
 mod turns1;
 mod turns256;

@@ -40,10 +40,10 @@ returns g c = λ j b in_lane twice block.
     let done : 16 * c.schedule.turn ≡ 64 = omega (arith, c.schedule.auto.turn-end (omega arith)) in
     let held = pair_at j b (lane j state) _ _ _ _ done (c.schedule.invariant j b in_lane twice block) in (
       twice_of_eight j c.twice.result c.twice-2.result c.twice-3.result c.twice-4.result c.twice-5.result
-      c.twice-6.result c.twice-7.result c.twice-8.result [] (c.twice.ensures.twice j in_lane)
-      (c.twice-2.ensures.twice j in_lane) (c.twice-3.ensures.twice j in_lane) (c.twice-4.ensures.twice j in_lane)
-      (c.twice-5.ensures.twice j in_lane) (c.twice-6.ensures.twice j in_lane) (c.twice-7.ensures.twice j in_lane)
-      (c.twice-8.ensures.twice j in_lane) (twice_none j),
+          c.twice-6.result c.twice-7.result c.twice-8.result [] (c.twice.ensures.twice j in_lane)
+          (c.twice-2.ensures.twice j in_lane) (c.twice-3.ensures.twice j in_lane) (c.twice-4.ensures.twice j in_lane)
+          (c.twice-5.ensures.twice j in_lane) (c.twice-6.ensures.twice j in_lane) (c.twice-7.ensures.twice j in_lane)
+          (c.twice-8.ensures.twice j in_lane) (twice_none j),
       rw (
         c.twice.ensures.low j in_lane,
         c.add.ensures j in_lane,

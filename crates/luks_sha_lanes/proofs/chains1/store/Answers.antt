@@ -1,23 +1,16 @@
-use Rattle.std.proofs.Common.{◌≡◌, ◌∙◌, ◌*◌, sym, ap, arith, inl, inr, rules, drop, length}
-use Rattle.std.proofs.lemmas.Bool.{cases_lt}
+use Rattle.std.proofs.Common.{◌∙◌, ap, arith, length, rules}
 use Rattle.sha1.specs.Sha1.{digest_bytes}
-use Rattle.luks_sha_lanes.specs.Chains.{digest_at}
 use Rattle.luks_sha_lanes.specs.Lanes1.{lane}
 use Rattle.luks_sha_lanes.proofs.Padded1Lemmas.{length-bytes}
-use Rattle.luks_sha_lanes.proofs.WordLemmas.{written_at, written_before}
+use Rattle.luks_sha_lanes.proofs.WordLemmas.{written_next}
 use Rattle.luks_sha_lanes.proofs.chains1.store.Goals as goal
 
 pub lanes-preserved : goal.lanes-preserved
 lanes-preserved c = (
   search rules,
-  λ k below. elim (cases_lt k c.lanes.j) [
-    | inl before ↦ written_before 20 c.lanes.j k c.lanes.out _ (omega arith) before ∙ c.lanes.invariant.1 k before
-    | inr now ↦
-        let e : c.lanes.j ≡ k = omega arith in
-        rw (← e)
-        (written_at 20 c.lanes.j c.lanes.out c.store_lane.new.out _ (omega arith)
-        (ap length c.store_lane.ensures ∙ length-bytes _ 5) ∙ c.store_lane.ensures)
-  ],
+  λ k below.
+      written_next 20 c.lanes.j k c.lanes.out c.store_lane.new.out _ (λ i. digest_bytes (lane i c.args.x.now) 5)
+      (omega arith) (ap length c.store_lane.ensures ∙ length-bytes _ 5) c.lanes.invariant.1 c.store_lane.ensures below,
 )
 
 pub returns : goal.returns
