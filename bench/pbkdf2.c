@@ -1,6 +1,7 @@
 /* PBKDF2 with HMAC-SHA1, HMAC-SHA256 and HMAC-SHA512 in plain C, to be timed beside luks_kdf:
- * `pbkdf2 sha256 100000` derives one digest's length, with both padded key blocks hashed once, and
- * writes the turns, the nanoseconds of processor time and the first eight bytes of the key.
+ * `pbkdf2 sha256 100000 64` derives a key of 64 bytes in that many turns, its blocks one after the
+ * other, with both padded key blocks hashed once, and writes the evaluations of HMAC, the nanoseconds
+ * of processor time and the key.
  */
 #include <stdint.h>
 #include <stdio.h>
@@ -107,10 +108,12 @@ static void fill_constants(void) {
     }
 }
 
+typedef const unsigned char *bytes;
+
 /* The words of the message's one block after the key block: at most eight words and then the end. */
-#define DERIVE(T, WORDS, H, compress, BITS)                                                    \
+#define DERIVE(T, WORDS, H, compress)                                                          \
     T inner[8], outer[8], key[16] = {0}, pad[16], u[8], sum[8], block[16];                     \
-    unsigned size = sizeof(T);                                                                 \
+    unsigned size = sizeof(T), evaluations = 0;                                                \
     for (unsigned i = 0; i < pass_len; i++) key[i / size] |= (T)pass[i] << 8 * (size - 1 - i % size); \
     for (int i = 0; i < 16; i++) pad[i] = key[i] ^ (T)0x3636363636363636;                      \
     memcpy(inner, H, sizeof(T) * WORDS);                                                       \
@@ -118,47 +121,56 @@ static void fill_constants(void) {
     for (int i = 0; i < 16; i++) pad[i] = key[i] ^ (T)0x5C5C5C5C5C5C5C5C;                      \
     memcpy(outer, H, sizeof(T) * WORDS);                                                       \
     compress(outer, pad);                                                                      \
-    memset(block, 0, sizeof block);                                                            \
-    unsigned char first[64] = {0};                                                             \
-    memcpy(first, salt, salt_len);                                                             \
-    first[salt_len + 3] = 1, first[salt_len + 4] = 0x80;                                       \
-    for (unsigned i = 0; i < salt_len + 5; i++) block[i / size] |= (T)first[i] << 8 * (size - 1 - i % size); \
-    block[15] = 8 * (16 * size + salt_len + 4);                                                \
-    memset(sum, 0, sizeof sum);                                                                \
-    for (u32 turn = 0; turn < turns; turn++) {                                                 \
-        memcpy(u, inner, sizeof(T) * WORDS);                                                   \
-        compress(u, block);                                                                    \
+    for (unsigned start = 0; start < length; start += WORDS * size) {                          \
         memset(block, 0, sizeof block);                                                        \
-        memcpy(block, u, sizeof(T) * WORDS);                                                   \
-        block[WORDS] = (T)0x80 << 8 * (size - 1);                                              \
-        block[15] = 8 * (16 * size + WORDS * size);                                            \
-        memcpy(u, outer, sizeof(T) * WORDS);                                                   \
-        compress(u, block);                                                                    \
-        memcpy(block, u, sizeof(T) * WORDS);                                                   \
-        for (int i = 0; i < WORDS; i++) sum[i] ^= u[i];                                        \
+        unsigned char first[64] = {0};                                                         \
+        memcpy(first, salt, salt_len);                                                         \
+        first[salt_len + 3] = start / (WORDS * size) + 1, first[salt_len + 4] = 0x80;          \
+        for (unsigned i = 0; i < salt_len + 5; i++) block[i / size] |= (T)first[i] << 8 * (size - 1 - i % size); \
+        block[15] = 8 * (16 * size + salt_len + 4);                                            \
+        memset(sum, 0, sizeof sum);                                                            \
+        for (u32 turn = 0; turn < turns; turn++) {                                             \
+            memcpy(u, inner, sizeof(T) * WORDS);                                               \
+            compress(u, block);                                                                \
+            memset(block, 0, sizeof block);                                                    \
+            memcpy(block, u, sizeof(T) * WORDS);                                               \
+            block[WORDS] = (T)0x80 << 8 * (size - 1);                                          \
+            block[15] = 8 * (16 * size + WORDS * size);                                        \
+            memcpy(u, outer, sizeof(T) * WORDS);                                               \
+            compress(u, block);                                                                \
+            memcpy(block, u, sizeof(T) * WORDS);                                               \
+            for (int i = 0; i < WORDS; i++) sum[i] ^= u[i];                                    \
+        }                                                                                      \
+        evaluations += turns;                                                                  \
+        for (unsigned i = 0; i < WORDS * size && start + i < length; i++)                      \
+            out[start + i] = (unsigned char)(sum[i / size] >> 8 * (size - 1 - i % size));      \
     }                                                                                          \
-    return BITS;
+    return evaluations;
 
-typedef const unsigned char *bytes;
+#define FUNCTION(name) static unsigned name(bytes pass, unsigned pass_len, bytes salt, unsigned salt_len, u32 turns, unsigned char *out, unsigned length)
 
-static u64 derive1(bytes pass, unsigned pass_len, bytes salt, unsigned salt_len, u32 turns) { DERIVE(u32, 5, H1, compress1, (u64)sum[0] << 32 | sum[1]) }
-static u64 derive256(bytes pass, unsigned pass_len, bytes salt, unsigned salt_len, u32 turns) { DERIVE(u32, 8, H256, compress256, (u64)sum[0] << 32 | sum[1]) }
-static u64 derive512(bytes pass, unsigned pass_len, bytes salt, unsigned salt_len, u32 turns) { DERIVE(u64, 8, H512, compress512, sum[0]) }
+FUNCTION(derive1) { DERIVE(u32, 5, H1, compress1) }
+FUNCTION(derive256) { DERIVE(u32, 8, H256, compress256) }
+FUNCTION(derive512) { DERIVE(u64, 8, H512, compress512) }
 
 int main(int argc, char **argv) {
-    if (argc != 3) return 1;
+    if (argc != 4) return 1;
     fill_constants();
     u32 turns = (u32)strtoul(argv[2], 0, 10);
+    unsigned length = (unsigned)strtoul(argv[3], 0, 10), evaluations;
     bytes pass = (bytes) "passphrase", salt = (bytes) "0123456789abcdef";
+    unsigned char key[512];
     struct timespec start, end;
-    u64 key;
+    if (length > sizeof key) return 1;
     clock_gettime(CLOCK_PROCESS_CPUTIME_ID, &start);
-    if (!strcmp(argv[1], "sha1")) key = derive1(pass, 10, salt, 16, turns);
-    else if (!strcmp(argv[1], "sha256")) key = derive256(pass, 10, salt, 16, turns);
-    else if (!strcmp(argv[1], "sha512")) key = derive512(pass, 10, salt, 16, turns);
+    if (!strcmp(argv[1], "sha1")) evaluations = derive1(pass, 10, salt, 16, turns, key, length);
+    else if (!strcmp(argv[1], "sha256")) evaluations = derive256(pass, 10, salt, 16, turns, key, length);
+    else if (!strcmp(argv[1], "sha512")) evaluations = derive512(pass, 10, salt, 16, turns, key, length);
     else return 1;
     clock_gettime(CLOCK_PROCESS_CPUTIME_ID, &end);
     long long nanos = (end.tv_sec - start.tv_sec) * 1000000000LL + (end.tv_nsec - start.tv_nsec);
-    printf("%u %lld %016llx\n", turns, nanos, (unsigned long long)key);
+    printf("%u %lld ", evaluations, nanos);
+    for (unsigned i = 0; i < length; i++) printf("%02x", key[i]);
+    printf("\n");
     return 0;
 }

@@ -1,41 +1,84 @@
-//! Times `pbkdf2`: `bench_pbkdf2 sha256 100000` derives one digest's length in that many turns, and
-//! writes the turns, the nanoseconds of processor time and the first eight bytes of the key to
-//! standard error. With no words, or with others, it does nothing.
+//! Derives keys, and tells what that takes: `bench_pbkdf2 luks_kdf sha256 100000 64` derives a key of
+//! 64 bytes in that many turns, and writes the evaluations of HMAC, the nanoseconds of processor time
+//! and the key to standard error. Each further number is one more length, with a line of its own.
+//! `blockwise` in place of `luks_kdf` derives the blocks of a key one after the other, by SHA-1 or
+//! SHA-256. With no words, or with others, it does nothing.
 #![tactic(auto)]
 
+ghost use Rattle.std.specs.Prelude.{◌≤◌};
+
 use luks_kdf::{Hash, Work, pbkdf2};
+use std::fmt;
 use std::time::CpuClock;
 use std::{env, io};
 
-const MAX_DIGEST: usize = 64;
+mod blockwise;
+
+const MAX_KEY: usize = 512;
+
+const PASS: &[u8] = b"passphrase";
+
+const SALT: &[u8] = b"0123456789abcdef";
+
+// Bytes in hexadecimal digits.
+#[derive(Drop)]
+struct Hex<'a> {
+    bytes: &'a [u8],
+}
+
+impl<'a> fmt::Display for Hex<'a> {
+    fn fmt<W: fmt::Write>(&self, f: &mut fmt::Formatter<W>) -> fmt::Result {
+        for byte in self.bytes {
+            write!(f, "{byte:02x}")?;
+        }
+        Ok(())
+    }
+}
 
 fn main(rt: HostRuntime) -> io::Result<()> {
     let mut words = env::args(&rt)?;
     let _program = words.next();
-    let (Some(name), Some(number)) = (words.next(), words.next()) else {
+    let (Some(way), Some(name), Some(number)) = (words.next(), words.next(), words.next()) else {
         return Ok(());
     };
     let Some(hash) = Hash::from_name(name.as_str()) else {
         return Ok(());
     };
     let turns = number.as_str().parse::<u32>().unwrap_or(0);
-    if turns == 0 {
-        return Ok(());
+    for word in words {
+        let length = word.as_str().parse::<usize>().unwrap_or(0);
+        if turns > 0 && length > 0 && length <= MAX_KEY {
+            measure(&rt, way.as_str(), hash, turns, length)?;
+        }
     }
-    let mut key = [0; MAX_DIGEST];
+    Ok(())
+}
+
+// Derives one key of this length in this way, and writes what it took.
+fn measure(
+    rt: &HostRuntime,
+    way: &str,
+    hash: Hash,
+    turns: u32,
+    length: usize,
+) -> io::Result<()>
+    requires turns { 1 ≤ turns }
+    requires some { 1 ≤ length }
+    requires room { length ≤ MAX_KEY }
+{
+    let mut key = [0; MAX_KEY];
+    let key = &mut key[..length];
     let mut work = Work::new(0);
     let start = rt.process_cpu_time()?;
-    pbkdf2(
-        hash,
-        b"passphrase",
-        b"0123456789abcdef",
-        turns,
-        &mut key[..hash.size()],
-        &mut work,
-    );
+    let count = match (way, hash) {
+        ("luks_kdf", _) => {
+            pbkdf2(hash, PASS, SALT, turns, key, &mut work);
+            work.count()
+        }
+        ("blockwise", Hash::Sha1) => blockwise::by_sha1(PASS, SALT, turns, key),
+        ("blockwise", Hash::Sha256) => blockwise::by_sha256(PASS, SALT, turns, key),
+        _ => return Ok(()),
+    };
     let taken = rt.process_cpu_time()?.saturating_sub(start);
-    let beginning = u64::from_be_bytes([
-        key[0], key[1], key[2], key[3], key[4], key[5], key[6], key[7],
-    ]);
-    eprintln!(rt; "{} {} {beginning:016x}", work.count(), taken.as_nanos())
+    eprintln!(rt; "{count} {} {}", taken.as_nanos(), Hex { bytes: key })
 }

@@ -1,0 +1,66 @@
+use Rattle.std.proofs.Common.{◌≡◌, ◌∙◌, ℕ, ◌+◌, ◌-◌, ◌*◌, ◌<◌, ap, ap₂, drop, length, arith, length-drop}
+use Rattle.std.proofs.lemmas.List.{length-take}
+use Rattle.luks_kdf.specs.Hash.{size_of}
+use Rattle.luks_kdf.proofs.BytesLemmas.{piece_begins}
+use Rattle.luks_kdf.proofs.LaneLemmas.{block_at, count_end, count_group, count_start, cut_start, cut_step, group_at}
+use Rattle.luks_kdf.proofs.LaneLemmas.{group_from, groups_end, has_lanes, length-blocks}
+use Rattle.luks_kdf.proofs.lanes.derive_in_lanes.Goals as goal
+
+pub fill-init : goal.fill-init
+fill-init g c = (
+  cut_start (group_at (block_at g.E.Engine.function c.args.pass.now c.args.salt.now c.args.iterations) g.E.Lanes.WIDTH)
+      (c.WIDTH.result * c.size.result) (length c.args.out.now) c.args.out.now,
+  count_start c.args.work.now c.args.iterations _ (omega arith),
+)
+
+pub fill-preserved : goal.fill-preserved
+fill-preserved g c =
+    let h = g.E.Engine.function in
+    let w = g.E.Lanes.WIDTH in
+    let pass = c.args.pass.now in
+    let salt = c.args.salt.now in
+    let turns = c.args.iterations in
+    let before = c.args.out.now in
+    let group = c.WIDTH.result * c.size.result in
+    let known = g.met.E.Lanes.known in
+    let is_size : c.size.result ≡ size_of h = c.size.ensures ∙ ap size_of c.hash.ensures in
+    let is_group : group ≡ w * size_of h = ap₂ ◌*◌ c.WIDTH.ensures is_size in
+    let inside : c.fill.i * group < length before =
+    piece_begins (length before) group c.div_ceil-count.result c.fill.i (rw is_group ((has_lanes h w known).long))
+    c.div_ceil-count.ensures c.fill-test.true in
+    let is_number = ap (λ (n : ℕ). n * c.fill.i + 1) c.WIDTH-in-fill.ensures in
+    let key = c.derive_group.ensures.key pass c.new-keyed.ensures.inner c.new-keyed.ensures.outer
+    c.key_blocks-blocks.ensures.inner c.key_blocks-blocks.ensures.outer in (
+      cut_step (group_at (block_at h pass salt turns) w) group (length-blocks h pass salt turns w group is_group) before
+          c.fill.out c.derive_group.new.out c.fill.i c.min-end.result inside c.fill.auto.out c.fill.invariant.0
+          c.min-end.ensures (group_from h pass salt turns w c.fill.i _ _ _ is_number key),
+      count_group h w group c.args.work.now c.fill.work c.derive_group.new.work turns (length before) c.fill.i
+          c.min-end.result _ known is_group c.fill.invariant.1 inside
+          (omega (arith, c.min-end.ensures, c.fill.auto.out))
+          (omega (
+            arith,
+            c.min-end.ensures,
+            c.fill.auto.out,
+            length-take (c.min-end.result - c.fill.i * group) (drop (c.fill.i * group) c.fill.out),
+            length-drop (c.fill.i * group) c.fill.out,
+          ))
+          c.derive_group.ensures.work,
+    )
+
+pub returns-clause-key : goal.returns-clause-key
+returns-clause-key g c =
+    let h = g.E.Engine.function in
+    let w = g.E.Lanes.WIDTH in
+    let is_size : c.size.result ≡ size_of h = c.size.ensures ∙ ap size_of c.hash.ensures in
+    groups_end h c.args.pass.now c.args.salt.now c.args.out.now c.fill.out c.args.iterations w
+    (c.WIDTH.result * c.size.result) c.div_ceil-count.result c.fill.i g.met.E.Lanes.known
+    (ap₂ ◌*◌ c.WIDTH.ensures is_size) c.div_ceil-count.ensures (omega arith) c.fill.invariant.0
+
+pub returns-clause-work : goal.returns-clause-work
+returns-clause-work g c =
+    let h = g.E.Engine.function in
+    let w = g.E.Lanes.WIDTH in
+    let is_size : c.size.result ≡ size_of h = c.size.ensures ∙ ap size_of c.hash.ensures in
+    count_end h w (c.WIDTH.result * c.size.result) c.args.work.now c.fill.work c.args.iterations (length c.args.out.now)
+    c.div_ceil-count.result c.fill.i g.met.E.Lanes.known (ap₂ ◌*◌ c.WIDTH.ensures is_size) c.requires.some
+    c.div_ceil-count.ensures (omega arith) c.fill.invariant.1

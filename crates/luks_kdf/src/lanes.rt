@@ -1,0 +1,198 @@
+//! PBKDF2 with the blocks of a key side by side, where a lane of a vector derives each.
+
+ghost use Rattle.std.specs.Prelude.{◌≡◌, ℕ, ◌+◌, ◌*◌, ◌^◌, ◌<◌, ◌≤◌, List, ◌⊎◌, length, refl};
+ghost use Rattle.std.specs.Prelude.{take};
+ghost use Rattle.std.specs.Int.{div_ceil};
+ghost use Rattle.std.proofs.Common.{inl, inr};
+ghost use Rattle.luks_sha_lanes.specs.Chains.{chain_sum, digest_at};
+ghost use Rattle.luks_kdf.specs.declared.hash.Hash.TheVariants as Variants;
+ghost use Rattle.luks_kdf.specs.Bytes.{joined};
+ghost use Rattle.luks_kdf.specs.Hash.{block_of, hash_of, size_of};
+ghost use Rattle.luks_kdf.specs.Hmac.{inner_block, outer_block};
+ghost use Rattle.luks_kdf.specs.Pbkdf2.{capped, derived_key, t_of, u_of};
+
+use crate::Work;
+use crate::derive::derive_block;
+use crate::engine::Engine;
+use crate::mac::{KeyBlocks, Keyed, key_blocks};
+use luks_sha_lanes::{chains1, chains256};
+use sha1::Sha1;
+use sha2::Sha256;
+
+// The length of the most digests that go side by side.
+const MAX_GROUP: usize = 80;
+
+/// A hash function by which several chains of digests go side by side.
+pub(crate) trait Lanes: Engine {
+    // How many chains go side by side.
+    const WIDTH: usize;
+
+    ghost WIDTH: { ℕ };
+
+    /// Xors the next `count` digests of each chain into its sum. `last` holds the last digest of each
+    /// chain, one after the other, and `sums` their sums.
+    fn add_chains(inner: &[u8], outer: &[u8], count: u32, last: &[u8], sums: &mut [u8])
+        requires inner { length inner.now ≡ 64 }
+        requires outer { length outer.now ≡ 64 }
+        requires last { length last.now ≡ WIDTH * size_of Self.function }
+        requires sums { length sums.old ≡ WIDTH * size_of Self.function }
+        ensures { (j : ℕ) → j < WIDTH → digest_at (size_of Self.function) j sums.new
+            ≡ chain_sum (hash_of Self.function) inner.now outer.now
+            (digest_at (size_of Self.function) j last.now)
+            (digest_at (size_of Self.function) j sums.old) count };
+
+    ghost known: { ((Self.function ≡ Variants.Sha1) × (WIDTH ≡ 4))
+        ⊎ ((Self.function ≡ Variants.Sha256) × (WIDTH ≡ 2)) };
+}
+
+impl Lanes for Sha1 {
+    const WIDTH: usize = 4;
+
+    ghost WIDTH = { 4 };
+
+    fn add_chains(inner: &[u8], outer: &[u8], count: u32, last: &[u8], sums: &mut [u8]) {
+        chains1::add_chains(inner, outer, count, last, sums);
+    }
+
+    ghost known = { inl (refl, refl) };
+}
+
+impl Lanes for Sha256 {
+    const WIDTH: usize = 2;
+
+    ghost WIDTH = { 2 };
+
+    fn add_chains(inner: &[u8], outer: &[u8], count: u32, last: &[u8], sums: &mut [u8]) {
+        chains256::add_chains(inner, outer, count, last, sums);
+    }
+
+    ghost known = { inr (refl, refl) };
+}
+
+/// Fills `out` with the first bytes of the blocks T, as many at a time as there are lanes.
+pub(crate) fn derive_in_lanes<E: Lanes>(
+    pass: &[u8],
+    salt: &[u8],
+    iterations: u32,
+    out: &mut [u8],
+    work: &mut Work,
+)
+    requires turns { 1 ≤ iterations }
+    requires some { 1 ≤ length out.old }
+    requires room { length out.old ≤ 512 }
+    ensures key { out.new ≡ derived_key E.function pass.now salt.now iterations (length out.old) }
+    ensures work { work.new
+        ≡ capped (work.old + iterations * div_ceil (length out.old) (size_of E.function)) }
+{
+    let keyed = Keyed::<E>::new(pass);
+    let blocks = key_blocks::<E>(pass);
+    let group = E::WIDTH * E::hash().size();
+    let count = out.len().div_ceil(group);
+    'fill: for i in 0..count {
+        let start = i * group;
+        let end = (start + group).min(out.len());
+        derive_group(
+            &keyed,
+            &blocks,
+            salt,
+            (E::WIDTH * i) as u32 + 1,
+            iterations,
+            &mut out[start..end],
+            work,
+        );
+    }
+}
+
+// Fills `out` with the first bytes of the blocks T from this number on, one block for each lane.
+fn derive_group<E: Lanes>(
+    keyed: &Keyed<E>,
+    blocks: &KeyBlocks,
+    salt: &[u8],
+    number: u32,
+    iterations: u32,
+    out: &mut [u8],
+    work: &mut Work,
+)
+    requires turns { 1 ≤ iterations }
+    requires number { number + E.WIDTH < 2 ^ 32 }
+    requires some { 1 ≤ length out.old }
+    requires room { length out.old ≤ E.WIDTH * size_of E.function }
+    ensures key { (pass : List ℕ) → E.holds keyed.now.inner (inner_block E.function pass)
+        → E.holds keyed.now.outer (outer_block E.function pass)
+        → blocks.now.inner ≡ inner_block E.function pass
+        → blocks.now.outer ≡ outer_block E.function pass
+        → out.new ≡ take (length out.old)
+        (joined (λ k. t_of E.function pass salt.now (number + k) iterations) E.WIDTH) }
+    ensures work { work.new
+        ≡ capped (work.old + iterations * div_ceil (length out.old) (size_of E.function)) }
+{
+    let size = E::hash().size();
+    if out.len() <= size {
+        derive_block(keyed, salt, number, iterations, out, work);
+    } else {
+        let mut t = [0; MAX_GROUP];
+        let t = &mut t[..E::WIDTH * size];
+        let count = out.len().div_ceil(size);
+        sum_group(keyed, blocks, salt, number, count, iterations, t);
+        work.raise_by(count as u128 * iterations as u128);
+        out.copy_from_slice(&t[..out.len()]);
+    }
+}
+
+// Writes so many of the blocks T from this number on.
+fn sum_group<E: Lanes>(
+    keyed: &Keyed<E>,
+    blocks: &KeyBlocks,
+    salt: &[u8],
+    number: u32,
+    count: usize,
+    iterations: u32,
+    t: &mut [u8],
+)
+    requires turns { 1 ≤ iterations }
+    requires number { number + count < 2 ^ 32 }
+    requires count { count ≤ E.WIDTH }
+    requires room { length t.old ≡ E.WIDTH * size_of E.function }
+    ensures { (pass : List ℕ) → E.holds keyed.now.inner (inner_block E.function pass)
+        → E.holds keyed.now.outer (outer_block E.function pass)
+        → blocks.now.inner ≡ inner_block E.function pass
+        → blocks.now.outer ≡ outer_block E.function pass
+        → (k : ℕ) → k < count → digest_at (size_of E.function) k t.new
+        ≡ t_of E.function pass salt.now (number + k) iterations }
+{
+    let mut u = [0; MAX_GROUP];
+    let u = &mut u[..t.len()];
+    first_turns(keyed, salt, number, count, u);
+    t.copy_from_slice(u);
+    E::add_chains(&blocks.inner, &blocks.outer, iterations - 1, u, t);
+}
+
+// Writes the first U of so many blocks from this number on.
+fn first_turns<E: Lanes>(keyed: &Keyed<E>, salt: &[u8], number: u32, count: usize, u: &mut [u8])
+    requires number { number + count < 2 ^ 32 }
+    requires count { count ≤ E.WIDTH }
+    requires room { length u.old ≡ E.WIDTH * size_of E.function }
+    ensures { (pass : List ℕ) → E.holds keyed.now.inner (inner_block E.function pass)
+        → E.holds keyed.now.outer (outer_block E.function pass)
+        → (k : ℕ) → k < count → digest_at (size_of E.function) k u.new
+        ≡ u_of E.function pass salt.now (number + k) 1 }
+{
+    let size = E::hash().size();
+    'first: for k in 0..count {
+        let start = size * k;
+        first_turn(keyed, salt, number + k as u32, &mut u[start..start + size]);
+    }
+}
+
+// Writes the first U of the block of this number.
+fn first_turn<E: Engine>(keyed: &Keyed<E>, salt: &[u8], number: u32, u: &mut [u8])
+    requires { length u.old ≡ size_of E.function }
+    ensures { (pass : List ℕ) → E.holds keyed.now.inner (inner_block E.function pass)
+        → E.holds keyed.now.outer (outer_block E.function pass)
+        → u.new ≡ u_of E.function pass salt.now number 1 }
+{
+    let mut inner = keyed.begin();
+    inner.absorb(salt);
+    inner.absorb(&number.to_be_bytes());
+    keyed.complete(inner, u);
+}

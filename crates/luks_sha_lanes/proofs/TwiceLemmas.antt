@@ -1,0 +1,156 @@
+-- A word that stands twice in 64 bits, shifted to the right, has in its low half the word rotated.
+use Rattle.std.proofs.Common.{◌≡◌, ℕ, ◌+◌, ◌-◌, ◌*◌, ◌/◌, ◌%◌, ◌^◌, ◌<◌, List, [], ◌∷◌, length, bit_and}
+use Rattle.std.proofs.Common.{bit_or, bit_xor, ap, ap₂, sym, ◌∙◌, arith, refl, pow-add, add_comm, mod-lt, pow_pos}
+use Rattle.std.specs.Int.{w32}
+use Rattle.std.specs.Int.Bits.{or_shifted_r}
+use Rattle.std.specs.Simd.Lanes.{zip2}
+use Rattle.std.proofs.lemmas.Nat.{and_mask, and_mod, mod-pow-add, mod_low, shr_below, shr_high, shr_split, shl-shr}
+use Rattle.std.proofs.lemmas.Nat.{xor_mod}
+use Rattle.sha2.specs.Sha256.{ch, maj}
+use Rattle.luks_sha_lanes.proofs.ChMaj.{ch_short, maj_short}
+use Rattle.luks_sha_lanes.proofs.WordLemmas.{below_two}
+use Rattle.luks_sha_lanes.specs.Lanes256.{IsTwice, low}
+
+-- what holds of each list of two elements
+pub two_lanes : (P : List ℕ → Type 0) → ((a b : ℕ) → P (a ∷ b ∷ [])) → (xs : List ℕ) → length xs ≡ 2 → P xs
+two_lanes P p (a ∷ b ∷ []) h = p a b
+two_lanes P p [] h = absurd (omega arith)
+two_lanes P p (a ∷ []) h = absurd (omega arith)
+two_lanes P p (a ∷ b ∷ c ∷ xs) h = absurd (omega arith)
+
+cleared : (x j : ℕ) → x * 2 ^ j % 2 ^ j ≡ 0
+cleared x j = ap (λ (n : ℕ). n % 2 ^ j) (omega arith) ∙ mod_low x j 0 (pow_pos j)
+
+shl_low : (x k j : ℕ) → x * 2 ^ j % 2 ^ (k + j) ≡ x % 2 ^ k * 2 ^ j
+shl_low x k j = mod-pow-add (x * 2 ^ j) k j ∙ rw (shl-shr x j, cleared x j) (omega arith)
+
+-- the word x twice, shifted by k
+pub twice_rotated : (x k j : ℕ) → k + j ≡ 32 → x < 2 ^ 32
+    → (x * 2 ^ 32 + x) / 2 ^ k % 2 ^ 32 ≡ bit_or (x / 2 ^ k) (x * 2 ^ j % 2 ^ 32)
+twice_rotated x k j whole fits =
+    let q = x / 2 ^ k in
+    let y = x * 2 ^ j in
+    let width : 2 ^ 32 ≡ 2 ^ k * 2 ^ j = ap (λ (n : ℕ). 2 ^ n) (sym whole) ∙ pow-add 2 k j in
+    let small : q < 2 ^ j = shr_below x j k (rw (add_comm j k, whole) fits) in
+    let cut : x * 2 ^ 32 + x ≡ (y + q) * 2 ^ k + x % 2 ^ k =
+    omega (arith, ap (λ (n : ℕ). x * n) width, shr_split x k) in
+    let shifted : (x * 2 ^ 32 + x) / 2 ^ k ≡ y + q =
+    ap (λ (n : ℕ). n / 2 ^ k) cut ∙ shr_high (y + q) k (x % 2 ^ k) (mod-lt _ (pow_pos k)) in
+    let kept : (y + q) % 2 ^ 32 ≡ x % 2 ^ k * 2 ^ j + q =
+    ap (λ (n : ℕ). (y + q) % 2 ^ n) (sym whole) ∙ mod-pow-add (y + q) k j
+    ∙ rw (shr_high x j q small, mod_low x j q small) refl in
+    let high : y % 2 ^ 32 ≡ x % 2 ^ k * 2 ^ j =
+    ap (λ (n : ℕ). y % 2 ^ n) (sym whole) ∙ shl_low x k j in
+    rw (shifted, kept, high) (sym (or_shifted_r (x % 2 ^ k) j q small))
+
+-- the same of a lane
+pub half_lt : (a : ℕ) → a % 2 ^ 32 < 2 ^ 32
+half_lt a = omega arith
+
+lane_rotated : (a k j : ℕ) → k + j ≡ 32 → a ≡ a % 2 ^ 32 * 2 ^ 32 + a % 2 ^ 32
+    → a / 2 ^ k % 2 ^ 32 ≡ bit_or (a % 2 ^ 32 / 2 ^ k) (a % 2 ^ 32 * 2 ^ j % 2 ^ 32)
+lane_rotated a k j whole is = ap (λ (n : ℕ). n / 2 ^ k % 2 ^ 32) is ∙ twice_rotated (a % 2 ^ 32) k j whole (half_lt a)
+
+abbrev rotated : ℕ → ℕ → ℕ → ℕ
+rotated x k j = bit_or (x / 2 ^ k) (x * 2 ^ j % 2 ^ 32)
+
+-- a sum of three shifts, in the low half
+low_sum : (a b c : ℕ) → bit_xor (bit_xor a b) c % 2 ^ 32 ≡ bit_xor (bit_xor (a % 2 ^ 32) (b % 2 ^ 32)) (c % 2 ^ 32)
+low_sum a b c = xor_mod (bit_xor a b) c 32 ∙ ap (λ (n : ℕ). bit_xor n (c % 2 ^ 32)) (xor_mod a b 32)
+
+pub three_rotated : (k1 j1 k2 j2 k3 j3 : ℕ) → k1 + j1 ≡ 32 → k2 + j2 ≡ 32 → k3 + j3 ≡ 32
+    → (a : ℕ) → a ≡ a % 2 ^ 32 * 2 ^ 32 + a % 2 ^ 32
+    → bit_xor (bit_xor (a / 2 ^ k1) (a / 2 ^ k2)) (a / 2 ^ k3) % 2 ^ 32
+    ≡ bit_xor (bit_xor (rotated (a % 2 ^ 32) k1 j1) (rotated (a % 2 ^ 32) k2 j2)) (rotated (a % 2 ^ 32) k3 j3)
+three_rotated k1 j1 k2 j2 k3 j3 w1 w2 w3 a is =
+    low_sum (a / 2 ^ k1) (a / 2 ^ k2) (a / 2 ^ k3)
+    ∙ rw (lane_rotated a k1 j1 w1 is, lane_rotated a k2 j2 w2 is, lane_rotated a k3 j3 w3 is) refl
+
+-- two rotations and a shift by n bits, which takes the upper copy
+pub two_rotated : (k1 j1 k2 j2 n : ℕ) → k1 + j1 ≡ 32 → k2 + j2 ≡ 32
+    → (a : ℕ) → a ≡ a % 2 ^ 32 * 2 ^ 32 + a % 2 ^ 32 → a / 2 ^ n % 2 ^ 32 ≡ a % 2 ^ 32 / 2 ^ (n - 32)
+    → bit_xor (bit_xor (a / 2 ^ k1) (a / 2 ^ k2)) (a / 2 ^ n) % 2 ^ 32
+    ≡ bit_xor (bit_xor (rotated (a % 2 ^ 32) k1 j1) (rotated (a % 2 ^ 32) k2 j2)) (a % 2 ^ 32 / 2 ^ (n - 32))
+two_rotated k1 j1 k2 j2 n w1 w2 a is shifted =
+    low_sum (a / 2 ^ k1) (a / 2 ^ k2) (a / 2 ^ n)
+    ∙ rw (lane_rotated a k1 j1 w1 is, lane_rotated a k2 j2 w2 is, shifted) refl
+
+-- three shifts of vectors under xor
+abbrev shifted : List ℕ → ℕ → List ℕ
+shifted x k = zip2 (λ (a n : ℕ). a / 2 ^ n) x (k ∷ k ∷ [])
+
+abbrev Sums : ℕ → ℕ → ℕ → (ℕ → ℕ) → List ℕ → Type 0
+Sums k m n f x = (j : ℕ) → j < 2 → IsTwice j x
+    → low j (zip2 bit_xor (zip2 bit_xor (shifted x k) (shifted x m)) (shifted x n)) ≡ f (low j x)
+
+pub sum_of_shifts : (k m n : ℕ) (f : ℕ → ℕ)
+    → ((a : ℕ) → a ≡ a % 2 ^ 32 * 2 ^ 32 + a % 2 ^ 32
+    → bit_xor (bit_xor (a / 2 ^ k) (a / 2 ^ m)) (a / 2 ^ n) % 2 ^ 32 ≡ f (a % 2 ^ 32))
+    → (x : List ℕ) → length x ≡ 2 → Sums k m n f x
+sum_of_shifts k m n f law = two_lanes (Sums k m n f) (λ a b. below_two _ (law a) (law b))
+
+-- the low half of a, twice
+doubled : ℕ → ℕ
+doubled a = bit_or (bit_and a 4294967295) (a * 2 ^ 32 % 2 ^ 64)
+
+doubled_is : (a : ℕ) → doubled a ≡ a % 2 ^ 32 * 2 ^ 32 + a % 2 ^ 32
+unfolding doubled
+doubled_is a =
+    rw (and_mask a 32, shl_low a 32 32) (or_shifted_r (a % 2 ^ 32) 32 (a % 2 ^ 32) (half_lt a))
+
+doubled_low : (a : ℕ) → doubled a % 2 ^ 32 ≡ a % 2 ^ 32
+doubled_low a = ap (λ (n : ℕ). n % 2 ^ 32) (doubled_is a) ∙ mod_low (a % 2 ^ 32) 32 (a % 2 ^ 32) (half_lt a)
+
+doubled_twice : (a : ℕ) → doubled a ≡ doubled a % 2 ^ 32 * 2 ^ 32 + doubled a % 2 ^ 32
+doubled_twice a = doubled_is a ∙ ap (λ (n : ℕ). n * 2 ^ 32 + n) (sym (doubled_low a))
+
+abbrev Doubled : List ℕ → List ℕ
+Doubled x =
+    zip2 bit_or (zip2 bit_and x (4294967295 ∷ 4294967295 ∷ []))
+    (zip2 (λ (a n : ℕ). a * 2 ^ n % 2 ^ 64) x (32 ∷ 32 ∷ []))
+
+pub all_doubled : (x : List ℕ) → length x ≡ 2 → (j : ℕ) → j < 2 → IsTwice j (Doubled x)
+unfolding doubled
+all_doubled = two_lanes (λ x. (j : ℕ) → j < 2 → IsTwice j (Doubled x))
+    (λ a b. below_two _ (doubled_twice a) (doubled_twice b))
+
+pub low_doubled : (x : List ℕ) → length x ≡ 2 → (j : ℕ) → j < 2 → low j (Doubled x) ≡ low j x
+unfolding doubled
+low_doubled = two_lanes (λ x. (j : ℕ) → j < 2 → low j (Doubled x) ≡ low j x)
+    (λ a b. below_two _ (doubled_low a) (doubled_low b))
+
+-- Ch and Maj of the low halves
+three_vectors : (P : List ℕ → List ℕ → List ℕ → Type 0)
+    → ((a b c d e f : ℕ) → P (a ∷ b ∷ []) (c ∷ d ∷ []) (e ∷ f ∷ []))
+    → (x : List ℕ) → length x ≡ 2 → (y : List ℕ) → length y ≡ 2 → (z : List ℕ) → length z ≡ 2 → P x y z
+three_vectors P p =
+    two_lanes (λ x. (y : List ℕ) → length y ≡ 2 → (z : List ℕ) → length z ≡ 2 → P x y z) (λ a b.
+    two_lanes (λ y. (z : List ℕ) → length z ≡ 2 → P (a ∷ b ∷ []) y z) (λ c d.
+    two_lanes (λ z. P (a ∷ b ∷ []) (c ∷ d ∷ []) z) (λ e f. p a b c d e f)))
+
+ch_low : (x y z : ℕ) → bit_xor z (bit_and x (bit_xor y z)) % 2 ^ 32 ≡ ch (x % 2 ^ 32) (y % 2 ^ 32) (z % 2 ^ 32)
+ch_low x y z =
+    xor_mod z (bit_and x (bit_xor y z)) 32
+    ∙ ap (bit_xor (z % 2 ^ 32)) (and_mod x (bit_xor y z) 32 ∙ ap (bit_and (x % 2 ^ 32)) (xor_mod y z 32))
+    ∙ ch_short w32 (x % 2 ^ 32) (y % 2 ^ 32) (z % 2 ^ 32) (half_lt x) (half_lt y) (half_lt z)
+
+maj_low : (x y z : ℕ) → bit_xor y (bit_and (bit_xor x y) (bit_xor y z)) % 2 ^ 32
+    ≡ maj (x % 2 ^ 32) (y % 2 ^ 32) (z % 2 ^ 32)
+maj_low x y z =
+    xor_mod y (bit_and (bit_xor x y) (bit_xor y z)) 32
+    ∙ ap (bit_xor (y % 2 ^ 32)) (and_mod (bit_xor x y) (bit_xor y z) 32 ∙ ap₂ bit_and (xor_mod x y 32) (xor_mod y z 32))
+    ∙ maj_short (x % 2 ^ 32) (y % 2 ^ 32) (z % 2 ^ 32)
+
+abbrev IsCh : List ℕ → List ℕ → List ℕ → Type 0
+IsCh x y z = (j : ℕ) → j < 2
+    → low j (zip2 bit_xor z (zip2 bit_and x (zip2 bit_xor y z))) ≡ ch (low j x) (low j y) (low j z)
+
+pub lanes_ch : (x : List ℕ) → length x ≡ 2 → (y : List ℕ) → length y ≡ 2 → (z : List ℕ) → length z ≡ 2 → IsCh x y z
+lanes_ch = three_vectors IsCh (λ a b c d e f. below_two _ (ch_low a c e) (ch_low b d f))
+
+abbrev IsMaj : List ℕ → List ℕ → List ℕ → Type 0
+IsMaj x y z = (j : ℕ) → j < 2
+    → low j (zip2 bit_xor y (zip2 bit_and (zip2 bit_xor x y) (zip2 bit_xor y z))) ≡ maj (low j x) (low j y) (low j z)
+
+pub lanes_maj : (x : List ℕ) → length x ≡ 2 → (y : List ℕ) → length y ≡ 2 → (z : List ℕ) → length z ≡ 2 → IsMaj x y z
+lanes_maj = three_vectors IsMaj (λ a b c d e f. below_two _ (maj_low a c e) (maj_low b d f))

@@ -1,0 +1,45 @@
+-- Chains of digests, each the HMAC of the one before it (RFC 2104, section 2), where the key's two blocks are given.
+use Rattle.std.specs.Prelude.{ℕ, zero, suc, ◌*◌, List, [], ◌∷◌, ◌++◌, bit_xor, drop, slice_index, take}
+use Rattle.std.specs.Simd.Lanes.{zip2}
+
+-- H(outer || H(inner || text)), where H is `hash`, and both blocks have the length of the blocks that it cuts messages into
+unfoldable pub hmac_by : (List ℕ → List ℕ) → List ℕ → List ℕ → List ℕ → List ℕ
+hmac_by hash inner outer text = hash (outer ++ hash (inner ++ text))
+
+-- the digest n turns after the digest u
+unfoldable pub chain : (List ℕ → List ℕ) → List ℕ → List ℕ → List ℕ → ℕ → List ℕ
+chain hash inner outer u zero = u
+chain hash inner outer u (suc n) = hmac_by hash inner outer (chain hash inner outer u n)
+
+-- the sum t with the next n digests after u xored into it
+unfoldable pub chain_sum : (List ℕ → List ℕ) → List ℕ → List ℕ → List ℕ → List ℕ → ℕ → List ℕ
+chain_sum hash inner outer u t zero = t
+chain_sum hash inner outer u t (suc n) =
+    zip2 bit_xor (chain_sum hash inner outer u t n) (chain hash inner outer u (suc n))
+
+-- digest j of some digests of `size` bytes, which stand one after the other
+abbrev pub digest_at : ℕ → ℕ → List ℕ → List ℕ
+digest_at size j bytes = take size (drop (size * j) bytes)
+
+-- ---- the same on the words of digests, where `behind h d` is the hash value of the words d behind a block, after which
+-- ---- the hash value was h
+
+-- the words of HMAC of the digest whose words are d, where the key's two blocks come to the hash values inner and outer
+unfoldable pub turn : (List ℕ → List ℕ → List ℕ) → List ℕ → List ℕ → List ℕ → List ℕ
+turn behind inner outer d = behind outer (behind inner d)
+
+-- the words of the digest n turns on
+unfoldable pub turns : (List ℕ → List ℕ → List ℕ) → List ℕ → List ℕ → List ℕ → ℕ → List ℕ
+turns behind inner outer d zero = d
+turns behind inner outer d (suc n) = turn behind inner outer (turns behind inner outer d n)
+
+-- the first n words of two digests xored
+unfoldable pub xor_words : ℕ → List ℕ → List ℕ → List ℕ
+xor_words zero x y = []
+xor_words (suc n) x y = xor_words n x y ++ bit_xor (slice_index x n) (slice_index y n) ∷ []
+
+-- the sum t, of m words, with the words of the next n turns xored into it
+unfoldable pub sums : ℕ → (List ℕ → List ℕ → List ℕ) → List ℕ → List ℕ → List ℕ → List ℕ → ℕ → List ℕ
+sums m behind inner outer d t zero = t
+sums m behind inner outer d t (suc n) =
+    xor_words m (sums m behind inner outer d t n) (turns behind inner outer d (suc n))

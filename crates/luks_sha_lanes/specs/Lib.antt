@@ -1,0 +1,3 @@
+pub mod Chains
+pub mod Lanes1
+pub mod Lanes256
