@@ -2,8 +2,7 @@
 # make demo       reads both sample volumes by a program that is built without proofs
 # make check      runs the built program on files and pipes, and beside cryptsetup and qemu-img: all of `make test` but the gate
 # make test       what CI runs: the gate, which proves everything, tries each wrong body of must-fail/ and runs the tests, and beside it the same
-#                 scripts on the program that it builds
-# make times      the same, and then a table of the processor time that each crate took
+#                 scripts on the program that it builds; it prints the processor time that each crate took
 # make bench      measures key derivation, decryption and whole volumes beside other implementations
 # make install    puts the program, its man page and its completions below PREFIX (/usr/local where
 #                 it is not given), in DESTDIR where that is given
@@ -21,7 +20,7 @@ PAGES = $(DESTDIR)$(PREFIX)/share/man/man1
 BASH_WORDS = $(DESTDIR)$(PREFIX)/share/bash-completion/completions
 ZSH_WORDS = $(DESTDIR)$(ZSH_FUNCTIONS)
 
-.PHONY: all demo check scripts program-scripts test times bench install uninstall deb toolchain built
+.PHONY: all demo check scripts program-scripts test bench install uninstall deb toolchain built
 
 all: $(PROGRAM)
 
@@ -67,9 +66,6 @@ interop-sealed:
 
 test: toolchain
 	tests/gate
-
-times: toolchain
-	tests/times
 
 bench: all
 	bench/pbkdf2
