@@ -18,11 +18,12 @@ use Rattle.luks_verdict.specs.Slot.{are_in_range, slot_of}
 use Rattle.luks_verdict.specs.declared.sector_size.SectorSize.TheVariants.{B512}
 use Rattle.luks_verdict.specs.declared.slot.Verdict.TheVariants.{Usable}
 use Rattle.luks_verdict.proofs.MadeLemmas.{digest_from-yes, undigested-yes}
-use Rattle.luks1_header.specs.Segment1.{fault1_of, segment1_of, starts_inside}
+use Rattle.luks1_header.specs.Segment1.{fault1_of, segment1_of, segment_parts1_of, starts_inside}
 use Rattle.luks1_header.specs.Slot1.{digest1_of, digest_parts1_of, hash1_of, is_damaged, is_disabled, is_misplaced1}
 use Rattle.luks1_header.specs.Slot1.{mode1_of, payload1_of, reason1_of, slot_parts1_of, verdict1_of}
 use Rattle.luks1_header.specs.declared.header.Header1.{Header1}
 use Rattle.luks1_header.specs.declared.header.KeySlot.{KeySlot}
+use Rattle.luks1_header.proofs.SegmentLemmas.{segment1-none}
 use Rattle.luks1_header.proofs.SlotLemmas.{slot_there}
 use Rattle.luks_seal.specs.Sealed.{IsDigestOf}
 use Rattle.luks_seal.specs.declared.parameters.Seal1.{Seal1}
@@ -72,9 +73,13 @@ module _ (p : Seal1) (header : Header1) (fits : AreParameters p) (typed : AreTyp
       ap (is_mode_key_length p.mode) read.key_bytes ∙ fits.key in
       rw (mode1_is, hash1_is, key, outside) refl
 
+  made : segment_from (segment_parts1_of header)
+      ≡ Some (segment_by (512 * header.payload_offset) None 0 B512 p.mode refl)
+  unfolding segment_from
+  made = rw mode1_is refl
+
   pub segment1_is : segment1_of header ≡ Ok (segment_by (512 * header.payload_offset) None 0 B512 p.mode refl)
-  unfolding segment1_of segment_from
-  segment1_is = rw (no_fault, mode1_is) refl
+  segment1_is = segment1-none header _ no_fault made
 
   -- ---- the digest
 

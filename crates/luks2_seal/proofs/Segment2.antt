@@ -18,6 +18,7 @@ use Rattle.luks2_segment.specs.Segment2.{iv_tweak_of, mode2_of, offset_of, secto
 use Rattle.luks2_segment.specs.Segment2.{segment2_of, segment_parts2_of, size_of, starts_inside, starts_wrong}
 use Rattle.luks2_segment.specs.Segment2.{the_segment}
 use Rattle.luks2_segment.specs.declared.bounds.Bounds.{Bounds}
+use Rattle.luks2_segment.proofs.SegmentLemmas.{said-there, segment2-none}
 use Rattle.serde_json.specs.Find.{as_str}
 use Rattle.luks_seal.specs.declared.parameters.Seal2.{Seal2}
 use Rattle.luks2_seal.specs.Metadata2.{config_object, metadata_of, segment_object, size_text}
@@ -127,5 +128,7 @@ module _ (p : Seal2) (fits : AreParameters2 p) (typed : AreTyped2 p) where
 
   -- which is not refused
   pub segment_read : segment2_of (metadata_of p) (bounds_of p) ≡ Ok segment_is
-  unfolding segment2_of
-  segment_read = rw (no_fault, is_there, made) refl
+  segment_read =
+      let said = said-there (metadata_of p) (segment_object p) is_there in
+      segment2-none (metadata_of p) (bounds_of p) segment_is no_fault
+      (ap (λ segment. segment_from (segment_parts2_of segment)) said ∙ made)

@@ -5,7 +5,7 @@ use Rattle.std.specs.Fmt.{decimal}
 use Rattle.luks_header.specs.Segment.{segment_of}
 use Rattle.luks_header.specs.SegmentFault.{fault_text}
 use Rattle.luks_header.specs.SkipReason.{reason_text}
-use Rattle.luks_header.specs.Slot.{verdicts_of}
+use Rattle.luks_header.specs.Slot.{has_name_out_of_range, verdicts_of}
 use Rattle.luks_header.specs.declared.header.Header.{Header}
 use Rattle.luks_header.specs.declared.header.Header.TheVariants.{V1, V2}
 use Rattle.luks_verdict.specs.Slot.{end_of}
@@ -18,13 +18,22 @@ use Rattle.luks_verdict.specs.declared.segment.Segment.{Segment}
 use Rattle.luks_verdict.specs.declared.slot.Slot.{Slot}
 use Rattle.luks_verdict.specs.declared.slot.Verdict.{Verdict}
 use Rattle.luks_verdict.specs.declared.slot.Verdict.TheVariants.{Usable, Disabled, Skipped}
-use Rattle.luks_findings.specs.Check2.{header2_findings}
+use Rattle.luks_findings.specs.Check2.{header_finding}
 use Rattle.luks_pages.specs.Field.{field}
 
--- what is found in the header itself, by its version. A LUKS1 header stands alone, and its key slots have no names
-abbrev pub header_findings : Header → List ℕ
-header_findings (V1 header) = []
-header_findings (V2 header tree) = header2_findings header tree
+-- what is found in the two headers of LUKS2 beside one another. A LUKS1 header stands alone
+abbrev pub place_finding : Header → List ℕ
+place_finding (V1 header) = []
+place_finding (V2 header tree) = header_finding header.finding
+
+-- what is found in the names of key slots: one is out of range
+abbrev pub name_finding : Header → List ℕ
+name_finding header =
+    if has_name_out_of_range header then field (codes "keyslots") (codes "name out of range") else []
+
+-- what is found in the header itself
+unfoldable pub header_findings : Header → List ℕ
+header_findings header = place_finding header ++ name_finding header
 
 -- what is found in the segment: its fault
 abbrev pub segment_finding : Result Segment SegmentFault → List ℕ

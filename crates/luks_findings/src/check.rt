@@ -3,13 +3,14 @@
 ghost use Rattle.std.specs.Prelude.{◌≡◌, ◌++◌, IfOk, OnOk, string_bytes};
 ghost use Rattle.luks_header.specs.Segment.{segment_of};
 ghost use Rattle.luks_findings.specs.Check.{do_overlap, findings_of, header_findings, is_amiss};
-ghost use Rattle.luks_findings.specs.Check.{overlap, overlaps, overlaps_with, segment_finding};
-ghost use Rattle.luks_findings.specs.Check.{skip_finding, slot_finding, slot_findings};
+ghost use Rattle.luks_findings.specs.Check.{name_finding, overlap, overlaps, overlaps_with};
+ghost use Rattle.luks_findings.specs.Check.{place_finding, segment_finding, skip_finding};
+ghost use Rattle.luks_findings.specs.Check.{slot_finding, slot_findings};
 
 use luks_header::header::Header;
 use luks_header::payload::segment;
 use luks_header::refusal::SkipReason;
-use luks_header::slot::{Slot, Verdict, slots};
+use luks_header::slot::{Slot, Verdict, has_name_out_of_range, slots};
 use luks_pages::field::push_field;
 use std::alloc::{AllocError, Global};
 
@@ -30,13 +31,35 @@ pub fn findings(alloc: Global, header: &Header) -> Result<String, AllocError>
 }
 
 // Adds what is found in the header itself.
+#[tactic(auto, unfolding(crate::specs::Check::header_findings))]
 fn push_header(page: &mut String, header: &Header) -> Result<(), AllocError>
     ensures { OnOk result
         (string_bytes page.new ≡ string_bytes page.old ++ header_findings header.now) }
 {
+    push_place(page, header)?;
+    push_names(page, header)
+}
+
+// Adds what is found in the two headers of LUKS2 beside one another.
+fn push_place(page: &mut String, header: &Header) -> Result<(), AllocError>
+    ensures { OnOk result
+        (string_bytes page.new ≡ string_bytes page.old ++ place_finding header.now) }
+{
     match header {
         Header::V1(_) => Ok(()),
-        Header::V2(header, metadata) => luks2::push_findings(page, header, metadata),
+        Header::V2(header, _) => luks2::push_finding(page, header.finding),
+    }
+}
+
+// Adds what is found in the names of key slots.
+fn push_names(page: &mut String, header: &Header) -> Result<(), AllocError>
+    ensures { OnOk result
+        (string_bytes page.new ≡ string_bytes page.old ++ name_finding header.now) }
+{
+    if has_name_out_of_range(header) {
+        push_field(page, "keyslots", "name out of range")
+    } else {
+        Ok(())
     }
 }
 
