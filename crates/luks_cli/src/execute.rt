@@ -36,13 +36,15 @@ mod volumes;
 /// `afSplit`, nothing is written where a read fails.
 ///
 /// `luksCat` writes the plain text of an honestly sealed volume if the passphrase is that of a key
-/// slot which is tried, no slot tried before gives another key, the image is shorter than 2^64
-/// bytes, both inputs know their bytes, and no memory, read or write fails.
+/// slot which is tried and has at most 8,388,608 bytes, no slot tried before gives another key, the
+/// image is shorter than 2^64 bytes, both inputs know their bytes, and no memory, read or write
+/// fails.
 ///
 /// `luksCat` announces how much of the image it will ask for, and writes each sector as it comes:
-/// if a write fails, nothing past the current sector was asked for, and if a read fails, all whole
-/// sectors that were taken are written. No clause says yet how much it announces, so none says what
-/// a source that reads ahead takes of a pipe. Its image is shorter than 2^64 bytes.
+/// if a write fails, nothing past the current sector was taken, but for what the header costs, and
+/// if a read fails, all whole sectors that were taken are written. No clause says yet how much it
+/// announces, so none says what a source that reads ahead takes of a pipe. Its image is shorter
+/// than 2^64 bytes.
 pub fn execute<I: Source, K: Source, O: Sink>(
     alloc: Global,
     command: &Command<'_>,
