@@ -11,6 +11,7 @@
 
 PROGRAM := crates/luksrd/out/luksrd
 SEALER := crates/sealed_image/out/sealed_image
+DERIVER := crates/bench_pbkdf2/out/bench_pbkdf2
 VERSION := 1.0.0
 DEB ?= out/luksrd_$(VERSION)_amd64.deb
 PREFIX ?= /usr/local
@@ -35,25 +36,29 @@ FORCE:
 $(SEALER): FORCE | toolchain
 	cd crates/sealed_image && rt run >/dev/null
 
+# It derives keys, for interop/keys.sh and bench/pbkdf2; with no arguments it does nothing.
+$(DERIVER): FORCE | toolchain
+	cd crates/bench_pbkdf2 && rt run >/dev/null
+
 demo: toolchain
 	@tests/demo
 
 toolchain:
 	@command -v rt >/dev/null || { echo "rt is missing: put the Rattle toolchain on the path" >&2; exit 1; }
 
-check: all $(SEALER) scripts
+check: all $(SEALER) $(DERIVER) scripts
 
 # The programs are taken as they are. Four scripts run side by side; what each prints comes when it
-# has ended. One of them asks for the sealer too.
+# has ended. One of them asks for the sealer too, and one for the program that derives keys.
 TESTS := stripes volumes devices memory hostile completions package
 INTEROP := headers headers2 volumes volumes2 detached filesystems recipes
 PROGRAM_SCRIPTS := $(TESTS:%=test-%) $(INTEROP:%=interop-%)
 
-.PHONY: $(PROGRAM_SCRIPTS) interop-sealed
+.PHONY: $(PROGRAM_SCRIPTS) interop-sealed interop-keys
 
 scripts program-scripts:
 	tests/packages
-	+$(MAKE) -k -j 4 --output-sync=target --no-print-directory $(PROGRAM_SCRIPTS) $(if $(filter scripts,$@),interop-sealed)
+	+$(MAKE) -k -j 4 --output-sync=target --no-print-directory $(PROGRAM_SCRIPTS) $(if $(filter scripts,$@),interop-sealed interop-keys)
 
 $(TESTS:%=test-%): test-%:
 	tests/$*.sh $(PROGRAM)
@@ -63,6 +68,10 @@ $(INTEROP:%=interop-%): interop-%:
 
 interop-sealed:
 	interop/sealed.sh $(PROGRAM) $(SEALER)
+
+# It derives keys, for interop/keys.sh and bench/pbkdf2; with no arguments it does nothing.
+$(DERIVER): FORCE | toolchain
+	cd crates/bench_pbkdf2 && rt run >/dev/null
 
 test: toolchain
 	tests/gate

@@ -1,5 +1,5 @@
-//! PBKDF2 with the blocks of a key one after the other, as luksrd 1.0.0 derived them: what luks_kdf is
-//! measured against. No contract says that it is PBKDF2; `bench/pbkdf2` compares the keys.
+//! PBKDF2 with the blocks of a key one after the other, as luksrd 1.0.0 derived them: what luks_kdf
+//! is measured against. No contract says that it is PBKDF2; `bench/pbkdf2` compares the keys.
 
 ghost use Rattle.std.specs.Prelude.{ℕ, ◌≤◌, length};
 

@@ -1,4 +1,4 @@
-//! PBKDF2 with the blocks of a key side by side, where a lane of a vector derives each.
+//! PBKDF2 with the blocks of a key side by side: a lane of a vector derives each.
 
 ghost use Rattle.std.specs.Prelude.{◌≡◌, ℕ, ◌+◌, ◌*◌, ◌^◌, ◌<◌, ◌≤◌, List, ◌⊎◌, length, refl};
 ghost use Rattle.std.specs.Prelude.{take};
@@ -19,7 +19,7 @@ use luks_sha_lanes::{chains1, chains256};
 use sha1::Sha1;
 use sha2::Sha256;
 
-// The length of the most digests that go side by side.
+// The bytes of all digests that go side by side, at most.
 const MAX_GROUP: usize = 80;
 
 /// A hash function by which several chains of digests go side by side.
@@ -29,8 +29,8 @@ pub(crate) trait Lanes: Engine {
 
     ghost WIDTH: { ℕ };
 
-    /// Xors the next `count` digests of each chain into its sum. `last` holds the last digest of each
-    /// chain, one after the other, and `sums` their sums.
+    /// Xors the next `count` digests of each chain into its sum. `last` holds the last digest of
+    /// each chain, one after the other, and `sums` their sums.
     fn add_chains(inner: &[u8], outer: &[u8], count: u32, last: &[u8], sums: &mut [u8])
         requires inner { length inner.now ≡ 64 }
         requires outer { length outer.now ≡ 64 }
@@ -69,7 +69,8 @@ impl Lanes for Sha256 {
     ghost known = { inr (refl, refl) };
 }
 
-/// Fills `out` with the first bytes of the blocks T, as many at a time as there are lanes.
+/// Fills `out` with the key that PBKDF2 with HMAC derives from the password, as many blocks at a
+/// time as there are lanes.
 pub(crate) fn derive_in_lanes<E: Lanes>(
     pass: &[u8],
     salt: &[u8],
@@ -103,7 +104,8 @@ pub(crate) fn derive_in_lanes<E: Lanes>(
     }
 }
 
-// Fills `out` with the first bytes of the blocks T from this number on, one block for each lane.
+// Fills `out` with the first bytes of the blocks T from this number on, of which each lane has one.
+// A block that is alone goes by itself, which is faster.
 fn derive_group<E: Lanes>(
     keyed: &Keyed<E>,
     blocks: &KeyBlocks,

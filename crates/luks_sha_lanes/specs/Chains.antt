@@ -2,7 +2,7 @@
 use Rattle.std.specs.Prelude.{ℕ, zero, suc, ◌*◌, List, [], ◌∷◌, ◌++◌, bit_xor, drop, slice_index, take}
 use Rattle.std.specs.Simd.Lanes.{zip2}
 
--- H(outer || H(inner || text)), where H is `hash`, and both blocks have the length of the blocks that it cuts messages into
+-- H(outer || H(inner || text)), where H is `hash`
 unfoldable pub hmac_by : (List ℕ → List ℕ) → List ℕ → List ℕ → List ℕ → List ℕ
 hmac_by hash inner outer text = hash (outer ++ hash (inner ++ text))
 
@@ -21,8 +21,8 @@ chain_sum hash inner outer u t (suc n) =
 abbrev pub digest_at : ℕ → ℕ → List ℕ → List ℕ
 digest_at size j bytes = take size (drop (size * j) bytes)
 
--- ---- the same on the words of digests, where `behind h d` is the hash value of the words d behind a block, after which
--- ---- the hash value was h
+-- ---- the same on the words of digests: `behind h d` is the hash value of a digest, whose words are d, behind one block,
+-- ---- after which it was h
 
 -- the words of HMAC of the digest whose words are d, where the key's two blocks come to the hash values inner and outer
 unfoldable pub turn : (List ℕ → List ℕ → List ℕ) → List ℕ → List ℕ → List ℕ → List ℕ

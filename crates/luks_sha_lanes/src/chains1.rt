@@ -10,15 +10,17 @@ use crate::turns1::add_turns;
 use crate::words::load_be;
 use std::simd::prelude::*;
 
-/// Xors the next `count` digests of four chains into their sums. `last` holds the last digest of each
-/// chain, one after the other, and `sums` their sums; `inner` and `outer` are the key's two blocks.
+/// Xors the next `count` digests of four chains into their sums. `last` holds the last digest of
+/// each chain, one after the other, and `sums` their sums; `inner` and `outer` are the key's two
+/// blocks.
 pub fn add_chains(inner: &[u8], outer: &[u8], count: u32, last: &[u8], sums: &mut [u8])
     requires inner { length inner.now ≡ 64 }
     requires outer { length outer.now ≡ 64 }
     requires last { length last.now ≡ 80 }
     requires sums { length sums.old ≡ 80 }
     ensures { (j : ℕ) → j < 4 → digest_at 20 j sums.new
-        ≡ chain_sum sha1 inner.now outer.now (digest_at 20 j last.now) (digest_at 20 j sums.old) count }
+        ≡ chain_sum sha1 inner.now outer.now (digest_at 20 j last.now)
+        (digest_at 20 j sums.old) count }
 {
     let inside = after_block(inner);
     let outside = after_block(outer);

@@ -74,7 +74,8 @@ pub(crate) fn add_turns(
     sum: &[u32x4; 5],
 ) -> [u32x4; 5]
     ensures { (j : ℕ) → j < 4 → lane j result
-        ≡ sums 5 behind (lane j inner.now) (lane j outer.now) (lane j last.now) (lane j sum.now) count }
+        ≡ sums 5 behind (lane j inner.now) (lane j outer.now) (lane j last.now)
+        (lane j sum.now) count }
 {
     let mut u = *last;
     let mut t = *sum;

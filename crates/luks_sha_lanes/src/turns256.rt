@@ -77,8 +77,8 @@ pub(crate) fn add_turns(
     sum: &[u64x2; 8],
 ) -> [u64x2; 8]
     ensures { (j : ℕ) → j < 2 → AllTwice j inner.now → AllTwice j outer.now → AllTwice j last.now
-        → lane j result
-        ≡ sums 8 behind (lane j inner.now) (lane j outer.now) (lane j last.now) (lane j sum.now) count }
+        → lane j result ≡ sums 8 behind (lane j inner.now) (lane j outer.now) (lane j last.now)
+        (lane j sum.now) count }
 {
     let mut u = *last;
     let mut t = *sum;

@@ -1,3 +1,5 @@
+ghost use Rattle.std.specs.Prelude.{◌≤◌};
+
 use super::{HASHES, assert_hex};
 use luks_kdf::{Hash, Work, digest, pbkdf2};
 use std::process::Abort;
@@ -170,6 +172,167 @@ fn longest_keys(rt: HostRuntime) {
     for i in 0..5 {
         let (want, work) = LONGEST[i];
         check_longest(&rt, HASHES[i], want, work);
+    }
+}
+
+// Adds a key to the mark of many keys: the SHA-256 of the mark before and of the key. At first the
+// mark is zeros.
+fn add_to_mark(mark: &mut [u8; 32], hash: Hash, turns: u32, length: usize)
+    requires turns { 1 ≤ turns }
+    requires some { 1 ≤ length }
+    requires room { length ≤ 512 }
+{
+    let mut key = [0; 512];
+    let key = &mut key[..length];
+    pbkdf2(hash, b"password", b"salt", turns, key, &mut Work::new(0));
+    let before = *mark;
+    digest(Hash::Sha256, &before, key, b"", mark);
+}
+
+// The mark of the keys of 1 to 512 bytes, each so much longer than the one before it.
+fn mark_of(hash: Hash, turns: u32, step: usize) -> [u8; 32]
+    requires turns { 1 ≤ turns }
+    requires step { 1 ≤ step }
+{
+    let mut mark = [0; 32];
+    for length in 1..513 {
+        if (length - 1) % step == 0 {
+            add_to_mark(&mut mark, hash, turns, length);
+        }
+    }
+    mark
+}
+
+// The hash function, the turns, the step from each length to the next, and the mark.
+static MARKS: [(Hash, u32, usize, &[u8]); 20] = [
+    (
+        Hash::Sha1,
+        1,
+        1,
+        b"53b80f052f565b4a70b9f56bb17beee177bd24c2427b929a79da8b1413d3bed9",
+    ),
+    (
+        Hash::Sha1,
+        2,
+        1,
+        b"e7e67cd7706eee4a966a70d713edc05228a63ab941f84dc72e9b943e39f1964e",
+    ),
+    (
+        Hash::Sha1,
+        3,
+        1,
+        b"d61d00f9f452601be0d459ab14217ca09702d5417463f98856300c3a3561f086",
+    ),
+    (
+        Hash::Sha1,
+        1000,
+        73,
+        b"e30c501b0b6dc32b487a8b408ed7a7efcfb3209a02210a906046427d11e95ca8",
+    ),
+    (
+        Hash::Sha224,
+        1,
+        1,
+        b"27b4dce294e42992ae98c3a29704435cacd408510abff3384d875aa4e5f45e29",
+    ),
+    (
+        Hash::Sha224,
+        2,
+        1,
+        b"aff12e3847b29e1309fa2aab1857bda83a24c97a81af44764ebbe7600799e0fb",
+    ),
+    (
+        Hash::Sha224,
+        3,
+        1,
+        b"bae065e9cd64b66f745cb5a0d80e0775cdec017b7b9847879db12e3373cc4313",
+    ),
+    (
+        Hash::Sha224,
+        1000,
+        73,
+        b"27f5667b3bca20938a41432cbed81035baed7c8249abb936b4eccb280b124956",
+    ),
+    (
+        Hash::Sha256,
+        1,
+        1,
+        b"6236264254c1630a2305f4d2b1e2d9a173f6909e2995cec46a839b62da3a72ff",
+    ),
+    (
+        Hash::Sha256,
+        2,
+        1,
+        b"6b05be8b5b9350fba2921bd184fca183d8613ff4355aa5caadde23519a952488",
+    ),
+    (
+        Hash::Sha256,
+        3,
+        1,
+        b"273e18a4d6904cf7a1600a29a721c1c88d0504f3b9651c3f6a5019b08ed2bcc9",
+    ),
+    (
+        Hash::Sha256,
+        1000,
+        73,
+        b"f88674f25e89e78b70037d20b62ecc92b573fecd809f3204a59889994cd43468",
+    ),
+    (
+        Hash::Sha384,
+        1,
+        1,
+        b"6aaec02851a9a2dbbd70cf27f6e3b06f92e0b8187abaef48d96c02362b39618a",
+    ),
+    (
+        Hash::Sha384,
+        2,
+        1,
+        b"3bbac44956fc65009e2ce112003c2707141f0cd0ad5518460de9eb7956d96afe",
+    ),
+    (
+        Hash::Sha384,
+        3,
+        1,
+        b"7ced205cedbb676153a5597da99b142aab813c1748882119a1833d3cfe3a9c14",
+    ),
+    (
+        Hash::Sha384,
+        1000,
+        73,
+        b"aec4b0740c608d3a06c0ed408fd300caeecc9eb69ee5b6d8e60bc8b7565601d0",
+    ),
+    (
+        Hash::Sha512,
+        1,
+        1,
+        b"014812ab4e9a0f41de59b953e6a0cca8ee0edcaf73d7951c901e9dac1bed6fea",
+    ),
+    (
+        Hash::Sha512,
+        2,
+        1,
+        b"94b6e078a072edb4052ab253724ec04305f1de85d967ff5901c47d306e101ca9",
+    ),
+    (
+        Hash::Sha512,
+        3,
+        1,
+        b"bd4ebf156319ced6ea293bd795766ff5498767792bfed9078039f0954f90c08e",
+    ),
+    (
+        Hash::Sha512,
+        1000,
+        73,
+        b"8366b2194f1441f4935a552d6465fe8638cf5320e761393d572d7202a725deca",
+    ),
+];
+
+#[test]
+fn every_length(rt: HostRuntime) {
+    for (hash, turns, step, want) in MARKS {
+        assert!(rt; turns >= 1);
+        assert!(rt; step >= 1);
+        assert_hex(&rt, &mark_of(hash, turns, step), want);
     }
 }
 

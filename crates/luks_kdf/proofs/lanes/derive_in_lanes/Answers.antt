@@ -1,9 +1,10 @@
 use Rattle.std.proofs.Common.{◌≡◌, ◌∙◌, ℕ, ◌+◌, ◌-◌, ◌*◌, ◌<◌, ap, ap₂, drop, length, arith, length-drop}
 use Rattle.std.proofs.lemmas.List.{length-take}
 use Rattle.luks_kdf.specs.Hash.{size_of}
-use Rattle.luks_kdf.proofs.BytesLemmas.{piece_begins}
-use Rattle.luks_kdf.proofs.LaneLemmas.{block_at, count_end, count_group, count_start, cut_start, cut_step, group_at}
+use Rattle.luks_kdf.proofs.BytesLemmas.{cut_start, cut_step, piece_begins}
+use Rattle.luks_kdf.proofs.LaneLemmas.{count_end, count_group, count_start, group_at}
 use Rattle.luks_kdf.proofs.LaneLemmas.{group_from, groups_end, has_lanes, length-blocks}
+use Rattle.luks_kdf.proofs.Pbkdf2Lemmas.{block_at}
 use Rattle.luks_kdf.proofs.lanes.derive_in_lanes.Goals as goal
 
 pub fill-init : goal.fill-init

@@ -2,8 +2,9 @@ use Rattle.std.proofs.Common.{◌≡◌, ◌*◌, ◌++◌, drop, length, min}
 use Rattle.std.specs.Int.{div_ceil}
 use Rattle.luks_kdf.specs.Bytes.{joined}
 use Rattle.luks_kdf.specs.Hash.{size_of}
-use Rattle.luks_kdf.proofs.LaneLemmas.{block_at, cut, group_at}
-use Rattle.luks_kdf.proofs.Pbkdf2Lemmas.{IsCounted}
+use Rattle.luks_kdf.proofs.BytesLemmas.{cut}
+use Rattle.luks_kdf.proofs.LaneLemmas.{group_at}
+use Rattle.luks_kdf.proofs.Pbkdf2Lemmas.{IsCounted, block_at}
 use Rattle.luks_kdf.proofs.lanes.derive_in_lanes.Given as goal
 
 -- the groups of blocks before number i are filled, and their turns are counted
