@@ -16,7 +16,7 @@ fn assert_of(rt: &impl Abort, case: &str, holds: bool) {
     assert!(rt; holds, "{case}");
 }
 
-// Asserts that what is told in this case of a table is right.
-fn assert_told(rt: &impl Abort, case: &str, told: &str, want: &str) {
-    assert!(rt; told == want, "{case}: told {told}, and not {want}");
+// Asserts that the answer in this case of a table is the one that is wanted.
+fn assert_answer(rt: &impl Abort, case: &str, answer: &str, want: &str) {
+    assert!(rt; answer == want, "{case}: {answer}, and not {want}");
 }

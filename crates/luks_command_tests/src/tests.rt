@@ -33,8 +33,8 @@ fn joined(rt: &(impl Abort + AllocGlobal), parts: &[&str]) -> String {
 // In place of the name of an input that the command does not have.
 const NONE: &str = "none at all";
 
-// The line is this command, which names these inputs: the image, what is secret, and the header
-// that stands apart.
+// The line is this command, which names these inputs: the image, the key file or random bytes, and
+// the detached header.
 fn check_line(
     rt: &(impl Abort + AllocGlobal),
     line: &str,
@@ -52,7 +52,7 @@ fn check_line(
     assert_of(rt, line, command.is_detached() == (header != NONE));
 }
 
-// The words behind a command's name, the image, and the header where it stands apart.
+// The arguments of a command, its image, and its detached header, if any.
 static READINGS: [(&str, &str, Option<&str>); 16] = [
     ("i", "i", None),
     ("-", "-", None),
@@ -72,7 +72,7 @@ static READINGS: [(&str, &str, Option<&str>); 16] = [
     ("--header=a=b i", "i", Some("a=b")),
 ];
 
-// Each command that reads a header takes these words so.
+// Each command that reads a header takes these arguments so.
 fn check_reading(rt: &(impl Abort + AllocGlobal), words: &str, reading: Reading<'_>) {
     let commands = [
         ("isLuks ", Command::IsLuks(reading)),
@@ -97,7 +97,7 @@ fn reads_headers(rt: HostRuntime) {
     }
 }
 
-// The words behind a command's name, the image, the key file, and the header where it stands apart.
+// The arguments of a command, its image, its key file, and its detached header, if any.
 static OPENINGS: [(&str, &str, &str, Option<&str>); 11] = [
     ("--key-file f i", "i", "f", None),
     ("i --key-file=f", "i", "f", None),
@@ -112,7 +112,7 @@ static OPENINGS: [(&str, &str, &str, Option<&str>); 11] = [
     ("--key-file i --header i i", "i", "i", Some("i")),
 ];
 
-// Both commands that open a volume take these words so.
+// Both commands that open a volume take these arguments so.
 fn check_opening(rt: &(impl Abort + AllocGlobal), words: &str, opening: Opening<'_>) {
     let commands = [
         ("testPassphrase ", Command::TestPassphrase(opening)),
@@ -139,7 +139,7 @@ fn opens_volumes(rt: HostRuntime) {
     }
 }
 
-// The words behind a command's name, the header where it stands apart, the slot and the limit.
+// The arguments of a command, its detached header, its slot and its limit, if any.
 static LIMITED: [(&str, Option<&str>, Option<u64>, Option<u64>); 7] = [
     ("--key-file f --key-slot 0 i", None, Some(0), None),
     ("--key-file f --key-slot 31 i", None, Some(31), None),

@@ -5,7 +5,6 @@
 
 use luks_area::area::HeaderArea;
 use luks_area::fault::HeaderFault;
-use luks_io::memory::MemSource;
 use luks_io::source::Source;
 use luks_kdf::{Hash, digest};
 use luks2_header::header::Header2;
@@ -70,12 +69,7 @@ pub fn range_mut(bytes: &mut [u8], place: usize, len: usize) -> &mut [u8] {
     &mut rest[..len]
 }
 
-/// The first bytes, or as many as there are.
-pub fn front(bytes: &[u8], len: usize) -> &[u8] {
-    &bytes[..len.min(bytes.len())]
-}
-
-/// Writes a header into an image, its checksum last.
+// Writes a header into an image, its checksum last.
 fn write_header(image: &mut [u8], sketch: Sketch<'_>) {
     let header = range_mut(image, sketch.place, sketch.size);
     put(header, 0, sketch.magic.as_bytes());
@@ -127,11 +121,6 @@ pub fn read_from<S: Source>(
 /// Why a source is not read, where it is not.
 pub fn fault_of<S: Source>(alloc: Global, source: &mut S) -> Option<HeaderFault> {
     read_from(alloc, source).err()
-}
-
-/// How many bytes of an image were taken.
-pub fn taken(image: &[u8], source: &MemSource<'_>) -> usize {
-    image.len().saturating_sub(source.left().len())
 }
 
 /// Asserts what holds in the case of this number.

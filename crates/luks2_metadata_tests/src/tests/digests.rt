@@ -33,7 +33,7 @@ fn first_usable(rt: &(impl Abort + AllocGlobal), metadata: &Metadata) -> Option<
 
 /// Whether the first digest is usable, and how many iterations that of slot 2 has, with which the
 /// verdict on the slot agrees.
-pub(super) fn told(
+pub(super) fn verdict(
     rt: &(impl Abort + AllocGlobal),
     metadata: &Metadata,
     bounds: Bounds,

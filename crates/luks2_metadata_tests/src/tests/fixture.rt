@@ -13,7 +13,7 @@ pub const ATTACHED: Bounds = Bounds {
     detached: false,
 };
 
-/// Those of the same header that stands apart from it.
+/// Those of the same header, detached.
 pub const DETACHED: Bounds = Bounds {
     end: 32_768,
     detached: true,

@@ -1,16 +1,15 @@
 //! Tables of changed texts.
 //!
-//! A row is what is told of a text, and the text's changes: `TOLD: PART -> OTHER; PART -> OTHER`.
-//! What is told of a header that stands apart from the payload's image comes behind a slash, where
-//! it is something else.
+//! A row is a verdict and the text's changes: `VERDICT: PART -> OTHER; PART -> OTHER`. If the
+//! verdict differs for a detached header, that one follows behind a slash.
 
 use super::fixture::{ATTACHED, DETACHED, metadata};
-use super::{assert_told, digests, segments, slots};
+use super::{assert_answer, digests, segments, slots};
 use luks2_members::tree::Metadata;
 use luks2_segment::bounds::Bounds;
 use std::process::Abort;
 
-/// What a table tells of.
+/// What the verdicts of a table are on.
 #[derive(Clone, Copy)]
 pub enum Subject {
     /// Slot 2.
@@ -21,21 +20,21 @@ pub enum Subject {
     Digest,
 }
 
-fn told(
+fn verdict(
     rt: &(impl Abort + AllocGlobal),
     subject: Subject,
     metadata: &Metadata,
     bounds: Bounds,
 ) -> &'static str {
     match subject {
-        Subject::Slot => slots::told(rt, metadata, bounds),
-        Subject::Segment => segments::told(metadata, bounds),
-        Subject::Digest => digests::told(rt, metadata, bounds),
+        Subject::Slot => slots::verdict(rt, metadata, bounds),
+        Subject::Segment => segments::verdict(metadata, bounds),
+        Subject::Digest => digests::verdict(rt, metadata, bounds),
     }
 }
 
-/// This is told of a text, whose header stands in the payload's image or apart from it.
-pub fn check_told(
+/// This is the verdict on a text, attached and detached.
+pub fn check_verdicts(
     rt: &(impl Abort + AllocGlobal),
     subject: Subject,
     row: &str,
@@ -43,13 +42,13 @@ pub fn check_told(
     want: &str,
 ) {
     let (attached, detached) = want.split_once(" / ").unwrap_or((want, want));
-    assert_told(rt, row, told(rt, subject, metadata, ATTACHED), attached);
-    assert_told(rt, row, told(rt, subject, metadata, DETACHED), detached);
+    assert_answer(rt, row, verdict(rt, subject, metadata, ATTACHED), attached);
+    assert_answer(rt, row, verdict(rt, subject, metadata, DETACHED), detached);
 }
 
 fn check_row(rt: &(impl Abort + AllocGlobal), subject: Subject, row: &str) {
     let (want, changes) = row.split_once(": ").ok_or(row).expect(rt, "a row");
-    check_told(rt, subject, row, &metadata(rt, changes), want);
+    check_verdicts(rt, subject, row, &metadata(rt, changes), want);
 }
 
 /// Each row of a table holds.

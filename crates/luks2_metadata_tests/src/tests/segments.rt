@@ -1,5 +1,4 @@
-//! The faults of a segment, each bound from both sides, where the header stands in the payload's
-//! image and where it stands apart.
+//! The faults of a segment, each bound from both sides, attached and detached.
 
 use super::assert_of;
 use super::fixture::{ATTACHED, metadata};
@@ -12,8 +11,8 @@ use luks2_segment::bounds::Bounds;
 use luks2_segment::payload::segment;
 use std::process::Abort;
 
-/// How the segment is judged.
-pub(super) fn told(metadata: &Metadata, bounds: Bounds) -> &'static str {
+/// The verdict on the segment.
+pub(super) fn verdict(metadata: &Metadata, bounds: Bounds) -> &'static str {
     match segment(metadata, bounds) {
         Ok(_) => "fine",
         Err(fault) => fault.text(),
@@ -59,7 +58,7 @@ fn the_values_of_a_segment(rt: HostRuntime) {
     check_values(&rt, &found.expect(&rt, "a segment"), &OTHERS);
 }
 
-// Apart from the payload's image any start serves that is one of sectors of 512 bytes.
+// Detached, any start serves that is a multiple of 512 bytes.
 static ROWS: [&str; 85] = [
     "fine: 'config':{ -> 'config':{'requirements':[],",
     "fine: 'config':{ -> 'config':{'requirements':{},",

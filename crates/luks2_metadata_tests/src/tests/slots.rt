@@ -1,9 +1,8 @@
-//! The reasons to skip a slot, each bound from both sides, where the header stands in the payload's
-//! image and where it stands apart.
+//! The reasons to skip a slot, each bound from both sides, attached and detached.
 
 use super::fixture::{ATTACHED, changed, metadata, read, text_with};
-use super::rows::{Subject, check_rows, check_told};
-use super::{assert_of, assert_told};
+use super::rows::{Subject, check_rows, check_verdicts};
+use super::{assert_answer, assert_of};
 use luks_cipher::Mode;
 use luks_kdf::Hash;
 use luks_verdict::slot::{Judgement, Slot};
@@ -24,9 +23,9 @@ fn word(judgement: Option<Judgement>) -> &'static str {
     }
 }
 
-/// How slot 2 is judged. Where it is skipped for another reason than a limit, there is nothing to
+/// The verdict on slot 2. If it is skipped for another reason than a limit, there is nothing to
 /// open.
-pub(super) fn told(
+pub(super) fn verdict(
     rt: &(impl Abort + AllocGlobal),
     metadata: &Metadata,
     bounds: Bounds,
@@ -60,7 +59,7 @@ fn check_values(rt: &impl Abort, slot: &Slot) {
     assert_of(rt, "mode", parts.area_mode == Some(Mode::XtsPlain64));
 }
 
-// The number of a slot of the text, a limit on iterations, and how the slot is judged.
+// The number of a slot of the text, a limit on iterations, and the verdict on the slot.
 static JUDGED: [(u8, Option<u32>, &str); 9] = [
     (0, None, "argon2id"),
     (1, None, "not there"),
@@ -78,7 +77,7 @@ fn the_slots_as_they_are(rt: HostRuntime) {
     let metadata = metadata(&rt, "");
     for (number, limit, want) in &JUDGED {
         let word = word(judge(&metadata, ATTACHED, *limit, *number));
-        assert_told(&rt, want, word, want);
+        assert_answer(&rt, want, word, want);
     }
     let slot = slot(rt.alloc(), &metadata, ATTACHED, 2).expect(&rt, "memory");
     check_values(&rt, &slot.expect(&rt, "slot 2"));
@@ -261,6 +260,6 @@ fn the_first_reason_counts(rt: HostRuntime) {
     for row in &FIRST {
         let (want, change) = row.split_once(": ").ok_or(row).expect(&rt, "a row");
         text = changed(&rt, text.as_str(), change);
-        check_told(&rt, Subject::Slot, row, &read(&rt, text.as_str()), want);
+        check_verdicts(&rt, Subject::Slot, row, &read(&rt, text.as_str()), want);
     }
 }

@@ -1,7 +1,7 @@
 //! Which texts are read, and what is found in them.
 
 use super::fixture::{BEFORE_X, joined, quoted, read, with_member};
-use super::{assert_of, assert_told};
+use super::{assert_answer, assert_of};
 use luks_area::fault::HeaderFault;
 use luks2_members::list::{lists, texts_at};
 use luks2_members::member::{text, whole_number};
@@ -11,13 +11,13 @@ use std::process::Abort;
 
 // Reading the JSON area ends so.
 fn check_ending(rt: &(impl Abort + AllocGlobal), case: &str, area: &[u8], want: &str) {
-    let told = match Metadata::read(rt.alloc(), area) {
+    let answer = match Metadata::read(rt.alloc(), area) {
         Ok(_) => "read",
         Err(HeaderFault::Json) => "json",
         Err(HeaderFault::Memory) => "memory",
         Err(_) => "another",
     };
-    assert_told(rt, case, told, want);
+    assert_answer(rt, case, answer, want);
 }
 
 // Each row is a text in two parts, and how reading ends. The three objects have to be there, and
