@@ -1,9 +1,22 @@
 //! What no clause says: that the definitions mean what the format does, reason by reason and fault
-//! by fault, and that calls succeed.
+//! by fault, that they read JSON as it does, and that calls succeed.
 
-mod areas;
-mod detached;
 mod digests;
 mod fixture;
+mod kinds;
+mod rows;
 mod segments;
 mod slots;
+mod trees;
+
+use std::process::Abort;
+
+// Asserts what holds in this case of a table.
+fn assert_of(rt: &impl Abort, case: &str, holds: bool) {
+    assert!(rt; holds, "{case}");
+}
+
+// Asserts that the answer in this case of a table is the one that is wanted.
+fn assert_answer(rt: &impl Abort, case: &str, answer: &str, want: &str) {
+    assert!(rt; answer == want, "{case}: {answer}, and not {want}");
+}

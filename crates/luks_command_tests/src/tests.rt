@@ -1,3 +1,6 @@
+//! What no clause says: that the definitions read command lines as they are meant, and that calls
+//! succeed.
+
 use luks_command::planning::{PlanFault, plan};
 use luks_command::usage::usage;
 use luks_kdf::Hash;
@@ -5,18 +8,12 @@ use luks_request::command::{Command, Merging, Opening, Reading, Splitting};
 use luks_request::number::{IterationLimit, KeyBytes, SlotNumber, StripeCount};
 use std::process::Abort;
 
-mod detached;
 mod memory;
 mod refusals;
 
 // Asserts what holds of a line.
 fn assert_of(rt: &impl Abort, line: &str, holds: bool) {
     assert!(rt; holds, "{line}");
-}
-
-// Asserts what holds of a number.
-fn assert_number(rt: &impl Abort, number: u64, holds: bool) {
-    assert!(rt; holds, "{number}");
 }
 
 // The words of a line, which single spaces part.
@@ -33,167 +30,188 @@ fn joined(rt: &(impl Abort + AllocGlobal), parts: &[&str]) -> String {
     line
 }
 
-// The line of these words is this command.
-fn check_planned(
-    rt: &(impl Abort + AllocGlobal),
-    line: &str,
-    words: &[&str],
-    command: Command<'_>,
-) {
-    assert_of(rt, line, plan(rt.alloc(), words) == Ok(command));
-}
-
-// The line is this command.
-fn check_plan(rt: &(impl Abort + AllocGlobal), line: &str, command: Command<'_>) {
-    check_planned(rt, line, &words_of(rt, line), command);
-}
-
-// The command's name and the words behind it are this command.
-fn check_words(rt: &(impl Abort + AllocGlobal), name: &str, words: &str, command: Command<'_>) {
-    check_plan(rt, joined(rt, &[name, " ", words]).as_str(), command);
-}
-
 // In place of the name of an input that the command does not have.
 const NONE: &str = "none at all";
 
-// The command names these inputs: the image, what is secret, and the header that stands apart.
-fn check_inputs(rt: &impl Abort, command: Command<'_>, [image, secret, header]: [&str; 3]) {
-    assert_of(rt, image, command.image() == image);
-    assert_of(rt, secret, command.secret().unwrap_or(NONE) == secret);
-    assert_of(rt, header, command.header().unwrap_or(NONE) == header);
-    assert_of(rt, header, command.is_detached() == (header != NONE));
+// The line is this command, which names these inputs: the image, the key file or random bytes, and
+// the detached header.
+fn check_line(
+    rt: &(impl Abort + AllocGlobal),
+    line: &str,
+    command: Command<'_>,
+    [image, secret, header]: [&str; 3],
+) {
+    assert_of(
+        rt,
+        line,
+        plan(rt.alloc(), &words_of(rt, line)) == Ok(command),
+    );
+    assert_of(rt, line, command.image() == image);
+    assert_of(rt, line, command.secret().unwrap_or(NONE) == secret);
+    assert_of(rt, line, command.header().unwrap_or(NONE) == header);
+    assert_of(rt, line, command.is_detached() == (header != NONE));
 }
 
-// The command of this name, of an image whose header stands in it.
-fn reading_of<'a>(name: &str, image: &'a str) -> Command<'a> {
-    let reading = Reading {
-        image,
-        header: None,
-    };
-    match name {
-        "isLuks" => Command::IsLuks(reading),
-        "luksUUID" => Command::LuksUuid(reading),
-        "luksDump" => Command::LuksDump(reading),
-        _ => Command::LuksCheck(reading),
-    }
-}
-
-// A command's name, the words behind it, and the image.
-static READINGS: [(&str, &str, &str); 8] = [
-    ("isLuks", "i", "i"),
-    ("isLuks", "-", "-"),
-    ("luksUUID", "i", "i"),
-    ("luksUUID", "-- -", "-"),
-    ("luksDump", "i", "i"),
-    ("luksDump", "-- -h", "-h"),
-    ("luksDump", "-- --header", "--header"),
-    ("luksCheck", "i", "i"),
+// The arguments of a command, its image, and its detached header, if any.
+static READINGS: [(&str, &str, Option<&str>); 16] = [
+    ("i", "i", None),
+    ("-", "-", None),
+    ("-- -", "-", None),
+    ("-- -h", "-h", None),
+    ("-- --header", "--header", None),
+    ("--header h i", "i", Some("h")),
+    ("--header=h i", "i", Some("h")),
+    ("i --header h", "i", Some("h")),
+    ("--header - i", "i", Some("-")),
+    ("--header=- i", "i", Some("-")),
+    ("--header h -", "-", Some("h")),
+    ("--header h -- -", "-", Some("h")),
+    ("--header h -- --header", "--header", Some("h")),
+    ("--header i i", "i", Some("i")),
+    ("--header= i", "i", Some("")),
+    ("--header=a=b i", "i", Some("a=b")),
 ];
 
-// The command's name and the words behind it are this command, which names these inputs.
-fn check_named(
-    rt: &(impl Abort + AllocGlobal),
-    name: &str,
-    words: &str,
-    command: Command<'_>,
-    inputs: [&str; 3],
-) {
-    check_words(rt, name, words, command);
-    check_inputs(rt, command, inputs);
+// Each command that reads a header takes these arguments so.
+fn check_reading(rt: &(impl Abort + AllocGlobal), words: &str, reading: Reading<'_>) {
+    let commands = [
+        ("isLuks ", Command::IsLuks(reading)),
+        ("luksUUID ", Command::LuksUuid(reading)),
+        ("luksDump ", Command::LuksDump(reading)),
+        ("luksCheck ", Command::LuksCheck(reading)),
+    ];
+    let inputs = [reading.image, NONE, reading.header.unwrap_or(NONE)];
+    for (name, command) in &commands {
+        check_line(rt, joined(rt, &[name, words]).as_str(), *command, inputs);
+    }
 }
 
 #[test]
 fn reads_headers(rt: HostRuntime) {
-    for (name, words, image) in &READINGS {
-        let command = reading_of(name, image);
-        check_named(&rt, name, words, command, [image, NONE, NONE]);
+    for (words, image, header) in &READINGS {
+        let reading = Reading {
+            image,
+            header: *header,
+        };
+        check_reading(&rt, words, reading);
     }
 }
 
-// What an opening asks for, its options as numbers.
-fn numbers_of(opening: &Opening<'_>) -> (Option<u8>, Option<u32>) {
-    (
-        opening.key_slot.map(|slot| slot.get()),
-        opening.max_iterations.map(|limit| limit.get()),
-    )
+// The arguments of a command, its image, its key file, and its detached header, if any.
+static OPENINGS: [(&str, &str, &str, Option<&str>); 11] = [
+    ("--key-file f i", "i", "f", None),
+    ("i --key-file=f", "i", "f", None),
+    ("--key-file f --header h i", "i", "f", Some("h")),
+    ("--header=h --key-file=f i", "i", "f", Some("h")),
+    ("i --header h --key-file f", "i", "f", Some("h")),
+    ("--key-file - --header h i", "i", "-", Some("h")),
+    ("--key-file f --header - i", "i", "f", Some("-")),
+    ("--key-file f --header=- i", "i", "f", Some("-")),
+    ("--key-file f --header h -", "-", "f", Some("h")),
+    ("--key-file f --header h -- -", "-", "f", Some("h")),
+    ("--key-file i --header i i", "i", "i", Some("i")),
+];
+
+// Both commands that open a volume take these arguments so.
+fn check_opening(rt: &(impl Abort + AllocGlobal), words: &str, opening: Opening<'_>) {
+    let commands = [
+        ("testPassphrase ", Command::TestPassphrase(opening)),
+        ("luksCat ", Command::LuksCat(opening)),
+    ];
+    let header = opening.header.unwrap_or(NONE);
+    let inputs = [opening.image, opening.key_file, header];
+    for (name, command) in &commands {
+        check_line(rt, joined(rt, &[name, words]).as_str(), *command, inputs);
+    }
 }
 
-fn check_opening(
-    rt: &impl Abort,
-    options: &str,
-    opening: &Opening<'_>,
-    numbers: (Option<u8>, Option<u32>),
-) {
-    assert_of(rt, options, numbers_of(opening) == numbers);
-    assert_of(rt, options, opening.image == "i" && opening.key_file == "f");
-    assert_of(rt, options, opening.header.is_none());
+#[test]
+fn opens_volumes(rt: HostRuntime) {
+    for (words, image, key_file, header) in &OPENINGS {
+        let opening = Opening {
+            image,
+            header: *header,
+            key_file,
+            key_slot: None,
+            max_iterations: None,
+        };
+        check_opening(&rt, words, opening);
+    }
 }
 
-// Both commands that open take these words so.
-fn check_opened(
-    rt: &(impl Abort + AllocGlobal),
-    options: &str,
-    words: &[&str],
-    numbers: (Option<u8>, Option<u32>),
-) {
-    let Ok(Command::TestPassphrase(opening)) = plan(rt.alloc(), words) else {
-        panic!(rt; "no passphrase to be tested: {options}");
-    };
-    check_opening(rt, options, &opening, numbers);
-    check_named(
-        rt,
-        "luksCat",
-        options,
-        Command::LuksCat(opening),
-        ["i", "f", NONE],
-    );
-}
-
-fn check_options(
-    rt: &(impl Abort + AllocGlobal),
-    options: &str,
-    numbers: (Option<u8>, Option<u32>),
-) {
-    let line = joined(rt, &["testPassphrase ", options]);
-    check_opened(rt, options, &words_of(rt, line.as_str()), numbers);
-}
-
-static OPENINGS: [(&str, (Option<u8>, Option<u32>)); 7] = [
-    ("--key-file f i", (None, None)),
-    ("i --key-file=f", (None, None)),
-    ("--key-file f --key-slot 0 i", (Some(0), None)),
-    ("--key-file f --key-slot 31 i", (Some(31), None)),
-    ("--key-file f --max-iterations 1 i", (None, Some(1))),
+// The arguments of a command, its detached header, its slot and its limit, if any.
+static LIMITED: [(&str, Option<&str>, Option<u64>, Option<u64>); 7] = [
+    ("--key-file f --key-slot 0 i", None, Some(0), None),
+    ("--key-file f --key-slot 31 i", None, Some(31), None),
+    ("--key-file f --max-iterations 1 i", None, None, Some(1)),
     (
         "--key-slot=007 --max-iterations=4294967295 --key-file=f i",
-        (Some(7), Some(4294967295)),
+        None,
+        Some(7),
+        Some(4_294_967_295),
     ),
     (
         "--max-iterations 0000000009 --key-file f --key-slot 8 -- i",
-        (Some(8), Some(9)),
+        None,
+        Some(8),
+        Some(9),
+    ),
+    (
+        "--key-file f --key-slot 3 --max-iterations 5 --header h i",
+        Some("h"),
+        Some(3),
+        Some(5),
+    ),
+    (
+        "--header h --max-iterations=5 --key-slot=3 --key-file=f i",
+        Some("h"),
+        Some(3),
+        Some(5),
     ),
 ];
 
 #[test]
-fn opens(rt: HostRuntime) {
-    for (options, numbers) in &OPENINGS {
-        check_options(&rt, options, *numbers);
+fn opens_volumes_with_limits(rt: HostRuntime) {
+    for (words, header, slot, limit) in &LIMITED {
+        let opening = Opening {
+            image: "i",
+            header: *header,
+            key_file: "f",
+            key_slot: slot.and_then(SlotNumber::new),
+            max_iterations: limit.and_then(IterationLimit::new),
+        };
+        assert_of(&rt, words, opening.key_slot.is_some() == slot.is_some());
+        assert_of(
+            &rt,
+            words,
+            opening.max_iterations.is_some() == limit.is_some(),
+        );
+        check_opening(&rt, words, opening);
     }
 }
 
-fn stripes(rt: &impl Abort, number: u64) -> StripeCount {
-    StripeCount::new(number).expect(rt, "a number of stripes")
+fn splitting<'a>(
+    rt: &impl Abort,
+    hash: Hash,
+    stripes: u64,
+    random: &'a str,
+    key: &'a str,
+) -> Command<'a> {
+    Command::AfSplit(Splitting {
+        hash,
+        stripes: StripeCount::new(stripes).expect(rt, "a number of stripes"),
+        random,
+        key,
+    })
 }
 
-fn key_bytes(rt: &impl Abort, number: u64) -> KeyBytes {
-    KeyBytes::new(number).expect(rt, "a length")
-}
-
-// Each line is this command.
-fn check_lines(rt: &(impl Abort + AllocGlobal), lines: &[&str], command: Command<'_>) {
-    for line in lines {
-        check_plan(rt, line, command);
-    }
+fn merging<'a>(rt: &impl Abort, hash: Hash, stripes: u64, key_bytes: u64) -> Command<'a> {
+    Command::AfMerge(Merging {
+        hash,
+        stripes: StripeCount::new(stripes).expect(rt, "a number of stripes"),
+        key_bytes: KeyBytes::new(key_bytes).expect(rt, "a length"),
+        stripes_file: "s",
+    })
 }
 
 static SPLITS: [&str; 4] = [
@@ -202,64 +220,6 @@ static SPLITS: [&str; 4] = [
     "afSplit --hash=Sha256 --stripes=2 k --random=r",
     "afSplit --hash sha256 --stripes 2 --random r -- k",
 ];
-
-#[test]
-fn splits(rt: HostRuntime) {
-    let command = Command::AfSplit(Splitting {
-        hash: Hash::Sha256,
-        stripes: stripes(&rt, 2),
-        random: "r",
-        key: "k",
-    });
-    check_inputs(&rt, command, ["k", "r", NONE]);
-    check_lines(&rt, &SPLITS, command);
-}
-
-static MERGES: [&str; 2] = [
-    "afMerge --hash sha512 --stripes 4000 --key-bytes 64 s",
-    "afMerge s --key-bytes=64 --stripes 4000 --hash=sha512",
-];
-
-#[test]
-fn merges(rt: HostRuntime) {
-    let command = Command::AfMerge(Merging {
-        hash: Hash::Sha512,
-        stripes: stripes(&rt, 4000),
-        key_bytes: key_bytes(&rt, 64),
-        stripes_file: "s",
-    });
-    check_inputs(&rt, command, ["s", NONE, NONE]);
-    check_lines(&rt, &MERGES, command);
-}
-
-static NAMES: [(&str, Hash); 5] = [
-    ("sha1", Hash::Sha1),
-    ("SHA224", Hash::Sha224),
-    ("Sha256", Hash::Sha256),
-    ("sHA384", Hash::Sha384),
-    ("shA512", Hash::Sha512),
-];
-
-fn check_hash_name(rt: &(impl Abort + AllocGlobal), name: &str, hash: Hash) {
-    let line = joined(
-        rt,
-        &["afMerge --hash ", name, " --stripes 1 --key-bytes 1 s"],
-    );
-    let merging = Merging {
-        hash,
-        stripes: stripes(rt, 1),
-        key_bytes: key_bytes(rt, 1),
-        stripes_file: "s",
-    };
-    check_plan(rt, line.as_str(), Command::AfMerge(merging));
-}
-
-#[test]
-fn folds_hash_names(rt: HostRuntime) {
-    for (name, hash) in &NAMES {
-        check_hash_name(&rt, name, *hash);
-    }
-}
 
 // Names of inputs that are unusual, and of standard input.
 static INPUTS: [(&str, &str, &str); 9] = [
@@ -274,92 +234,102 @@ static INPUTS: [(&str, &str, &str); 9] = [
     ("--random afMerge é", "afMerge", "é"),
 ];
 
-fn check_split_names(rt: &(impl Abort + AllocGlobal), inputs: &str, random: &str, key: &str) {
-    let splitting = Splitting {
-        hash: Hash::Sha1,
-        stripes: stripes(rt, 1),
-        random,
-        key,
-    };
-    let command = Command::AfSplit(splitting);
-    check_words(rt, "afSplit --hash sha1 --stripes 1", inputs, command);
+// Each line is this command.
+fn check_lines(
+    rt: &(impl Abort + AllocGlobal),
+    lines: &[&str],
+    command: Command<'_>,
+    inputs: [&str; 3],
+) {
+    for line in lines {
+        check_line(rt, line, command, inputs);
+    }
 }
 
 #[test]
-fn takes_names_as_they_are(rt: HostRuntime) {
+fn splits_keys(rt: HostRuntime) {
+    let command = splitting(&rt, Hash::Sha256, 2, "r", "k");
+    check_lines(&rt, &SPLITS, command, ["k", "r", NONE]);
     for (inputs, random, key) in &INPUTS {
-        check_split_names(&rt, inputs, random, key);
+        let line = joined(&rt, &["afSplit --hash sha1 --stripes 1 ", inputs]);
+        let command = splitting(&rt, Hash::Sha1, 1, random, key);
+        check_line(&rt, line.as_str(), command, [key, random, NONE]);
     }
 }
 
-fn strings_of(rt: &(impl Abort + AllocGlobal), line: &str) -> Vec<String> {
-    let mut strings = Vec::new(rt.alloc());
-    for word in line.split(' ') {
-        strings.push(joined(rt, &[word])).expect(rt, "memory");
-    }
-    strings
-}
+static MERGES: [&str; 2] = [
+    "afMerge --hash sha512 --stripes 4000 --key-bytes 64 s",
+    "afMerge s --key-bytes=64 --stripes 4000 --hash=sha512",
+];
 
-fn check_strings(rt: &(impl Abort + AllocGlobal), words: &[String], command: Command<'_>) {
-    assert_of(rt, "strings", plan(rt.alloc(), words) == Ok(command));
+static NAMES: [(&str, Hash); 5] = [
+    ("sha1", Hash::Sha1),
+    ("SHA224", Hash::Sha224),
+    ("Sha256", Hash::Sha256),
+    ("sHA384", Hash::Sha384),
+    ("shA512", Hash::Sha512),
+];
+
+#[test]
+fn merges_stripes(rt: HostRuntime) {
+    let command = merging(&rt, Hash::Sha512, 4000, 64);
+    check_lines(&rt, &MERGES, command, ["s", NONE, NONE]);
+    for (name, hash) in &NAMES {
+        let line = joined(
+            &rt,
+            &["afMerge --hash ", name, " --stripes 1 --key-bytes 1 s"],
+        );
+        let command = merging(&rt, *hash, 1, 1);
+        check_line(&rt, line.as_str(), command, ["s", NONE, NONE]);
+    }
 }
 
 #[test]
 fn takes_words_as_strings(rt: HostRuntime) {
-    let line = "afMerge --hash sha1 --stripes 1 --key-bytes 20 s";
-    let merging = Merging {
-        hash: Hash::Sha1,
-        stripes: stripes(&rt, 1),
-        key_bytes: key_bytes(&rt, 20),
-        stripes_file: "s",
-    };
-    check_strings(&rt, &strings_of(&rt, line), Command::AfMerge(merging));
-}
-
-#[test]
-fn other_numbers_are_refused(rt: HostRuntime) {
-    for number in &[0, 4001, 1 << 32] {
-        assert_number(&rt, *number, StripeCount::new(*number).is_none());
+    let mut words = Vec::new(rt.alloc());
+    for word in "afMerge --hash sha1 --stripes 1 --key-bytes 20 s".split(' ') {
+        words.push(joined(&rt, &[word])).expect(&rt, "memory");
     }
-    for number in &[0, 513, 1 << 32] {
-        assert_number(&rt, *number, KeyBytes::new(*number).is_none());
-    }
-    for number in &[32, 256, 1 << 32] {
-        assert_number(&rt, *number, SlotNumber::new(*number).is_none());
-    }
-    for number in &[0, 1 << 32] {
-        assert_number(&rt, *number, IterationLimit::new(*number).is_none());
-    }
+    let planned = plan(rt.alloc(), &words);
+    assert_of(
+        &rt,
+        "strings",
+        planned == Ok(merging(&rt, Hash::Sha1, 1, 20)),
+    );
 }
 
-fn check_stripes(rt: &impl Abort, number: u64) {
-    assert_number(rt, number, stripes(rt, number).get() as u64 == number);
-}
+// A number, and whether it is one of stripes, of bytes of a key, of a slot, of iterations.
+static NUMBERS: [(u64, [bool; 4]); 12] = [
+    (0, [false, false, true, false]),
+    (1, [true, true, true, true]),
+    (31, [true, true, true, true]),
+    (32, [true, true, false, true]),
+    (256, [true, true, false, true]),
+    (512, [true, true, false, true]),
+    (513, [true, false, false, true]),
+    (4000, [true, false, false, true]),
+    (4001, [false, false, false, true]),
+    (4_294_967_295, [false, false, false, true]),
+    (4_294_967_296, [false, false, false, false]),
+    (u64::MAX, [false, false, false, false]),
+];
 
-fn check_key_bytes(rt: &impl Abort, number: u64) {
-    assert_number(rt, number, key_bytes(rt, number).get() as u64 == number);
-}
-
-fn check_slot(rt: &impl Abort, number: u64) {
-    let slot = SlotNumber::new(number).expect(rt, "a slot");
-    assert_number(rt, number, slot.get() as u64 == number);
-}
-
-fn check_limit(rt: &impl Abort, number: u64) {
-    let limit = IterationLimit::new(number).expect(rt, "a limit");
-    assert_number(rt, number, limit.get() as u64 == number);
+fn check_number(rt: &impl Abort, number: u64, fits: [bool; 4]) {
+    let numbers = [
+        StripeCount::new(number).map(|stripes| stripes.get() as u64),
+        KeyBytes::new(number).map(|bytes| bytes.get() as u64),
+        SlotNumber::new(number).map(|slot| slot.get() as u64),
+        IterationLimit::new(number).map(|limit| limit.get() as u64),
+    ];
+    let holds = numbers == fits.map(|fits| fits.then_some(number));
+    assert!(rt; holds, "{number}");
 }
 
 #[test]
 fn numbers_have_ranges(rt: HostRuntime) {
-    check_stripes(&rt, 1);
-    check_stripes(&rt, 4000);
-    check_key_bytes(&rt, 1);
-    check_key_bytes(&rt, 512);
-    check_slot(&rt, 0);
-    check_slot(&rt, 31);
-    check_limit(&rt, 1);
-    check_limit(&rt, 4294967295);
+    for (number, fits) in &NUMBERS {
+        check_number(&rt, *number, *fits);
+    }
 }
 
 static USAGE: [&str; 5] = [

@@ -1,8 +1,8 @@
 //! Checksums that another program computed, sources that give little or fail, and want of memory.
 
 use super::fixture::{
-    JSON, Sketch, assert_in, assert_of, fault_of, flip, front, image_of, put, range_mut, read_from,
-    seal, taken, usual,
+    JSON, PRIMARY, SECONDARY, Sketch, assert_in, assert_of, fault_of, flip, image_of, put,
+    range_mut, read_from, seal,
 };
 use luks_area::fault::HeaderFault;
 use luks_io::memory::MemSource;
@@ -45,12 +45,19 @@ static SUMS: [(Hash, &str, &str); 5] = [
     ),
 ];
 
-fn primary_of<'a>(hash: Hash, name: &'a str) -> Sketch<'a> {
-    Sketch {
+// An image with a primary header whose checksum has this name.
+fn image_named(rt: &(impl Abort + AllocGlobal), hash: Hash, name: &str) -> Vec<u8> {
+    let primary = Sketch {
         hash,
         name,
-        ..usual(0)
-    }
+        ..PRIMARY
+    };
+    image_of(rt, 16_384, &[primary])
+}
+
+fn check_is_read(rt: &(impl Abort + AllocGlobal), image: &[u8], name: &str, read: bool) {
+    let fault = fault_of(rt.alloc(), &mut MemSource::new(image));
+    assert_of(rt, name, fault.is_none() == read);
 }
 
 // Writes the checksum that the digits spell in place of a header's own.
@@ -60,56 +67,33 @@ fn put_sum(header: &mut [u8], hash: Hash, digits: &str) {
     put(header, 448, &sum);
 }
 
-fn with_sum(rt: &(impl Abort + AllocGlobal), hash: Hash, name: &str, digits: &str) -> Vec<u8> {
-    let mut image = image_of(rt, 16_384, &[primary_of(hash, name)]);
-    put_sum(image.as_mut_slice(), hash, digits);
-    image
-}
-
-fn check_sum(rt: &(impl Abort + AllocGlobal), image: &[u8], hash: Hash, name: &str) {
+// A header is read whole.
+fn check_whole(rt: &(impl Abort + AllocGlobal), image: &[u8], name: &str, hash: Hash) {
     let mut source = MemSource::new(image);
     let (header, _area) = read_from(rt.alloc(), &mut source).expect(rt, "a header");
-    let read = (header.hash, taken(image, &source));
-    assert_of(rt, name, read == (hash, 16_384));
-}
-
-#[test]
-fn checksums_of_another_program_agree(rt: HostRuntime) {
-    for (hash, name, digits) in &SUMS {
-        check_sum(&rt, &with_sum(&rt, *hash, name, digits), *hash, name);
-    }
-}
-
-// Whether an image is read.
-fn is_read(alloc: Global, image: &[u8]) -> bool {
-    fault_of(alloc, &mut MemSource::new(image)).is_none()
-}
-
-fn check_is_read(rt: &(impl Abort + AllocGlobal), image: &[u8], name: &str, read: bool) {
-    assert_of(rt, name, is_read(rt.alloc(), image) == read);
+    assert_of(rt, name, header.hash == hash);
+    assert_of(rt, name, image.len() == 16_384 && source.left().len() == 0);
 }
 
 // The bytes behind the checksum do not count, and its last one does.
-fn check_extent(rt: &(impl Abort + AllocGlobal), image: &mut [u8], hash: Hash, name: &str) {
+fn check_extent(rt: &(impl Abort + AllocGlobal), image: &mut [u8], name: &str, hash: Hash) {
     let size = hash.size();
     if size < 64 {
         put(image, 448 + size, b"x");
         put(image, 511, b"y");
         check_is_read(rt, image, name, true);
     }
-    flip(image, 447 + size);
+    flip(image, 447 + size, 1);
     check_is_read(rt, image, name, false);
 }
 
-fn check_hash(rt: &(impl Abort + AllocGlobal), hash: Hash, name: &str) {
-    let mut image = image_of(rt, 16_384, &[primary_of(hash, name)]);
-    check_extent(rt, image.as_mut_slice(), hash, name);
-}
-
 #[test]
-fn so_much_of_the_checksum_counts_as_the_hash_has(rt: HostRuntime) {
-    for (hash, name, _) in &SUMS {
-        check_hash(&rt, *hash, name);
+fn checksums_of_another_program_agree(rt: HostRuntime) {
+    for (hash, name, digits) in &SUMS {
+        let mut image = image_named(&rt, *hash, name);
+        put_sum(image.as_mut_slice(), *hash, digits);
+        check_whole(&rt, &image, name, *hash);
+        check_extent(&rt, image.as_mut_slice(), name, *hash);
     }
 }
 
@@ -123,44 +107,28 @@ static NAMES: [(&str, bool); 4] = [
 #[test]
 fn the_name_of_a_hash_is_folded(rt: HostRuntime) {
     for (name, known) in &NAMES {
-        let image = image_of(&rt, 16_384, &[primary_of(Hash::Sha256, name)]);
-        check_is_read(&rt, &image, name, *known);
+        check_is_read(&rt, &image_named(&rt, Hash::Sha256, name), name, *known);
     }
-}
-
-// Fills a header's JSON area with a letter.
-fn fill_text(header: &mut [u8]) {
-    for i in 4096..16_384 {
-        put(header, i, b"j");
-    }
-    put(header, 448, &[0; 64]);
-    seal(header, Hash::Sha256);
-}
-
-// A secondary header alone whose JSON area has a letter in each byte.
-fn full_of_text(rt: &(impl Abort + AllocGlobal)) -> Vec<u8> {
-    let mut image = image_of(rt, 32_768, &[usual(16_384)]);
-    fill_text(range_mut(image.as_mut_slice(), 16_384, 16_384));
-    image
 }
 
 fn check_text(rt: &impl Abort, header: &Header2, area: &[u8]) {
     let text = header.json_text(area);
     assert_in(rt, 12_288, text.len() == 12_288);
     assert_in(rt, 0, text.first().copied() == Some(b'j'));
-    let short = header.json_text(front(area, 16_384));
+    let short = header.json_text(&area[..area.len().min(16_384)]);
     assert_in(rt, 16_384, short.len() == 0);
 }
 
-fn check_full(rt: &(impl Abort + AllocGlobal), image: &[u8]) {
-    let mut source = MemSource::new(image);
-    let (header, area) = read_from(rt.alloc(), &mut source).expect(rt, "a header");
-    check_text(rt, &header, area.as_slice());
-}
-
+// A secondary header alone whose JSON area has a letter in each byte.
 #[test]
 fn a_json_area_without_a_zero_byte_is_text_to_its_end(rt: HostRuntime) {
-    check_full(&rt, &full_of_text(&rt));
+    let mut image = image_of(&rt, 32_768, &[SECONDARY]);
+    let header = range_mut(image.as_mut_slice(), 16_384, 16_384);
+    range_mut(header, 4096, 12_288).fill(b'j');
+    seal(header, Hash::Sha256);
+    let mut source = MemSource::new(&image);
+    let (header, area) = read_from(rt.alloc(), &mut source).expect(&rt, "a header");
+    check_text(&rt, &header, area.as_slice());
 }
 
 // Where the header stands and what is amiss, in an image with one byte more than it has.
@@ -172,57 +140,50 @@ fn check_piece(
 ) {
     let mut source = Flaky::new(image, piece, u64::MAX);
     let (header, area) = read_from(rt.alloc(), &mut source).expect(rt, "a header");
-    let case = piece as u64;
-    assert_in(rt, case, source.left() == 1);
-    assert_in(rt, case, (header.place, header.finding) == want);
-    assert_in(rt, case, header.json_text(area.as_slice()) == JSON);
-}
-
-fn check_pieces(rt: &(impl Abort + AllocGlobal), image: &[u8], want: (Place, Option<Finding>)) {
-    for piece in [1, 4095, 0] {
-        check_piece(rt, image, piece, want);
-    }
+    assert_in(rt, piece, source.left() == 1);
+    assert_in(rt, piece, (header.place, header.finding) == want);
+    assert_in(rt, piece, header.json_text(area.as_slice()) == JSON);
 }
 
 #[test]
 fn pieces_of_any_length_serve(rt: HostRuntime) {
-    let image = image_of(&rt, 32_769, &[usual(0), usual(16_384)]);
-    check_pieces(&rt, &image, (Place::Primary, None));
+    let both = image_of(&rt, 32_769, &[PRIMARY, SECONDARY]);
+    let alone = image_of(&rt, 32_769, &[SECONDARY]);
     let found = (Place::Secondary, Some(Finding::PrimaryNotValid));
-    check_pieces(&rt, &image_of(&rt, 32_769, &[usual(16_384)]), found);
+    for piece in [1, 4095, 0] {
+        check_piece(&rt, &both, piece, (Place::Primary, None));
+        check_piece(&rt, &alone, piece, found);
+    }
 }
 
-// A source of 40,000 bytes that fails once after so many.
+// A source of 40,000 bytes fails after so many; 32,768 are all that it is asked for.
 fn check_failed(rt: &(impl Abort + AllocGlobal), bytes: &[u8], given: usize) {
     let mut source = Broken::new(bytes, given);
     let fault = fault_of(rt.alloc(), &mut source);
-    let case = given as u64;
+    let (want, failures) = if given < 32_768 {
+        (Some(HeaderFault::Read), 1)
+    } else {
+        (None, 0)
+    };
+    assert_in(rt, given, fault == want);
+    assert_in(rt, given, source.failures == failures);
     assert_in(
         rt,
-        case,
-        fault == Some(HeaderFault::Read) && source.failures == 1,
+        given,
+        source.left() == 40_000usize.saturating_sub(given),
     );
-    assert_in(rt, case, source.left() == 40_000usize.saturating_sub(given));
-}
-
-fn check_whole(rt: &(impl Abort + AllocGlobal), bytes: &[u8]) {
-    let mut source = Broken::new(bytes, 32_768);
-    let fault = fault_of(rt.alloc(), &mut source);
-    assert_in(rt, 32_768, fault.is_none() && source.failures == 0);
-}
-
-fn check_reads(rt: &(impl Abort + AllocGlobal), bytes: &[u8]) {
-    for given in [0, 591, 592, 4095, 4096, 16_383, 16_384, 20_480, 32_767] {
-        check_failed(rt, bytes, given);
-    }
-    check_whole(rt, bytes);
 }
 
 #[test]
 fn each_failed_read_is_told(rt: HostRuntime) {
-    let image = image_of(&rt, 40_000, &[usual(0), usual(16_384)]);
-    check_reads(&rt, &image);
-    check_reads(&rt, &image_of(&rt, 40_000, &[usual(16_384)]));
+    let both = image_of(&rt, 40_000, &[PRIMARY, SECONDARY]);
+    let alone = image_of(&rt, 40_000, &[SECONDARY]);
+    for given in [
+        0, 591, 592, 4095, 4096, 16_383, 16_384, 20_480, 32_767, 32_768,
+    ] {
+        check_failed(&rt, &both, given);
+        check_failed(&rt, &alone, given);
+    }
 }
 
 // Runs until one meets no refusal, and answers how many met one.
@@ -244,7 +205,7 @@ fn scarce_runs(rt: &(impl Abort + AllocGlobal), image: &[u8]) -> Option<u32> {
 
 #[test]
 fn want_of_memory_is_told(rt: HostRuntime) {
-    let runs = scarce_runs(&rt, &image_of(&rt, 32_768, &[usual(16_384)]));
+    let runs = scarce_runs(&rt, &image_of(&rt, 32_768, &[SECONDARY]));
     // Another fault than want of memory, too little given back, or no refusal at all.
     assert!(rt; runs.unwrap_or(0) > 0, "{runs:?}");
 }

@@ -5,7 +5,6 @@
 
 use luks_area::area::HeaderArea;
 use luks_area::fault::HeaderFault;
-use luks_io::memory::MemSource;
 use luks_io::source::Source;
 use luks_kdf::{Hash, digest};
 use luks2_header::header::Header2;
@@ -20,6 +19,7 @@ pub const JSON: &[u8] =
 /// A header to be written.
 #[derive(Clone, Copy)]
 pub struct Sketch<'a> {
+    pub magic: &'a str,
     pub place: usize,
     pub size: usize,
     pub sequence: u64,
@@ -27,16 +27,22 @@ pub struct Sketch<'a> {
     pub name: &'a str,
 }
 
-/// A header of 16,384 bytes with SHA-256 and the sequence number 7.
-pub fn usual<'a>(place: usize) -> Sketch<'a> {
-    Sketch {
-        place,
-        size: 16_384,
-        sequence: 7,
-        hash: Hash::Sha256,
-        name: "sha256",
-    }
-}
+/// A header of 16,384 bytes with SHA-256 and the sequence number 7, at the image's start.
+pub const PRIMARY: Sketch<'static> = Sketch {
+    magic: "LUKS",
+    place: 0,
+    size: 16_384,
+    sequence: 7,
+    hash: Hash::Sha256,
+    name: "sha256",
+};
+
+/// The one behind it.
+pub const SECONDARY: Sketch<'static> = Sketch {
+    magic: "SKUL",
+    place: 16_384,
+    ..PRIMARY
+};
 
 /// Puts bytes into others, from a place on.
 pub fn put(bytes: &mut [u8], place: usize, with: &[u8]) {
@@ -48,16 +54,11 @@ pub fn put(bytes: &mut [u8], place: usize, with: &[u8]) {
     }
 }
 
-/// Changes one byte.
-pub fn flip(bytes: &mut [u8], place: usize) {
+/// Changes one byte by these bits.
+pub fn flip(bytes: &mut [u8], place: usize, bits: u8) {
     if place < bytes.len() {
-        bytes[place] ^= 1;
+        bytes[place] ^= bits;
     }
-}
-
-/// So many zero bytes.
-pub fn zeros(rt: &(impl Abort + AllocGlobal), len: usize) -> Vec<u8> {
-    vec![in rt.alloc(); 0; len].expect(rt, "memory")
 }
 
 /// So many bytes from a place on, or as many as there are.
@@ -68,16 +69,10 @@ pub fn range_mut(bytes: &mut [u8], place: usize, len: usize) -> &mut [u8] {
     &mut rest[..len]
 }
 
-/// The first bytes, or as many as there are.
-pub fn front(bytes: &[u8], len: usize) -> &[u8] {
-    &bytes[..len.min(bytes.len())]
-}
-
-/// Writes a header into an image, its checksum last.
-pub fn write_header(image: &mut [u8], sketch: Sketch<'_>) {
+// Writes a header into an image, its checksum last.
+fn write_header(image: &mut [u8], sketch: Sketch<'_>) {
     let header = range_mut(image, sketch.place, sketch.size);
-    let magic = if sketch.place == 0 { b"LUKS" } else { b"SKUL" };
-    put(header, 0, magic);
+    put(header, 0, sketch.magic.as_bytes());
     put(header, 4, &[0xba, 0xbe, 0, 2]);
     put(header, 8, &(sketch.size as u64).to_be_bytes());
     put(header, 16, &sketch.sequence.to_be_bytes());
@@ -93,25 +88,22 @@ pub fn write_header(image: &mut [u8], sketch: Sketch<'_>) {
     seal(header, sketch.hash);
 }
 
-/// Writes the checksum of a header whose checksum's field is zero.
+/// Writes the checksum of a header.
 pub fn seal(header: &mut [u8], hash: Hash) {
+    put(header, 448, &[0; 64]);
     let mut sum = [0; 64];
     let sum = &mut sum[..hash.size()];
     digest(hash, header, b"", b"", sum);
     put(header, 448, sum);
 }
 
-// Writes headers into an image, one after the other.
-fn write_headers(image: &mut [u8], headers: &[Sketch<'_>]) {
-    for header in headers {
-        write_header(image, *header);
-    }
-}
-
 /// An image of this length with these headers.
 pub fn image_of(rt: &(impl Abort + AllocGlobal), len: usize, headers: &[Sketch<'_>]) -> Vec<u8> {
-    let mut image = zeros(rt, len);
-    write_headers(image.as_mut_slice(), headers);
+    let mut image = vec![in rt.alloc(); 0; len.max(100_000)].expect(rt, "memory");
+    for header in headers {
+        write_header(image.as_mut_slice(), *header);
+    }
+    image.truncate(len);
     image
 }
 
@@ -131,13 +123,8 @@ pub fn fault_of<S: Source>(alloc: Global, source: &mut S) -> Option<HeaderFault>
     read_from(alloc, source).err()
 }
 
-/// How many bytes of an image were taken.
-pub fn taken(image: &[u8], source: &MemSource<'_>) -> usize {
-    image.len().saturating_sub(source.left().len())
-}
-
 /// Asserts what holds in the case of this number.
-pub fn assert_in(rt: &impl Abort, case: u64, holds: bool) {
+pub fn assert_in(rt: &impl Abort, case: usize, holds: bool) {
     assert!(rt; holds, "{case}");
 }
 

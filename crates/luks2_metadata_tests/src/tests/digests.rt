@@ -1,25 +1,26 @@
 //! Which digests are usable, and which one a slot is opened against.
 
+use super::assert_of;
 use super::fixture::{ATTACHED, joined, metadata};
+use super::rows::{Subject, check_rows};
 use luks_kdf::Hash;
-use luks_testing::same::{same, same_in};
 use luks_verdict::digest::KeyDigest;
 use luks_verdict::refusal::SkipReason;
 use luks_verdict::slot::Judgement;
 use luks2_members::tree::Metadata;
 use luks2_metadata::digest::{Digest, digest_for, digests};
 use luks2_metadata::slot::judge;
+use luks2_segment::bounds::Bounds;
 use std::process::Abort;
 
 const UNDIGESTED: Judgement = Judgement::Skipped(SkipReason::Digest);
 
-const DIGEST: &str = "\"digest\":\"AgICAgICAgICAgICAgICAgICAgICAgICAgICAgICAgI=\"";
-
-// Whether slot 2 has a digest.
-fn is_there(rt: &(impl Abort + AllocGlobal), metadata: &Metadata) -> bool {
-    digest_for(rt.alloc(), metadata, 2)
-        .expect(rt, "memory")
-        .is_some()
+// The iterations of the digest of a slot, where it has one.
+fn iterations(rt: &(impl Abort + AllocGlobal), metadata: &Metadata, slot: u8) -> Option<u32> {
+    match digest_for(rt.alloc(), metadata, slot).expect(rt, "memory") {
+        Some(key) => Some(key.iterations),
+        None => None,
+    }
 }
 
 // Whether the first digest is listed as usable, where there is one.
@@ -30,282 +31,154 @@ fn first_usable(rt: &(impl Abort + AllocGlobal), metadata: &Metadata) -> Option<
     }
 }
 
-// The digest, and the verdict on the slot that it is of, agree on whether it is usable.
-fn check_metadata(rt: &(impl Abort + AllocGlobal), metadata: &Metadata, other: &str, want: bool) {
-    let skipped = judge(metadata, ATTACHED, None, 2) == Some(UNDIGESTED);
-    let told = [is_there(rt, metadata), !skipped];
-    same_in(&other, told, [want, want]).expect(rt, "the same");
-    same_in(&other, first_usable(rt, metadata), Some(want)).expect(rt, "the same");
-}
-
-fn check(rt: &(impl Abort + AllocGlobal), part: &str, other: &str, want: bool) {
-    check_metadata(rt, &metadata(rt, &[(part, other)]), other, want);
-}
-
-// Each row is a part, what stands in its place, and whether the digest is usable then.
-fn check_rows(rt: &(impl Abort + AllocGlobal), rows: &[(&str, &str, bool)]) {
-    for (part, other, want) in rows {
-        check(rt, part, other, *want);
+/// Whether the first digest is usable, and how many iterations that of slot 2 has, with which the
+/// verdict on the slot agrees.
+pub(super) fn verdict(
+    rt: &(impl Abort + AllocGlobal),
+    metadata: &Metadata,
+    bounds: Bounds,
+) -> &'static str {
+    let found = iterations(rt, metadata, 2);
+    let judgement = if found.is_some() {
+        Judgement::Usable(1)
+    } else {
+        UNDIGESTED
+    };
+    let agrees = judge(metadata, bounds, None, 2) == Some(judgement);
+    assert_of(rt, "the slot's verdict", agrees);
+    match (first_usable(rt, metadata), found) {
+        (Some(true), Some(1)) => "1",
+        (Some(true), Some(7)) => "7",
+        (Some(true), Some(1000)) => "1000",
+        (Some(true), Some(4_294_967_295)) => "4294967295",
+        (Some(true), None) => "of others",
+        (Some(false), Some(1000)) => "refused, then 1000",
+        (Some(false), None) => "refused",
+        _ => "another",
     }
 }
 
-fn name(names: &[String], place: usize) -> Option<&str> {
-    match names.get(place) {
-        Some(name) => Some(name.as_str()),
-        None => None,
+// "02" is not slot 2, and a digest that lists no segment 0 is not one of the slot. Lengths are by
+// Python's base64.b64encode(b'\x02' * n).
+static ROWS: [&str; 39] = [
+    "refused: 'type':'pbkdf2' -> 'type':'sha256'",
+    "refused: 'type':'pbkdf2' -> 'type':null",
+    "refused: 'digests':{'0':{'type':'pbkdf2' -> 'digests':{'0':{'x':'pbkdf2'",
+    "refused: 'digests':{'0':{'type':'pbkdf2' -> 'digests':{'0':null,'x':{'type':'pbkdf2'",
+    "refused: 'digests':{'0':{'type':'pbkdf2' -> 'digests':{'0':[],'x':{'type':'pbkdf2'",
+    "1000: 'keyslots':['0','2'] -> 'keyslots':['2','x','99']",
+    "refused: 'keyslots':['0','2'] -> 'keyslots':['2',2]",
+    "refused: 'keyslots':['0','2'] -> 'keyslots':'2'",
+    "refused: 'keyslots':['0','2'] -> 'keyslots':null",
+    "refused: 'keyslots':['0', -> 'x':[",
+    "1000: 'segments':['0'] -> 'segments':['1','0']",
+    "refused: 'segments':['0'] -> 'segments':['0',null]",
+    "refused: 'segments':['0'] -> 'segments':{'0':'0'}",
+    "refused: 'segments': -> 'x':",
+    "1000: 'hash':'sha256' -> 'hash':'Sha512'",
+    "refused: 'hash':'sha256' -> 'hash':'md5'",
+    "refused: 'hash':'sha256' -> 'hash':null",
+    "refused: ['0'],'hash':'sha256' -> ['0']",
+    "1: ['0'],'hash':'sha256','iterations':1000 -> ['0'],'hash':'sha256','iterations':1",
+    "4294967295: ['0'],'hash':'sha256','iterations':1000 \
+     -> ['0'],'hash':'sha256','iterations':4294967295",
+    "refused: ['0'],'hash':'sha256','iterations':1000 \
+     -> ['0'],'hash':'sha256','iterations':4294967296",
+    "refused: ['0'],'hash':'sha256','iterations':1000 -> ['0'],'hash':'sha256','iterations':0",
+    "refused: ['0'],'hash':'sha256','iterations':1000 -> ['0'],'hash':'sha256','iterations':1e3",
+    "refused: ['0'],'hash':'sha256','iterations':1000 -> ['0'],'hash':'sha256','iterations':'1000'",
+    "refused: 'hash':'sha256','iterations':1000 -> 'hash':'sha256'",
+    "refused: 'digest':'AgICAgICAgICAgICAgICAgICAgICAgICAgICAgICAgI=' -> 'digest':''",
+    "refused: 'digest':'AgICAgICAgICAgICAgICAgICAgICAgICAgICAgICAgI=' \
+     -> 'digest':'AgICAgICAgICAgICAgICAgICAg=='",
+    "1000: 'digest':'AgICAgICAgICAgICAgICAgICAgICAgICAgICAgICAgI=' \
+     -> 'digest':'AgICAgICAgICAgICAgICAgICAgI='",
+    "refused: 'digest':'AgICAgICAgICAgICAgICAgICAgICAgICAgICAgICAgI=' \
+     -> 'digest':'AgICAgICAgICAgICAgICAgICAgI'",
+    "1000: 'digest':'AgICAgICAgICAgICAgICAgICAgICAgICAgICAgICAgI=' \
+     -> 'digest':'AgICAgICAgICAgICAgICAgICAgICAgICAgICAgICAgICAgICAgICAgICAgICAgICAgICAgICAgICAgIC\
+     AgICAg=='",
+    "refused: 'digest':'AgICAgICAgICAgICAgICAgICAgICAgICAgICAgICAgI=' \
+     -> 'digest':'AgICAgICAgICAgICAgICAgICAgICAgICAgICAgICAgICAgICAgICAgICAgICAgICAgICAgICAgICAgIC\
+     AgICAgI='",
+    "refused: 'digest':'AgICAgICAgICAgICAgICAgICAgICAgICAgICAgICAgI=' -> 'digest':null",
+    "refused: 'digest':'AgICAgICAgICAgICAgICAgICAgICAgICAgICAgICAgI=' -> 'x':1",
+    "of others: 'keyslots':['0','2'] -> 'keyslots':['0','02']",
+    "of others: 'keyslots':['0','2'] -> 'keyslots':[]",
+    "1000: 'keyslots':['0','2'] -> 'keyslots':['\\u0032']",
+    "of others: 'segments':['0'] -> 'segments':['1']",
+    "of others: 'segments':['0'] -> 'segments':[]",
+    "of others: 'segments':['0'] -> 'segments':['00']",
+];
+
+// A second digest of slot 2: its name and that of the first are A and B, until a row changes them.
+const SECOND: &str = "'digests':{'0':{ \
+    -> 'digests':{'A':{'type':'pbkdf2','keyslots':['2'],'segments':['0'],'hash':'sha1',\
+    'salt':'','digest':'AgICAgICAgICAgICAgICAgICAgI=','iterations':7},'B':{; ";
+
+// Of the usable digests that list the slot and the segment, the one with the lowest number.
+static NAMES: [(&str, &str); 7] = [
+    ("1000: ", "'A':{ -> '10':{; 'B':{ -> '9':{"),
+    ("7: ", "'A':{ -> '9':{; 'B':{ -> '10':{"),
+    ("7: ", "'A':{ -> '0':{; 'B':{ -> '31':{"),
+    ("1000: ", "'A':{ -> '32':{; 'B':{ -> '31':{"),
+    ("1000: ", "'A':{ -> '00':{; 'B':{ -> '31':{"),
+    (
+        "refused, then 1000: ",
+        "'A':{ -> '0':{; 'iterations':7 -> 'iterations':0; 'B':{ -> '31':{",
+    ),
+    ("7: ", "'A':{ -> '0':{'salt':1,; 'B':{ -> '31':{"),
+];
+
+#[test]
+fn which_digest_a_slot_has(rt: HostRuntime) {
+    check_rows(&rt, Subject::Digest, &ROWS);
+    for (want, names) in &NAMES {
+        let row = joined(&rt, &[want, SECOND, names]);
+        check_rows(&rt, Subject::Digest, &[row.as_str()]);
     }
 }
 
 fn check_key(rt: &impl Abort, key: &KeyDigest) {
-    same(key.hash, Some(Hash::Sha256)).expect(rt, "the same");
-    same(key.iterations, 1000).expect(rt, "the same");
-    assert!(rt; key.salt.as_slice() == [1u8; 32].as_slice());
-    assert!(rt; key.value.as_slice() == [2u8; 32].as_slice());
+    assert_of(rt, "hash", key.hash == Some(Hash::Sha256));
+    assert_of(rt, "iterations", key.iterations == 1000);
+    assert_of(rt, "salt", key.salt.as_slice() == [1u8; 32].as_slice());
+    assert_of(rt, "value", key.value.as_slice() == [2u8; 32].as_slice());
 }
 
-// The digest of slot 2.
-fn check_found(rt: &(impl Abort + AllocGlobal), metadata: &Metadata) {
-    match digest_for(rt.alloc(), metadata, 2).expect(rt, "memory") {
-        Some(key) => check_key(rt, &key),
-        None => panic!(rt; "no digest"),
-    }
-}
-
-#[test]
-fn the_digest_as_it_is(rt: HostRuntime) {
-    let metadata = metadata(&rt, &[]);
-    check_found(&rt, &metadata);
-    let found = [iterations(&rt, &metadata, 0), iterations(&rt, &metadata, 1)];
-    same(found, [Some(1000), None]).expect(&rt, "the same");
-}
-
-fn check_listed(rt: &impl Abort, digest: &Digest) {
-    same(digest.key.iterations, 1000).expect(rt, "the same");
-    let keyslots = digest.keyslots.as_slice();
-    let names = [name(keyslots, 0), name(keyslots, 1), name(keyslots, 2)];
-    same(names, [Some("0"), Some("2"), None]).expect(rt, "the same");
-    let segments = digest.segments.as_slice();
-    let names = [name(segments, 0), name(segments, 1)];
-    same(names, [Some("0"), None]).expect(rt, "the same");
-}
-
-fn check_all(rt: &impl Abort, all: &[(u8, Option<Digest>)]) {
-    same(all.len(), 1).expect(rt, "the same");
-    let Some((0, Some(digest))) = all.first() else {
-        panic!(rt; "no digest 0");
+fn check_listed(rt: &impl Abort, all: &[(u8, Option<Digest>)]) {
+    let [(0, Some(digest))] = all else {
+        panic!(rt; "no digest 0, or another one");
     };
-    check_listed(rt, digest);
+    check_key(rt, &digest.key);
+    let [first, second] = digest.keyslots.as_slice() else {
+        panic!(rt; "not two slots");
+    };
+    let slots = [first.as_str(), second.as_str()];
+    assert_of(rt, "slots", slots == ["0", "2"]);
+    let [segment] = digest.segments.as_slice() else {
+        panic!(rt; "not one segment");
+    };
+    assert_of(rt, "segment", segment.as_str() == "0");
 }
 
 #[test]
 fn the_digests_as_they_are(rt: HostRuntime) {
-    let metadata = metadata(&rt, &[]);
+    let metadata = metadata(&rt, "");
+    let key = digest_for(rt.alloc(), &metadata, 2).expect(&rt, "memory");
+    check_key(&rt, &key.expect(&rt, "a digest"));
+    assert_of(&rt, "slot 0", iterations(&rt, &metadata, 0) == Some(1000));
+    assert_of(&rt, "slot 1", iterations(&rt, &metadata, 1).is_none());
     let all = digests(rt.alloc(), &metadata).expect(&rt, "memory");
-    check_all(&rt, all.as_slice());
+    check_listed(&rt, all.as_slice());
 }
-
-const TYPE: &str = "\"digests\":{\"0\":{\"type\":\"pbkdf2\"";
-
-const KEYSLOTS: &str = "\"keyslots\":[\"0\",\"2\"]";
-
-const SEGMENTS: &str = "\"segments\":[\"0\"]";
-
-static MEMBERS: [(&str, &str, bool); 14] = [
-    (TYPE, "\"digests\":{\"0\":{\"type\":\"sha256\"", false),
-    (TYPE, "\"digests\":{\"0\":{\"type\":null", false),
-    (TYPE, "\"digests\":{\"0\":{\"x\":\"pbkdf2\"", false),
-    (
-        TYPE,
-        "\"digests\":{\"0\":null,\"x\":{\"type\":\"pbkdf2\"",
-        false,
-    ),
-    (
-        TYPE,
-        "\"digests\":{\"0\":[],\"x\":{\"type\":\"pbkdf2\"",
-        false,
-    ),
-    (KEYSLOTS, "\"keyslots\":[\"2\",\"x\",\"99\"]", true),
-    (KEYSLOTS, "\"keyslots\":[\"2\",2]", false),
-    (KEYSLOTS, "\"keyslots\":\"2\"", false),
-    (KEYSLOTS, "\"keyslots\":null", false),
-    (KEYSLOTS, "\"x\":[\"2\"]", false),
-    (SEGMENTS, "\"segments\":[\"1\",\"0\"]", true),
-    (SEGMENTS, "\"segments\":[\"0\",null]", false),
-    (SEGMENTS, "\"segments\":{\"0\":\"0\"}", false),
-    (SEGMENTS, "\"x\":[\"0\"]", false),
-];
-
-#[test]
-fn members(rt: HostRuntime) {
-    check_rows(&rt, &MEMBERS);
-}
-
-const HASH: &str = "[\"0\"],\"hash\":\"sha256\"";
-
-const ITERATIONS: &str = "[\"0\"],\"hash\":\"sha256\",\"iterations\":1000";
-
-static VALUES: [(&str, &str, bool); 11] = [
-    (HASH, "[\"0\"],\"hash\":\"Sha512\"", true),
-    (HASH, "[\"0\"],\"hash\":\"md5\"", false),
-    (HASH, "[\"0\"],\"hash\":null", false),
-    (HASH, "[\"0\"]", false),
-    (
-        ITERATIONS,
-        "[\"0\"],\"hash\":\"sha256\",\"iterations\":1",
-        true,
-    ),
-    (
-        ITERATIONS,
-        "[\"0\"],\"hash\":\"sha256\",\"iterations\":4294967295",
-        true,
-    ),
-    (
-        ITERATIONS,
-        "[\"0\"],\"hash\":\"sha256\",\"iterations\":4294967296",
-        false,
-    ),
-    (
-        ITERATIONS,
-        "[\"0\"],\"hash\":\"sha256\",\"iterations\":0",
-        false,
-    ),
-    (
-        ITERATIONS,
-        "[\"0\"],\"hash\":\"sha256\",\"iterations\":1e3",
-        false,
-    ),
-    (
-        ITERATIONS,
-        "[\"0\"],\"hash\":\"sha256\",\"iterations\":\"1000\"",
-        false,
-    ),
-    (ITERATIONS, "[\"0\"],\"hash\":\"sha256\"", false),
-];
-
-#[test]
-fn values(rt: HostRuntime) {
-    check_rows(&rt, &VALUES);
-}
-
-// Python's base64.b64encode(b'\x02' * n) for n bytes.
-static LENGTHS: [(&str, &str, bool); 8] = [
-    (DIGEST, "\"digest\":\"\"", false),
-    (DIGEST, "\"digest\":\"AgICAgICAgICAgICAgICAgICAg==\"", false),
-    (DIGEST, "\"digest\":\"AgICAgICAgICAgICAgICAgICAgI=\"", true),
-    (DIGEST, "\"digest\":\"AgICAgICAgICAgICAgICAgICAgI\"", false),
-    (
-        DIGEST,
-        "\"digest\":\"AgICAgICAgICAgICAgICAgICAgICAgICAgICAgICAgICAgICAgICAgICAgIC\
-            AgICAgICAgICAgICAgICAgICAg==\"",
-        true,
-    ),
-    (
-        DIGEST,
-        "\"digest\":\"AgICAgICAgICAgICAgICAgICAgICAgICAgICAgICAgICAgICAgICAgICAgIC\
-            AgICAgICAgICAgICAgICAgICAgI=\"",
-        false,
-    ),
-    (DIGEST, "\"digest\":null", false),
-    (DIGEST, "\"x\":1", false),
-];
-
-#[test]
-fn lengths(rt: HostRuntime) {
-    check_rows(&rt, &LENGTHS);
-}
-
-// The iterations of the digest of a slot, where it has one.
-fn iterations(rt: &(impl Abort + AllocGlobal), metadata: &Metadata, slot: u8) -> Option<u32> {
-    match digest_for(rt.alloc(), metadata, slot).expect(rt, "memory") {
-        Some(key) => Some(key.iterations),
-        None => None,
-    }
-}
-
-const OTHER: &str = "\"type\":\"pbkdf2\",\"keyslots\":[\"2\"],\"segments\":[\"0\"],\
-    \"hash\":\"sha1\",\"salt\":\"\",\"digest\":\"AgICAgICAgICAgICAgICAgICAgI=\",";
-
-fn check_which(rt: &(impl Abort + AllocGlobal), names: [&str; 2], want: u32) {
-    let text = joined(rt.alloc(), &[names[0], OTHER, names[1]]).expect(rt, "a text");
-    let metadata = metadata(rt, &[("\"digests\":{\"0\":{", text.as_str())]);
-    same_in(&names, iterations(rt, &metadata, 2), Some(want)).expect(rt, "the same");
-}
-
-static WHICH: [([&str; 2], u32); 7] = [
-    (["\"digests\":{\"10\":{", "\"iterations\":7},\"9\":{"], 1000),
-    (["\"digests\":{\"9\":{", "\"iterations\":7},\"10\":{"], 7),
-    (["\"digests\":{\"0\":{", "\"iterations\":7},\"31\":{"], 7),
-    (
-        ["\"digests\":{\"32\":{", "\"iterations\":7},\"31\":{"],
-        1000,
-    ),
-    (
-        ["\"digests\":{\"00\":{", "\"iterations\":7},\"31\":{"],
-        1000,
-    ),
-    (["\"digests\":{\"0\":{", "\"iterations\":0},\"31\":{"], 1000),
-    (
-        [
-            "\"digests\":{\"0\":{\"salt\":1,",
-            "\"iterations\":7},\"31\":{",
-        ],
-        7,
-    ),
-];
-
-// Of the usable digests that list the slot and the segment, the one with the lowest number.
-#[test]
-fn which_digest(rt: HostRuntime) {
-    for (names, want) in &WHICH {
-        check_which(&rt, *names, *want);
-    }
-}
-
-fn check_usable(rt: &impl Abort, metadata: &Metadata, other: &str, want: bool) {
-    let usable = matches!(
-        judge(metadata, ATTACHED, None, 2),
-        Some(Judgement::Usable(_))
-    );
-    same_in(&other, usable, want).expect(rt, "the same");
-}
-
-fn check_lists(rt: &(impl Abort + AllocGlobal), part: &str, other: &str, want: Option<u32>) {
-    let metadata = metadata(rt, &[(part, other)]);
-    check_usable(rt, &metadata, other, want.is_some());
-    same_in(&other, iterations(rt, &metadata, 2), want).expect(rt, "the same");
-}
-
-static LISTS: [(&str, &str, Option<u32>); 6] = [
-    (KEYSLOTS, "\"keyslots\":[\"0\",\"02\"]", None),
-    (KEYSLOTS, "\"keyslots\":[]", None),
-    (KEYSLOTS, "\"keyslots\":[\"\\u0032\"]", Some(1000)),
-    (SEGMENTS, "\"segments\":[\"1\"]", None),
-    (SEGMENTS, "\"segments\":[]", None),
-    (SEGMENTS, "\"segments\":[\"00\"]", None),
-];
-
-// "02" is not slot 2, and a digest that lists no segment 0 is not one of the slot.
-#[test]
-fn what_a_digest_lists(rt: HostRuntime) {
-    for (part, other, want) in &LISTS {
-        check_lists(&rt, part, other, *want);
-    }
-}
-
-fn check_limit(rt: &impl Abort, metadata: &Metadata, limit: u32, want: Judgement) {
-    let judgement = judge(metadata, ATTACHED, Some(limit), 2);
-    same_in(&limit, judgement, Some(want)).expect(rt, "the same");
-}
-
-static MORE: [(&str, &str); 1] = [(
-    ITERATIONS,
-    "[\"0\"],\"hash\":\"sha256\",\"iterations\":2000",
-)];
 
 // The limit bounds the iterations of the digest too.
 #[test]
-fn limits(rt: HostRuntime) {
-    let metadata = metadata(&rt, &MORE);
-    check_limit(&rt, &metadata, 1999, UNDIGESTED);
-    check_limit(&rt, &metadata, 2000, Judgement::Usable(1));
+fn limits_on_digests(rt: HostRuntime) {
+    let more = metadata(&rt, "'iterations':1000 -> 'iterations':2000");
+    let below = judge(&more, ATTACHED, Some(1999), 2);
+    assert_of(&rt, "1999", below == Some(UNDIGESTED));
+    let enough = judge(&more, ATTACHED, Some(2000), 2);
+    assert_of(&rt, "2000", enough == Some(Judgement::Usable(1)));
 }

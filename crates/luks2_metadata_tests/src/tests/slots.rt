@@ -1,20 +1,17 @@
-//! The reasons to skip a slot, each bound from both sides.
+//! The reasons to skip a slot, each bound from both sides, attached and detached.
 
-use super::fixture::{ATTACHED, joined, metadata};
+use super::fixture::{ATTACHED, changed, metadata, read, text_with};
+use super::rows::{Subject, check_rows, check_verdicts};
+use super::{assert_answer, assert_of};
 use luks_cipher::Mode;
 use luks_kdf::Hash;
-use luks_testing::same::{same, same_in};
-use luks_verdict::refusal::SkipReason;
-use luks_verdict::slot::{Judgement, Slot, SlotParts};
+use luks_verdict::slot::{Judgement, Slot};
 use luks2_members::tree::Metadata;
 use luks2_metadata::slot::{judge, slot};
 use luks2_segment::bounds::Bounds;
 use std::process::Abort;
 
-// Slot 2 of the text, up to the end of its area: what has to be changed stands there once.
-pub(super) const AREA: &str = "\"offset\":\"32768\",\"size\":\"258048\"";
-
-pub(super) fn word(judgement: Option<Judgement>) -> &'static str {
+fn word(judgement: Option<Judgement>) -> &'static str {
     match judgement {
         Some(Judgement::Usable(0)) => "usable 0",
         Some(Judgement::Usable(1)) => "usable 1",
@@ -26,358 +23,243 @@ pub(super) fn word(judgement: Option<Judgement>) -> &'static str {
     }
 }
 
-// Whether there is something of slot 2 to open.
-fn is_there(rt: &(impl Abort + AllocGlobal), metadata: &Metadata, bounds: Bounds) -> bool {
-    slot(rt.alloc(), metadata, bounds, 2)
-        .expect(rt, "memory")
-        .is_some()
-}
-
-// Slot 2 is judged so.
-pub(super) fn check_word(
-    rt: &impl Abort,
+/// The verdict on slot 2. If it is skipped for another reason than a limit, there is nothing to
+/// open.
+pub(super) fn verdict(
+    rt: &(impl Abort + AllocGlobal),
     metadata: &Metadata,
     bounds: Bounds,
-    why: &str,
-    want: &str,
-) {
+) -> &'static str {
     let word = word(judge(metadata, bounds, None, 2));
-    same_in(&(why, bounds.detached), word, want).expect(rt, "the same");
+    let slot = slot(rt.alloc(), metadata, bounds, 2).expect(rt, "memory");
+    assert_of(rt, word, slot.is_some() == word.starts_with("usable"));
+    word
 }
 
-// Slot 2 is judged so, and where it is skipped for another reason than a limit, there is nothing
-// to open.
-pub(super) fn check_judged(
-    rt: &(impl Abort + AllocGlobal),
-    metadata: &Metadata,
-    bounds: Bounds,
-    why: &str,
-    want: &str,
-) {
-    check_word(rt, metadata, bounds, why, want);
-    let there = is_there(rt, metadata, bounds);
-    same_in(&(why, bounds.detached), there, want.starts_with("usable")).expect(rt, "the same");
-}
-
-// So is that of the text with these changes.
-pub(super) fn check_changed(
-    rt: &(impl Abort + AllocGlobal),
-    changes: &[(&str, &str)],
-    why: &str,
-    want: &str,
-) {
-    check_judged(rt, &metadata(rt, changes), ATTACHED, why, want);
-}
-
-pub(super) fn check(rt: &(impl Abort + AllocGlobal), part: &str, other: &str, want: &str) {
-    check_changed(rt, &[(part, other)], other, want);
-}
-
-// Each row is what stands in place of the part, and what becomes of the slot.
-pub(super) fn check_rows(rt: &(impl Abort + AllocGlobal), part: &str, rows: &[(&str, &str)]) {
-    for (other, want) in rows {
-        check(rt, part, other, want);
-    }
-}
-
-// The numbers of slot 2.
-fn check_parts(rt: &impl Abort, parts: &SlotParts) {
-    same(parts.priority, 1).expect(rt, "the same");
+// What it takes to open slot 2 of the text.
+fn check_values(rt: &impl Abort, slot: &Slot) {
+    let parts = &slot.parts;
     let hashes = [parts.kdf_hash, parts.af_hash];
-    same(hashes, [Some(Hash::Sha256), Some(Hash::Sha512)]).expect(rt, "the same");
+    assert_of(
+        rt,
+        "hashes",
+        hashes == [Some(Hash::Sha256), Some(Hash::Sha512)],
+    );
     let numbers = [
         parts.iterations,
         parts.stripes,
         parts.key_bytes,
         parts.area_key_bytes,
     ];
-    same(numbers, [1000, 4000, 64, 64]).expect(rt, "the same");
-    assert!(rt; parts.salt.as_slice() == [1u8; 32].as_slice());
-    let area = [parts.area_offset, parts.area_size];
-    same(area, [32_768, 258_048]).expect(rt, "the same");
-    same(parts.area_mode, Some(Mode::XtsPlain64)).expect(rt, "the same");
+    assert_of(rt, "numbers", numbers == [1000, 4000, 64, 64]);
+    assert_of(rt, "priority", parts.priority == 1);
+    assert_of(rt, "salt", parts.salt.as_slice() == [1u8; 32].as_slice());
+    let area = [parts.area_offset, parts.area_size, slot.need()];
+    assert_of(rt, "area", area == [32_768, 258_048, 256_000]);
+    assert_of(rt, "mode", parts.area_mode == Some(Mode::XtsPlain64));
 }
 
-static WORDS: [(u8, &str); 4] = [
-    (0, "argon2id"),
-    (1, "not there"),
-    (2, "usable 1"),
-    (32, "not there"),
+// The number of a slot of the text, a limit on iterations, and the verdict on the slot.
+static JUDGED: [(u8, Option<u32>, &str); 9] = [
+    (0, None, "argon2id"),
+    (1, None, "not there"),
+    (2, None, "usable 1"),
+    (32, None, "not there"),
+    (2, Some(4_294_967_295), "usable 1"),
+    (2, Some(1000), "usable 1"),
+    (2, Some(999), "iterations"),
+    (2, Some(0), "iterations"),
+    (0, Some(1), "argon2id"),
 ];
-
-fn check_words(rt: &impl Abort, metadata: &Metadata) {
-    for (number, want) in &WORDS {
-        let word = word(judge(metadata, ATTACHED, None, *number));
-        same_in(number, word, *want).expect(rt, "the same");
-    }
-}
-
-fn check_slot(rt: &impl Abort, slot: &Slot) {
-    check_parts(rt, &slot.parts);
-    same(slot.need(), 256_000).expect(rt, "the same");
-}
-
-fn check_numbers(rt: &(impl Abort + AllocGlobal), metadata: &Metadata) {
-    match slot(rt.alloc(), metadata, ATTACHED, 2).expect(rt, "memory") {
-        Some(slot) => check_slot(rt, &slot),
-        None => panic!(rt; "no slot"),
-    }
-}
 
 #[test]
 fn the_slots_as_they_are(rt: HostRuntime) {
-    let metadata = metadata(&rt, &[]);
-    check_words(&rt, &metadata);
-    check_numbers(&rt, &metadata);
-}
-
-static KINDS: [(&str, &str); 8] = [
-    ("\"2\":{\"type\":\"luks2\",\"x\"", "member"),
-    ("\"2\":{\"type\":\"luks1\",\"key_size\"", "type"),
-    ("\"2\":{\"type\":null,\"key_size\"", "type"),
-    ("\"2\":{\"kind\":\"luks2\",\"key_size\"", "type"),
-    ("\"2\":null,\"3\":{\"type\":\"luks2\",\"key_size\"", "type"),
-    (
-        "\"2\":\"luks2\",\"3\":{\"type\":\"luks2\",\"key_size\"",
-        "type",
-    ),
-    ("\"02\":{\"type\":\"luks2\",\"key_size\"", "not there"),
-    ("\"\\u0032\":{\"type\":\"luks2\",\"key_size\"", "usable 1"),
-];
-
-#[test]
-fn kinds_of_slots(rt: HostRuntime) {
-    check_rows(&rt, "\"2\":{\"type\":\"luks2\",\"key_size\"", &KINDS);
-}
-
-static PRIORITIES: [(&str, &str); 9] = [
-    ("0", "usable 0"),
-    ("1", "usable 1"),
-    ("2", "usable 2"),
-    ("3", "member"),
-    ("-0", "member"),
-    ("1.0", "member"),
-    ("\"1\"", "member"),
-    ("null", "member"),
-    ("18446744073709551616", "member"),
-];
-
-fn check_priority(rt: &(impl Abort + AllocGlobal), priority: &str, want: &str) {
-    let place = "\"2\":{\"type\":\"luks2\",";
-    let parts = [place, "\"priority\":", priority, ","];
-    let other = joined(rt.alloc(), &parts).expect(rt, "a text");
-    check(rt, place, other.as_str(), want);
-}
-
-#[test]
-fn priorities(rt: HostRuntime) {
-    for (priority, want) in &PRIORITIES {
-        check_priority(&rt, priority, want);
+    let metadata = metadata(&rt, "");
+    for (number, limit, want) in &JUDGED {
+        let word = word(judge(&metadata, ATTACHED, *limit, *number));
+        assert_answer(&rt, want, word, want);
     }
+    let slot = slot(rt.alloc(), &metadata, ATTACHED, 2).expect(&rt, "memory");
+    check_values(&rt, &slot.expect(&rt, "slot 2"));
 }
 
-static AF_MEMBERS: [(&str, &str); 18] = [
-    (
-        "\"af\":{\"type\":\"luks1\",\"stripes\":4000,\"hash\":\"SHA1\"}",
-        "usable 1",
-    ),
-    (
-        "\"af\":{\"type\":\"luks1\",\"stripes\":1,\"hash\":\"sha512\"}",
-        "usable 1",
-    ),
-    (
-        "\"af\":{\"type\":\"luks1\",\"stripes\":0,\"hash\":\"sha512\"}",
-        "stripes",
-    ),
-    (
-        "\"af\":{\"type\":\"luks1\",\"stripes\":4001,\"hash\":\"sha512\"}",
-        "stripes",
-    ),
-    (
-        "\"af\":{\"type\":\"luks1\",\"stripes\":18446744073709551615,\"hash\":\"sha1\"}",
-        "stripes",
-    ),
-    (
-        "\"af\":{\"type\":\"luks1\",\"stripes\":4294967297,\"hash\":\"sha512\"}",
-        "stripes",
-    ),
-    (
-        "\"af\":{\"type\":\"luks1\",\"stripes\":4000,\"hash\":\"ripemd160\"}",
-        "hash",
-    ),
-    (
-        "\"af\":{\"type\":\"luks1\",\"stripes\":4000,\"hash\":\"\"}",
-        "hash",
-    ),
-    (
-        "\"af\":{\"type\":\"luks2\",\"stripes\":4000,\"hash\":\"sha512\"}",
-        "member",
-    ),
-    ("\"af\":{\"stripes\":4000,\"hash\":\"sha512\"}", "member"),
-    ("\"af\":{\"type\":\"luks1\",\"hash\":\"sha512\"}", "member"),
-    (
-        "\"af\":{\"type\":\"luks1\",\"stripes\":\"4000\",\"hash\":\"sha512\"}",
-        "member",
-    ),
-    (
-        "\"af\":{\"type\":\"luks1\",\"stripes\":4e3,\"hash\":\"sha512\"}",
-        "member",
-    ),
-    ("\"af\":{\"type\":\"luks1\",\"stripes\":4000}", "member"),
-    (
-        "\"af\":{\"type\":\"luks1\",\"stripes\":4000,\"hash\":null}",
-        "member",
-    ),
-    ("\"af\":null", "member"),
-    ("\"af\":[]", "member"),
-    ("\"x\":1", "member"),
+// The volume key's length is one of the segment's mode, whatever the area's is. Where the segment
+// is refused, its mode and the payload's start are not known, and key areas end within 32 MiB; so
+// they do where the payload is in another image. An area has 256,000 bytes of key material.
+static ROWS: [&str; 113] = [
+    "member: 'type':'luks2','key_size' -> 'type':'luks2','x'",
+    "type: 'type':'luks2' -> 'type':'luks1'",
+    "type: 'type':'luks2' -> 'type':null",
+    "type: '2':{'type': -> '2':{'kind':",
+    "type: '2':{'type' -> '2':null,'3':{'type'",
+    "type: '2':{'type' -> '2':'luks2','3':{'type'",
+    "not there: '2':{'type' -> '02':{'type'",
+    "usable 1: '2':{'type' -> '\\u0032':{'type'",
+    "usable 0: 'type':'luks2' -> 'type':'luks2','priority':0",
+    "usable 1: 'type':'luks2' -> 'type':'luks2','priority':1",
+    "usable 2: 'type':'luks2' -> 'type':'luks2','priority':2",
+    "member: 'type':'luks2' -> 'type':'luks2','priority':3",
+    "member: 'type':'luks2' -> 'type':'luks2','priority':-0",
+    "member: 'type':'luks2' -> 'type':'luks2','priority':1.0",
+    "member: 'type':'luks2' -> 'type':'luks2','priority':'1'",
+    "member: 'type':'luks2' -> 'type':'luks2','priority':null",
+    "member: 'type':'luks2' -> 'type':'luks2','priority':18446744073709551616",
+    "usable 1: 'hash':'sha512' -> 'hash':'SHA1'",
+    "usable 1: 'stripes':4000 -> 'stripes':1",
+    "stripes: 'stripes':4000 -> 'stripes':0",
+    "stripes: 'stripes':4000 -> 'stripes':4001",
+    "stripes: 'stripes':4000,'hash':'sha512' -> 'stripes':18446744073709551615,'hash':'sha1'",
+    "stripes: 'stripes':4000 -> 'stripes':4294967297",
+    "hash: 'hash':'sha512' -> 'hash':'ripemd160'",
+    "hash: 'hash':'sha512' -> 'hash':''",
+    "member: 'type':'luks1' -> 'type':'luks2'",
+    "member: 'af':{'type':'luks1', -> 'af':{",
+    "member: 'type':'luks1','stripes':4000 -> 'type':'luks1'",
+    "member: 'stripes':4000 -> 'stripes':'4000'",
+    "member: 'stripes':4000 -> 'stripes':4e3",
+    "member: 'stripes':4000,'hash':'sha512' -> 'stripes':4000",
+    "member: 'hash':'sha512' -> 'hash':null",
+    "member: 'af':{'type':'luks1','stripes':4000,'hash':'sha512'} -> 'af':null",
+    "member: 'af':{'type':'luks1','stripes':4000,'hash':'sha512'} -> 'af':[]",
+    "member: 'af':{'type':'luks1','stripes':4000,'hash':'sha512'} -> 'x':1",
+    "argon2i: 'type':'pbkdf2','hash':'sha256','iterations':1000,'salt':'AQEB \
+     -> 'type':'argon2i','x':'",
+    "argon2id: 'type':'pbkdf2','hash':'sha256','iterations':1000,'salt':'AQEB \
+     -> 'type':'argon2id','x':'",
+    "kdf: 'type':'pbkdf2','hash':'sha256','iterations':1000,'salt':'AQEB -> 'type':'argon2d','x':'",
+    "kdf: 'type':'pbkdf2','hash':'sha256','iterations':1000,'salt':'AQEB -> 'type':'PBKDF2','x':'",
+    "member: 'type':'pbkdf2','hash':'sha256','iterations':1000,'salt':'AQEB -> 'type':2,'x':'",
+    "member: 'type':'pbkdf2','hash':'sha256','iterations':1000,'salt':'AQEB -> 'type':null,'x':'",
+    "member: 'type':'pbkdf2','hash':'sha256','iterations':1000,'salt':'AQEB -> 'x':'",
+    "member: 'kdf':{'type':'pbkdf2','hash':'sha256','iterations':1000,'salt':'AQEB \
+     -> 'kdf':null,'x':{'y':'",
+    "member: 'type':'pbkdf2','hash':'sha256','iterations':1000 \
+     -> 'type':'pbkdf2','iterations':1000",
+    "member: 'type':'pbkdf2','hash':'sha256','iterations':1000 \
+     -> 'type':'pbkdf2','hash':1,'iterations':1000",
+    "hash: 'type':'pbkdf2','hash':'sha256','iterations':1000 \
+     -> 'type':'pbkdf2','hash':'md5','iterations':1000",
+    "usable 1: 'type':'pbkdf2','hash':'sha256','iterations':1000 \
+     -> 'type':'pbkdf2','hash':'SHA256','iterations':1",
+    "member: 'type':'pbkdf2','hash':'sha256','iterations':1000 -> 'type':'pbkdf2','hash':'sha1'",
+    "member: 'type':'pbkdf2','hash':'sha256','iterations':1000 \
+     -> 'type':'pbkdf2','hash':'sha1','iterations':'5'",
+    "iterations: 'type':'pbkdf2','hash':'sha256','iterations':1000 \
+     -> 'type':'pbkdf2','hash':'sha1','iterations':0",
+    "usable 1: 'type':'pbkdf2','hash':'sha256','iterations':1000 \
+     -> 'type':'pbkdf2','hash':'sha1','iterations':4294967295",
+    "iterations: 'type':'pbkdf2','hash':'sha256','iterations':1000 \
+     -> 'type':'pbkdf2','hash':'sha1','iterations':4294967296",
+    "member: 'type':'pbkdf2','hash':'sha256','iterations':1000,'salt':'AQEB \
+     -> 'type':'pbkdf2','hash':'sha1','iterations':9,'x':'AQEB",
+    "member: 'type':'pbkdf2','hash':'sha256','iterations':1000,'salt':'AQEB \
+     -> 'type':'pbkdf2','hash':'sha1','iterations':9,'salt':'AQE",
+    "usable 1: 'offset':'32768' -> 'offset':'000032768'",
+    "member: 'offset':'32768' -> 'offset':32768",
+    "member: 'offset':'32768' -> 'off':'32768'",
+    "member: 'type':'raw' -> 'type':'none'",
+    "member: 'area':{'type':'raw', -> 'area':{",
+    "member: 'area': -> 'area':null,'x':",
+    "member: 'area': -> 'x':",
+    "member: 'size':'258048' -> 'size':258048",
+    "member: 'size':'258048' -> 'siz':'258048'",
+    "member: 'size':'258048' -> 'size':''",
+    "member: 'size':'258048' -> 'size':null",
+    "usable 1: 'size':'258048' -> 'size':'256000'",
+    "area: 'size':'258048' -> 'size':'255999'",
+    "area: 'size':'258048' -> 'size':'0'",
+    "usable 1: 'size':'258048' -> 'size':'18446744073709551615'",
+    "area: 'offset':'32768' -> 'offset':'32767'",
+    "usable 1: 'offset':'32768' -> 'offset':'32769'",
+    "area: 'offset':'32768' -> 'offset':'0'",
+    "usable 1: 'offset':'32768' -> 'offset':'16521216'",
+    "area / usable 1: 'offset':'32768' -> 'offset':'16521217'",
+    "area: 'offset':'32768' -> 'offset':'18446744073709551615'",
+    "usable 1: 'encryption':'aes-xts-plain64','key_size':64 \
+     -> 'encryption':'aes-xts-plain','key_size':32",
+    "usable 1: 'encryption':'aes-xts-plain64','key_size':64 \
+     -> 'encryption':'aes-cbc-plain64','key_size':16",
+    "usable 1: 'encryption':'aes-xts-plain64','key_size':64 \
+     -> 'encryption':'aes-cbc-plain64','key_size':32",
+    "key size: 'encryption':'aes-xts-plain64','key_size':64 \
+     -> 'encryption':'aes-cbc-plain64','key_size':64",
+    "key size: 'key_size':64 -> 'key_size':16",
+    "key size: 'key_size':64 -> 'key_size':0",
+    "member: 'key_size':64 -> 'key_size':64.0",
+    "member: 'encryption':'aes-xts-plain64','key_size':64 -> 'encryption':'aes-xts-plain64'",
+    "encryption: 'encryption':'aes-xts-plain64','key_size':64 \
+     -> 'encryption':'aes-xts-essiv','key_size':64",
+    "encryption: 'encryption':'aes-xts-plain64','key_size':64 -> 'encryption':'','key_size':48",
+    "member: 'encryption':'aes-xts-plain64','key_size':64 -> 'encryption':null,'key_size':64",
+    "member: 'encryption':'aes-xts-plain64','key_size':64 -> 'key_size':64",
+    "key size: 'type':'luks2','key_size':64 -> 'type':'luks2','key_size':16",
+    "usable 1: 'type':'luks2','key_size':64 -> 'type':'luks2','key_size':16; \
+     aes-xts-plain64','sector -> aes-cbc-plain64','sector",
+    "usable 1: 'type':'luks2','key_size':64 -> 'type':'luks2','key_size':16; \
+     'type':'crypt' -> 'type':'linear'",
+    "usable 1: 'type':'luks2','key_size':64 -> 'type':'luks2','key_size':32",
+    "usable 1: 'type':'luks2','key_size':64 -> 'type':'luks2','key_size':32; \
+     aes-xts-plain64','sector -> aes-cbc-plain64','sector",
+    "usable 1: 'type':'luks2','key_size':64 -> 'type':'luks2','key_size':32; \
+     'type':'crypt' -> 'type':'linear'",
+    "usable 1: 'type':'luks2','key_size':64 -> 'type':'luks2','key_size':64",
+    "key size: 'type':'luks2','key_size':64 -> 'type':'luks2','key_size':64; \
+     aes-xts-plain64','sector -> aes-cbc-plain64','sector",
+    "usable 1: 'type':'luks2','key_size':64 -> 'type':'luks2','key_size':64; \
+     'type':'crypt' -> 'type':'linear'",
+    "key size: 'type':'luks2','key_size':64 -> 'type':'luks2','key_size':48",
+    "key size: 'type':'luks2','key_size':64 -> 'type':'luks2','key_size':48; \
+     aes-xts-plain64','sector -> aes-cbc-plain64','sector",
+    "key size: 'type':'luks2','key_size':64 -> 'type':'luks2','key_size':48; \
+     'type':'crypt' -> 'type':'linear'",
+    "key size: 'type':'luks2','key_size':64 -> 'type':'luks2','key_size':4294967328",
+    "key size: 'type':'luks2','key_size':64 -> 'type':'luks2','key_size':4294967328; \
+     aes-xts-plain64','sector -> aes-cbc-plain64','sector",
+    "key size: 'type':'luks2','key_size':64 -> 'type':'luks2','key_size':4294967328; \
+     'type':'crypt' -> 'type':'linear'",
+    "usable 1: 'offset':'32768' -> 'offset':'33298432'; 'type':'crypt' -> 'type':'linear'",
+    "usable 1: 'offset':'32768' -> 'offset':'33298432'; '16777216' -> '67108864'",
+    "area: 'offset':'32768' -> 'offset':'33298433'; 'type':'crypt' -> 'type':'linear'",
+    "area: 'offset':'32768' -> 'offset':'33298433'; '16777216' -> '67108864'",
+    "area / usable 1: '16777216' -> '65536'",
+    "area / usable 1: 'offset':'32768' -> 'offset':'65536'; '16777216' -> '65536'",
+    "area / usable 1: 'offset':'32768' -> 'offset':'33298432'; '16777216' -> '65536'",
+    "area: 'offset':'32768' -> 'offset':'33298433'; '16777216' -> '65536'",
+    "area: 'offset':'32768' -> 'offset':'32767'; '16777216' -> '65536'",
+    "area: 'size':'258048' -> 'size':'255999'; '16777216' -> '65536'",
+    "usable 1 / key size: 'type':'luks2','key_size':64 -> 'type':'luks2','key_size':16; \
+     '16777216' -> '0'",
 ];
 
 #[test]
-fn members_of_af(rt: HostRuntime) {
-    check_rows(
-        &rt,
-        "\"af\":{\"type\":\"luks1\",\"stripes\":4000,\"hash\":\"sha512\"}",
-        &AF_MEMBERS,
-    );
+fn each_reason_to_skip_a_slot(rt: HostRuntime) {
+    check_rows(&rt, Subject::Slot, &ROWS);
 }
 
-static KDF_MEMBERS: [(&str, &str); 19] = [
-    ("\"kdf\":{\"type\":\"argon2i\",\"x\":\"", "argon2i"),
-    ("\"kdf\":{\"type\":\"argon2id\",\"x\":\"", "argon2id"),
-    ("\"kdf\":{\"type\":\"argon2d\",\"x\":\"", "kdf"),
-    ("\"kdf\":{\"type\":\"PBKDF2\",\"x\":\"", "kdf"),
-    ("\"kdf\":{\"type\":2,\"x\":\"", "member"),
-    ("\"kdf\":{\"type\":null,\"x\":\"", "member"),
-    ("\"kdf\":{\"x\":\"", "member"),
-    ("\"kdf\":null,\"x\":{\"y\":\"", "member"),
-    (
-        "\"kdf\":{\"type\":\"pbkdf2\",\"iterations\":1000,\"salt\":\"AQEB",
-        "member",
-    ),
-    (
-        "\"kdf\":{\"type\":\"pbkdf2\",\"hash\":1,\"iterations\":1000,\"salt\":\"AQEB",
-        "member",
-    ),
-    (
-        "\"kdf\":{\"type\":\"pbkdf2\",\"hash\":\"md5\",\"iterations\":1000,\"salt\":\"AQEB",
-        "hash",
-    ),
-    (
-        "\"kdf\":{\"type\":\"pbkdf2\",\"hash\":\"SHA256\",\"iterations\":1,\"salt\":\"AQEB",
-        "usable 1",
-    ),
-    (
-        "\"kdf\":{\"type\":\"pbkdf2\",\"hash\":\"sha1\",\"salt\":\"AQEB",
-        "member",
-    ),
-    (
-        "\"kdf\":{\"type\":\"pbkdf2\",\"hash\":\"sha1\",\"iterations\":\"5\",\"salt\":\"AQEB",
-        "member",
-    ),
-    (
-        "\"kdf\":{\"type\":\"pbkdf2\",\"hash\":\"sha1\",\"iterations\":0,\"salt\":\"AQEB",
-        "iterations",
-    ),
-    (
-        "\"kdf\":{\"type\":\"pbkdf2\",\"hash\":\"sha1\",\
-            \"iterations\":4294967295,\"salt\":\"AQEB",
-        "usable 1",
-    ),
-    (
-        "\"kdf\":{\"type\":\"pbkdf2\",\"hash\":\"sha1\",\
-            \"iterations\":4294967296,\"salt\":\"AQEB",
-        "iterations",
-    ),
-    (
-        "\"kdf\":{\"type\":\"pbkdf2\",\"hash\":\"sha1\",\"iterations\":9,\"x\":\"AQEB",
-        "member",
-    ),
-    (
-        "\"kdf\":{\"type\":\"pbkdf2\",\"hash\":\"sha1\",\"iterations\":9,\"salt\":\"AQE",
-        "member",
-    ),
+// Each row adds a reason that comes before those of the rows above.
+static FIRST: [&str; 11] = [
+    "digest: 'segments':['0'] -> 'segments':[]",
+    "area: 'offset':'32768','size':'258048' -> 'offset':'1','size':'258048'",
+    "iterations: 'hash':'sha256','iterations':1000,'salt':'AQEBAQEBAQEBAQEBAQEBAQEBAQEBAQEBAQEBAQE\
+     BAQE='}}}, \
+     -> 'hash':'sha256','iterations':0,'salt':''}}},",
+    "stripes: 'stripes':4000 -> 'stripes':0",
+    "key size: '2':{'type':'luks2','key_size':64 -> '2':{'type':'luks2','key_size':0",
+    "encryption: aes-xts-plain64','key_size' -> x','key_size'",
+    "hash: 'hash':'sha512' -> 'hash':'x'",
+    "kdf: 'kdf':{'type':'pbkdf2' -> 'kdf':{'type':'scrypt'",
+    "argon2i: 'kdf':{'type':'scrypt' -> 'kdf':{'type':'argon2i'",
+    "member: '2':{'type':'luks2','key_size':0 -> '2':{'type':'luks2','x':0",
+    "type: '2':{'type':'luks2' -> '2':{'type':'x'",
 ];
 
+// Of several reasons the first in the format's table counts.
 #[test]
-fn members_of_kdf(rt: HostRuntime) {
-    check_rows(
-        &rt,
-        "\"kdf\":{\"type\":\"pbkdf2\",\"hash\":\"sha256\",\"iterations\":1000,\"salt\":\"AQEB",
-        &KDF_MEMBERS,
-    );
-}
-
-static CHANGES: [(&str, &str); 11] = [
-    ("\"segments\":[\"0\"]", "\"segments\":[]"),
-    (AREA, "\"offset\":\"1\",\"size\":\"258048\""),
-    (
-        "\"hash\":\"sha256\",\"iterations\":1000,\
-            \"salt\":\"AQEBAQEBAQEBAQEBAQEBAQEBAQEBAQEBAQEBAQEBAQE=\"}}},",
-        "\"hash\":\"sha256\",\"iterations\":0,\"salt\":\"\"}}},",
-    ),
-    ("\"stripes\":4000", "\"stripes\":0"),
-    (
-        "\"2\":{\"type\":\"luks2\",\"key_size\":64",
-        "\"2\":{\"type\":\"luks2\",\"key_size\":0",
-    ),
-    ("aes-xts-plain64\",\"key_size\"", "x\",\"key_size\""),
-    ("\"hash\":\"sha512\"", "\"hash\":\"x\""),
-    (
-        "\"kdf\":{\"type\":\"pbkdf2\"",
-        "\"kdf\":{\"type\":\"scrypt\"",
-    ),
-    (
-        "\"kdf\":{\"type\":\"scrypt\"",
-        "\"kdf\":{\"type\":\"argon2i\"",
-    ),
-    (
-        "\"2\":{\"type\":\"luks2\",\"key_size\":0",
-        "\"2\":{\"type\":\"luks2\",\"x\":0",
-    ),
-    ("\"2\":{\"type\":\"luks2\"", "\"2\":{\"type\":\"x\""),
-];
-
-static REASONS: [&str; 11] = [
-    "digest",
-    "area",
-    "iterations",
-    "stripes",
-    "key size",
-    "encryption",
-    "hash",
-    "kdf",
-    "argon2i",
-    "member",
-    "type",
-];
-
-// Of several reasons the first in the table counts: each change adds one that comes before.
-#[test]
-fn the_first_reason(rt: HostRuntime) {
-    for i in 0..11 {
-        check_changed(&rt, &CHANGES[..=i], REASONS[i], REASONS[i]);
+fn the_first_reason_counts(rt: HostRuntime) {
+    let mut text = text_with(&rt, "");
+    for row in &FIRST {
+        let (want, change) = row.split_once(": ").ok_or(row).expect(&rt, "a row");
+        text = changed(&rt, text.as_str(), change);
+        check_verdicts(&rt, Subject::Slot, row, &read(&rt, text.as_str()), want);
     }
-}
-
-static LIMITS: [(Option<u32>, &str); 5] = [
-    (None, "usable 1"),
-    (Some(4_294_967_295), "usable 1"),
-    (Some(1000), "usable 1"),
-    (Some(999), "iterations"),
-    (Some(0), "iterations"),
-];
-
-fn check_limits(rt: &impl Abort, metadata: &Metadata) {
-    for (limit, want) in &LIMITS {
-        let word = word(judge(metadata, ATTACHED, *limit, 2));
-        same_in(limit, word, *want).expect(rt, "the same");
-    }
-    let skipped = Judgement::Skipped(SkipReason::Argon2id);
-    same(judge(metadata, ATTACHED, Some(1), 0), Some(skipped)).expect(rt, "the same");
-}
-
-#[test]
-fn limits(rt: HostRuntime) {
-    check_limits(&rt, &metadata(&rt, &[]));
 }

@@ -12,60 +12,41 @@ const PIECES: usize = 1000;
 
 const PIECE_SIZE: usize = 136;
 
-// What a run answered.
-#[derive(Clone, Copy, PartialEq, Eq, Debug)]
-enum Answer {
-    Memory,
-    AsStated,
-    Other,
-}
-
-fn answer_of<'a>(
-    alloc: Global,
-    words: &'a [&'a str],
-    stated: &Result<Command<'a>, PlanFault>,
-) -> Answer {
-    let result = plan(alloc, words);
-    if result == *stated {
-        Answer::AsStated
-    } else if result == Err(PlanFault::Memory) {
-        Answer::Memory
-    } else {
-        Answer::Other
-    }
-}
-
-// The first answer but `Memory` as memory comes back, with the count of those before it.
-fn first_answer<'a>(
+// Plans as memory comes back until it suffices, and answers how often it was refused before;
+// `None` where another answer comes than the stated one.
+fn refusals<'a>(
     alloc: Global,
     words: &'a [&'a str],
     stated: &Result<Command<'a>, PlanFault>,
     scarcity: &mut Scarcity,
-) -> (Answer, usize) {
+) -> Option<usize> {
     for refusals in 0..PIECES {
-        let answer = answer_of(alloc, words, stated);
-        if answer != Answer::Memory {
-            return (answer, refusals);
+        let planned = plan(alloc, words);
+        if planned == *stated {
+            return Some(refusals);
+        }
+        if planned != Err(PlanFault::Memory) {
+            return None;
         }
         scarcity.relent();
     }
-    (Answer::Memory, PIECES)
+    None
 }
 
-fn scarce_answer<'a>(
+fn scarce_refusals<'a>(
     rt: &(impl Abort + AllocGlobal),
     words: &'a [&'a str],
     stated: &Result<Command<'a>, PlanFault>,
-) -> (Answer, usize) {
+) -> Option<usize> {
     let mut scarcity = Scarcity::new(rt.alloc(), PIECES, PIECE_SIZE).expect(rt, "memory");
-    first_answer(rt.alloc(), words, stated, &mut scarcity)
+    refusals(rt.alloc(), words, stated, &mut scarcity)
 }
 
 fn check_scarce(rt: &(impl Abort + AllocGlobal), line: &str, words: &[&str]) {
     let stated = plan(rt.alloc(), words);
     assert_of(rt, line, stated.is_ok());
-    let (answer, refusals) = scarce_answer(rt, words, &stated);
-    assert_of(rt, line, answer == Answer::AsStated && 20 < refusals);
+    let refusals = scarce_refusals(rt, words, &stated);
+    assert_of(rt, line, 20 < refusals.unwrap_or(0));
 }
 
 static LINES: [&str; 14] = [

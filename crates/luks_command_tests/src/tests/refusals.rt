@@ -4,24 +4,13 @@ use super::{assert_of, joined, words_of};
 use luks_command::planning::{PlanFault, plan};
 use std::process::Abort;
 
-#[test]
-fn refuses_no_words(rt: HostRuntime) {
-    let words: [&str; 0] = [];
-    check_words(&rt, "no words", words.as_slice());
-}
-
 // The words are no command line of luksrd.
-fn check_words(rt: &(impl Abort + AllocGlobal), line: &str, words: &[&str]) {
+fn check_refused(rt: &(impl Abort + AllocGlobal), line: &str, words: &[&str]) {
     assert_of(rt, line, plan(rt.alloc(), words) == Err(PlanFault::Usage));
 }
 
-// The line is none.
-fn check_refused(rt: &(impl Abort + AllocGlobal), line: &str) {
-    check_words(rt, line, &words_of(rt, line));
-}
-
 // Lines that are no command line of luksrd.
-static FAULTS: [&str; 120] = [
+static FAULTS: [&str; 133] = [
     // no command, or another one
     "",
     "-",
@@ -150,12 +139,27 @@ static FAULTS: [&str; 120] = [
     "afSplit --hash sha256 --stripes 2 --random - -- -",
     "afSplit - --hash sha256 --stripes 2 --random=-",
     "afSplit --hash sha256 --stripes 2 --random - - x",
+    // numbers out of their ranges
+    "afMerge --hash sha1 --stripes 1 --key-bytes 513 s",
+    "luksCat --key-file f --key-slot 32 i",
+    "luksCat --key-file f --key-slot= i",
+    "luksCat --key-file f --key-slot +1 i",
+    "luksCat --key-file f --key-slot=-1 i",
+    "luksCat --key-file f --key-slot 0x10 i",
+    "luksCat --key-file f --key-slot 00000000001 i",
+    "testPassphrase --key-file f --max-iterations 0 i",
+    "testPassphrase --key-file f --max-iterations= i",
+    "testPassphrase --key-file f --max-iterations +1 i",
+    "testPassphrase --key-file f --max-iterations 4294967296 i",
+    "testPassphrase --key-file f --max-iterations 9999999999 i",
+    "testPassphrase --key-file f --max-iterations 00000000001 i",
 ];
 
 #[test]
 fn refuses_other_lines(rt: HostRuntime) {
+    check_refused(&rt, "no words", &[]);
     for line in &FAULTS {
-        check_refused(&rt, line);
+        check_refused(&rt, line, &words_of(&rt, line));
     }
 }
 
@@ -190,32 +194,14 @@ static AROUND: [(&str, &str); 3] = [
 
 fn check_number(rt: &(impl Abort + AllocGlobal), number: &str) {
     for (before, behind) in &AROUND {
-        check_refused(rt, joined(rt, &[before, number, behind]).as_str());
+        let line = joined(rt, &[before, number, behind]);
+        check_refused(rt, line.as_str(), &words_of(rt, line.as_str()));
     }
 }
-
-static OTHER_NUMBERS: [&str; 13] = [
-    "afMerge --hash sha1 --stripes 1 --key-bytes 513 s",
-    "luksCat --key-file f --key-slot 32 i",
-    "luksCat --key-file f --key-slot= i",
-    "luksCat --key-file f --key-slot +1 i",
-    "luksCat --key-file f --key-slot=-1 i",
-    "luksCat --key-file f --key-slot 0x10 i",
-    "luksCat --key-file f --key-slot 00000000001 i",
-    "testPassphrase --key-file f --max-iterations 0 i",
-    "testPassphrase --key-file f --max-iterations= i",
-    "testPassphrase --key-file f --max-iterations +1 i",
-    "testPassphrase --key-file f --max-iterations 4294967296 i",
-    "testPassphrase --key-file f --max-iterations 9999999999 i",
-    "testPassphrase --key-file f --max-iterations 00000000001 i",
-];
 
 #[test]
 fn refuses_other_numbers(rt: HostRuntime) {
     for number in &NO_NUMBERS {
         check_number(&rt, number);
-    }
-    for line in &OTHER_NUMBERS {
-        check_refused(&rt, line);
     }
 }

@@ -1,0 +1,201 @@
+//! Which values are of which kind.
+
+use super::assert_of;
+use super::fixture::with_member;
+use luks_cipher::Mode;
+use luks2_members::encryption::{is_length_for, mode_of};
+use luks2_members::list::has_texts;
+use luks2_members::member::{
+    base64_len, base64_text, decimal_text, is_named, is_type, text, whole_number,
+};
+use std::process::Abort;
+
+// Each row is a value, and what it is as a whole number and as a decimal text.
+static NUMBERS: [(&str, Option<u64>, Option<u64>); 33] = [
+    ("0", Some(0), None),
+    ("64", Some(64), None),
+    (
+        "18446744073709551615",
+        Some(18_446_744_073_709_551_615),
+        None,
+    ),
+    ("18446744073709551616", None, None),
+    ("1.0", None, None),
+    ("1e3", None, None),
+    ("-0", None, None),
+    ("-1", None, None),
+    ("0.5", None, None),
+    ("'1'", None, Some(1)),
+    ("null", None, None),
+    ("true", None, None),
+    ("[1]", None, None),
+    ("{}", None, None),
+    ("5", Some(5), None),
+    ("'0'", None, Some(0)),
+    ("'32768'", None, Some(32_768)),
+    ("'007'", None, Some(7)),
+    ("'00000000000000000007'", None, Some(7)),
+    ("'000000000000000000007'", None, None),
+    (
+        "'18446744073709551615'",
+        None,
+        Some(18_446_744_073_709_551_615),
+    ),
+    ("'18446744073709551616'", None, None),
+    ("'99999999999999999999'", None, None),
+    ("''", None, None),
+    ("'+1'", None, None),
+    ("'-1'", None, None),
+    ("' 1'", None, None),
+    ("'1 '", None, None),
+    ("'1.0'", None, None),
+    ("'0x10'", None, None),
+    ("'\\u0661'", None, None),
+    ("'\\u0031'", None, Some(1)),
+    ("7", Some(7), None),
+];
+
+// A whole number is no text.
+fn check_number(
+    rt: &(impl Abort + AllocGlobal),
+    value: &str,
+    whole: Option<u64>,
+    decimal: Option<u64>,
+) {
+    let metadata = with_member(rt, value);
+    assert_of(rt, value, whole_number(metadata.tree(), "x") == whole);
+    assert_of(rt, value, decimal_text(metadata.tree(), "x") == decimal);
+    assert_of(
+        rt,
+        value,
+        whole.is_none() || text(metadata.tree(), "x").is_none(),
+    );
+}
+
+#[test]
+fn whole_numbers_and_decimal_texts(rt: HostRuntime) {
+    for (value, whole, decimal) in &NUMBERS {
+        check_number(&rt, value, *whole, *decimal);
+    }
+}
+
+#[test]
+fn a_text_is_what_it_spells(rt: HostRuntime) {
+    let metadata = with_member(&rt, "'raw'");
+    let tree = metadata.tree();
+    assert_of(&rt, "x", text(tree, "x").unwrap_or("") == "raw");
+    assert_of(&rt, "y", text(tree, "y").is_none());
+    let named = [
+        is_named(tree, "x", "raw"),
+        is_named(tree, "x", "Raw"),
+        is_named(tree, "x", "ra"),
+        is_type(tree, "raw"),
+    ];
+    assert_of(&rt, "named", named == [true, false, false, false]);
+}
+
+// RFC 4648, section 10, and texts that Python's base64.b64decode(.., validate=True) refuses, or
+// that are not the encoding of what it gives.
+static BASE64_TEXTS: [(&str, Option<&str>); 25] = [
+    ("''", Some("")),
+    ("'Zg=='", Some("f")),
+    ("'Zm8='", Some("fo")),
+    ("'Zm9v'", Some("foo")),
+    ("'Zm9vYg=='", Some("foob")),
+    ("'Zm9vYmE='", Some("fooba")),
+    ("'Zm9vYmFy'", Some("foobar")),
+    ("'Pz8/Pj4+'", Some("???>>>")),
+    ("'Zg'", None),
+    ("'Zg='", None),
+    ("'Zg==='", None),
+    ("'Zh=='", None),
+    ("'Zm9='", None),
+    ("'Z'", None),
+    ("'='", None),
+    ("'===='", None),
+    ("'Zg==Zg=='", None),
+    ("'Zm9vZg'", None),
+    ("'Zm9vY'", None),
+    ("'Zm9v\\n'", None),
+    ("'Zm9 v'", None),
+    ("'Pz8_Pj4-'", None),
+    ("'Zm\\u00e9v'", None),
+    ("null", None),
+    ("5", None),
+];
+
+fn check_base64(rt: &(impl Abort + AllocGlobal), value: &str, want: Option<&str>) {
+    let metadata = with_member(rt, value);
+    let bytes = base64_text(rt.alloc(), metadata.tree(), "x").expect(rt, "memory");
+    let len = base64_len(metadata.tree(), "x");
+    match (&bytes, want) {
+        (Some(bytes), Some(want)) => {
+            assert_of(rt, value, bytes.as_slice() == want.as_bytes());
+            assert_of(rt, value, len == Some(want.len()));
+        }
+        (None, None) => assert_of(rt, value, len.is_none()),
+        _ => panic!(rt; "{value}"),
+    }
+}
+
+#[test]
+fn base64_texts(rt: HostRuntime) {
+    for (value, want) in &BASE64_TEXTS {
+        check_base64(&rt, value, *want);
+    }
+}
+
+static LISTS: [(&str, bool); 9] = [
+    ("[]", true),
+    ("['0']", true),
+    ("['0','0','x']", true),
+    ("[0]", false),
+    ("['0',null]", false),
+    ("[['0']]", false),
+    ("'0'", false),
+    ("{'0':'0'}", false),
+    ("null", false),
+];
+
+#[test]
+fn lists_that_are_texts_alone(rt: HostRuntime) {
+    for (value, want) in &LISTS {
+        let metadata = with_member(&rt, value);
+        assert_of(&rt, value, has_texts(metadata.tree(), "x") == *want);
+        assert_of(&rt, value, !has_texts(metadata.tree(), "y"));
+    }
+}
+
+static ENCRYPTIONS: [(&str, Option<Mode>); 13] = [
+    ("aes-xts-plain64", Some(Mode::XtsPlain64)),
+    ("aes-xts-plain", Some(Mode::XtsPlain)),
+    ("aes-cbc-essiv:sha256", Some(Mode::CbcEssivSha256)),
+    ("aes-cbc-plain64", Some(Mode::CbcPlain64)),
+    ("AES-xts-plain64", None),
+    ("aes-XTS-plain64", None),
+    ("aes-xts-plain64 ", None),
+    ("aes-cbc-plain", None),
+    ("aes-", None),
+    ("aes", None),
+    ("xts-plain64", None),
+    ("serpent-xts-plain64", None),
+    ("cipher_null-ecb", None),
+];
+
+// The lengths of keys of a mode.
+fn check_lengths(rt: &impl Abort, case: &str, mode: Option<Mode>, lengths: &[u64]) {
+    for bytes in 0..130u64 {
+        let holds = is_length_for(mode, bytes) == lengths.contains(&bytes);
+        assert_of(rt, case, holds);
+    }
+}
+
+#[test]
+fn encryptions_and_their_keys(rt: HostRuntime) {
+    for (name, want) in &ENCRYPTIONS {
+        assert_of(&rt, name, mode_of(name) == *want);
+    }
+    check_lengths(&rt, "xts", Some(Mode::XtsPlain64), &[32, 64]);
+    check_lengths(&rt, "cbc", Some(Mode::CbcPlain64), &[16, 32]);
+    check_lengths(&rt, "any", None, &[16, 32, 64]);
+}

@@ -1,0 +1,59 @@
+//! Tables of changed texts.
+//!
+//! A row is a verdict and the text's changes: `VERDICT: PART -> OTHER; PART -> OTHER`. If the
+//! verdict differs for a detached header, that one follows behind a slash.
+
+use super::fixture::{ATTACHED, DETACHED, metadata};
+use super::{assert_answer, digests, segments, slots};
+use luks2_members::tree::Metadata;
+use luks2_segment::bounds::Bounds;
+use std::process::Abort;
+
+/// What the verdicts of a table are on.
+#[derive(Clone, Copy)]
+pub enum Subject {
+    /// Slot 2.
+    Slot,
+    /// The segment.
+    Segment,
+    /// The digest of slot 2.
+    Digest,
+}
+
+fn verdict(
+    rt: &(impl Abort + AllocGlobal),
+    subject: Subject,
+    metadata: &Metadata,
+    bounds: Bounds,
+) -> &'static str {
+    match subject {
+        Subject::Slot => slots::verdict(rt, metadata, bounds),
+        Subject::Segment => segments::verdict(metadata, bounds),
+        Subject::Digest => digests::verdict(rt, metadata, bounds),
+    }
+}
+
+/// This is the verdict on a text, attached and detached.
+pub fn check_verdicts(
+    rt: &(impl Abort + AllocGlobal),
+    subject: Subject,
+    row: &str,
+    metadata: &Metadata,
+    want: &str,
+) {
+    let (attached, detached) = want.split_once(" / ").unwrap_or((want, want));
+    assert_answer(rt, row, verdict(rt, subject, metadata, ATTACHED), attached);
+    assert_answer(rt, row, verdict(rt, subject, metadata, DETACHED), detached);
+}
+
+fn check_row(rt: &(impl Abort + AllocGlobal), subject: Subject, row: &str) {
+    let (want, changes) = row.split_once(": ").ok_or(row).expect(rt, "a row");
+    check_verdicts(rt, subject, row, &metadata(rt, changes), want);
+}
+
+/// Each row of a table holds.
+pub fn check_rows(rt: &(impl Abort + AllocGlobal), subject: Subject, rows: &[&str]) {
+    for row in rows {
+        check_row(rt, subject, row);
+    }
+}

@@ -1,0 +1,179 @@
+//! Which texts are read, and what is found in them.
+
+use super::fixture::{BEFORE_X, joined, quoted, read, with_member};
+use super::{assert_answer, assert_of};
+use luks_area::fault::HeaderFault;
+use luks2_members::list::{lists, texts_at};
+use luks2_members::member::{text, whole_number};
+use luks2_members::numbered::{numbered, passes_over};
+use luks2_members::tree::Metadata;
+use std::process::Abort;
+
+// Reading the JSON area ends so.
+fn check_ending(rt: &(impl Abort + AllocGlobal), case: &str, area: &[u8], want: &str) {
+    let answer = match Metadata::read(rt.alloc(), area) {
+        Ok(_) => "read",
+        Err(HeaderFault::Json) => "json",
+        Err(HeaderFault::Memory) => "memory",
+        Err(_) => "another",
+    };
+    assert_answer(rt, case, answer, want);
+}
+
+// Each row is a text in two parts, and how reading ends. The three objects have to be there, and
+// values that nothing looks at count too: Python's json.loads takes the same ones, but for a number
+// without bound, lone surrogates and text after the value.
+static TEXTS: [(&str, &str, &str); 27] = [
+    ("", "{'keyslots':{},'segments':{},'digests':{}}", "read"),
+    ("", " {'digests':{},'segments':{},'keyslots':{}}\n", "read"),
+    ("", "{'segments':{},'digests':{}}", "json"),
+    ("", "{'keyslots':{},'digests':{}}", "json"),
+    ("", "{'keyslots':{},'segments':{}}", "json"),
+    ("", "{'keyslots':null,'segments':{},'digests':{}}", "json"),
+    ("", "{'keyslots':{},'segments':[],'digests':{}}", "json"),
+    ("", "{'keyslots':{},'segments':{},'digests':'{}'}", "json"),
+    ("", "[{'keyslots':{},'segments':{},'digests':{}}]", "json"),
+    ("", "null", "json"),
+    ("", "", "json"),
+    (BEFORE_X, "null}", "read"),
+    (BEFORE_X, "1.0}", "read"),
+    (BEFORE_X, "1e308}", "read"),
+    (BEFORE_X, "1e309}", "json"),
+    (BEFORE_X, "-1e309}", "json"),
+    (BEFORE_X, "18446744073709551616}", "read"),
+    (BEFORE_X, "01}", "json"),
+    (BEFORE_X, "+1}", "json"),
+    (BEFORE_X, "'\\ud83d\\ude00'}", "read"),
+    (BEFORE_X, "'\\ud83d'}", "json"),
+    (BEFORE_X, "'\\ude00\\ud83d'}", "json"),
+    (BEFORE_X, "'a\nb'}", "json"),
+    (BEFORE_X, "[1,]}", "json"),
+    (BEFORE_X, "{'a':1,}}", "json"),
+    (BEFORE_X, "1} {}", "json"),
+    (BEFORE_X, "}", "json"),
+];
+
+#[test]
+fn texts_are_read_or_refused(rt: HostRuntime) {
+    for (before, behind, want) in &TEXTS {
+        let text = joined(&rt, &[before, behind]);
+        check_ending(&rt, behind, quoted(&rt, text.as_str()).as_bytes(), want);
+    }
+}
+
+// Each row is a byte, a text with it, and how reading ends: what is no UTF-8 is not read.
+static BYTES: [(&str, &[u8], &str); 3] = [
+    (
+        "0x7f",
+        b"{\"keyslots\":{},\"segments\":{},\"digests\":{},\"x\":\"\x7f\"}",
+        "read",
+    ),
+    (
+        "0x80",
+        b"{\"keyslots\":{},\"segments\":{},\"digests\":{},\"x\":\"\x80\"}",
+        "json",
+    ),
+    (
+        "0xff",
+        b"{\"keyslots\":{},\"segments\":{},\"digests\":{},\"x\":\"\xff\"}",
+        "json",
+    ),
+];
+
+#[test]
+fn text_that_is_not_utf8(rt: HostRuntime) {
+    for (byte, text, want) in &BYTES {
+        check_ending(&rt, byte, text, want);
+    }
+}
+
+// So many arrays in one another; the object around them is one more.
+static DEPTHS: [(usize, &str); 4] = [(125, "read"), (126, "read"), (127, "json"), (500, "json")];
+
+#[test]
+fn nests_up_to_127(rt: HostRuntime) {
+    for (depth, want) in &DEPTHS {
+        let open = "[".repeat(rt.alloc(), *depth).expect(&rt, "memory");
+        let close = "]".repeat(rt.alloc(), *depth).expect(&rt, "memory");
+        let area = joined(&rt, &[BEFORE_X, open.as_str(), close.as_str(), "}"]);
+        check_ending(
+            &rt,
+            close.as_str(),
+            quoted(&rt, area.as_str()).as_bytes(),
+            want,
+        );
+    }
+}
+
+// The last of equal names counts, and names are compared after unescaping.
+static MEMBERS: [(&str, Option<u64>); 6] = [
+    ("{'a':1}", Some(1)),
+    ("{'a':1,'a':2}", Some(2)),
+    ("{'a':1,'\\u0061':2}", Some(2)),
+    ("{'\\u0061':1,'a':null}", None),
+    ("{'A':1}", None),
+    ("{'b':0,'a':3,'c':1}", Some(3)),
+];
+
+#[test]
+fn names_of_members(rt: HostRuntime) {
+    for (members, want) in &MEMBERS {
+        let metadata = with_member(&rt, members);
+        let object = metadata.tree().get("x").expect(&rt, "an object");
+        assert_of(&rt, members, whole_number(object, "a") == *want);
+    }
+}
+
+static NAMES: [(&str, Option<u8>); 11] = [
+    ("0", Some(0)),
+    ("9", Some(9)),
+    ("10", Some(10)),
+    ("31", Some(31)),
+    ("32", None),
+    ("00", None),
+    ("01", None),
+    ("+1", None),
+    ("1 ", None),
+    ("", None),
+    ("\\u0033", Some(3)),
+];
+
+// The one key slot of this name is found by this number alone, and passed over where it has none.
+fn check_name(rt: &(impl Abort + AllocGlobal), name: &str, number: Option<u8>) {
+    let before = "{'segments':{},'digests':{},'keyslots':{'";
+    let text = joined(rt, &[before, name, "':'here'}}"]);
+    let metadata = read(rt, text.as_str());
+    assert_of(rt, name, passes_over(&metadata) == number.is_none());
+    for i in 0..=255 {
+        let found = numbered(metadata.tree(), "keyslots", i).is_some();
+        assert_of(rt, name, found == (number == Some(i)));
+    }
+}
+
+#[test]
+fn names_that_are_numbers(rt: HostRuntime) {
+    for (name, number) in &NAMES {
+        check_name(&rt, name, *number);
+    }
+    assert_of(&rt, "no slots", !passes_over(&with_member(&rt, "0")));
+}
+
+// The member is a list of these texts.
+fn check_texts(rt: &(impl Abort + AllocGlobal), metadata: &Metadata, name: &str, wants: &[&str]) {
+    let texts = texts_at(rt.alloc(), metadata.tree(), name).expect(rt, "memory");
+    assert_of(rt, name, texts.as_slice().len() == wants.len());
+    for (i, text) in texts.as_slice().iter().enumerate() {
+        assert_of(rt, name, wants.get(i).copied() == Some(text.as_str()));
+        assert_of(rt, name, lists(metadata.tree(), name, text));
+    }
+}
+
+#[test]
+fn lists_of_texts(rt: HostRuntime) {
+    let metadata = with_member(&rt, "['0',7,'','1\\u0030','\\u00e9']");
+    check_texts(&rt, &metadata, "x", &["0", "", "10", "é"]);
+    check_texts(&rt, &metadata, "y", &[]);
+    assert_of(&rt, "7", !lists(metadata.tree(), "x", "7"));
+    assert_of(&rt, "0", !lists(metadata.tree(), "y", "0"));
+    assert_of(&rt, "x", text(metadata.tree(), "x").is_none());
+}
