@@ -1,4 +1,5 @@
-//! Tests of `luks_cipher`: sectors in each mode, through its public calls.
+//! Tests of `luks_aes`, `luks_blocks` and `luks_cipher`: AES on one block and on 32 at once, and
+//! sectors in each mode, through their public calls.
 //!
 //! A crate of their own: what they stand on is not proved once more with them.
 #![tactic(auto)]

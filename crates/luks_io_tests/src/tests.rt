@@ -4,3 +4,10 @@ mod ahead;
 mod devices;
 mod passing;
 mod testing;
+
+use std::process::Abort;
+
+// Asserts what holds at a step of a row.
+fn assert_at(rt: &impl Abort, row: &str, step: usize, holds: bool) {
+    assert!(rt; holds, "{row}, step {step}");
+}

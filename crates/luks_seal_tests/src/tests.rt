@@ -2,9 +2,47 @@
 //! the stated ones.
 
 mod drawn1;
-mod fixture;
-mod layout1;
-mod layout2;
+mod images;
 mod memory;
 mod ranges1;
 mod ranges2;
+
+use luks_cipher::Mode;
+use luks_seal::parameters::SealFault;
+use luks_seal_testing::bytes;
+use std::process::Abort;
+
+/// Lengths of keys in bytes, and whether the mode has such keys.
+static KEY_LENGTHS: [(Mode, usize, bool); 16] = [
+    (Mode::XtsPlain64, 0, false),
+    (Mode::XtsPlain64, 16, false),
+    (Mode::XtsPlain64, 31, false),
+    (Mode::XtsPlain64, 32, true),
+    (Mode::XtsPlain64, 33, false),
+    (Mode::XtsPlain64, 48, false),
+    (Mode::XtsPlain64, 63, false),
+    (Mode::XtsPlain64, 64, true),
+    (Mode::XtsPlain64, 65, false),
+    (Mode::XtsPlain, 64, true),
+    (Mode::XtsPlain, 16, false),
+    (Mode::CbcEssivSha256, 15, false),
+    (Mode::CbcEssivSha256, 16, true),
+    (Mode::CbcEssivSha256, 24, false),
+    (Mode::CbcPlain64, 32, true),
+    (Mode::CbcPlain64, 64, false),
+];
+
+// The volume of this row is sealed if its parameters fit, and they are refused if not.
+fn check_fits(rt: &impl Abort, row: usize, fault: Option<SealFault>, fits: bool) {
+    let stated = if fits {
+        None
+    } else {
+        Some(SealFault::Parameters)
+    };
+    assert!(rt; fault == stated, "row {row}: {fault:?}");
+}
+
+// So many bytes that count up.
+fn counted(rt: &(impl Abort + AllocGlobal), len: usize) -> Vec<u8> {
+    bytes::counted(rt.alloc(), len).expect(rt, "memory")
+}

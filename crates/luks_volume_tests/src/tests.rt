@@ -1,9 +1,7 @@
 //! What no clause says: runs of whole payloads whose images were encrypted here with the unit
 //! numbers written out, and devices that give and take in pieces or fail.
 
-mod ahead;
 mod fixture;
-mod front;
 mod payload;
 mod sealed;
 mod sealed_both;

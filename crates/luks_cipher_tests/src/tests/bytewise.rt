@@ -10,6 +10,9 @@ fn product(a: u8, b: u8) -> u8 {
     let mut bits = a;
     let mut shifted = b;
     for _ in 0..8u32 {
+        if bits == 0 {
+            break;
+        }
         if bits % 2 == 1 {
             sum ^= shifted;
         }
@@ -31,60 +34,41 @@ fn inverse(b: u8) -> u8 {
 
 // The S-box (5.1.1) and its inverse (5.3.2).
 #[derive(Drop)]
-pub struct Boxes {
+struct Boxes {
     there: [u8; 256],
     back: [u8; 256],
 }
 
-// The S-box: the inverse, then the affine map.
-fn there() -> [u8; 256] {
-    let mut table = [0; 256];
-    for b in 0..256usize {
-        let a = inverse(b as u8);
-        table[b] = a
-            ^ a.rotate_left(1)
-            ^ a.rotate_left(2)
-            ^ a.rotate_left(3)
-            ^ a.rotate_left(4)
-            ^ 0x63;
-    }
-    table
-}
-
-// What leads back from its values.
-fn back(there: &[u8; 256]) -> [u8; 256] {
-    let mut table = [0; 256];
-    for b in 0..256usize {
-        table[there[b] as usize] = b as u8;
-    }
-    table
-}
-
 impl Boxes {
-    pub fn new() -> Boxes {
-        let there = there();
-        let back = back(&there);
+    // The S-box: the inverse, then the affine map. The other one leads back from its values.
+    fn new() -> Boxes {
+        let mut there = [0; 256];
+        let mut back = [0; 256];
+        for b in 0..=255u8 {
+            let a = inverse(b);
+            let c = a
+                ^ a.rotate_left(1)
+                ^ a.rotate_left(2)
+                ^ a.rotate_left(3)
+                ^ a.rotate_left(4)
+                ^ 0x63;
+            there[b as usize] = c;
+            back[c as usize] = b;
+        }
         Boxes { there, back }
     }
 }
 
-type State = [u8; 16];
+pub type State = [u8; 16];
 
-fn substituted(table: &[u8; 256], s: State) -> State {
-    let mut next = [0; 16];
-    for i in 0..16 {
-        next[i] = table[s[i] as usize];
-    }
-    next
-}
-
-// Row r turns left by `by * r` places (5.1.2, and with 3 for 1 5.3.1).
-fn turned(by: usize, s: State) -> State {
+// The bytes substituted, and row r turned left by `by * r` places (5.1.1 and 5.1.2, and with 3 for 1
+// and the other box 5.3.1 and 5.3.2).
+fn turned(table: &[u8; 256], by: usize, s: State) -> State {
     let mut next = [0; 16];
     for i in 0..16 {
         let row = i % 4;
         let column = (i / 4 + (by % 4) * row) % 4;
-        next[i] = s[row + 4 * column];
+        next[i] = table[s[row + 4 * column] as usize];
     }
     next
 }
@@ -103,7 +87,8 @@ fn multiplied(a: [u8; 4], s: State) -> State {
     next
 }
 
-fn sum(a: State, b: State) -> State {
+// The bits of both.
+pub fn sum(a: State, b: State) -> State {
     let mut next = [0; 16];
     for i in 0..16 {
         next[i] = a[i] ^ b[i];
@@ -113,36 +98,25 @@ fn sum(a: State, b: State) -> State {
 
 type Word = [u8; 4];
 
-// SubWord (5.2).
-fn substituted_word(table: &[u8; 256], word: Word) -> Word {
-    let mut next = [0; 4];
-    for k in 0..4 {
-        next[k] = table[word[k] as usize];
-    }
-    next
-}
-
-// A word as it enters word `i` of the schedule of a key of so many words (5.2).
-fn mapped_word(boxes: &Boxes, word: Word, words: usize, i: usize, constant: u8) -> Word {
-    if i.checked_rem(words) == Some(0) {
-        let [first, second, third, fourth] = word;
-        let mut next = substituted_word(&boxes.there, [second, third, fourth, first]);
-        next[0] ^= constant;
-        next
-    } else if words == 8 && i % 8 == 4 {
-        substituted_word(&boxes.there, word)
-    } else {
-        word
-    }
-}
-
 // The words of a schedule: as many as the longest keys have.
 type Words = [Word; 60];
 
 // Word `i` of the schedule of a key of so many words, from the words before it (5.2).
-fn next_word(boxes: &Boxes, all: &Words, words: usize, i: usize, constant: u8) -> Word {
-    let before = all[i.saturating_sub(1).min(59)];
-    let mut word = mapped_word(boxes, before, words, i, constant);
+fn next_word(there: &[u8; 256], all: &Words, words: usize, i: usize, constant: u8) -> Word {
+    let [a, b, c, d] = all[i.saturating_sub(1).min(59)];
+    let mut word = [a, b, c, d];
+    let substituted = [
+        there[a as usize],
+        there[b as usize],
+        there[c as usize],
+        there[d as usize],
+    ];
+    if i.checked_rem(words) == Some(0) {
+        let [a, b, c, d] = substituted;
+        word = [b ^ constant, c, d, a];
+    } else if words == 8 && i % 8 == 4 {
+        word = substituted;
+    }
     let first = all[i.saturating_sub(words).min(59)];
     for k in 0..4 {
         word[k] ^= first[k];
@@ -150,29 +124,17 @@ fn next_word(boxes: &Boxes, all: &Words, words: usize, i: usize, constant: u8) -
     word
 }
 
-// Word `i` of a key.
-fn key_word(key: &[u8], i: usize) -> Word {
-    let mut word = [0; 4];
-    for k in 0..4 {
-        let place = i.saturating_mul(4).saturating_add(k);
-        if place < key.len() {
-            word[k] = key[place];
-        }
-    }
-    word
-}
-
 // The schedule of a key of 16 or 32 bytes (5.2).
-fn schedule(boxes: &Boxes, key: &[u8]) -> Words {
+fn schedule(there: &[u8; 256], key: &[u8]) -> Words {
     let words = key.len() / 4;
     let mut all = [[0; 4]; 60];
     let mut constant = 1;
     for i in 0..60usize {
         if i < words {
-            all[i] = key_word(key, i);
+            all[i] = [key[4 * i], key[4 * i + 1], key[4 * i + 2], key[4 * i + 3]];
             continue;
         }
-        all[i] = next_word(boxes, &all, words, i, constant);
+        all[i] = next_word(there, &all, words, i, constant);
         if i.checked_rem(words) == Some(0) {
             constant = times_x(constant);
         }
@@ -190,7 +152,7 @@ fn round_key(all: &Words, round: usize) -> State {
 }
 
 // Twice a tweak (IEEE 1619, 5.2).
-fn doubled(tweak: State) -> State {
+pub fn doubled(tweak: State) -> State {
     let mut next = tweak;
     let mut carry = 0;
     for i in 0..16 {
@@ -204,7 +166,7 @@ fn doubled(tweak: State) -> State {
 }
 
 // The number of a data unit as a block.
-fn number_block(number: u64) -> State {
+pub fn number_block(number: u64) -> State {
     let mut block = [0; 16];
     let low = number.to_le_bytes();
     for i in 0..8 {
@@ -227,8 +189,8 @@ impl Bytewise {
     pub fn new(key: &[u8]) -> Bytewise {
         let boxes = Boxes::new();
         let (data_key, tweak_key) = key.split_at(key.len() / 2);
-        let data_words = schedule(&boxes, data_key);
-        let tweak_words = schedule(&boxes, tweak_key);
+        let data_words = schedule(&boxes.there, data_key);
+        let tweak_words = schedule(&boxes.there, tweak_key);
         Bytewise {
             boxes,
             rounds: data_key.len() / 4 + 6,
@@ -241,10 +203,10 @@ impl Bytewise {
     fn encrypted(&self, all: &Words, block: State) -> State {
         let mut s = sum(block, round_key(all, 0));
         for round in 1..self.rounds {
-            let shifted = turned(1, substituted(&self.boxes.there, s));
+            let shifted = turned(&self.boxes.there, 1, s);
             s = sum(multiplied([2, 3, 1, 1], shifted), round_key(all, round));
         }
-        let shifted = turned(1, substituted(&self.boxes.there, s));
+        let shifted = turned(&self.boxes.there, 1, s);
         sum(shifted, round_key(all, self.rounds))
     }
 
@@ -252,22 +214,11 @@ impl Bytewise {
     fn decrypted(&self, all: &Words, block: State) -> State {
         let mut s = sum(block, round_key(all, self.rounds));
         for round in (1..self.rounds).rev() {
-            let turned = substituted(&self.boxes.back, turned(3, s));
-            s = multiplied([14, 11, 13, 9], sum(turned, round_key(all, round)));
+            let shifted = turned(&self.boxes.back, 3, s);
+            s = multiplied([14, 11, 13, 9], sum(shifted, round_key(all, round)));
         }
-        let turned = substituted(&self.boxes.back, turned(3, s));
-        sum(turned, round_key(all, 0))
-    }
-
-    // A block under its tweak.
-    fn block(&self, encrypts: bool, tweak: State, block: State) -> State {
-        let masked = sum(block, tweak);
-        let done = if encrypts {
-            self.encrypted(&self.data_words, masked)
-        } else {
-            self.decrypted(&self.data_words, masked)
-        };
-        sum(done, tweak)
+        let shifted = turned(&self.boxes.back, 3, s);
+        sum(shifted, round_key(all, 0))
     }
 
     /// The data unit of this number (IEEE 1619, 5.3.2 and 5.4.2), encrypted or decrypted.
@@ -276,8 +227,13 @@ impl Bytewise {
         for piece in unit.chunks_exact_mut(16) {
             let mut block = [0; 16];
             block.copy_from_slice(piece);
-            let done = self.block(encrypts, tweak, block);
-            piece.copy_from_slice(&done);
+            let masked = sum(block, tweak);
+            let done = if encrypts {
+                self.encrypted(&self.data_words, masked)
+            } else {
+                self.decrypted(&self.data_words, masked)
+            };
+            piece.copy_from_slice(&sum(done, tweak));
             let next = doubled(tweak);
             tweak = next;
         }

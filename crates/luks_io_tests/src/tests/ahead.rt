@@ -1,171 +1,178 @@
 //! What no clause says of a source that is read ahead: how often the source below is asked, and
 //! that all that is announced comes at once.
 
+use super::assert_at;
 use luks_io::DeviceFault;
 use luks_io::ahead::AheadSource;
 use luks_io::memory::MemSource;
 use luks_io::source::{Source, fill};
 use luks_testing::devices::Flaky;
-use luks_testing::same::{holds_in, same, same_in};
 use std::process::Abort;
-use std::test::Fail;
 
 const BYTES: &[u8] = b"abcdefghij";
 
-// Each call asks for so many bytes. It answers this, and the source below has so many bytes left
-// after so many calls.
-type Row = (usize, Result<usize, DeviceFault>, usize, u64);
+/// What a source is told of the bytes to come, how many it is asked for, and its answer. The source
+/// below has so many bytes left after so many calls.
+type Step = (Option<u64>, usize, Result<usize, DeviceFault>, usize, u64);
 
-// Reads as the rows say, of which each is told by its place.
-fn check_reads(rt: &impl Abort, source: &mut AheadSource<Flaky<'_>>, rows: &[Row]) {
-    for (row, (asked, answer, left, calls)) in rows.iter().enumerate() {
-        let mut buf = [b'-'; 16];
-        let got = source.read(&mut buf[..*asked.min(&16)]);
-        same_in(&row, got, *answer).expect(rt, "the same");
-        same_in(&row, source.get_ref().left(), *left).expect(rt, "the same");
-        same_in(&row, source.get_ref().calls(), *calls).expect(rt, "the same");
+/// A source with room for four bytes, over one that gives at most so many bytes a call, or all, and
+/// fails at the call of this number. In the end that one has failed and found its end so often.
+type Row = (&'static str, (usize, u64), &'static [Step], (u64, u64));
+
+static ROWS: [Row; 7] = [
+    (
+        "takes what is announced at once",
+        (0, 99),
+        &[
+            (Some(6), 1, Ok(1), 6, 1),
+            (None, 2, Ok(2), 6, 1),
+            (None, 2, Ok(1), 6, 1),
+            (None, 1, Ok(1), 4, 2),
+            (None, 0, Ok(0), 4, 2),
+            (None, 1, Ok(1), 4, 2),
+        ],
+        (0, 0),
+    ),
+    (
+        "takes nothing ahead that is not announced",
+        (0, 99),
+        &[
+            (None, 1, Ok(1), 9, 1),
+            (None, 2, Ok(2), 7, 2),
+            (Some(3), 1, Ok(1), 4, 3),
+            (None, 2, Ok(2), 4, 3),
+            (None, 1, Ok(1), 3, 4),
+            (None, 1, Ok(1), 2, 5),
+        ],
+        (0, 0),
+    ),
+    // At the third read one byte is still announced.
+    (
+        "passes large reads by",
+        (0, 99),
+        &[
+            (Some(10), 4, Ok(4), 6, 1),
+            (None, 5, Ok(5), 1, 2),
+            (None, 1, Ok(1), 0, 3),
+            (None, 1, Ok(0), 0, 4),
+        ],
+        (0, 1),
+    ),
+    (
+        "what is held counts as announced",
+        (0, 99),
+        &[
+            (Some(10), 1, Ok(1), 6, 1),
+            (Some(4), 3, Ok(3), 6, 1),
+            (None, 0, Ok(0), 6, 1),
+            (None, 1, Ok(1), 5, 2),
+            (None, 1, Ok(1), 4, 3),
+            (Some(2), 0, Ok(0), 4, 3),
+            (Some(0), 1, Ok(1), 3, 4),
+        ],
+        (0, 0),
+    ),
+    (
+        "hands on more than a later announcement",
+        (0, 99),
+        &[
+            (Some(10), 1, Ok(1), 6, 1),
+            (Some(2), 4, Ok(3), 6, 1),
+            (None, 2, Ok(2), 4, 2),
+        ],
+        (0, 0),
+    ),
+    (
+        "hands on what came of few bytes",
+        (3, 99),
+        &[
+            (Some(5), 2, Ok(2), 7, 1),
+            (None, 2, Ok(1), 7, 1),
+            (None, 1, Ok(1), 5, 2),
+            (None, 1, Ok(1), 5, 2),
+            (None, 1, Ok(1), 4, 3),
+        ],
+        (0, 0),
+    ),
+    (
+        "tells a failure in its turn",
+        (0, 1),
+        &[
+            (Some(8), 3, Ok(3), 6, 1),
+            (None, 3, Ok(1), 6, 1),
+            (None, 3, Err(DeviceFault), 6, 2),
+            (None, 3, Ok(3), 2, 3),
+            (None, 3, Ok(1), 2, 3),
+            (None, 1, Ok(1), 1, 4),
+        ],
+        (1, 0),
+    ),
+];
+
+// Whether the step goes as its row says.
+fn is_as_told(
+    source: &mut AheadSource<Flaky<'_>>,
+    (announced, asked, answer, left, calls): &Step,
+) -> bool {
+    if let Some(count) = announced {
+        source.announce(*count);
+    }
+    let mut buf = [b'-'; 16];
+    let got = source.read(&mut buf[..*asked.min(&16)]);
+    let below = source.get_ref();
+    got == *answer && below.left() == *left && below.calls() == *calls
+}
+
+fn check_row(rt: &(impl Abort + AllocGlobal), (name, (piece, failing), steps, last): &Row) {
+    let below = Flaky::new(BYTES, *piece, *failing);
+    let mut source = AheadSource::new(rt.alloc(), 4, below).expect(rt, "memory");
+    for (i, step) in steps.iter().enumerate() {
+        assert_at(rt, name, i, is_as_told(&mut source, step));
+    }
+    let below = source.get_ref();
+    assert_at(rt, name, steps.len(), (below.failures, below.ends) == *last);
+    assert_at(rt, name, steps.len(), below.empty_calls == 0);
+}
+
+#[test]
+fn asks_for_what_is_announced_at_once(rt: HostRuntime) {
+    for row in &ROWS {
+        check_row(&rt, row);
     }
 }
 
-// A source of the letters, whose call of this number fails, with room for four bytes.
-fn letters(
+// All bytes come in pieces of this size, and the end that is found so often.
+fn check_bytes(
     rt: &(impl Abort + AllocGlobal),
-    piece: usize,
-    failing: u64,
-) -> Result<AheadSource<Flaky<'static>>, Fail> {
-    Ok(AheadSource::new(rt.alloc(), 4, Flaky::new(BYTES, piece, failing))?)
-}
-
-#[test]
-fn takes_what_is_announced_at_once(rt: HostRuntime) -> Result<(), Fail> {
-    let mut source = letters(&rt, 0, 99)?;
-    source.announce(6);
-    let rows = [
-        (1, Ok(1), 6, 1),
-        (2, Ok(2), 6, 1),
-        (2, Ok(1), 6, 1),
-        (1, Ok(1), 4, 2),
-        (0, Ok(0), 4, 2),
-        (1, Ok(1), 4, 2),
-    ];
-    check_reads(&rt, &mut source, &rows);
-    Ok(())
-}
-
-#[test]
-fn takes_nothing_ahead_that_is_not_announced(rt: HostRuntime) -> Result<(), Fail> {
-    let mut source = letters(&rt, 0, 99)?;
-    check_reads(&rt, &mut source, &[(1, Ok(1), 9, 1), (2, Ok(2), 7, 2)]);
-    source.announce(3);
-    let rows = [
-        (1, Ok(1), 4, 3),
-        (2, Ok(2), 4, 3),
-        (1, Ok(1), 3, 4),
-        (1, Ok(1), 2, 5),
-    ];
-    check_reads(&rt, &mut source, &rows);
-    Ok(())
-}
-
-#[test]
-fn passes_large_reads_by(rt: HostRuntime) -> Result<(), Fail> {
-    let mut source = letters(&rt, 0, 99)?;
-    source.announce(10);
-    check_reads(&rt, &mut source, &[(4, Ok(4), 6, 1), (5, Ok(5), 1, 2)]);
-    // One byte is still announced.
-    check_reads(&rt, &mut source, &[(1, Ok(1), 0, 3), (1, Ok(0), 0, 4)]);
-    same(source.get_ref().ends, 1).expect(&rt, "the same");
-    Ok(())
-}
-
-#[test]
-fn what_is_held_counts_as_announced(rt: HostRuntime) -> Result<(), Fail> {
-    let mut source = letters(&rt, 0, 99)?;
-    source.announce(10);
-    check_reads(&rt, &mut source, &[(1, Ok(1), 6, 1)]);
-    source.announce(4);
-    let rows = [(3, Ok(3), 6, 1), (0, Ok(0), 6, 1), (1, Ok(1), 5, 2)];
-    check_reads(&rt, &mut source, &rows);
-    check_reads(&rt, &mut source, &[(1, Ok(1), 4, 3)]);
-    source.announce(2);
-    source.announce(0);
-    check_reads(&rt, &mut source, &[(1, Ok(1), 3, 4)]);
-    Ok(())
-}
-
-#[test]
-fn hands_on_more_than_a_later_announcement(rt: HostRuntime) -> Result<(), Fail> {
-    let mut source = letters(&rt, 0, 99)?;
-    source.announce(10);
-    check_reads(&rt, &mut source, &[(1, Ok(1), 6, 1)]);
-    source.announce(2);
-    check_reads(&rt, &mut source, &[(4, Ok(3), 6, 1), (2, Ok(2), 4, 2)]);
-    Ok(())
-}
-
-#[test]
-fn hands_on_what_came_of_few_bytes(rt: HostRuntime) -> Result<(), Fail> {
-    let mut source = letters(&rt, 3, 99)?;
-    source.announce(5);
-    let rows = [
-        (2, Ok(2), 7, 1),
-        (2, Ok(1), 7, 1),
-        (1, Ok(1), 5, 2),
-        (1, Ok(1), 5, 2),
-        (1, Ok(1), 4, 3),
-    ];
-    check_reads(&rt, &mut source, &rows);
-    Ok(())
-}
-
-#[test]
-fn tells_a_failure_in_its_turn(rt: HostRuntime) -> Result<(), Fail> {
-    let mut source = letters(&rt, 0, 1)?;
-    source.announce(8);
-    let rows = [
-        (3, Ok(3), 6, 1),
-        (3, Ok(1), 6, 1),
-        (3, Err(DeviceFault), 6, 2),
-        (3, Ok(3), 2, 3),
-        (3, Ok(1), 2, 3),
-        (1, Ok(1), 1, 4),
-    ];
-    check_reads(&rt, &mut source, &rows);
-    same(source.get_ref().failures, 1).expect(&rt, "the same");
-    same(source.get_ref().empty_calls, 0).expect(&rt, "the same");
-    Ok(())
-}
-
-#[test]
-fn finds_an_end_before_what_is_announced(rt: HostRuntime) -> Result<(), Fail> {
-    let mut source = letters(&rt, 0, 99)?;
-    source.announce(u64::MAX);
+    announced: u64,
+    room: usize,
+    (piece, ends): (usize, u64),
+) {
+    let mut source = AheadSource::new(rt.alloc(), room, Flaky::new(BYTES, 0, 99)).expect(
+        rt, "memory",
+    );
+    source.announce(announced);
     let mut buf = [b'-'; 12];
-    same(fill(&mut source, &mut buf), Ok(10)).expect(&rt, "the same");
-    same(buf.as_slice(), b"abcdefghij--".as_slice()).expect(&rt, "the same");
-    same(source.get_ref().ends, 1).expect(&rt, "the same");
-    Ok(())
+    let mut count = 0;
+    for part in buf.chunks_mut(piece.max(1)) {
+        count = fill(&mut source, part).map_or(99, |got| got.saturating_add(count));
+    }
+    let all = count == 10 && buf == *b"abcdefghij--" && source.get_ref().ends == ends;
+    assert!(rt;
+        all,
+        "{announced} announced, room for {room}, in pieces of {piece}"
+    );
 }
 
 #[test]
-fn gives_the_same_whatever_is_announced(rt: HostRuntime) -> Result<(), Fail> {
-    for announced in 0..12 {
+fn gives_the_same_whatever_is_announced(rt: HostRuntime) {
+    let announcements = [0, 1, 2, 3, 4, 5, 6, 7, 8, 9, 10, 11, u64::MAX];
+    for announced in announcements {
         for room in 0..6 {
-            let inner = MemSource::new(BYTES);
-            let mut source = AheadSource::new(rt.alloc(), room, inner)?;
-            source.announce(announced);
-            let mut buf = [b'-'; 10];
-            for at in 0..10 {
-                same_in(&room, source.read(&mut buf[at..at + 1]), Ok(1)).expect(&rt, "the same");
-            }
-            same_in(&announced, buf.as_slice(), BYTES).expect(&rt, "the same");
+            check_bytes(&rt, announced, room, (1, 2));
+            check_bytes(&rt, announced, room, (12, 1));
         }
     }
-    Ok(())
-}
-
-#[test]
-fn memory_that_is_not_there_is_refused(rt: HostRuntime) {
-    let source = AheadSource::new(rt.alloc(), usize::MAX, MemSource::new(BYTES));
-    holds_in(&"all there is", source.is_err()).expect(&rt, "refused");
+    let refused = AheadSource::new(rt.alloc(), usize::MAX, MemSource::new(BYTES));
+    assert!(rt; refused.is_err(), "all the memory that there is");
 }

@@ -3,52 +3,57 @@
 
 ghost use Rattle.std.specs.Prelude.{◌≤◌, IfOk};
 
+use super::assert_at;
 use luks_io::DeviceFault;
 use luks_io::adapters::{ReadSource, WriteSink};
 use luks_io::memory::{MemSink, MemSource};
 use luks_io::sink::{Sink, WriteFault, put_all};
-use luks_io::source::{ReadFault, Source, fill};
-use std::fmt::Debug;
+use luks_io::source::{Source, fill};
 use std::io::{self, ErrorKind, Read, Write};
 use std::process::Abort;
 use std::test::Fail;
 
-// Asserts that both values are the same.
-fn assert_same<T: PartialEq + Debug + Drop>(rt: &impl Abort, left: T, right: T) {
-    assert_eq!(rt; left, right);
+/// What a device answers: it moves at most so many bytes.
+enum Answer {
+    Moves(usize),
+    Interrupted,
+    Refused,
 }
 
-/// A reader and a writer that is interrupted so many times, and then moves at most `piece` bytes a
-/// call, each of them 7. It refuses for good once `left` calls moved bytes.
+// How often each answer comes.
+type Script = &'static [(u32, Answer)];
+
+/// A reader that gives bytes 7, and a writer. It refuses for good behind its script.
 #[derive(Drop)]
 struct Device {
-    interruptions: u32,
-    piece: usize,
-    left: u32,
+    script: Script,
+    given: u32,
 }
 
 impl Device {
     fn answer(&mut self, room: usize) -> io::Result<usize>
         ensures { IfOk result (λ n. n ≤ room) }
     {
-        if self.interruptions > 0 {
-            self.interruptions -= 1;
-            return Err(io::Error::from(ErrorKind::Interrupted));
-        }
-        if self.left == 0 {
+        let Some(((times, answer), later)) = self.script.split_first() else {
             return Err(io::Error::from(ErrorKind::Other));
+        };
+        self.given = self.given.saturating_add(1);
+        if *times <= self.given {
+            self.given = 0;
+            self.script = later;
         }
-        self.left -= 1;
-        Ok(self.piece.min(room))
+        match answer {
+            Answer::Moves(piece) => Ok(room.min(*piece)),
+            Answer::Interrupted => Err(io::Error::from(ErrorKind::Interrupted)),
+            Answer::Refused => Err(io::Error::from(ErrorKind::Other)),
+        }
     }
 }
 
 impl Read for Device {
     fn read(&mut self, buf: &mut [u8]) -> io::Result<usize> {
         let count = self.answer(buf.len())?;
-        for byte in buf[..count].iter_mut() {
-            *byte = 7;
-        }
+        buf[..count].fill(7);
         Ok(count)
     }
 }
@@ -63,197 +68,187 @@ impl Write for Device {
     }
 }
 
-fn make_device(interruptions: u32, piece: usize, left: u32) -> Device {
-    Device {
-        interruptions,
-        piece,
-        left,
+/// A call that moves as many bytes as the device does once, or all of them, and its answer: how many
+/// were moved, also where it failed.
+type Call = (bool, Result<usize, usize>);
+
+const ONCE: bool = false;
+
+const WHOLE: bool = true;
+
+const HUNDRED: Script = &[(100, Answer::Interrupted), (9, Answer::Moves(3))];
+
+const ONE_MORE: Script = &[(101, Answer::Interrupted), (9, Answer::Moves(3))];
+
+const FAILED_ONCE: Script = &[(1, Answer::Refused), (9, Answer::Moves(1))];
+
+const NOTHING: Script = &[(9, Answer::Moves(0))];
+
+// After its end this one would move a byte.
+const NOTHING_ONCE: Script = &[(1, Answer::Moves(0)), (9, Answer::Moves(1))];
+
+// A device's script, calls of a source with a buffer of eight bytes, and how many of these are
+// filled in the end.
+static READS: [(&str, Script, &[Call], usize); 8] = [
+    (
+        "waits for a hundred interruptions",
+        HUNDRED,
+        &[(ONCE, Ok(3))],
+        3,
+    ),
+    ("waits for no more", ONE_MORE, &[(ONCE, Err(0))], 0),
+    ("the end is no failure", NOTHING, &[(ONCE, Ok(0))], 0),
+    ("nor is it at once", NOTHING, &[(WHOLE, Ok(0))], 0),
+    (
+        "goes on after a failure",
+        FAILED_ONCE,
+        &[(ONCE, Err(0)), (ONCE, Ok(1))],
+        1,
+    ),
+    (
+        "ends once",
+        NOTHING_ONCE,
+        &[(ONCE, Ok(0)), (ONCE, Ok(0)), (ONCE, Ok(0)), (WHOLE, Ok(0))],
+        0,
+    ),
+    (
+        "fills in pieces",
+        &[(9, Answer::Moves(3))],
+        &[(WHOLE, Ok(8))],
+        8,
+    ),
+    (
+        "tells how far it came",
+        &[(2, Answer::Moves(3))],
+        &[(WHOLE, Err(6))],
+        6,
+    ),
+];
+
+#[test]
+fn readers_are_sources(rt: HostRuntime) {
+    for (name, script, calls, filled) in &READS {
+        let mut source = ReadSource::new(Device { script, given: 0 });
+        let mut buf = [0; 8];
+        for (i, (is_whole, answer)) in calls.iter().enumerate() {
+            let got = if *is_whole {
+                fill(&mut source, &mut buf).map_err(|fault| fault.got)
+            } else {
+                source.read(&mut buf).map_err(|_| 0)
+            };
+            assert_at(&rt, name, i, got == *answer);
+        }
+        let mut wanted = [0; 8];
+        wanted[..*filled.min(&8)].fill(7);
+        assert_at(&rt, name, calls.len(), buf == wanted);
     }
 }
 
-#[test]
-fn reads_wait_for_a_hundred_interruptions(rt: HostRuntime) {
-    let mut buf = [0u8; 4];
-    assert_same(
-        &rt,
-        ReadSource::new(make_device(100, 3, 9)).read(&mut buf),
-        Ok(3),
-    );
-    assert_same(&rt, buf, [7, 7, 7, 0]);
-    assert_same(
-        &rt,
-        ReadSource::new(make_device(101, 3, 9)).read(&mut buf),
-        Err(DeviceFault),
-    );
-}
+// A device's script, and calls of a sink with these bytes.
+static WRITES: [(&str, Script, &[u8], &[Call]); 8] = [
+    (
+        "waits for a hundred interruptions",
+        HUNDRED,
+        b"abcde",
+        &[(ONCE, Ok(3))],
+    ),
+    ("waits for no more", ONE_MORE, b"abcde", &[(ONCE, Err(0))]),
+    (
+        "a write of nothing is a failure",
+        NOTHING,
+        b"a",
+        &[(ONCE, Err(0))],
+    ),
+    (
+        "unless nothing is to be written",
+        &[],
+        b"",
+        &[(ONCE, Ok(0))],
+    ),
+    (
+        "goes on after a failure",
+        FAILED_ONCE,
+        b"abcd",
+        &[(ONCE, Err(0)), (ONCE, Ok(1))],
+    ),
+    (
+        "and after a write of nothing",
+        NOTHING_ONCE,
+        b"abcd",
+        &[(ONCE, Err(0)), (ONCE, Ok(1))],
+    ),
+    (
+        "writes in pieces",
+        &[(3, Answer::Moves(3))],
+        b"abcdefgh",
+        &[(WHOLE, Ok(8))],
+    ),
+    (
+        "tells how far it came",
+        &[(2, Answer::Moves(3))],
+        b"abcdefgh",
+        &[(WHOLE, Err(6))],
+    ),
+];
 
 #[test]
-fn writes_wait_for_a_hundred_interruptions(rt: HostRuntime) {
-    assert_same(
-        &rt,
-        WriteSink::new(make_device(100, 3, 9)).write(b"abcde"),
-        Ok(3),
-    );
-    assert_same(
-        &rt,
-        WriteSink::new(make_device(101, 3, 9)).write(b"abcde"),
-        Err(DeviceFault),
-    );
-}
-
-#[test]
-fn the_end_is_no_failure(rt: HostRuntime) {
-    let mut buf = [0u8; 4];
-    assert_same(
-        &rt,
-        ReadSource::new(make_device(0, 0, 9)).read(&mut buf),
-        Ok(0),
-    );
-    assert_same(
-        &rt,
-        fill(&mut ReadSource::new(make_device(0, 0, 9)), &mut buf),
-        Ok(0),
-    );
-}
-
-#[test]
-fn a_write_of_nothing_is_a_failure(rt: HostRuntime) {
-    assert_same(
-        &rt,
-        WriteSink::new(make_device(0, 0, 9)).write(b"a"),
-        Err(DeviceFault),
-    );
-    assert_same(&rt, WriteSink::new(make_device(0, 0, 0)).write(b""), Ok(0));
-}
-
-/// A reader and a writer that moves one byte a call, but for its first call, which this answers.
-#[derive(Drop)]
-struct Stumbling {
-    first: Option<io::Result<usize>>,
-}
-
-impl Stumbling {
-    fn answer(&mut self, room: usize) -> io::Result<usize>
-        ensures { IfOk result (λ n. n ≤ room) }
-    {
-        match self.first.take() {
-            Some(Ok(_)) => Ok(0),
-            Some(Err(e)) => Err(e),
-            None => Ok(room.min(1)),
+fn writers_are_sinks(rt: HostRuntime) {
+    for (name, script, bytes, calls) in &WRITES {
+        let mut sink = WriteSink::new(Device { script, given: 0 });
+        for (i, (is_whole, answer)) in calls.iter().enumerate() {
+            let put = if *is_whole {
+                let put = put_all(&mut sink, bytes);
+                put.map(|()| bytes.len()).map_err(|fault| fault.written)
+            } else {
+                sink.write(bytes).map_err(|_| 0)
+            };
+            assert_at(&rt, name, i, put == *answer);
         }
     }
 }
 
-impl Read for Stumbling {
-    fn read(&mut self, buf: &mut [u8]) -> io::Result<usize> {
-        self.answer(buf.len())
-    }
-}
-
-impl Write for Stumbling {
-    fn write(&mut self, buf: &[u8]) -> io::Result<usize> {
-        self.answer(buf.len())
-    }
-
-    fn flush(&mut self) -> io::Result<()> {
-        Ok(())
-    }
-}
-
-fn failing_once() -> Stumbling {
-    Stumbling {
-        first: Some(Err(io::Error::from(ErrorKind::Other))),
-    }
-}
-
-fn moving_nothing_once() -> Stumbling {
-    Stumbling { first: Some(Ok(0)) }
-}
-
-#[test]
-fn a_failure_is_told_at_once_and_the_next_call_goes_on(rt: HostRuntime) {
-    let mut buf = [0u8; 4];
-    let mut source = ReadSource::new(failing_once());
-    assert_same(&rt, source.read(&mut buf), Err(DeviceFault));
-    assert_same(&rt, source.read(&mut buf), Ok(1));
-    for device in [failing_once(), moving_nothing_once()] {
-        let mut sink = WriteSink::new(device);
-        assert_same(&rt, sink.write(b"abcd"), Err(DeviceFault));
-        assert_same(&rt, sink.write(b"abcd"), Ok(1));
-    }
-}
-
-// The reader would give a byte after its end.
-#[test]
-fn a_reader_ends_once(rt: HostRuntime) {
-    let mut buf = [0u8; 4];
-    let mut source = ReadSource::new(moving_nothing_once());
-    for _ in 0..3 {
-        assert_same(&rt, source.read(&mut buf), Ok(0));
-    }
-    assert_same(&rt, fill(&mut source, &mut buf), Ok(0));
-    assert_same(&rt, buf, [0; 4]);
-}
-
-#[test]
-fn a_fault_tells_how_far_it_came(rt: HostRuntime) {
-    let mut buf = [0u8; 8];
-    assert_same(
-        &rt,
-        fill(&mut ReadSource::new(make_device(0, 3, 9)), &mut buf),
-        Ok(8),
+// The source gives these ten bytes, six at first.
+fn check_ten(rt: &impl Abort, name: &str, source: &mut impl Source) {
+    let mut buf = [0; 6];
+    assert_at(
+        rt,
+        name,
+        0,
+        fill(source, &mut buf) == Ok(6) && buf == *b"012345",
     );
-    assert_same(
-        &rt,
-        fill(&mut ReadSource::new(make_device(0, 3, 2)), &mut buf),
-        Err(ReadFault { got: 6 }),
-    );
-    assert_same(
-        &rt,
-        put_all(&mut WriteSink::new(make_device(0, 3, 3)), b"abcdefgh"),
-        Ok(()),
-    );
-    assert_same(
-        &rt,
-        put_all(&mut WriteSink::new(make_device(0, 3, 2)), b"abcdefgh"),
-        Err(WriteFault { written: 6 }),
+    assert_at(
+        rt,
+        name,
+        1,
+        fill(source, &mut buf) == Ok(4) && buf == *b"678945",
     );
 }
 
+// The sink with room for eight bytes takes six, two of them again, and no more.
 #[test]
-fn readers_of_std_are_sources(rt: HostRuntime) {
+fn memory_and_readers_of_std_give_and_take(rt: HostRuntime) -> Result<(), Fail> {
     let bytes: &[u8] = b"0123456789";
-    let mut source = ReadSource::new(bytes);
-    let mut buf = [0u8; 6];
-    assert_same(&rt, fill(&mut source, &mut buf), Ok(6));
-    assert_same(&rt, buf.as_slice(), b"012345".as_slice());
-    assert_same(&rt, fill(&mut source, &mut buf), Ok(4));
-    assert_same(&rt, buf.as_slice(), b"678945".as_slice());
-}
-
-// A sink with room for 8 bytes takes these six, two of them again, and no more.
-fn check_sink(rt: &(impl Abort + AllocGlobal), bytes: &[u8]) -> Result<(), Fail> {
+    check_ten(&rt, "a reader of std", &mut ReadSource::new(bytes));
+    let mut source = MemSource::new(bytes);
+    assert_at(
+        &rt,
+        "memory",
+        2,
+        fill(&mut source, &mut [0; 6]) == Ok(6) && source.left() == b"6789".as_slice(),
+    );
+    check_ten(&rt, "memory", &mut MemSource::new(bytes));
     let mut sink = MemSink::new(rt.alloc(), 8)?;
-    for answer in [Ok(()), Err(WriteFault { written: 2 })] {
-        assert_same(rt, put_all(&mut sink, bytes), answer);
-    }
-    assert_same(rt, sink.as_slice(), b"01234501".as_slice());
-    assert_same(rt, sink.failures(), 1);
-    assert_same(rt, sink.write(b""), Ok(0));
-    assert_same(rt, sink.write(b"a"), Err(DeviceFault));
-    assert_same(rt, sink.failures(), 2);
+    assert_at(&rt, "a sink", 0, put_all(&mut sink, b"012345") == Ok(()));
+    let fault = Err(WriteFault { written: 2 });
+    assert_at(&rt, "a sink", 1, put_all(&mut sink, b"012345") == fault);
+    assert_at(
+        &rt,
+        "a sink",
+        2,
+        sink.as_slice() == b"01234501".as_slice() && sink.failures() == 1,
+    );
+    assert_at(&rt, "a full sink", 0, sink.write(b"") == Ok(0));
+    assert_at(&rt, "a full sink", 1, sink.write(b"a") == Err(DeviceFault));
+    assert_at(&rt, "a full sink", 2, sink.failures() == 2);
     Ok(())
-}
-
-fn check_memory(rt: &(impl Abort + AllocGlobal)) -> Result<(), Fail> {
-    let mut source = MemSource::new(b"0123456789");
-    let mut buf = [0u8; 6];
-    assert_same(rt, fill(&mut source, &mut buf), Ok(6));
-    assert_same(rt, source.left(), b"6789".as_slice());
-    check_sink(rt, &buf)
-}
-
-#[test]
-fn memory_gives_and_takes(rt: HostRuntime) -> Result<(), Fail> {
-    check_memory(&rt)
 }

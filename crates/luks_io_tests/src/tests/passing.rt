@@ -1,13 +1,13 @@
 //! Bytes that are passed on where they stand: only by a source that holds them all, and without a
 //! call of the source below.
 
+use super::assert_at;
 use luks_io::ahead::AheadSource;
 use luks_io::change::Change;
 use luks_io::memory::{MemSink, MemSource};
 use luks_io::sink::WriteFault;
 use luks_io::source::Source;
 use luks_testing::devices::{Flaky, Leaky};
-use luks_testing::same::same;
 use std::process::Abort;
 use std::test::Fail;
 
@@ -26,91 +26,134 @@ impl Change for Reversed {
     }
 }
 
-// A source of the letters with room for six bytes, of which it holds five: those behind the first.
-fn holding(rt: &(impl Abort + AllocGlobal)) -> Result<AheadSource<Flaky<'static>>, Fail> {
-    let mut source = AheadSource::new(rt.alloc(), 6, Flaky::new(b"abcdefghij", 0, 99))?;
-    source.announce(8);
-    let mut first = [0];
-    same(source.read(&mut first), Ok(1)).expect(rt, "the same");
-    same(first, *b"a").expect(rt, "the same");
-    same(source.get_ref().left(), 4).expect(rt, "the same");
-    Ok(source)
-}
+/// What is passed on by a source that holds five of ten letters, to a sink with room for so many
+/// bytes: how many bytes, and the answers. Then these bytes are written, by so many calls of which
+/// so many failed, and these are still held.
+type Row = (
+    &'static str,
+    usize,
+    &'static [(usize, Option<Result<(), WriteFault>>)],
+    (&'static [u8], u64, u64),
+    &'static [u8],
+);
 
-// The next bytes of the source are these.
-fn check_next(rt: &impl Abort, source: &mut impl Source, next: &[u8]) {
+static ROWS: [Row; 4] = [
+    (
+        "what is held",
+        9,
+        &[(2, Some(Ok(()))), (3, Some(Ok(())))],
+        (b"cbfed", 2, 0),
+        b"",
+    ),
+    (
+        "what is not held",
+        9,
+        &[(6, None), (usize::MAX, None)],
+        (b"", 0, 0),
+        b"bcdef",
+    ),
+    (
+        "up to a failed write",
+        2,
+        &[(4, Some(Err(WriteFault { written: 2 })))],
+        (b"ed", 2, 1),
+        b"f",
+    ),
+    ("no bytes", 9, &[(0, Some(Ok(())))], (b"", 0, 0), b"bcdef"),
+];
+
+// The next bytes of the source are these, and the source below was called so often.
+fn gives(source: &mut AheadSource<Flaky<'_>>, next: &[u8], calls: u64) -> bool {
     let mut buf = [b'-'; 16];
-    let got = source.read(&mut buf[..next.len().min(16)]);
-    same(got, Ok(next.len())).expect(rt, "the same");
-    same(buf.get(..next.len()), Some(next)).expect(rt, "the same");
+    let buf = &mut buf[..next.len().min(16)];
+    source.read(buf) == Ok(next.len()) && *buf == *next && source.get_ref().calls() == calls
+}
+
+// The source has taken the first letter, and five ahead. What it does not hold it does not pass on.
+fn check_row(
+    rt: &(impl Abort + AllocGlobal),
+    (name, room, passes, (written, calls, failures), held): &Row,
+) {
+    let below = Flaky::new(b"abcdefghij", 0, 99);
+    let mut source = AheadSource::new(rt.alloc(), 6, below).expect(rt, "memory");
+    source.announce(8);
+    assert_at(
+        rt,
+        name,
+        0,
+        gives(&mut source, b"a", 1) && source.get_ref().left() == 4,
+    );
+    let mut sink = Leaky::new(rt.alloc(), *room, 9, 99).expect(rt, "memory");
+    for (count, answer) in *passes {
+        assert_at(
+            rt,
+            name,
+            1,
+            source.pass_on(*count, &Reversed, &mut sink) == *answer,
+        );
+    }
+    assert_at(
+        rt,
+        name,
+        2,
+        source.get_ref().calls() == 1 && sink.as_slice() == *written,
+    );
+    assert_at(
+        rt,
+        name,
+        3,
+        sink.calls() == *calls && sink.failures() == *failures,
+    );
+    assert_at(rt, name, 4, gives(&mut source, held, 1));
+    assert_at(
+        rt,
+        name,
+        5,
+        source.pass_on(1, &Reversed, &mut sink).is_none(),
+    );
+    assert_at(
+        rt,
+        name,
+        6,
+        source.get_ref().calls() == 1 && gives(&mut source, b"gh", 2),
+    );
 }
 
 #[test]
-fn passes_on_what_it_holds(rt: HostRuntime) -> Result<(), Fail> {
-    let mut source = holding(&rt)?;
-    let mut sink = MemSink::new(rt.alloc(), 9)?;
-    let answer = source.pass_on(2, &Reversed, &mut sink);
-    same(answer, Some(Ok(()))).expect(&rt, "the same");
-    let answer = source.pass_on(3, &Reversed, &mut sink);
-    same(answer, Some(Ok(()))).expect(&rt, "the same");
-    same(sink.as_slice(), b"cbfed".as_slice()).expect(&rt, "the same");
-    same(source.get_ref().calls(), 1).expect(&rt, "the same");
-    check_next(&rt, &mut source, b"gh");
-    same(source.get_ref().calls(), 2).expect(&rt, "the same");
-    Ok(())
-}
-
-#[test]
-fn passes_nothing_on_that_it_does_not_hold(rt: HostRuntime) -> Result<(), Fail> {
-    let mut source = holding(&rt)?;
-    let mut sink = MemSink::new(rt.alloc(), 9)?;
-    same(source.pass_on(6, &Reversed, &mut sink), None).expect(&rt, "the same");
-    same(source.pass_on(usize::MAX, &Reversed, &mut sink), None).expect(&rt, "the same");
-    same(sink.as_slice(), b"".as_slice()).expect(&rt, "the same");
-    same(source.get_ref().calls(), 1).expect(&rt, "the same");
-    check_next(&rt, &mut source, b"bcdef");
-    same(source.pass_on(1, &Reversed, &mut sink), None).expect(&rt, "the same");
-    same(source.get_ref().calls(), 1).expect(&rt, "the same");
-    Ok(())
-}
-
-#[test]
-fn passes_on_up_to_a_failed_write(rt: HostRuntime) -> Result<(), Fail> {
-    let mut source = holding(&rt)?;
-    let mut sink = MemSink::new(rt.alloc(), 2)?;
-    let answer = source.pass_on(4, &Reversed, &mut sink);
-    same(answer, Some(Err(WriteFault { written: 2 }))).expect(&rt, "the same");
-    same(sink.as_slice(), b"ed".as_slice()).expect(&rt, "the same");
-    same(sink.failures(), 1).expect(&rt, "the same");
-    check_next(&rt, &mut source, b"f");
-    same(source.get_ref().calls(), 1).expect(&rt, "the same");
-    check_next(&rt, &mut source, b"gh");
-    Ok(())
-}
-
-#[test]
-fn passes_no_bytes_on(rt: HostRuntime) -> Result<(), Fail> {
-    let mut source = holding(&rt)?;
-    let mut sink = Leaky::new(rt.alloc(), 9, 0, 0)?;
-    same(source.pass_on(0, &Reversed, &mut sink), Some(Ok(()))).expect(&rt, "the same");
-    same(sink.calls(), 0).expect(&rt, "the same");
-    check_next(&rt, &mut source, b"bcdef");
-    Ok(())
+fn passes_on_what_is_held_and_nothing_else(rt: HostRuntime) {
+    for row in &ROWS {
+        check_row(&rt, row);
+    }
 }
 
 #[test]
 fn sources_that_hold_nothing_pass_nothing_on(rt: HostRuntime) -> Result<(), Fail> {
     let mut sink = MemSink::new(rt.alloc(), 9)?;
     let mut flaky = Flaky::new(b"abc", 0, 99);
-    same(flaky.pass_on(1, &Reversed, &mut sink), None).expect(&rt, "the same");
-    same(flaky.calls(), 0).expect(&rt, "the same");
+    assert_at(
+        &rt,
+        "a source",
+        0,
+        flaky.pass_on(1, &Reversed, &mut sink).is_none(),
+    );
+    assert_at(&rt, "a source", 1, flaky.calls() == 0);
     let mut memory = MemSource::new(b"abc");
-    same(memory.pass_on(1, &Reversed, &mut sink), None).expect(&rt, "the same");
-    same(memory.left(), b"abc".as_slice()).expect(&rt, "the same");
+    assert_at(
+        &rt,
+        "memory",
+        0,
+        memory.pass_on(1, &Reversed, &mut sink).is_none(),
+    );
+    assert_at(&rt, "memory", 1, memory.left() == b"abc".as_slice());
     let mut ahead = AheadSource::new(rt.alloc(), 4, Flaky::new(b"abc", 0, 99))?;
     ahead.announce(3);
-    same(ahead.pass_on(1, &Reversed, &mut sink), None).expect(&rt, "the same");
-    same(ahead.get_ref().calls(), 0).expect(&rt, "the same");
-    same(sink.as_slice(), b"".as_slice()).expect(&rt, "the same");
+    assert_at(
+        &rt,
+        "ahead",
+        0,
+        ahead.pass_on(1, &Reversed, &mut sink).is_none(),
+    );
+    assert_at(&rt, "ahead", 1, ahead.get_ref().calls() == 0);
+    assert_at(&rt, "the sink", 0, sink.as_slice().is_empty());
     Ok(())
 }

@@ -11,20 +11,57 @@ use luks_testing::scarce::Scarcity;
 use std::alloc::Global;
 use std::process::Abort;
 
-// Which slot is named, and the limit of iterations.
-type Case = (Option<u8>, Option<u32>);
-
-// Asserts what holds in this case.
-fn assert_of(rt: &impl Abort, case: Case, holds: bool) {
-    assert!(rt; holds, "{case:?}");
-}
-
 fn header(rt: &(impl Abort + AllocGlobal)) -> Header {
     let image = SHORT_KEY.image(rt);
     let read = read_header(rt.alloc(), &mut MemSource::new(&image));
     let (header, _area) = read.expect(rt, "a header");
     header
 }
+
+/// The slots that are tried and how many bytes are held for them, or why there are none. Where none
+/// is named, these are skipped.
+enum Stated {
+    Slots(&'static [u8], usize),
+    NoSuchSlot,
+    Disabled,
+    NamedSkipped(SkipReason),
+    NothingTried(&'static [(u8, SkipReason)]),
+}
+
+// Which slot is named, and the limit of iterations.
+static ROWS: [(Option<u8>, Option<u32>, Stated); 16] = [
+    (None, None, Stated::Slots(&[0, 3, 5], 4608)),
+    (None, Some(9), Stated::Slots(&[0, 3, 5], 4608)),
+    (None, Some(8), Stated::Slots(&[0, 5], 3072)),
+    (Some(0), None, Stated::Slots(&[0], 1536)),
+    (Some(3), None, Stated::Slots(&[3], 4608)),
+    (Some(5), Some(7), Stated::Slots(&[5], 3072)),
+    (Some(8), None, Stated::NoSuchSlot),
+    (Some(255), None, Stated::NoSuchSlot),
+    (Some(1), None, Stated::Disabled),
+    (Some(7), Some(1), Stated::Disabled),
+    (Some(2), None, Stated::NamedSkipped(SkipReason::Stripes)),
+    (Some(4), None, Stated::NamedSkipped(SkipReason::State)),
+    (Some(6), None, Stated::NamedSkipped(SkipReason::Area)),
+    (
+        Some(3),
+        Some(8),
+        Stated::NamedSkipped(SkipReason::Iterations),
+    ),
+    (Some(0), Some(6), Stated::NamedSkipped(SkipReason::Digest)),
+    (
+        None,
+        Some(6),
+        Stated::NothingTried(&[
+            (0, SkipReason::Digest),
+            (2, SkipReason::Stripes),
+            (3, SkipReason::Iterations),
+            (4, SkipReason::State),
+            (5, SkipReason::Digest),
+            (6, SkipReason::Area),
+        ]),
+    ),
+];
 
 // Whether an order has these slots.
 fn has_slots(order: &Order, slots: &[u8]) -> bool {
@@ -40,89 +77,32 @@ fn has_slots(order: &Order, slots: &[u8]) -> bool {
     true
 }
 
-fn check_order(
-    rt: &(impl Abort + AllocGlobal),
-    header: &Header,
-    case: Case,
-    slots: &[u8],
-    end: usize,
-) {
-    let order = order(rt.alloc(), header, case.0, case.1).expect(rt, "an order");
-    assert_of(rt, case, has_slots(&order, slots));
-    assert_of(rt, case, held_end(&order) == end);
-}
-
-// The slots that are tried, and how many bytes are held for them.
-static ORDERS: [(Case, &[u8], usize); 6] = [
-    ((None, None), &[0, 3, 5], 4608),
-    ((None, Some(9)), &[0, 3, 5], 4608),
-    ((None, Some(8)), &[0, 5], 3072),
-    ((Some(0), None), &[0], 1536),
-    ((Some(3), None), &[3], 4608),
-    ((Some(5), Some(7)), &[5], 3072),
-];
-
-#[test]
-fn slots_come_by_rising_number(rt: HostRuntime) {
-    let header = header(&rt);
-    for (case, slots, end) in &ORDERS {
-        check_order(&rt, &header, *case, slots, *end);
-    }
-}
-
-fn check_fault(rt: &(impl Abort + AllocGlobal), header: &Header, case: Case, fault: OpenFault) {
-    let answer = order(rt.alloc(), header, case.0, case.1);
-    assert_of(rt, case, answer.err() == Some(fault));
-}
-
-fn check_skipped(rt: &(impl Abort + AllocGlobal), header: &Header, case: Case, reason: SkipReason) {
-    check_fault(rt, header, case, OpenFault::NamedSkipped(reason));
-}
-
-#[test]
-fn a_named_slot_may_be_refused(rt: HostRuntime) {
-    let header = header(&rt);
-    check_fault(&rt, &header, (Some(8), None), OpenFault::NoSuchSlot);
-    check_fault(&rt, &header, (Some(255), None), OpenFault::NoSuchSlot);
-    check_fault(&rt, &header, (Some(1), None), OpenFault::Disabled);
-    check_fault(&rt, &header, (Some(7), Some(1)), OpenFault::Disabled);
-    check_skipped(&rt, &header, (Some(2), None), SkipReason::Stripes);
-    check_skipped(&rt, &header, (Some(4), None), SkipReason::State);
-    check_skipped(&rt, &header, (Some(6), None), SkipReason::Area);
-    check_skipped(&rt, &header, (Some(3), Some(8)), SkipReason::Iterations);
-    check_skipped(&rt, &header, (Some(0), Some(6)), SkipReason::Digest);
-}
-
-const SKIPPED: [(u8, SkipReason); 6] = [
-    (0, SkipReason::Digest),
-    (2, SkipReason::Stripes),
-    (3, SkipReason::Iterations),
-    (4, SkipReason::State),
-    (5, SkipReason::Digest),
-    (6, SkipReason::Area),
-];
-
-// Whether there is no slot to try, and these are skipped.
-fn is_nothing(answer: &Result<Order, OpenFault>, skipped: &[(u8, SkipReason)]) -> bool {
-    match answer {
-        Err(OpenFault::NothingTried(slots)) => slots.as_slice() == skipped,
+fn is_as_stated(answer: &Result<Order, OpenFault>, stated: &Stated) -> bool {
+    match (answer, stated) {
+        (Ok(order), Stated::Slots(slots, end)) => {
+            has_slots(order, slots) && held_end(order) == *end
+        }
+        (Err(OpenFault::NothingTried(slots)), Stated::NothingTried(skipped)) => {
+            slots.as_slice() == *skipped
+        }
+        (Err(OpenFault::NoSuchSlot), Stated::NoSuchSlot) => true,
+        (Err(OpenFault::Disabled), Stated::Disabled) => true,
+        (Err(OpenFault::NamedSkipped(reason)), Stated::NamedSkipped(stated)) => *reason == *stated,
         _ => false,
     }
 }
 
 #[test]
-fn nothing_may_be_left_to_try(rt: HostRuntime) {
-    let answer = order(rt.alloc(), &header(&rt), None, Some(6));
-    assert!(rt; is_nothing(&answer, &SKIPPED));
+fn slots_come_by_rising_number_if_they_can_be_tried(rt: HostRuntime) {
+    let header = header(&rt);
+    for (named, limit, stated) in &ROWS {
+        let answer = order(rt.alloc(), &header, *named, *limit);
+        assert!(rt; is_as_stated(&answer, stated), "{named:?}, {limit:?}");
+    }
 }
 
-// How many slots are tried, or why none is.
-fn tried(alloc: Global, header: &Header, named: Option<u8>) -> Result<usize, OpenFault> {
-    let order = order(alloc, header, named, None)?;
-    Ok(order.entries().len())
-}
-
-// Runs until one does not answer want of memory: what that answers, and how many were before it.
+// Runs until one does not answer want of memory: how many slots are tried or why none is, and how
+// many runs were before it.
 fn first_answer(
     alloc: Global,
     header: &Header,
@@ -130,7 +110,7 @@ fn first_answer(
     scarcity: &mut Scarcity,
 ) -> (Result<usize, OpenFault>, u32) {
     for refused in 0..400u32 {
-        let answer = tried(alloc, header, named);
+        let answer = order(alloc, header, named, None).map(|order| order.entries().len());
         if answer != Err(OpenFault::Memory) {
             return (answer, refused);
         }
@@ -139,25 +119,15 @@ fn first_answer(
     (Err(OpenFault::Memory), 400)
 }
 
-fn scarce_answer(
-    rt: &(impl Abort + AllocGlobal),
-    header: &Header,
-    named: Option<u8>,
-) -> (Result<usize, OpenFault>, u32) {
-    let mut scarcity = Scarcity::new(rt.alloc(), 400, 1100).expect(rt, "memory");
-    first_answer(rt.alloc(), header, named, &mut scarcity)
-}
-
-fn check_scarce(rt: &(impl Abort + AllocGlobal), header: &Header, named: Option<u8>, slots: usize) {
-    let (answer, refused) = scarce_answer(rt, header, named);
-    assert_of(rt, (named, None), answer == Ok(slots));
-    assert_of(rt, (named, None), 0 < refused);
-}
-
 // Each refused run answers want of memory.
 #[test]
-fn answers_memory_where_it_is_refused(rt: HostRuntime) {
+fn memory_is_answered_where_it_is_refused(rt: HostRuntime) {
     let header = header(&rt);
-    check_scarce(&rt, &header, None, 3);
-    check_scarce(&rt, &header, Some(5), 1);
+    for (named, slots) in [(None, 3), (Some(5), 1)] {
+        let (answer, refused) = {
+            let mut scarcity = Scarcity::new(rt.alloc(), 400, 1100).expect(&rt, "memory");
+            first_answer(rt.alloc(), &header, named, &mut scarcity)
+        };
+        assert!(rt; answer == Ok(slots) && 0 < refused, "{named:?}: {refused}");
+    }
 }

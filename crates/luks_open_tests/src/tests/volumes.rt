@@ -24,7 +24,8 @@ use std::process::Abort;
 pub struct Volume {
     len: usize,
     rows: &'static str,
-    key: &'static str,
+    /// The volume key, as hexadecimal digits.
+    pub key: &'static str,
 }
 
 /// SHA-256, a key of 32 bytes, 7 iterations of the digest, the payload from sector 9 on.
@@ -51,51 +52,28 @@ pub const LONG_KEY: Volume = Volume {
     key: "a2a9dfed4a37caad14836d5c1606e071f59979b9a501cff54940e687216babfba438fcb6041fa17d5c67141834ee994d19be8553fc1840d6e6c0b171886ad705",
 };
 
-// Puts a row into an image.
-fn put_row(rt: &impl Abort, image: &mut [u8], row: &str) {
-    let (place, digits) = row.split_once(' ').expect(rt, "a row");
-    let mut at = [0; 2];
-    hex::decode_to_slice(place, &mut at).expect(rt, "a place");
-    let start = usize::from(u16::from_be_bytes(at));
-    assert!(rt; start + 32 <= image.len());
-    hex::decode_to_slice(digits, &mut image[start..start + 32]).expect(rt, "a row");
-}
-
-fn put_rows(rt: &impl Abort, image: &mut [u8], rows: &str) {
-    for row in rows.lines() {
-        put_row(rt, image, row);
-    }
-}
-
 impl Volume {
     /// The bytes of the image.
     pub fn image(&self, rt: &(impl Abort + AllocGlobal)) -> Vec<u8> {
         let mut image = vec![in rt.alloc(); 0; self.len].expect(rt, "memory");
-        put_rows(rt, &mut image, self.rows);
+        for row in self.rows.lines() {
+            let (place, digits) = row.split_once(' ').expect(rt, "a row");
+            let mut at = [0; 2];
+            hex::decode_to_slice(place, &mut at).expect(rt, "a place");
+            let start = usize::from(u16::from_be_bytes(at));
+            assert!(rt; start + 32 <= image.len());
+            hex::decode_to_slice(digits, &mut image[start..start + 32]).expect(rt, "a row");
+        }
         image
-    }
-
-    /// The volume key.
-    pub fn key(&self, rt: &(impl Abort + AllocGlobal)) -> Vec<u8> {
-        hex::decode(rt.alloc(), self.key).expect(rt, "hexadecimal digits")
     }
 }
 
-/// What is asked of an image.
+/// What is asked of an image: which passphrase, a slot by its number, and the most iterations.
 #[derive(Clone, Copy, Debug)]
 pub struct Question<'a> {
     pub pass: &'a [u8],
     pub named: Option<u8>,
     pub limit: Option<u32>,
-}
-
-/// Any slot may open, whatever its iterations.
-pub fn any(pass: &[u8]) -> Question<'_> {
-    Question {
-        pass,
-        named: None,
-        limit: None,
-    }
 }
 
 // What a passphrase opens of a header's image.

@@ -49,21 +49,14 @@ fn drawn_slot(state: &mut u64, number: u32) -> Slot1<'static> {
     }
 }
 
-// The plain text: none, one sector or two.
-fn drawn_plain(state: &mut u64) -> &'static [u8] {
-    match next(state) % 3 {
-        0 => &[],
-        1 => &BYTES[..512],
-        _ => BYTES,
-    }
-}
-
 // A volume of drawn parameters is sealed.
 fn check_drawn(rt: &(impl Abort + AllocGlobal), state: &mut u64, run: u32) {
     let first = next(state) % 4;
     let second = 4 + next(state) % 4;
     let slots = [drawn_slot(state, first), drawn_slot(state, second)];
     let uuid = next(state) as usize % 41;
+    // No plain text, one sector or two.
+    let plain = next(state) as usize % 3 * 512;
     let seal = Seal1 {
         hash: HASHES[run as usize % 5],
         mode: MODES[run as usize % 4],
@@ -74,7 +67,7 @@ fn check_drawn(rt: &(impl Abort + AllocGlobal), state: &mut u64, run: u32) {
         digest_salt: [0x5a; 32],
         digest_iterations: 1 + next(state) % 3,
         slots: &slots,
-        plain: drawn_plain(state),
+        plain: &BYTES[..plain],
     };
     assert!(rt; seal1(rt.alloc(), &seal).is_ok(), "{run}");
 }

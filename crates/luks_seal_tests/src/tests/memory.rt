@@ -1,7 +1,7 @@
 //! Sealing where memory is refused: less and less of it, until a call meets no refusal. Each call
 //! that does answers want of memory, and never anything else.
 
-use super::fixture::counted;
+use super::counted;
 use luks_seal::parameters::{Seal1, Seal2, SealFault};
 use luks_seal_testing::parameters::{parameters1, parameters2, slot1, slot2};
 use luks_testing::scarce::Scarcity;
@@ -44,28 +44,21 @@ fn first_answer(alloc: Global, volume: Volume<'_>, scarcity: &mut Scarcity) -> (
     (false, PIECES)
 }
 
-fn scarce_answer(rt: &(impl Abort + AllocGlobal), volume: Volume<'_>) -> (bool, usize) {
-    let mut scarcity = Scarcity::new(rt.alloc(), PIECES, PIECE).expect(rt, "memory");
-    first_answer(rt.alloc(), volume, &mut scarcity)
-}
-
 fn check(rt: &(impl Abort + AllocGlobal), volume: Volume<'_>) {
     // The stack grows in a first call, since it cannot once all memory is taken.
     assert!(rt; fault_of(rt.alloc(), volume).is_none());
-    let (is_well, refused) = scarce_answer(rt, volume);
+    let (is_well, refused) = {
+        let mut scarcity = Scarcity::new(rt.alloc(), PIECES, PIECE).expect(rt, "memory");
+        first_answer(rt.alloc(), volume, &mut scarcity)
+    };
     assert!(rt; is_well && 10 < refused, "{refused}");
 }
 
 #[test]
-fn seal1_answers_memory_where_it_is_refused(rt: HostRuntime) {
+fn memory_is_answered_where_it_is_refused(rt: HostRuntime) {
     let plain = counted(&rt, 1024);
     let slots = [slot1(0, [1; 32], b"one"), slot1(7, [2; 32], b"two")];
     check(&rt, Volume::First(&parameters1(&slots, &plain)));
-}
-
-#[test]
-fn seal2_answers_memory_where_it_is_refused(rt: HostRuntime) {
-    let plain = counted(&rt, 1024);
     let slots = [slot2(0, [1; 32], b"one"), slot2(31, [2; 32], b"two")];
     check(&rt, Volume::Second(&parameters2(&slots, &plain)));
 }

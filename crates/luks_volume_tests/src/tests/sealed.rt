@@ -2,16 +2,11 @@
 
 ghost use Rattle.std.specs.Prelude.{◌≡◌, length};
 
-use super::fixture::{NEVER, assert_outcome, counted, dynamic, expected, pumped};
 use luks_cipher::{Mode, SectorCipher};
-use luks_header::sector_size::SectorSize;
 use luks_kdf::{Hash, Work, pbkdf2};
-use luks_seal_testing::bytes::at;
+use luks_seal_testing::bytes::{at, counted};
 use luks_seal_testing::parameters::{KEY, SALT, parameters1, slot1};
 use luks_stripes::af_merge;
-use luks_testing::devices::Flaky;
-use luks_volume::pump::Pump;
-use luks_volume::state::Step;
 use luks1_seal::seal1;
 use std::process::Abort;
 
@@ -34,35 +29,25 @@ fn merge(stripes: &[u8], key: &mut [u8])
     af_merge(Hash::Sha256, stripes, key);
 }
 
-// Decrypts an area of one sector.
-fn decrypt(area_key: &[u8], area: &mut [u8])
-    requires { length area.old ≡ 512 }
-{
-    if let Some(cipher) = SectorCipher::new(Mode::XtsPlain64, area_key) {
-        cipher.decrypt_unit(0, area);
-    }
-}
-
-// The key of the stripes in an area of one sector.
-fn open_area(area_key: &[u8], area: &mut [u8], key: &mut [u8])
-    requires area { length area.old ≡ 512 }
-    requires key { length key.old ≡ 32 }
-{
-    decrypt(area_key, area);
-    merge(&area[..128], key);
-}
-
 // Whether the stripes at this place hold the key for a passphrase, after two iterations.
 fn opens(rt: &impl Abort, image: &[u8], place: usize, salt: &[u8], pass: &[u8]) -> bool {
     let mut area_key = [0; 32];
-    let mut work = Work::new(0);
-    pbkdf2(Hash::Sha256, pass, salt, 2, &mut area_key, &mut work);
-    let mut area = [0; 512];
+    pbkdf2(
+        Hash::Sha256,
+        pass,
+        salt,
+        2,
+        &mut area_key,
+        &mut Work::new(0),
+    );
     let found = at(image, place, 512);
     assert!(rt; found.len() == 512);
+    let mut area = [0; 512];
     area.copy_from_slice(found);
+    let cipher = SectorCipher::new(Mode::XtsPlain64, &area_key).expect(rt, "a key");
+    cipher.decrypt_unit(0, &mut area);
     let mut key = [0; 32];
-    open_area(&area_key, &mut area, &mut key);
+    merge(&area[..128], &mut key);
     key.as_slice() == KEY
 }
 
@@ -87,40 +72,20 @@ static HEADER: [(usize, &[u8]); 16] = [
     (584, b"\x00\x00\x00\x40\x00\x00\x00\x04\x00\x00\x00\x00"),
 ];
 
-fn check_header(rt: &impl Abort, image: &[u8]) {
-    for (place, bytes) in &HEADER {
-        assert!(rt; at(image, *place, bytes.len()) == *bytes, "{place}");
-    }
-}
-
-// The payload of 1024 bytes.
-fn check_payload(rt: &(impl Abort + AllocGlobal), image: &[u8], plain: &[u8]) {
-    let key = SectorCipher::new(Mode::XtsPlain64, KEY).expect(rt, "a key");
-    let mut pump = Pump::new(dynamic(36_864, SectorSize::B512, 0), key, 0);
-    let mut source = Flaky::new(image, 5000, NEVER);
-    let outcome = pumped(rt, &mut pump, &mut source, 5000, (image, plain));
-    assert_outcome(rt, 1024, outcome, expected(2, Ok(Step::End), 37_888, 1024));
-}
-
-fn sealed(rt: &(impl Abort + AllocGlobal), plain: &[u8]) -> Vec<u8> {
+// Its payload is read in `sealed_both`.
+#[test]
+fn a_sealed_volume_has_the_stated_places(rt: HostRuntime) {
+    let plain = counted(rt.alloc(), 1024).expect(&rt, "memory");
     let slots = [
         slot1(5, SIXTH_SALT, b"sixth"),
         slot1(0, FIRST_SALT, b"first"),
     ];
-    seal1(rt.alloc(), &parameters1(&slots, plain)).expect(rt, "a volume")
-}
-
-fn check_sealed(rt: &(impl Abort + AllocGlobal), image: &[u8], plain: &[u8]) {
+    let image = seal1(rt.alloc(), &parameters1(&slots, &plain)).expect(&rt, "a volume");
     assert!(rt; image.len() == 37_888);
-    check_header(rt, image);
-    assert!(rt; opens(rt, image, 4096, &FIRST_SALT, b"first"));
-    assert!(rt; opens(rt, image, 24_576, &SIXTH_SALT, b"sixth"));
-    assert!(rt; !opens(rt, image, 4096, &FIRST_SALT, b"sixth"));
-    check_payload(rt, image, plain);
-}
-
-#[test]
-fn a_sealed_volume_opens(rt: HostRuntime) {
-    let plain: [u8; 1024] = counted();
-    check_sealed(&rt, &sealed(&rt, &plain), &plain);
+    for (place, bytes) in &HEADER {
+        assert!(rt; at(&image, *place, bytes.len()) == *bytes, "{place}");
+    }
+    assert!(rt; opens(&rt, &image, 4096, &FIRST_SALT, b"first"));
+    assert!(rt; opens(&rt, &image, 24_576, &SIXTH_SALT, b"sixth"));
+    assert!(rt; !opens(&rt, &image, 4096, &FIRST_SALT, b"sixth"));
 }

@@ -1,0 +1,66 @@
+//! What the tables speak of: a key and how it is used.
+
+use luks_blocks::SliceKey;
+use luks_cipher::cbc::{decrypt_chain, encrypt_chain};
+use luks_cipher::{AesKey, Mode, SectorCipher, XtsKey};
+use std::process::Abort;
+
+/// A key for blocks, for chains behind this block, for data units, or for sectors.
+#[derive(Drop)]
+pub enum Cipher {
+    Block(AesKey),
+    Chain(SliceKey, [u8; 16]),
+    Unit(XtsKey),
+    Sector(SectorCipher),
+}
+
+impl Cipher {
+    /// The cipher of this name. The block before a chain is written as hexadecimal digits.
+    pub fn new(rt: &impl Abort, name: &str, key: &[u8], before: &str) -> Cipher {
+        match name {
+            "aes" => Cipher::Block(AesKey::new(key).expect(rt, "a key of AES")),
+            "cbc" => {
+                let mut block = [0; 16];
+                hex::decode_to_slice(before, &mut block).expect(rt, "a block");
+                Cipher::Chain(SliceKey::new(key).expect(rt, "a key of AES"), block)
+            }
+            "xts" => Cipher::Unit(XtsKey::new(key).expect(rt, "a key of XTS")),
+            _ => {
+                let mode = Mode::from_name(name).expect(rt, "a mode");
+                Cipher::Sector(SectorCipher::new(mode, key).expect(rt, "a key of the mode"))
+            }
+        }
+    }
+
+    /// Encrypts what has this number, if the cipher counts.
+    pub fn encrypt(&self, rt: &impl Abort, number: u64, unit: &mut [u8]) {
+        assert!(rt; unit.len() % 16 == 0 && 16 <= unit.len() && unit.len() <= 4096);
+        match self {
+            Cipher::Block(key) => {
+                let mut block = [0; 16];
+                block.copy_from_slice(&unit[..16]);
+                key.encrypt_block(&mut block);
+                unit[..16].copy_from_slice(&block);
+            }
+            Cipher::Chain(key, before) => encrypt_chain(key.key(), *before, unit),
+            Cipher::Unit(key) => key.encrypt_unit(number, unit),
+            Cipher::Sector(key) => key.encrypt_unit(number, unit),
+        }
+    }
+
+    /// Decrypts what has this number, if the cipher counts.
+    pub fn decrypt(&self, rt: &impl Abort, number: u64, unit: &mut [u8]) {
+        assert!(rt; unit.len() % 16 == 0 && 16 <= unit.len() && unit.len() <= 4096);
+        match self {
+            Cipher::Block(key) => {
+                let mut block = [0; 16];
+                block.copy_from_slice(&unit[..16]);
+                key.decrypt_block(&mut block);
+                unit[..16].copy_from_slice(&block);
+            }
+            Cipher::Chain(key, before) => decrypt_chain(key, *before, unit),
+            Cipher::Unit(key) => key.decrypt_unit(number, unit),
+            Cipher::Sector(key) => key.decrypt_unit(number, unit),
+        }
+    }
+}

@@ -1,0 +1,115 @@
+//! Tables of what is encrypted and what that gives. A line is a cipher, a key, the number of a unit
+//! or the block before a chain, the plain bytes and the encrypted ones.
+
+use super::aes_vectors::{EXAMPLES, KNOWN_ANSWERS, SLICE_128, SLICE_192, SLICE_256};
+use super::cipher::Cipher;
+use super::mode_vectors::{CHAINS, DIGESTS, SECTORS, WORKED};
+use super::xts_vectors::{LARGE_NUMBERS, NIST, SHORT};
+use super::{assert_in, bytes, counted};
+use luks_blocks::SliceKey;
+use sha2::{Digest, Sha256};
+use std::process::Abort;
+
+// A line's word of this number, from 0.
+fn word<'a>(rt: &impl Abort, line: &'a str, number: usize) -> &'a str {
+    line.split(' ').nth(number).expect(rt, "a word")
+}
+
+// The cipher takes the plain unit of this number to the encrypted one, and that back.
+pub fn check_unit(
+    rt: &(impl Abort + AllocGlobal),
+    case: &str,
+    (cipher, number): (&Cipher, u64),
+    plain: &[u8],
+    encrypted: &[u8],
+) {
+    let mut unit = plain.to_vec(rt.alloc()).expect(rt, "memory");
+    cipher.encrypt(rt, number, &mut unit);
+    assert_in(rt, case, unit.as_slice() == encrypted);
+    cipher.decrypt(rt, number, &mut unit);
+    assert_in(rt, case, unit.as_slice() == plain);
+}
+
+fn check_line(rt: &(impl Abort + AllocGlobal), line: &str) {
+    let middle = word(rt, line, 2);
+    // A block before a chain is no number.
+    let number = middle.parse().unwrap_or(0);
+    let cipher = Cipher::new(rt, word(rt, line, 0), &bytes(rt, word(rt, line, 1)), middle);
+    let plain = bytes(rt, word(rt, line, 3));
+    let encrypted = bytes(rt, word(rt, line, 4));
+    check_unit(rt, line, (&cipher, number), &plain, &encrypted);
+}
+
+#[test]
+fn each_line_is_encrypted_and_decrypted(rt: HostRuntime) {
+    for table in [
+        EXAMPLES,
+        KNOWN_ANSWERS,
+        CHAINS,
+        SECTORS,
+        WORKED,
+        NIST,
+        SHORT,
+        LARGE_NUMBERS,
+    ] {
+        for line in table.lines() {
+            check_line(&rt, line);
+        }
+    }
+}
+
+/// Bytes of keys.
+const KEY: &str = "\
+05162738495a6b7c8d9eafc0d1e2f30415263748596a7b8c9daebfd0e1f20314\
+25364758697a8b9cadbecfe0f102132435465768798a9bacbdcedff001122334";
+
+// The line's sector is encrypted to what has the digest, and that is decrypted to the plain one.
+fn check_digest(rt: &(impl Abort + AllocGlobal), line: &str) {
+    let key = bytes(rt, KEY);
+    let key_length = word(rt, line, 1)
+        .parse::<usize>()
+        .expect(rt, "a length")
+        .min(key.len());
+    let cipher = Cipher::new(rt, word(rt, line, 0), &key[..key_length], "");
+    let number = word(rt, line, 2).parse().expect(rt, "a number");
+    let plain = counted(rt, word(rt, line, 3).parse().expect(rt, "a length"), 7, 1);
+    let mut sector = plain.clone().expect(rt, "memory");
+    cipher.encrypt(rt, number, &mut sector);
+    let digest = Sha256::digest(&sector);
+    assert_in(
+        rt,
+        line,
+        bytes(rt, word(rt, line, 4)).as_slice() == digest.as_slice(),
+    );
+    cipher.decrypt(rt, number, &mut sector);
+    assert_in(rt, line, sector == plain);
+}
+
+#[test]
+fn sectors_of_slices_and_blocks_have_their_digests(rt: HostRuntime) {
+    for line in DIGESTS.lines() {
+        check_digest(&rt, line);
+    }
+}
+
+// 32 blocks are decrypted at once, and the first of them alone.
+fn check_slice(rt: &(impl Abort + AllocGlobal), key: &[u8], encrypted: &str, plain: &[u8]) {
+    let key = SliceKey::new(key).expect(rt, "a key of AES");
+    let mut slice = [0; 512];
+    hex::decode_to_slice(encrypted, &mut slice).expect(rt, "a slice");
+    let mut block = [0; 16];
+    block.copy_from_slice(&slice[..16]);
+    key.decrypt_slice(&mut slice);
+    assert_in(rt, encrypted, slice.as_slice() == plain);
+    key.key().decrypt_block(&mut block);
+    assert_in(rt, encrypted, plain.starts_with(&block));
+}
+
+#[test]
+fn slices_are_decrypted_under_each_length_of_key(rt: HostRuntime) {
+    let key = bytes(&rt, KEY);
+    let plain = counted(&rt, 512, 7, 1);
+    for (length, encrypted) in [(16, SLICE_128), (24, SLICE_192), (32, SLICE_256)] {
+        check_slice(&rt, &key[..key.len().min(length)], encrypted, &plain);
+    }
+}
