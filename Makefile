@@ -69,9 +69,8 @@ $(INTEROP:%=interop-%): interop-%:
 interop-sealed:
 	interop/sealed.sh $(PROGRAM) $(SEALER)
 
-# It derives keys, for interop/keys.sh and bench/pbkdf2; with no arguments it does nothing.
-$(DERIVER): FORCE | toolchain
-	cd crates/bench_pbkdf2 && rt run >/dev/null
+interop-keys:
+	interop/keys.sh $(PROGRAM) $(DERIVER)
 
 test: toolchain
 	tests/gate
