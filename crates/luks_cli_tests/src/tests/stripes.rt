@@ -137,8 +137,8 @@ const SHORT: Parts = &[RANDOM, LAST_SHA1];
 
 const LONG: Parts = &[&[0; 512], LAST_LONG];
 
-/// A line, the image, the second input and what it writes, the status and what is told, and how many
-/// bytes are left of the image and the second input.
+/// A line, the image, the second input and what it writes, the status and what is told, and how
+/// many bytes are left of the image and the second input.
 type Row = (&'static str, [Parts; 3], &'static str, [usize; 2]);
 
 static ROWS: [Row; 18] = [
