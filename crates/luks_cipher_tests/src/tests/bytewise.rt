@@ -130,8 +130,8 @@ fn schedule(there: &[u8; 256], key: &[u8]) -> Words {
     let mut all = [[0; 4]; 60];
     let mut constant = 1;
     for i in 0..60usize {
-        if i < words {
-            all[i] = [key[4 * i], key[4 * i + 1], key[4 * i + 2], key[4 * i + 3]];
+        if let Some([a, b, c, d]) = key.get(4 * i..4 * i + 4) {
+            all[i] = [*a, *b, *c, *d];
             continue;
         }
         all[i] = next_word(there, &all, words, i, constant);
