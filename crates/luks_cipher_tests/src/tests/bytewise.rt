@@ -124,14 +124,26 @@ fn next_word(there: &[u8; 256], all: &Words, words: usize, i: usize, constant: u
     word
 }
 
+// Word `i` of a key.
+fn key_word(key: &[u8], i: usize) -> Word {
+    let mut word = [0; 4];
+    for k in 0..4 {
+        let place = i.saturating_mul(4).saturating_add(k);
+        if place < key.len() {
+            word[k] = key[place];
+        }
+    }
+    word
+}
+
 // The schedule of a key of 16 or 32 bytes (5.2).
 fn schedule(there: &[u8; 256], key: &[u8]) -> Words {
     let words = key.len() / 4;
     let mut all = [[0; 4]; 60];
     let mut constant = 1;
     for i in 0..60usize {
-        if let Some([a, b, c, d]) = key.get(4 * i..4 * i + 4) {
-            all[i] = [*a, *b, *c, *d];
+        if i < words {
+            all[i] = key_word(key, i);
             continue;
         }
         all[i] = next_word(there, &all, words, i, constant);
