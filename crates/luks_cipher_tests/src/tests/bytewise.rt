@@ -61,8 +61,8 @@ impl Boxes {
 
 pub type State = [u8; 16];
 
-// The bytes substituted, and row r turned left by `by * r` places (5.1.1 and 5.1.2, and with 3 for 1
-// and the other box 5.3.1 and 5.3.2).
+// The bytes substituted, and row r turned left by `by * r` places (5.1.1 and 5.1.2, and with 3 for
+// 1 and the other box 5.3.1 and 5.3.2).
 fn turned(table: &[u8; 256], by: usize, s: State) -> State {
     let mut next = [0; 16];
     for i in 0..16 {

@@ -95,8 +95,8 @@ fn check_payload(
     assert!(rt; last == Ok(Step::End) && sink.as_slice() == plain);
 }
 
-// The passphrase opens this slot of the image, and the payload is this plain text. Or it opens none,
-// or not the named one.
+// The passphrase opens this slot of the image, and the payload is this plain text. Or it opens
+// none, or not the named one.
 fn check_opens(
     rt: &(impl Abort + AllocGlobal),
     (image, plain): (&[u8], &[u8]),
