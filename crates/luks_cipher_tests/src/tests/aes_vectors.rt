@@ -8,9 +8,9 @@ aes 000102030405060708090a0b0c0d0e0f1011121314151617 - 00112233445566778899aabbc
 aes 000102030405060708090a0b0c0d0e0f101112131415161718191a1b1c1d1e1f - 00112233445566778899aabbccddeeff 8ea2b7ca516745bfeafc49904b496089
 ";
 
-// NIST's known answers for AES under keys of 16, 24 and 32 bytes (the CAVP's sets GFSbox and KeySbox
-// whole, and 16 each of VarKey and VarTxt), as Debian's package python3-cryptography-vectors has
-// them.
+// NIST's known answers for AES under keys of 16, 24 and 32 bytes (the CAVP's sets GFSbox and
+// KeySbox whole, and 16 each of VarKey and VarTxt), as Debian's package
+// python3-cryptography-vectors has them.
 pub const KNOWN_ANSWERS: &str = "\
 aes 00000000000000000000000000000000 - f34481ec3cc627bacd5dc3fb08f273e6 0336763e966d92595a567cc9ce537f5e
 aes 00000000000000000000000000000000 - 9798c4640bad75c7c3227db910174e72 a9a1631bf4996954ebc093957b234589

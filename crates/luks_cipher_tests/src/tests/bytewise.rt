@@ -61,8 +61,8 @@ impl Boxes {
 
 pub type State = [u8; 16];
 
-// The bytes substituted, and row r turned left by `by * r` places (5.1.1 and 5.1.2, and with 3 for 1
-// and the other box 5.3.1 and 5.3.2).
+// The bytes substituted, and row r turned left by `by * r` places (5.1.1 and 5.1.2, and with 3 for
+// 1 and the other box 5.3.1 and 5.3.2).
 fn turned(table: &[u8; 256], by: usize, s: State) -> State {
     let mut next = [0; 16];
     for i in 0..16 {
@@ -124,6 +124,18 @@ fn next_word(there: &[u8; 256], all: &Words, words: usize, i: usize, constant: u
     word
 }
 
+// Word `i` of a key.
+fn key_word(key: &[u8], i: usize) -> Word {
+    let mut word = [0; 4];
+    for k in 0..4 {
+        let place = i.saturating_mul(4).saturating_add(k);
+        if place < key.len() {
+            word[k] = key[place];
+        }
+    }
+    word
+}
+
 // The schedule of a key of 16 or 32 bytes (5.2).
 fn schedule(there: &[u8; 256], key: &[u8]) -> Words {
     let words = key.len() / 4;
@@ -131,7 +143,7 @@ fn schedule(there: &[u8; 256], key: &[u8]) -> Words {
     let mut constant = 1;
     for i in 0..60usize {
         if i < words {
-            all[i] = [key[4 * i], key[4 * i + 1], key[4 * i + 2], key[4 * i + 3]];
+            all[i] = key_word(key, i);
             continue;
         }
         all[i] = next_word(there, &all, words, i, constant);

@@ -1,7 +1,7 @@
 //! Units of CBC under AES, and sectors in the modes. A line is as in `vectors`.
 
-// The first two are the examples of NIST SP 800-38A (F.2.1 and F.2.5); the others are the CAVP's sets
-// CBCMMT (128 and 256, whole) and the first 8 of CBCGFSbox and CBCKeySbox, as Debian's package
+// The first two are the examples of NIST SP 800-38A (F.2.1 and F.2.5); the others are the CAVP's
+// sets CBCMMT (128 and 256, whole) and the first 8 of CBCGFSbox and CBCKeySbox, as Debian's package
 // python3-cryptography-vectors has them.
 pub const CHAINS: &str = "\
 cbc 2b7e151628aed2a6abf7158809cf4f3c 000102030405060708090a0b0c0d0e0f 6bc1bee22e409f96e93d7e117393172aae2d8a571e03ac9c9eb76fac45af8e5130c81c46a35ce411e5fbc1191a0a52eff69f2445df4f9b17ad2b417be66c3710 7649abac8119b246cee98e9b12e9197d5086cb9b507219ee95db113a917678b273bed6b8e3c1743b7116e69e222295163ff1caa1681fac09120eca307586e1a7
@@ -83,8 +83,8 @@ xts-plain64 0000000000000000000000000000000000000000000000000000000000000000 0 0
 ";
 
 // A line is a mode, how many bytes of `KEY` are the key, a sector's number, its length, and the
-// SHA-256 digest of the plain sector encrypted. The digests are of what OpenSSL encrypts, by Python's
-// cryptography 48.0.0.
+// SHA-256 digest of the plain sector encrypted. The digests are of what OpenSSL encrypts, by
+// Python's cryptography 48.0.0.
 pub const DIGESTS: &str = "\
 xts-plain64 32 81985529216486895 16 dc32fded8f6f2c2df391682af1b1a160c002c76f145714c22c4569ee74b6c46a
 xts-plain64 32 81985529216486895 496 5ccba59a04ae0c36e863e3f604daf5ce613285eb4680461e20d413855588f950

@@ -68,8 +68,8 @@ impl Write for Device {
     }
 }
 
-/// A call that moves as many bytes as the device does once, or all of them, and its answer: how many
-/// were moved, also where it failed.
+/// A call that moves as many bytes as the device does once, or all of them, and its answer: how
+/// many were moved, also if it failed.
 type Call = (bool, Result<usize, usize>);
 
 const ONCE: bool = false;

@@ -77,46 +77,22 @@ fn check_row(
     let below = Flaky::new(b"abcdefghij", 0, 99);
     let mut source = AheadSource::new(rt.alloc(), 6, below).expect(rt, "memory");
     source.announce(8);
-    assert_at(
-        rt,
-        name,
-        0,
-        gives(&mut source, b"a", 1) && source.get_ref().left() == 4,
-    );
+    let is_first = gives(&mut source, b"a", 1);
+    assert_at(rt, name, 0, is_first && source.get_ref().left() == 4);
     let mut sink = Leaky::new(rt.alloc(), *room, 9, 99).expect(rt, "memory");
     for (count, answer) in *passes {
-        assert_at(
-            rt,
-            name,
-            1,
-            source.pass_on(*count, &Reversed, &mut sink) == *answer,
-        );
+        let got = source.pass_on(*count, &Reversed, &mut sink);
+        assert_at(rt, name, 1, got == *answer);
     }
-    assert_at(
-        rt,
-        name,
-        2,
-        source.get_ref().calls() == 1 && sink.as_slice() == *written,
-    );
-    assert_at(
-        rt,
-        name,
-        3,
-        sink.calls() == *calls && sink.failures() == *failures,
-    );
+    let is_alone = source.get_ref().calls() == 1;
+    assert_at(rt, name, 2, is_alone && sink.as_slice() == *written);
+    let is_counted = sink.calls() == *calls && sink.failures() == *failures;
+    assert_at(rt, name, 3, is_counted);
     assert_at(rt, name, 4, gives(&mut source, held, 1));
-    assert_at(
-        rt,
-        name,
-        5,
-        source.pass_on(1, &Reversed, &mut sink).is_none(),
-    );
-    assert_at(
-        rt,
-        name,
-        6,
-        source.get_ref().calls() == 1 && gives(&mut source, b"gh", 2),
-    );
+    let more = source.pass_on(1, &Reversed, &mut sink);
+    assert_at(rt, name, 5, more.is_none());
+    assert_at(rt, name, 6, source.get_ref().calls() == 1);
+    assert_at(rt, name, 7, gives(&mut source, b"gh", 2));
 }
 
 #[test]

@@ -92,8 +92,8 @@ pub struct Way {
 /// are taken and written.
 pub type End = (u32, Result<Step, VolumeFault>, usize, usize);
 
-/// What a run came to, and how many sectors the source passed on. It is sound if what it wrote is a
-/// beginning of the plain bytes, and if further steps and skips answered alike and called no device.
+/// What a run came to, and how many sectors the source passed on. It is sound if what it wrote is
+/// a prefix of the plain bytes, and if further steps and skips answered alike and called no device.
 #[derive(Clone, Copy, PartialEq, Eq, Debug)]
 pub struct Outcome {
     pub end: End,

@@ -29,25 +29,35 @@ fn merge(stripes: &[u8], key: &mut [u8])
     af_merge(Hash::Sha256, stripes, key);
 }
 
+// Decrypts an area of one sector.
+fn decrypt(area_key: &[u8], area: &mut [u8])
+    requires { length area.old ≡ 512 }
+{
+    if let Some(cipher) = SectorCipher::new(Mode::XtsPlain64, area_key) {
+        cipher.decrypt_unit(0, area);
+    }
+}
+
+// The key of the stripes in an area of one sector.
+fn open_area(area_key: &[u8], area: &mut [u8], key: &mut [u8])
+    requires area { length area.old ≡ 512 }
+    requires key { length key.old ≡ 32 }
+{
+    decrypt(area_key, area);
+    merge(&area[..128], key);
+}
+
 // Whether the stripes at this place hold the key for a passphrase, after two iterations.
 fn opens(rt: &impl Abort, image: &[u8], place: usize, salt: &[u8], pass: &[u8]) -> bool {
     let mut area_key = [0; 32];
-    pbkdf2(
-        Hash::Sha256,
-        pass,
-        salt,
-        2,
-        &mut area_key,
-        &mut Work::new(0),
-    );
+    let mut work = Work::new(0);
+    pbkdf2(Hash::Sha256, pass, salt, 2, &mut area_key, &mut work);
+    let mut area = [0; 512];
     let found = at(image, place, 512);
     assert!(rt; found.len() == 512);
-    let mut area = [0; 512];
     area.copy_from_slice(found);
-    let cipher = SectorCipher::new(Mode::XtsPlain64, &area_key).expect(rt, "a key");
-    cipher.decrypt_unit(0, &mut area);
     let mut key = [0; 32];
-    merge(&area[..128], &mut key);
+    open_area(&area_key, &mut area, &mut key);
     key.as_slice() == KEY
 }
 

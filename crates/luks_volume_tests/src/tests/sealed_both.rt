@@ -95,8 +95,8 @@ fn check_payload(
     assert!(rt; last == Ok(Step::End) && sink.as_slice() == plain);
 }
 
-// The passphrase opens this slot of the image, and the payload is this plain text. Or it opens none,
-// or not the named one.
+// The passphrase opens this slot of the image, and the payload is this plain text. Or it opens
+// none, or not the named one.
 fn check_opens(
     rt: &(impl Abort + AllocGlobal),
     (image, plain): (&[u8], &[u8]),
@@ -122,10 +122,15 @@ fn check_opens(
 // A volume of LUKS1 with two slots.
 fn check_volume1(rt: &(impl Abort + AllocGlobal), mode: Mode, key: &[u8], plain: &[u8]) {
     let random = bytes(rt, key.len().saturating_mul(2));
-    let slots = [(6, SECOND), (1, FIRST)].map(|(number, passphrase)| Slot1 {
+    let second = Slot1 {
         random: &random,
-        ..parameters::slot1(number, [0x41; 32], passphrase)
-    });
+        ..parameters::slot1(6, [0x41; 32], SECOND)
+    };
+    let first = Slot1 {
+        random: &random,
+        ..parameters::slot1(1, [0x41; 32], FIRST)
+    };
+    let slots = [second, first];
     let seal = Seal1 {
         hash: Hash::Sha384,
         mode,
@@ -283,7 +288,7 @@ fn both_headers_are_valid(rt: HostRuntime) {
     for hdr_size in HEADERS {
         let seal = Seal2 {
             hdr_size,
-            offset: hdr_size * 2 + 4096,
+            offset: hdr_size.saturating_mul(2).saturating_add(4096),
             ..volume2(Mode::XtsPlain64, KEY, &plain)
         };
         let mut image = sealed_once(&rt, seal);
