@@ -32,6 +32,11 @@ fn inverse(b: u8) -> u8 {
     0
 }
 
+// The affine map of the S-box (5.1.1).
+fn affine(a: u8) -> u8 {
+    a ^ a.rotate_left(1) ^ a.rotate_left(2) ^ a.rotate_left(3) ^ a.rotate_left(4) ^ 0x63
+}
+
 // The S-box (5.1.1) and its inverse (5.3.2).
 #[derive(Drop)]
 struct Boxes {
@@ -45,13 +50,7 @@ impl Boxes {
         let mut there = [0; 256];
         let mut back = [0; 256];
         for b in 0..=255u8 {
-            let a = inverse(b);
-            let c = a
-                ^ a.rotate_left(1)
-                ^ a.rotate_left(2)
-                ^ a.rotate_left(3)
-                ^ a.rotate_left(4)
-                ^ 0x63;
+            let c = affine(inverse(b));
             there[b as usize] = c;
             back[c as usize] = b;
         }
