@@ -147,9 +147,10 @@ fn check_key(rt: &impl Abort, key: &KeyDigest) {
 }
 
 fn check_listed(rt: &impl Abort, all: &[(u8, Option<Digest>)]) {
-    let [(0, Some(digest))] = all else {
-        panic!(rt; "no digest 0, or another one");
+    let [(number, Some(digest))] = all else {
+        panic!(rt; "no digest, or several");
     };
+    assert_of(rt, "number", *number == 0);
     check_key(rt, &digest.key);
     let [first, second] = digest.keyslots.as_slice() else {
         panic!(rt; "not two slots");

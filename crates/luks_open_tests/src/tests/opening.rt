@@ -4,6 +4,7 @@ use super::volumes::{LONG_KEY, Question, SHORT_KEY, Volume, answer};
 use luks_header::refusal::SkipReason;
 use luks_kdf::Work;
 use luks_open::fault::OpenFault;
+use luks_open::opening::Opened;
 use std::process::Abort;
 
 /// What is changed of a volume.
@@ -250,6 +251,20 @@ fn changed(rt: &(impl Abort + AllocGlobal), volume: &Volume, change: &Change) ->
     image
 }
 
+// Whether the answer is the stated one, with this key where a slot opens.
+fn is_stated(answer: &Result<Opened, OpenFault>, stated: &Stated, key: &[u8]) -> bool {
+    match stated {
+        Stated::Opens(slot) => match answer {
+            Ok(opened) => opened.slot == *slot && opened.key.as_slice() == key,
+            Err(_) => false,
+        },
+        Stated::NoKey(skipped) => match answer {
+            Err(OpenFault::NoKey(slots)) => slots.as_slice() == *skipped,
+            _ => false,
+        },
+    }
+}
+
 fn check_row(
     rt: &(impl Abort + AllocGlobal),
     row: usize,
@@ -261,13 +276,8 @@ fn check_row(
     let (before, behind) = *work;
     let mut work = Work::new(before);
     let key = hex::decode(rt.alloc(), volume.key).expect(rt, "hexadecimal digits");
-    let holds = match (answer(rt, &image, question, &mut work), stated) {
-        (Ok(opened), Stated::Opens(slot)) => {
-            opened.slot == *slot && opened.key.as_slice() == key.as_slice()
-        }
-        (Err(OpenFault::NoKey(slots)), Stated::NoKey(skipped)) => slots.as_slice() == *skipped,
-        _ => false,
-    };
+    let answer = answer(rt, &image, question, &mut work);
+    let holds = is_stated(&answer, stated, key.as_slice());
     assert!(rt; holds && work.count() == behind, "row {row}: {question:?}");
 }
 

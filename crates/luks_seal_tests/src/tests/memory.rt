@@ -55,10 +55,15 @@ fn check(rt: &(impl Abort + AllocGlobal), volume: Volume<'_>) {
 }
 
 #[test]
-fn memory_is_answered_where_it_is_refused(rt: HostRuntime) {
+fn memory_is_answered_where_seal1_is_refused_it(rt: HostRuntime) {
     let plain = counted(&rt, 1024);
     let slots = [slot1(0, [1; 32], b"one"), slot1(7, [2; 32], b"two")];
     check(&rt, Volume::First(&parameters1(&slots, &plain)));
+}
+
+#[test]
+fn memory_is_answered_where_seal2_is_refused_it(rt: HostRuntime) {
+    let plain = counted(&rt, 1024);
     let slots = [slot2(0, [1; 32], b"one"), slot2(31, [2; 32], b"two")];
     check(&rt, Volume::Second(&parameters2(&slots, &plain)));
 }
