@@ -62,7 +62,7 @@ fn fault_of(error: serde_json::Error) -> HeaderFault
 }
 
 impl Metadata {
-    // What a text says that was read as this tree, where the tree has the objects.
+    // The metadata of a text that was read as this tree, or Json if the tree lacks an object.
     fn with_tree(tree: Value) -> Result<Metadata, HeaderFault>
         ensures { result
             ≡ (if has_objects (data_of tree) then Ok (data_of tree) else Err HeaderFault.Json) }
@@ -78,7 +78,7 @@ impl Metadata {
     ///
     /// [`HeaderFault::Json`] is for a text that is no JSON in UTF-8, nests deeper than 127, or is
     /// no object with objects `keyslots`, `segments` and `digests`; [`HeaderFault::Memory`] for
-    /// refused memory, which an empty text takes none of. There are no other faults.
+    /// refused memory, and never for an empty text. There are no other faults.
     pub fn read(alloc: Global, text: &[u8]) -> Result<Metadata, HeaderFault>
         ensures ok { IfOk result (λ metadata. tree_of text.now ≡ Some metadata) }
         ensures json { result ≡ Err HeaderFault.Json → tree_of text.now ≡ None }

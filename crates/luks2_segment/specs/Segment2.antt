@@ -157,7 +157,8 @@ segment_parts2_of segment = record {
 -- ---- a segment without a fault is made
 
 -- what a test lets through is made if it holds
-made_of_test : (test : Bool) (make : test ≡ true → Segment) → not test ≡ false → option_map make (where_true test) ≢ None
+made_of_test : (test : Bool) (make : test ≡ true → Segment) → not test ≡ false
+    → option_map make (where_true test) ≢ None
 made_of_test true make holds none = cc
 made_of_test false make holds none = cc
 

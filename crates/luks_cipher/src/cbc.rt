@@ -11,7 +11,7 @@ use luks_aes::AesKey;
 use luks_blocks::SliceKey;
 use std::simd::prelude::*;
 
-// What a key holds are bytes. It says so beside its number of rounds.
+// The elements of a key are bytes: the call for its number of rounds promises it.
 #[inline(always)]
 fn holds_bytes(key: &AesKey)
     ensures { IsBytes key.now }

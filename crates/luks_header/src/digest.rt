@@ -6,6 +6,7 @@ ghost use Rattle.luks_header.specs.Digest.{digest_for, digests_of};
 
 use crate::header::Header;
 pub use luks_verdict::digest::KeyDigest;
+pub use luks2_members::list::Names;
 pub use luks2_metadata::digest::Digest;
 use std::alloc::{AllocError, Global};
 
@@ -26,7 +27,7 @@ pub fn digest_for(
 }
 
 /// The digests of a header by rising number, at most 32: each with the names that it lists, or
-/// `None` where it is not usable. LUKS1 numbers no digest, so it has none here.
+/// `None` if it is not usable. LUKS1 numbers no digest: it has none here.
 #[tactic(auto, unfolding(crate::specs::Digest::digests_of))]
 pub fn digests(alloc: Global, header: &Header) -> Result<Vec<(u8, Option<Digest>)>, AllocError>
     ensures value { IfOk result (λ digests. digests.items ≡ digests_of header.now) }

@@ -1,7 +1,7 @@
 //! The digests of a header, and members of key slots whose names are out of range.
 
 use super::fixture::{parse, volume_header};
-use luks_header::digest::{Digest, KeyDigest, digests};
+use luks_header::digest::{Digest, KeyDigest, Names, digests};
 use luks_header::header::Header;
 use luks_header::slot::has_name_out_of_range;
 use luks_kdf::Hash;
@@ -111,7 +111,8 @@ fn digests_are_no_more_than_32(rt: HostRuntime) {
     }
 }
 
-fn check_names(rt: &impl Abort, names: &[String], want: &[&str]) {
+fn check_names(rt: &impl Abort, names: &Names, want: &[&str]) {
+    let names = names.as_slice();
     same(names.len(), want.len()).expect(rt, "the same");
     for (i, name) in names.iter().enumerate() {
         same_in(&i, Some(name.as_str()), want.get(i).copied()).expect(rt, "the same");
@@ -132,8 +133,8 @@ fn a_digest_has_its_parts_and_names(rt: HostRuntime) {
         panic!(rt; "no digest 5");
     };
     check_key(&rt, &digest.key);
-    check_names(&rt, digest.keyslots.as_slice(), &["7", "0", "x"]);
-    check_names(&rt, digest.segments.as_slice(), &["0"]);
+    check_names(&rt, &digest.keyslots, &["7", "0", "x"]);
+    check_names(&rt, &digest.segments, &["0"]);
 }
 
 #[test]
