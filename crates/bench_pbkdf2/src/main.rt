@@ -8,9 +8,8 @@
 ghost use Rattle.std.specs.Prelude.{◌≤◌};
 
 use luks_kdf::{Hash, Work, pbkdf2};
-use std::fmt;
 use std::time::CpuClock;
-use std::{env, io};
+use std::{env, fmt, io};
 
 mod blockwise;
 
@@ -55,13 +54,7 @@ fn main(rt: HostRuntime) -> io::Result<()> {
 }
 
 // Derives one key of this length in this way, and writes what it took.
-fn measure(
-    rt: &HostRuntime,
-    way: &str,
-    hash: Hash,
-    turns: u32,
-    length: usize,
-) -> io::Result<()>
+fn measure(rt: &HostRuntime, way: &str, hash: Hash, turns: u32, length: usize) -> io::Result<()>
     requires turns { 1 ≤ turns }
     requires some { 1 ≤ length }
     requires room { length ≤ MAX_KEY }
