@@ -21,8 +21,8 @@ chain_sum hash inner outer u t (suc n) =
 abbrev pub digest_at : ℕ → ℕ → List ℕ → List ℕ
 digest_at size j bytes = take size (drop (size * j) bytes)
 
--- ---- the same on the words of digests: `behind h d` is the hash value of a digest, whose words are d, behind one block,
--- ---- after which it was h
+-- ---- the same on the words of digests: `behind h d` is the hash value of a digest, whose words are d, behind one
+-- ---- block, after which it was h
 
 -- the words of HMAC of the digest whose words are d, where the key's two blocks come to the hash values inner and outer
 unfoldable pub turn : (List ℕ → List ℕ → List ℕ) → List ℕ → List ℕ → List ℕ → List ℕ

@@ -25,8 +25,8 @@ use std::alloc::Global;
 ///
 /// As [`execute`](super::execute), but that the header and the key areas come from the file, and
 /// the payload from the image, at the segment's own place. The image is read by `luksCat` alone,
-/// once a key was found: if a write fails, no byte of it past the current sector was taken, and if a
-/// read of it fails, all its whole sectors that were taken are written. No clause here speaks of
+/// once a key was found: if a write fails, no byte of it past the current sector was taken, and if
+/// a read of it fails, all its whole sectors that were taken are written. No clause here speaks of
 /// honestly sealed volumes.
 pub fn execute_detached<H: Source, I: Source, K: Source, O: Sink>(
     alloc: Global,

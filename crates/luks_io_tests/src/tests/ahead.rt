@@ -11,7 +11,7 @@ use std::process::Abort;
 
 const BYTES: &[u8] = b"abcdefghij";
 
-/// What a source is told of the bytes to come, how many it is asked for, and its answer. The source
+/// What is announced to a source, how many bytes it is asked for, and its answer. The source
 /// below has so many bytes left after so many calls.
 type Step = (Option<u64>, usize, Result<usize, DeviceFault>, usize, u64);
 
