@@ -58,8 +58,8 @@ same 'each file has one' "$(wc -l <control/md5sums)" "$(find tree -type f | wc -
 papers=tree/usr/share/doc/luksrd
 same 'the newest change' "$(zcat "$papers/changelog.gz" | head -1)" \
     "luksrd ($version) stable; urgency=medium"
-same 'the same changes' "$(zcat "$papers/changelog.gz" | grep -c '^  \*')" \
-    "$(grep -c '^-' "$sources/CHANGELOG.md")"
+same 'the same released changes' "$(zcat "$papers/changelog.gz" | grep -c '^  \*')" \
+    "$(sed -n '/^## [0-9]/,$p' "$sources/CHANGELOG.md" | grep -c '^-')"
 same 'the man page' "$(zcat tree/usr/share/man/man1/luksrd.1.gz)" "$(cat "$sources/docs/luksrd.1")"
 
 # works PROGRAM COMPLETION: both do as those that they were made of
