@@ -3,3 +3,4 @@
 mod check;
 mod dump2;
 mod fixture;
+mod messages;
