@@ -9,7 +9,7 @@ ghost use Rattle.luks_blocks.specs.RoundKeys.{rows_of};
 ghost use Rattle.luks_blocks.specs.States.{StandAll};
 
 use crate::rows::{FourPlanes, Rows};
-use luks_planes::{plane_turned_1, plane_turned_2, plane_turned_3, xor};
+use luks_planes::{Columns, plane_rotated, xor};
 use std::simd::prelude::*;
 
 /// One plane of the sums that the rows after InvMixColumns share: of a column's four bytes, of
@@ -82,9 +82,9 @@ impl FourPlanes {
         let with_even = xor(second, sums.even);
         let fourth = xor(with_even, sums.all);
         self.row_0 = xor(first, key.row_0);
-        self.row_1 = plane_turned_1(xor(second, key.row_1));
-        self.row_2 = plane_turned_2(xor(third, key.row_2));
-        self.row_3 = plane_turned_3(xor(fourth, key.row_3));
+        self.row_1 = plane_rotated(xor(second, key.row_1), Columns::One);
+        self.row_2 = plane_rotated(xor(third, key.row_2), Columns::Two);
+        self.row_3 = plane_rotated(xor(fourth, key.row_3), Columns::Three);
         sums
     }
 }

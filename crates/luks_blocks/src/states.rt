@@ -12,7 +12,7 @@ ghost use Rattle.luks_blocks.specs.States.{StandAll, HoldStates, HoldTurned};
 
 use crate::mixing::unmix;
 use crate::rows::Rows;
-use luks_planes::{row_sum, turned_1, turned_2, turned_3};
+use luks_planes::{Columns, row_rotated, row_sum};
 use std::simd::prelude::*;
 
 /// InvShiftRows (FIPS 197, 5.3.1).
@@ -20,7 +20,12 @@ use std::simd::prelude::*;
 pub fn turned(s: [[u8x16; 8]; 4]) -> [[u8x16; 8]; 4]
     ensures { (y : ℕ → ℕ → ℕ) → StandAll y s → StandAll (λ r q. y r (turned_place r q)) result }
 {
-    [s[0], turned_1(s[1]), turned_2(s[2]), turned_3(s[3])]
+    [
+        s[0],
+        row_rotated(s[1], Columns::One),
+        row_rotated(s[2], Columns::Two),
+        row_rotated(s[3], Columns::Three),
+    ]
 }
 
 /// AddRoundKey (5.1.4).

@@ -9,9 +9,12 @@ use Rattle.std.proofs.lemmas.Simd.{get_or-zip2, length-zip2}
 use Rattle.std.proofs.lemmas.List.{length-map, get_or-map}
 use Rattle.std.proofs.lemmas.Nat.{div-mul-add, mod-mul-add}
 use Rattle.std.proofs.lemmas.Nat.Bits.{bit_at_xor, bit_at-lt}
-use Rattle.std.proofs.lemmas.Bool.{cases_Bool, eqb-true}
+use Rattle.std.proofs.lemmas.Bool.{agree_below, cases_Bool, eqb-true}
 use Rattle.luks_aes.proofs.Bytes.{same_below}
 use Rattle.luks_planes.specs.Planes.{Shows, low_of, high_of}
+use Rattle.luks_planes.specs.Runs.{run_bits, low_mask, high_mask}
+use Rattle.luks_planes.specs.declared.exchange.Run.{Run}
+use Rattle.luks_planes.specs.declared.exchange.Run.TheVariants.{Bit, Pair, Nibble}
 
 -- what was computed at each bit of each byte
 at_bits : (f g : ℕ → ℕ → ℕ) → ((n : ℕ) → n < 2048 → f (n / 8) (n % 8) ≡ g (n / 8) (n % 8)) → (x k : ℕ) → x < 256
@@ -92,116 +95,79 @@ shows_high n lower upper room fallen kept f g v w r first second v_fits w_fits i
       | inr odd ↦ rw odd (second.at p k low small)
     ])
 
--- ---- runs of 1
+-- ---- runs: what a mask keeps and a shift moves, computed at each byte and each bit
 
-keep_1 : (x k : ℕ) → x < 256 → k < 8 → bit_at (bit_and x 0x55) k ≡ cond (eqb (k / 1 % 2) 0) (bit_at x k) 0
-keep_1 = at_bits (λ x k. bit_at (bit_and x 0x55) k) (λ x k. cond (eqb (k / 1 % 2) 0) (bit_at x k) 0)
-    (same_below (λ n. bit_at (bit_and (n / 8) 0x55) (n % 8)) (λ n. cond (eqb (n % 8 / 1 % 2) 0)
-    (bit_at (n / 8) (n % 8)) 0) 2048 refl)
+keeps : (r : Run) → agree_below (λ n. eqb (bit_at (bit_and (n / 8) (low_mask r)) (n % 8))
+    (cond (eqb (n % 8 / run_bits r % 2) 0) (bit_at (n / 8) (n % 8)) 0)) (λ n. true) 2048 ≡ true
+keeps Bit = refl
+keeps Pair = refl
+keeps Nibble = refl
 
-rise_1 : (x k : ℕ) → x < 256 → k < 8 → bit_at (bit_and (x * 2 ^ 1 % 256) 0xaa) k
-    ≡ cond (eqb (k / 1 % 2) 0) 0 (bit_at x (k - 1))
-rise_1 = at_bits (λ x k. bit_at (bit_and (x * 2 ^ 1 % 256) 0xaa) k) (λ x k. cond (eqb (k / 1 % 2) 0) 0
-    (bit_at x (k - 1)))
-    (same_below (λ n. bit_at (bit_and (n / 8 * 2 ^ 1 % 256) 0xaa) (n % 8))
-    (λ n. cond (eqb (n % 8 / 1 % 2) 0) 0 (bit_at (n / 8) (n % 8 - 1))) 2048 refl)
+keep : (r : Run) (x k : ℕ) → x < 256 → k < 8
+    → bit_at (bit_and x (low_mask r)) k ≡ cond (eqb (k / run_bits r % 2) 0) (bit_at x k) 0
+keep r = at_bits (λ x k. bit_at (bit_and x (low_mask r)) k) (λ x k. cond (eqb (k / run_bits r % 2) 0) (bit_at x k) 0)
+    (same_below (λ n. bit_at (bit_and (n / 8) (low_mask r)) (n % 8))
+    (λ n. cond (eqb (n % 8 / run_bits r % 2) 0) (bit_at (n / 8) (n % 8)) 0) 2048 (keeps r))
 
-fall_1 : (x k : ℕ) → x < 256 → k < 8 → bit_at (bit_and (x / 2 ^ 1) 0x55) k
-    ≡ cond (eqb (k / 1 % 2) 0) (bit_at x (k + 1)) 0
-fall_1 = at_bits (λ x k. bit_at (bit_and (x / 2 ^ 1) 0x55) k) (λ x k. cond (eqb (k / 1 % 2) 0) (bit_at x (k + 1)) 0)
-    (same_below (λ n. bit_at (bit_and (n / 8 / 2 ^ 1) 0x55) (n % 8)) (λ n. cond (eqb (n % 8 / 1 % 2) 0)
-    (bit_at (n / 8) (n % 8 + 1)) 0) 2048 refl)
+rises : (r : Run) → agree_below (λ n. eqb (bit_at (bit_and (n / 8 * 2 ^ run_bits r % 256) (high_mask r)) (n % 8))
+    (cond (eqb (n % 8 / run_bits r % 2) 0) 0 (bit_at (n / 8) (n % 8 - run_bits r)))) (λ n. true) 2048 ≡ true
+rises Bit = refl
+rises Pair = refl
+rises Nibble = refl
 
-stay_1 : (x k : ℕ) → x < 256 → k < 8 → bit_at (bit_and x 0xaa) k ≡ cond (eqb (k / 1 % 2) 0) 0 (bit_at x k)
-stay_1 = at_bits (λ x k. bit_at (bit_and x 0xaa) k) (λ x k. cond (eqb (k / 1 % 2) 0) 0 (bit_at x k))
-    (same_below (λ n. bit_at (bit_and (n / 8) 0xaa) (n % 8)) (λ n. cond (eqb (n % 8 / 1 % 2) 0) 0
-    (bit_at (n / 8) (n % 8))) 2048 refl)
+rise : (r : Run) (x k : ℕ) → x < 256 → k < 8 → bit_at (bit_and (x * 2 ^ run_bits r % 256) (high_mask r)) k
+    ≡ cond (eqb (k / run_bits r % 2) 0) 0 (bit_at x (k - run_bits r))
+rise r = at_bits (λ x k. bit_at (bit_and (x * 2 ^ run_bits r % 256) (high_mask r)) k)
+    (λ x k. cond (eqb (k / run_bits r % 2) 0) 0 (bit_at x (k - run_bits r)))
+    (same_below (λ n. bit_at (bit_and (n / 8 * 2 ^ run_bits r % 256) (high_mask r)) (n % 8))
+    (λ n. cond (eqb (n % 8 / run_bits r % 2) 0) 0 (bit_at (n / 8) (n % 8 - run_bits r))) 2048 (rises r))
 
-pub shows_low_1 : (f g : ℕ → ℕ → ℕ) (v w r : List ℕ) → Shows f v → Shows g w
+falls : (r : Run) → agree_below (λ n. eqb (bit_at (bit_and (n / 8 / 2 ^ run_bits r) (low_mask r)) (n % 8))
+    (cond (eqb (n % 8 / run_bits r % 2) 0) (bit_at (n / 8) (n % 8 + run_bits r)) 0)) (λ n. true) 2048 ≡ true
+falls Bit = refl
+falls Pair = refl
+falls Nibble = refl
+
+fall : (r : Run) (x k : ℕ) → x < 256 → k < 8 → bit_at (bit_and (x / 2 ^ run_bits r) (low_mask r)) k
+    ≡ cond (eqb (k / run_bits r % 2) 0) (bit_at x (k + run_bits r)) 0
+fall r = at_bits (λ x k. bit_at (bit_and (x / 2 ^ run_bits r) (low_mask r)) k)
+    (λ x k. cond (eqb (k / run_bits r % 2) 0) (bit_at x (k + run_bits r)) 0)
+    (same_below (λ n. bit_at (bit_and (n / 8 / 2 ^ run_bits r) (low_mask r)) (n % 8))
+    (λ n. cond (eqb (n % 8 / run_bits r % 2) 0) (bit_at (n / 8) (n % 8 + run_bits r)) 0) 2048 (falls r))
+
+stays : (r : Run) → agree_below (λ n. eqb (bit_at (bit_and (n / 8) (high_mask r)) (n % 8))
+    (cond (eqb (n % 8 / run_bits r % 2) 0) 0 (bit_at (n / 8) (n % 8)))) (λ n. true) 2048 ≡ true
+stays Bit = refl
+stays Pair = refl
+stays Nibble = refl
+
+stay : (r : Run) (x k : ℕ) → x < 256 → k < 8
+    → bit_at (bit_and x (high_mask r)) k ≡ cond (eqb (k / run_bits r % 2) 0) 0 (bit_at x k)
+stay r = at_bits (λ x k. bit_at (bit_and x (high_mask r)) k) (λ x k. cond (eqb (k / run_bits r % 2) 0) 0 (bit_at x k))
+    (same_below (λ n. bit_at (bit_and (n / 8) (high_mask r)) (n % 8))
+    (λ n. cond (eqb (n % 8 / run_bits r % 2) 0) 0 (bit_at (n / 8) (n % 8))) 2048 (stays r))
+
+-- a lower run has as many bits above it
+above : (r : Run) (k : ℕ) → k < 8 → k / run_bits r % 2 ≡ 0 → k + run_bits r < 8
+above Bit k small even = omega arith
+above Pair k small even = omega arith
+above Nibble k small even = omega arith
+
+pub shows_swap_low : (r : Run) (f g : ℕ → ℕ → ℕ) (v w u : List ℕ) → Shows f v → Shows g w
     → ((p : ℕ) → p < 16 → slice_index v p < 256) → ((p : ℕ) → p < 16 → slice_index w p < 256)
-    → r ≡ zip2 bit_xor (map (λ x. bit_and x 0x55) v) (map (λ x. bit_and (x * 2 ^ 1 % 256) 0xaa) w)
-    → Shows (low_of 1 f g) r
-shows_low_1 = shows_low 1 (λ x. bit_and x 0x55) (λ x. bit_and (x * 2 ^ 1 % 256) 0xaa) keep_1 rise_1
+    → u ≡ zip2 bit_xor (map (λ x. bit_and x (low_mask r)) v)
+    (map (λ x. bit_and (x * 2 ^ run_bits r % 256) (high_mask r)) w)
+    → Shows (low_of (run_bits r) f g) u
+shows_swap_low r = shows_low (run_bits r) (λ x. bit_and x (low_mask r))
+    (λ x. bit_and (x * 2 ^ run_bits r % 256) (high_mask r)) (keep r) (rise r)
 
-pub shows_high_1 : (f g : ℕ → ℕ → ℕ) (v w r : List ℕ) → Shows f v → Shows g w
+pub shows_swap_high : (r : Run) (f g : ℕ → ℕ → ℕ) (v w u : List ℕ) → Shows f v → Shows g w
     → ((p : ℕ) → p < 16 → slice_index v p < 256) → ((p : ℕ) → p < 16 → slice_index w p < 256)
-    → r ≡ zip2 bit_xor (map (λ x. bit_and (x / 2 ^ 1) 0x55) v) (map (λ x. bit_and x 0xaa) w) → Shows (high_of 1 f g) r
-shows_high_1 = shows_high 1 (λ x. bit_and (x / 2 ^ 1) 0x55) (λ x. bit_and x 0xaa) (λ k small even. omega arith)
-    fall_1 stay_1
-
--- ---- runs of 2
-
-keep_2 : (x k : ℕ) → x < 256 → k < 8 → bit_at (bit_and x 0x33) k ≡ cond (eqb (k / 2 % 2) 0) (bit_at x k) 0
-keep_2 = at_bits (λ x k. bit_at (bit_and x 0x33) k) (λ x k. cond (eqb (k / 2 % 2) 0) (bit_at x k) 0)
-    (same_below (λ n. bit_at (bit_and (n / 8) 0x33) (n % 8)) (λ n. cond (eqb (n % 8 / 2 % 2) 0)
-    (bit_at (n / 8) (n % 8)) 0) 2048 refl)
-
-rise_2 : (x k : ℕ) → x < 256 → k < 8 → bit_at (bit_and (x * 2 ^ 2 % 256) 0xcc) k
-    ≡ cond (eqb (k / 2 % 2) 0) 0 (bit_at x (k - 2))
-rise_2 = at_bits (λ x k. bit_at (bit_and (x * 2 ^ 2 % 256) 0xcc) k) (λ x k. cond (eqb (k / 2 % 2) 0) 0
-    (bit_at x (k - 2)))
-    (same_below (λ n. bit_at (bit_and (n / 8 * 2 ^ 2 % 256) 0xcc) (n % 8))
-    (λ n. cond (eqb (n % 8 / 2 % 2) 0) 0 (bit_at (n / 8) (n % 8 - 2))) 2048 refl)
-
-fall_2 : (x k : ℕ) → x < 256 → k < 8 → bit_at (bit_and (x / 2 ^ 2) 0x33) k
-    ≡ cond (eqb (k / 2 % 2) 0) (bit_at x (k + 2)) 0
-fall_2 = at_bits (λ x k. bit_at (bit_and (x / 2 ^ 2) 0x33) k) (λ x k. cond (eqb (k / 2 % 2) 0) (bit_at x (k + 2)) 0)
-    (same_below (λ n. bit_at (bit_and (n / 8 / 2 ^ 2) 0x33) (n % 8)) (λ n. cond (eqb (n % 8 / 2 % 2) 0)
-    (bit_at (n / 8) (n % 8 + 2)) 0) 2048 refl)
-
-stay_2 : (x k : ℕ) → x < 256 → k < 8 → bit_at (bit_and x 0xcc) k ≡ cond (eqb (k / 2 % 2) 0) 0 (bit_at x k)
-stay_2 = at_bits (λ x k. bit_at (bit_and x 0xcc) k) (λ x k. cond (eqb (k / 2 % 2) 0) 0 (bit_at x k))
-    (same_below (λ n. bit_at (bit_and (n / 8) 0xcc) (n % 8)) (λ n. cond (eqb (n % 8 / 2 % 2) 0) 0
-    (bit_at (n / 8) (n % 8))) 2048 refl)
-
-pub shows_low_2 : (f g : ℕ → ℕ → ℕ) (v w r : List ℕ) → Shows f v → Shows g w
-    → ((p : ℕ) → p < 16 → slice_index v p < 256) → ((p : ℕ) → p < 16 → slice_index w p < 256)
-    → r ≡ zip2 bit_xor (map (λ x. bit_and x 0x33) v) (map (λ x. bit_and (x * 2 ^ 2 % 256) 0xcc) w)
-    → Shows (low_of 2 f g) r
-shows_low_2 = shows_low 2 (λ x. bit_and x 0x33) (λ x. bit_and (x * 2 ^ 2 % 256) 0xcc) keep_2 rise_2
-
-pub shows_high_2 : (f g : ℕ → ℕ → ℕ) (v w r : List ℕ) → Shows f v → Shows g w
-    → ((p : ℕ) → p < 16 → slice_index v p < 256) → ((p : ℕ) → p < 16 → slice_index w p < 256)
-    → r ≡ zip2 bit_xor (map (λ x. bit_and (x / 2 ^ 2) 0x33) v) (map (λ x. bit_and x 0xcc) w) → Shows (high_of 2 f g) r
-shows_high_2 = shows_high 2 (λ x. bit_and (x / 2 ^ 2) 0x33) (λ x. bit_and x 0xcc) (λ k small even. omega arith)
-    fall_2 stay_2
-
--- ---- runs of 4
-
-keep_4 : (x k : ℕ) → x < 256 → k < 8 → bit_at (bit_and x 0x0f) k ≡ cond (eqb (k / 4 % 2) 0) (bit_at x k) 0
-keep_4 = at_bits (λ x k. bit_at (bit_and x 0x0f) k) (λ x k. cond (eqb (k / 4 % 2) 0) (bit_at x k) 0)
-    (same_below (λ n. bit_at (bit_and (n / 8) 0x0f) (n % 8)) (λ n. cond (eqb (n % 8 / 4 % 2) 0)
-    (bit_at (n / 8) (n % 8)) 0) 2048 refl)
-
-rise_4 : (x k : ℕ) → x < 256 → k < 8 → bit_at (bit_and (x * 2 ^ 4 % 256) 0xf0) k
-    ≡ cond (eqb (k / 4 % 2) 0) 0 (bit_at x (k - 4))
-rise_4 = at_bits (λ x k. bit_at (bit_and (x * 2 ^ 4 % 256) 0xf0) k) (λ x k. cond (eqb (k / 4 % 2) 0) 0
-    (bit_at x (k - 4)))
-    (same_below (λ n. bit_at (bit_and (n / 8 * 2 ^ 4 % 256) 0xf0) (n % 8))
-    (λ n. cond (eqb (n % 8 / 4 % 2) 0) 0 (bit_at (n / 8) (n % 8 - 4))) 2048 refl)
-
-fall_4 : (x k : ℕ) → x < 256 → k < 8 → bit_at (bit_and (x / 2 ^ 4) 0x0f) k
-    ≡ cond (eqb (k / 4 % 2) 0) (bit_at x (k + 4)) 0
-fall_4 = at_bits (λ x k. bit_at (bit_and (x / 2 ^ 4) 0x0f) k) (λ x k. cond (eqb (k / 4 % 2) 0) (bit_at x (k + 4)) 0)
-    (same_below (λ n. bit_at (bit_and (n / 8 / 2 ^ 4) 0x0f) (n % 8)) (λ n. cond (eqb (n % 8 / 4 % 2) 0)
-    (bit_at (n / 8) (n % 8 + 4)) 0) 2048 refl)
-
-stay_4 : (x k : ℕ) → x < 256 → k < 8 → bit_at (bit_and x 0xf0) k ≡ cond (eqb (k / 4 % 2) 0) 0 (bit_at x k)
-stay_4 = at_bits (λ x k. bit_at (bit_and x 0xf0) k) (λ x k. cond (eqb (k / 4 % 2) 0) 0 (bit_at x k))
-    (same_below (λ n. bit_at (bit_and (n / 8) 0xf0) (n % 8)) (λ n. cond (eqb (n % 8 / 4 % 2) 0) 0
-    (bit_at (n / 8) (n % 8))) 2048 refl)
-
-pub shows_low_4 : (f g : ℕ → ℕ → ℕ) (v w r : List ℕ) → Shows f v → Shows g w
-    → ((p : ℕ) → p < 16 → slice_index v p < 256) → ((p : ℕ) → p < 16 → slice_index w p < 256)
-    → r ≡ zip2 bit_xor (map (λ x. bit_and x 0x0f) v) (map (λ x. bit_and (x * 2 ^ 4 % 256) 0xf0) w)
-    → Shows (low_of 4 f g) r
-shows_low_4 = shows_low 4 (λ x. bit_and x 0x0f) (λ x. bit_and (x * 2 ^ 4 % 256) 0xf0) keep_4 rise_4
-
-pub shows_high_4 : (f g : ℕ → ℕ → ℕ) (v w r : List ℕ) → Shows f v → Shows g w
-    → ((p : ℕ) → p < 16 → slice_index v p < 256) → ((p : ℕ) → p < 16 → slice_index w p < 256)
-    → r ≡ zip2 bit_xor (map (λ x. bit_and (x / 2 ^ 4) 0x0f) v) (map (λ x. bit_and x 0xf0) w) → Shows (high_of 4 f g) r
-shows_high_4 = shows_high 4 (λ x. bit_and (x / 2 ^ 4) 0x0f) (λ x. bit_and x 0xf0) (λ k small even. omega arith)
-    fall_4 stay_4
+    → u ≡ zip2 bit_xor (map (λ x. bit_and (x / 2 ^ run_bits r) (low_mask r)) v)
+    (map (λ x. bit_and x (high_mask r)) w)
+    → Shows (high_of (run_bits r) f g) u
+shows_swap_high r = shows_high (run_bits r) (λ x. bit_and (x / 2 ^ run_bits r) (low_mask r))
+    (λ x. bit_and x (high_mask r)) (above r) (fall r) (stay r)
 
 -- ---- eight vectors
 

@@ -1,5 +1,5 @@
 -- Rows: sums, and turns of their columns.
-use Rattle.std.proofs.Common.{◌≡◌, ℕ, ◌+◌, ◌/◌, ◌%◌, ◌<◌, true, ltb, List, [], ◌∷◌, ◌++◌, length, arith, refl, sym, ap}
+use Rattle.std.proofs.Common.{◌≡◌, ℕ, ◌+◌, ◌/◌, ◌%◌, ◌<◌, true, eqb, ltb, List, [], ◌∷◌, ◌++◌, length, arith, refl, sym, ap}
 use Rattle.std.proofs.Common.{◌∙◌}
 use Rattle.std.specs.Prelude.{slice_index}
 use Rattle.std.specs.Int.{bit_at}
@@ -7,11 +7,14 @@ use Rattle.std.specs.Int.Bits.{bit_xor}
 use Rattle.std.specs.Simd.Lanes.{zip2, pick_l}
 use Rattle.std.proofs.lemmas.Nat.Bits.{bit_at_xor}
 use Rattle.std.proofs.lemmas.List.{length-map, get_or-map, get_or_append_left}
-use Rattle.std.proofs.lemmas.Bool.{agree_below_at, ltb-true}
+use Rattle.std.proofs.lemmas.Bool.{agree_below, agree_below_at, ltb-true}
 use Rattle.luks_aes.specs.Field.{◌⊕◌}
 use Rattle.luks_aes.proofs.Bytes.{same_below}
 use Rattle.luks_planes.proofs.GateLemmas.{gate_len, gate_bit}
 use Rattle.luks_planes.specs.Planes.{IsPlane, turned_place}
+use Rattle.luks_planes.specs.Columns.{column_count}
+use Rattle.luks_planes.specs.declared.rows.Columns.{Columns}
+use Rattle.luks_planes.specs.declared.rows.Columns.TheVariants.{One, Two, Three}
 
 pub sum_plane : {y z : ℕ → ℕ} {j : ℕ} {v w r : List ℕ} → IsPlane y j v → IsPlane z j w → r ≡ zip2 bit_xor v w
     → IsPlane (λ q. y q ⊕ z q) j r
@@ -39,44 +42,39 @@ exchanged a ks y t j is long inside place bit = record {
       ∙ is.at (t q) here;
 }
 
-inside_1 : (q : ℕ) → q < 128 → turned_place 1 q < 128
-inside_1 q low = ltb-true (turned_place 1 q) 128 (agree_below_at (λ q. ltb (turned_place 1 q) 128) (λ q. true) 128 q
-    refl low)
+-- where each byte of a vector comes from
+abbrev pub sources : Columns → List ℕ
+sources One = 2 ∷ 0 ∷ 3 ∷ 1 ∷ 6 ∷ 4 ∷ 7 ∷ 5 ∷ 10 ∷ 8 ∷ 11 ∷ 9 ∷ 14 ∷ 12 ∷ 15 ∷ 13 ∷ []
+sources Two = 3 ∷ 2 ∷ 1 ∷ 0 ∷ 7 ∷ 6 ∷ 5 ∷ 4 ∷ 11 ∷ 10 ∷ 9 ∷ 8 ∷ 15 ∷ 14 ∷ 13 ∷ 12 ∷ []
+sources Three = 1 ∷ 3 ∷ 0 ∷ 2 ∷ 5 ∷ 7 ∷ 4 ∷ 6 ∷ 9 ∷ 11 ∷ 8 ∷ 10 ∷ 13 ∷ 15 ∷ 12 ∷ 14 ∷ []
 
-pub plane_1 : (a : List ℕ) (y : ℕ → ℕ) (j : ℕ) → IsPlane y j a
-    → IsPlane (λ q. y (turned_place 1 q)) j (pick_l 0 (a ++ a) (2 ∷ 0 ∷ 3 ∷ 1 ∷ 6 ∷ 4 ∷ 7 ∷ 5 ∷ 10 ∷ 8 ∷ 11 ∷ 9 ∷ 14 ∷
-    12 ∷ 15 ∷ 13 ∷ []))
-plane_1 a y j is =
-    exchanged a (2 ∷ 0 ∷ 3 ∷ 1 ∷ 6 ∷ 4 ∷ 7 ∷ 5 ∷ 10 ∷ 8 ∷ 11 ∷ 9 ∷ 14 ∷ 12 ∷ 15 ∷ 13 ∷ []) y (turned_place 1) j is refl
-    inside_1
-    (same_below (λ q. turned_place 1 q / 8) (λ q. slice_index (2 ∷ 0 ∷ 3 ∷ 1 ∷ 6 ∷ 4 ∷ 7 ∷ 5 ∷ 10 ∷ 8 ∷ 11 ∷ 9 ∷ 14 ∷
-    12 ∷ 15 ∷ 13 ∷ []) (q / 8)) 128 refl)
-    (same_below (λ q. turned_place 1 q % 8) (λ q. q % 8) 128 refl)
+all_inside : (by : Columns) → agree_below (λ q. ltb (turned_place (column_count by) q) 128) (λ q. true) 128 ≡ true
+all_inside One = refl
+all_inside Two = refl
+all_inside Three = refl
 
-inside_2 : (q : ℕ) → q < 128 → turned_place 2 q < 128
-inside_2 q low = ltb-true (turned_place 2 q) 128 (agree_below_at (λ q. ltb (turned_place 2 q) 128) (λ q. true) 128 q
-    refl low)
+all_from : (by : Columns) → agree_below (λ q. eqb (turned_place (column_count by) q / 8)
+    (slice_index (sources by) (q / 8))) (λ q. true) 128 ≡ true
+all_from One = refl
+all_from Two = refl
+all_from Three = refl
 
-pub plane_2 : (a : List ℕ) (y : ℕ → ℕ) (j : ℕ) → IsPlane y j a
-    → IsPlane (λ q. y (turned_place 2 q)) j (pick_l 0 (a ++ a) (3 ∷ 2 ∷ 1 ∷ 0 ∷ 7 ∷ 6 ∷ 5 ∷ 4 ∷ 11 ∷ 10 ∷ 9 ∷ 8 ∷ 15 ∷
-    14 ∷ 13 ∷ 12 ∷ []))
-plane_2 a y j is =
-    exchanged a (3 ∷ 2 ∷ 1 ∷ 0 ∷ 7 ∷ 6 ∷ 5 ∷ 4 ∷ 11 ∷ 10 ∷ 9 ∷ 8 ∷ 15 ∷ 14 ∷ 13 ∷ 12 ∷ []) y (turned_place 2) j is refl
-    inside_2
-    (same_below (λ q. turned_place 2 q / 8) (λ q. slice_index (3 ∷ 2 ∷ 1 ∷ 0 ∷ 7 ∷ 6 ∷ 5 ∷ 4 ∷ 11 ∷ 10 ∷ 9 ∷ 8 ∷ 15 ∷
-    14 ∷ 13 ∷ 12 ∷ []) (q / 8)) 128 refl)
-    (same_below (λ q. turned_place 2 q % 8) (λ q. q % 8) 128 refl)
+all_same_bit : (by : Columns) → agree_below (λ q. eqb (turned_place (column_count by) q % 8) (q % 8)) (λ q. true) 128
+    ≡ true
+all_same_bit One = refl
+all_same_bit Two = refl
+all_same_bit Three = refl
 
-inside_3 : (q : ℕ) → q < 128 → turned_place 3 q < 128
-inside_3 q low = ltb-true (turned_place 3 q) 128 (agree_below_at (λ q. ltb (turned_place 3 q) 128) (λ q. true) 128 q
-    refl low)
+sixteen : (by : Columns) → length (sources by) ≡ 16
+sixteen One = refl
+sixteen Two = refl
+sixteen Three = refl
 
-pub plane_3 : (a : List ℕ) (y : ℕ → ℕ) (j : ℕ) → IsPlane y j a
-    → IsPlane (λ q. y (turned_place 3 q)) j (pick_l 0 (a ++ a) (1 ∷ 3 ∷ 0 ∷ 2 ∷ 5 ∷ 7 ∷ 4 ∷ 6 ∷ 9 ∷ 11 ∷ 8 ∷ 10 ∷ 13 ∷
-    15 ∷ 12 ∷ 14 ∷ []))
-plane_3 a y j is =
-    exchanged a (1 ∷ 3 ∷ 0 ∷ 2 ∷ 5 ∷ 7 ∷ 4 ∷ 6 ∷ 9 ∷ 11 ∷ 8 ∷ 10 ∷ 13 ∷ 15 ∷ 12 ∷ 14 ∷ []) y (turned_place 3) j is refl
-    inside_3
-    (same_below (λ q. turned_place 3 q / 8) (λ q. slice_index (1 ∷ 3 ∷ 0 ∷ 2 ∷ 5 ∷ 7 ∷ 4 ∷ 6 ∷ 9 ∷ 11 ∷ 8 ∷ 10 ∷ 13 ∷
-    15 ∷ 12 ∷ 14 ∷ []) (q / 8)) 128 refl)
-    (same_below (λ q. turned_place 3 q % 8) (λ q. q % 8) 128 refl)
+pub rotated : (by : Columns) (a : List ℕ) (y : ℕ → ℕ) (j : ℕ) → IsPlane y j a
+    → IsPlane (λ q. y (turned_place (column_count by) q)) j (pick_l 0 (a ++ a) (sources by))
+rotated by a y j is =
+    let t = turned_place (column_count by) in
+    exchanged a (sources by) y t j is (sixteen by)
+    (λ q low. ltb-true (t q) 128 (agree_below_at (λ q. ltb (t q) 128) (λ q. true) 128 q (all_inside by) low))
+    (same_below (λ q. t q / 8) (λ q. slice_index (sources by) (q / 8)) 128 (all_from by))
+    (same_below (λ q. t q % 8) (λ q. q % 8) 128 (all_same_bit by))

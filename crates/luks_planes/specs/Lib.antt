@@ -1,2 +1,4 @@
 pub mod Planes
 pub mod Lanes
+pub mod Runs
+pub mod Columns

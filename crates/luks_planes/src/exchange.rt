@@ -2,50 +2,80 @@
 
 ghost use Rattle.std.specs.Prelude.{◌≡◌, ◌<◌, ℕ, List, [], ◌∷◌, slice_index_or};
 ghost use Rattle.luks_planes.specs.Planes.{Shows, low_of, high_of};
+ghost use Rattle.luks_planes.specs.Runs.{run_bits, low_mask, high_mask};
 
-use crate::gates::{down_1, down_2, down_4, masked, up_1, up_2, up_4, xor};
+use crate::gates::{masked, shl, shr, xor};
 use std::simd::prelude::*;
 
-#[inline(always)]
-fn low_1(a: u8x16, b: u8x16) -> u8x16
-    ensures { (f g : ℕ → ℕ → ℕ) → Shows f a → Shows g b → Shows (low_of 1 f g) result }
-{
-    xor(masked(a, 0x55), masked(up_1(b), 0xaa))
+/// Runs of bits that two bytes exchange: the upper runs of one with the lower ones of the other.
+#[derive(Clone, Copy, Drop)]
+enum Run {
+    Bit,
+    Pair,
+    Nibble,
 }
 
-#[inline(always)]
-fn high_1(a: u8x16, b: u8x16) -> u8x16
-    ensures { (f g : ℕ → ℕ → ℕ) → Shows f a → Shows g b → Shows (high_of 1 f g) result }
-{
-    xor(masked(down_1(a), 0x55), masked(b, 0xaa))
+impl Run {
+    /// How many bits a run has.
+    #[inline(always)]
+    fn bits(self) -> u8
+        ensures value { result ≡ run_bits self }
+        ensures range { result < 8 }
+    {
+        match self {
+            Run::Bit => 1,
+            Run::Pair => 2,
+            Run::Nibble => 4,
+        }
+    }
+
+    /// Every other run of a byte, from the lowest bit on.
+    #[inline(always)]
+    fn low_mask(self) -> u8
+        ensures { result ≡ low_mask self }
+    {
+        match self {
+            Run::Bit => 0x55,
+            Run::Pair => 0x33,
+            Run::Nibble => 0x0f,
+        }
+    }
+
+    /// The runs between those.
+    #[inline(always)]
+    fn high_mask(self) -> u8
+        ensures { result ≡ high_mask self }
+    {
+        match self {
+            Run::Bit => 0xaa,
+            Run::Pair => 0xcc,
+            Run::Nibble => 0xf0,
+        }
+    }
 }
 
+/// The lower runs of both: `a`'s stay, `b`'s move up between them.
 #[inline(always)]
-fn low_2(a: u8x16, b: u8x16) -> u8x16
-    ensures { (f g : ℕ → ℕ → ℕ) → Shows f a → Shows g b → Shows (low_of 2 f g) result }
+fn swap_low(run: Run, a: u8x16, b: u8x16) -> u8x16
+    ensures { (f g : ℕ → ℕ → ℕ) → Shows f a → Shows g b
+        → Shows (low_of (run_bits run) f g) result }
 {
-    xor(masked(a, 0x33), masked(up_2(b), 0xcc))
+    xor(
+        masked(a, run.low_mask()),
+        masked(shl(b, run.bits()), run.high_mask()),
+    )
 }
 
+/// The upper runs of both: `a`'s move down, `b`'s stay between them.
 #[inline(always)]
-fn high_2(a: u8x16, b: u8x16) -> u8x16
-    ensures { (f g : ℕ → ℕ → ℕ) → Shows f a → Shows g b → Shows (high_of 2 f g) result }
+fn swap_high(run: Run, a: u8x16, b: u8x16) -> u8x16
+    ensures { (f g : ℕ → ℕ → ℕ) → Shows f a → Shows g b
+        → Shows (high_of (run_bits run) f g) result }
 {
-    xor(masked(down_2(a), 0x33), masked(b, 0xcc))
-}
-
-#[inline(always)]
-fn low_4(a: u8x16, b: u8x16) -> u8x16
-    ensures { (f g : ℕ → ℕ → ℕ) → Shows f a → Shows g b → Shows (low_of 4 f g) result }
-{
-    xor(masked(a, 0x0f), masked(up_4(b), 0xf0))
-}
-
-#[inline(always)]
-fn high_4(a: u8x16, b: u8x16) -> u8x16
-    ensures { (f g : ℕ → ℕ → ℕ) → Shows f a → Shows g b → Shows (high_of 4 f g) result }
-{
-    xor(masked(down_4(a), 0x0f), masked(b, 0xf0))
+    xor(
+        masked(shr(a, run.bits()), run.low_mask()),
+        masked(b, run.high_mask()),
+    )
 }
 
 /// Bit k of a byte of vector j becomes bit j of that byte of vector k (an involution).
@@ -54,29 +84,29 @@ pub fn exchanged(x: [u8x16; 8]) -> [u8x16; 8]
     ensures { (f : ℕ → ℕ → ℕ → ℕ) → ((i : ℕ) → i < 8 → Shows (f i) (slice_index_or x i []))
         → (j : ℕ) → j < 8 → Shows (λ p k. f k p j) (slice_index_or result j []) }
 {
-    let a0 = low_1(x[0], x[1]);
-    let a1 = high_1(x[0], x[1]);
-    let a2 = low_1(x[2], x[3]);
-    let a3 = high_1(x[2], x[3]);
-    let a4 = low_1(x[4], x[5]);
-    let a5 = high_1(x[4], x[5]);
-    let a6 = low_1(x[6], x[7]);
-    let a7 = high_1(x[6], x[7]);
-    let b0 = low_2(a0, a2);
-    let b2 = high_2(a0, a2);
-    let b1 = low_2(a1, a3);
-    let b3 = high_2(a1, a3);
-    let b4 = low_2(a4, a6);
-    let b6 = high_2(a4, a6);
-    let b5 = low_2(a5, a7);
-    let b7 = high_2(a5, a7);
-    let c0 = low_4(b0, b4);
-    let c4 = high_4(b0, b4);
-    let c1 = low_4(b1, b5);
-    let c5 = high_4(b1, b5);
-    let c2 = low_4(b2, b6);
-    let c6 = high_4(b2, b6);
-    let c3 = low_4(b3, b7);
-    let c7 = high_4(b3, b7);
+    let a0 = swap_low(Run::Bit, x[0], x[1]);
+    let a1 = swap_high(Run::Bit, x[0], x[1]);
+    let a2 = swap_low(Run::Bit, x[2], x[3]);
+    let a3 = swap_high(Run::Bit, x[2], x[3]);
+    let a4 = swap_low(Run::Bit, x[4], x[5]);
+    let a5 = swap_high(Run::Bit, x[4], x[5]);
+    let a6 = swap_low(Run::Bit, x[6], x[7]);
+    let a7 = swap_high(Run::Bit, x[6], x[7]);
+    let b0 = swap_low(Run::Pair, a0, a2);
+    let b2 = swap_high(Run::Pair, a0, a2);
+    let b1 = swap_low(Run::Pair, a1, a3);
+    let b3 = swap_high(Run::Pair, a1, a3);
+    let b4 = swap_low(Run::Pair, a4, a6);
+    let b6 = swap_high(Run::Pair, a4, a6);
+    let b5 = swap_low(Run::Pair, a5, a7);
+    let b7 = swap_high(Run::Pair, a5, a7);
+    let c0 = swap_low(Run::Nibble, b0, b4);
+    let c4 = swap_high(Run::Nibble, b0, b4);
+    let c1 = swap_low(Run::Nibble, b1, b5);
+    let c5 = swap_high(Run::Nibble, b1, b5);
+    let c2 = swap_low(Run::Nibble, b2, b6);
+    let c6 = swap_high(Run::Nibble, b2, b6);
+    let c3 = swap_low(Run::Nibble, b3, b7);
+    let c7 = swap_high(Run::Nibble, b3, b7);
     [c0, c1, c2, c3, c4, c5, c6, c7]
 }

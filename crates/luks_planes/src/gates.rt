@@ -1,6 +1,6 @@
 //! Gates on vectors of 128 bits.
 
-ghost use Rattle.std.specs.Prelude.{◌≡◌, ◌*◌, ◌/◌, ◌%◌, ◌^◌, bit_and, bit_or, bit_xor, length, map};
+ghost use Rattle.std.specs.Prelude.{◌≡◌, ◌*◌, ◌/◌, ◌%◌, ◌^◌, ◌<◌, bit_and, bit_or, bit_xor, length, map};
 ghost use Rattle.std.specs.Simd.Lanes.{zip2};
 
 use std::simd::prelude::*;
@@ -45,50 +45,20 @@ pub fn masked(a: u8x16, mask: u8) -> u8x16
     a & u8x16::splat(mask)
 }
 
-/// The bits of each byte, 1 higher.
+/// The bits of each byte, `n` higher.
 #[inline(always)]
-pub fn up_1(a: u8x16) -> u8x16
-    ensures { length a ≡ 16 → result ≡ map (λ x. x * 2 ^ 1 % 256) a }
+pub fn shl(a: u8x16, n: u8) -> u8x16
+    requires { n < 8 }
+    ensures { length a ≡ 16 → result ≡ map (λ x. x * 2 ^ n % 256) a }
 {
-    a << 1
+    a << n
 }
 
-/// The bits of each byte, 1 lower.
+/// The bits of each byte, `n` lower.
 #[inline(always)]
-pub fn down_1(a: u8x16) -> u8x16
-    ensures { length a ≡ 16 → result ≡ map (λ x. x / 2 ^ 1) a }
+pub fn shr(a: u8x16, n: u8) -> u8x16
+    requires { n < 8 }
+    ensures { length a ≡ 16 → result ≡ map (λ x. x / 2 ^ n) a }
 {
-    a >> 1
-}
-
-/// The bits of each byte, 2 higher.
-#[inline(always)]
-pub fn up_2(a: u8x16) -> u8x16
-    ensures { length a ≡ 16 → result ≡ map (λ x. x * 2 ^ 2 % 256) a }
-{
-    a << 2
-}
-
-/// The bits of each byte, 2 lower.
-#[inline(always)]
-pub fn down_2(a: u8x16) -> u8x16
-    ensures { length a ≡ 16 → result ≡ map (λ x. x / 2 ^ 2) a }
-{
-    a >> 2
-}
-
-/// The bits of each byte, 4 higher.
-#[inline(always)]
-pub fn up_4(a: u8x16) -> u8x16
-    ensures { length a ≡ 16 → result ≡ map (λ x. x * 2 ^ 4 % 256) a }
-{
-    a << 4
-}
-
-/// The bits of each byte, 4 lower.
-#[inline(always)]
-pub fn down_4(a: u8x16) -> u8x16
-    ensures { length a ≡ 16 → result ≡ map (λ x. x / 2 ^ 4) a }
-{
-    a >> 4
+    a >> n
 }

@@ -14,6 +14,4 @@ pub use circuit::unsubstituted;
 pub use exchange::exchanged;
 pub use gates::xor;
 pub use lanes::{gathered, scattered};
-pub use rows::{
-    plane_turned_1, plane_turned_2, plane_turned_3, row_sum, turned_1, turned_2, turned_3,
-};
+pub use rows::{Columns, plane_rotated, row_rotated, row_sum};

@@ -4,6 +4,7 @@ ghost use Rattle.std.specs.Prelude.{◌≡◌, ℕ};
 ghost use Rattle.luks_aes.specs.Field.{◌⊕◌};
 ghost use Rattle.luks_aes.specs.Aes.{inv_sbox};
 ghost use Rattle.luks_planes.specs.Planes.{IsPlane, Stands, turned_place};
+ghost use Rattle.luks_planes.specs.Columns.{column_count};
 
 use crate::gates::xor;
 use std::simd::prelude::*;
@@ -25,77 +26,41 @@ pub fn row_sum(a: [u8x16; 8], b: [u8x16; 8]) -> [u8x16; 8]
     ]
 }
 
-/// Each byte of the vector goes to the place of the column that follows its own by one.
-#[inline(always)]
-pub fn plane_turned_1(a: u8x16) -> u8x16
-    ensures { (y : ℕ → ℕ) (j : ℕ) → IsPlane y j a → IsPlane (λ q. y (turned_place 1 q)) j result }
-{
-    a.swizzle([2, 0, 3, 1, 6, 4, 7, 5, 10, 8, 11, 9, 14, 12, 15, 13])
+/// How many columns InvShiftRows moves a row by.
+#[derive(Clone, Copy, Drop)]
+pub enum Columns {
+    One,
+    Two,
+    Three,
 }
 
-/// By two.
+/// Each byte of the vector goes to the place of the column that follows its own by so many.
 #[inline(always)]
-pub fn plane_turned_2(a: u8x16) -> u8x16
-    ensures { (y : ℕ → ℕ) (j : ℕ) → IsPlane y j a → IsPlane (λ q. y (turned_place 2 q)) j result }
+pub fn plane_rotated(a: u8x16, by: Columns) -> u8x16
+    ensures { (y : ℕ → ℕ) (j : ℕ) → IsPlane y j a
+        → IsPlane (λ q. y (turned_place (column_count by) q)) j result }
 {
-    a.swizzle([3, 2, 1, 0, 7, 6, 5, 4, 11, 10, 9, 8, 15, 14, 13, 12])
+    match by {
+        Columns::One => a.swizzle([2, 0, 3, 1, 6, 4, 7, 5, 10, 8, 11, 9, 14, 12, 15, 13]),
+        Columns::Two => a.swizzle([3, 2, 1, 0, 7, 6, 5, 4, 11, 10, 9, 8, 15, 14, 13, 12]),
+        Columns::Three => a.swizzle([1, 3, 0, 2, 5, 7, 4, 6, 9, 11, 8, 10, 13, 15, 12, 14]),
+    }
 }
 
-/// By three.
+/// A row after InvShiftRows (FIPS 197, 5.3.1).
 #[inline(always)]
-pub fn plane_turned_3(a: u8x16) -> u8x16
-    ensures { (y : ℕ → ℕ) (j : ℕ) → IsPlane y j a → IsPlane (λ q. y (turned_place 3 q)) j result }
-{
-    a.swizzle([1, 3, 0, 2, 5, 7, 4, 6, 9, 11, 8, 10, 13, 15, 12, 14])
-}
-
-/// Row 1 after InvShiftRows (FIPS 197, 5.3.1).
-#[inline(always)]
-pub fn turned_1(a: [u8x16; 8]) -> [u8x16; 8]
-    ensures { (y : ℕ → ℕ) → Stands y a → Stands (λ q. y (turned_place 1 q)) result }
+pub fn row_rotated(a: [u8x16; 8], by: Columns) -> [u8x16; 8]
+    ensures { (y : ℕ → ℕ) → Stands y a
+        → Stands (λ q. y (turned_place (column_count by) q)) result }
 {
     [
-        plane_turned_1(a[0]),
-        plane_turned_1(a[1]),
-        plane_turned_1(a[2]),
-        plane_turned_1(a[3]),
-        plane_turned_1(a[4]),
-        plane_turned_1(a[5]),
-        plane_turned_1(a[6]),
-        plane_turned_1(a[7]),
-    ]
-}
-
-/// Row 2 after InvShiftRows (FIPS 197, 5.3.1).
-#[inline(always)]
-pub fn turned_2(a: [u8x16; 8]) -> [u8x16; 8]
-    ensures { (y : ℕ → ℕ) → Stands y a → Stands (λ q. y (turned_place 2 q)) result }
-{
-    [
-        plane_turned_2(a[0]),
-        plane_turned_2(a[1]),
-        plane_turned_2(a[2]),
-        plane_turned_2(a[3]),
-        plane_turned_2(a[4]),
-        plane_turned_2(a[5]),
-        plane_turned_2(a[6]),
-        plane_turned_2(a[7]),
-    ]
-}
-
-/// Row 3 after InvShiftRows (FIPS 197, 5.3.1).
-#[inline(always)]
-pub fn turned_3(a: [u8x16; 8]) -> [u8x16; 8]
-    ensures { (y : ℕ → ℕ) → Stands y a → Stands (λ q. y (turned_place 3 q)) result }
-{
-    [
-        plane_turned_3(a[0]),
-        plane_turned_3(a[1]),
-        plane_turned_3(a[2]),
-        plane_turned_3(a[3]),
-        plane_turned_3(a[4]),
-        plane_turned_3(a[5]),
-        plane_turned_3(a[6]),
-        plane_turned_3(a[7]),
+        plane_rotated(a[0], by),
+        plane_rotated(a[1], by),
+        plane_rotated(a[2], by),
+        plane_rotated(a[3], by),
+        plane_rotated(a[4], by),
+        plane_rotated(a[5], by),
+        plane_rotated(a[6], by),
+        plane_rotated(a[7], by),
     ]
 }

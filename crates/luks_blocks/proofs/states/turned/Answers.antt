@@ -10,6 +10,6 @@ returns c = λ y is.
     four (λ r q. y r (turned_place r q)) _ _ _ _
     (stands_also (y 0) (λ q. y 0 (turned_place 0 q)) _ first (λ q. first.bytes (turned_place 0 q))
     (λ q low. ap (y 0) (sym (same_below (turned_place 0) (λ q. q) 128 refl q low))))
-    (c.turned_1.ensures (y 1) (is.at 1 (omega arith)))
-    (c.turned_2.ensures (y 2) (is.at 2 (omega arith)))
-    (c.turned_3.ensures (y 3) (is.at 3 (omega arith)))
+    (c.row_rotated.ensures (y 1) (is.at 1 (omega arith)))
+    (c.row_rotated-2.ensures (y 2) (is.at 2 (omega arith)))
+    (c.row_rotated-3.ensures (y 3) (is.at 3 (omega arith)))

@@ -30,11 +30,11 @@ returns-clause-plane c = λ y z j all is key doubled.
     record {
       row_0 = plane_also (λ q. unmixed_row y 0 q ⊕ z 0 q) _ j _ (sum_plane first key.row_0 c.xor-self.ensures)
           (λ q low. ap (λ p. unmixed_row y 0 p ⊕ z 0 p) (sym (same_below (turned_place 0) (λ q. q) 128 refl q low)));
-      row_1 = c.plane_turned_1-self.ensures (λ q. unmixed_row y 1 q ⊕ z 1 q) j
+      row_1 = c.plane_rotated-self.ensures (λ q. unmixed_row y 1 q ⊕ z 1 q) j
           (sum_plane second key.row_1 c.xor.ensures);
-      row_2 = c.plane_turned_2-self.ensures (λ q. unmixed_row y 2 q ⊕ z 2 q) j
+      row_2 = c.plane_rotated-self-2.ensures (λ q. unmixed_row y 2 q ⊕ z 2 q) j
           (sum_plane third key.row_2 c.xor-2.ensures);
-      row_3 = c.plane_turned_3-self.ensures (λ q. unmixed_row y 3 q ⊕ z 3 q) j
+      row_3 = c.plane_rotated-self-3.ensures (λ q. unmixed_row y 3 q ⊕ z 3 q) j
           (sum_plane fourth key.row_3 c.xor-3.ensures);
     }
 
