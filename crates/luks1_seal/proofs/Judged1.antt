@@ -4,7 +4,7 @@ use Rattle.std.proofs.Common.{arith}
 use Rattle.std.proofs.Math.Nat.{mul-le-mul_right}
 use Rattle.std.proofs.lemmas.Bool.{le-ltb}
 use Rattle.std.proofs.lemmas.Bool.Decides.{nat_tests}
-use Rattle.luks_cipher.specs.Sector.{is_mode_key_length, mode_named, name_of}
+use Rattle.luks_cipher.specs.Sector.{is_mode_key_length, mode_named, mode_name}
 use Rattle.luks_cipher.specs.declared.mode.Mode.{Mode}
 use Rattle.luks_cipher.specs.declared.mode.Mode.TheVariants.{XtsPlain64, XtsPlain, CbcEssivSha256, CbcPlain64}
 use Rattle.luks_kdf.specs.Hash.{hash_named, name_of as hash_name}
@@ -33,7 +33,7 @@ use Rattle.luks1_seal.specs.Ranges1.{AreParameters}
 use Rattle.luks1_seal.specs.Typed1.{AreTyped1}
 use Rattle.luks1_seal.proofs.Read1.{IsKeySlot, IsRead1}
 
-mode_by_name : (mode : Mode) → mode_named (name_of mode) ≡ Some mode
+mode_by_name : (mode : Mode) → mode_named (mode_name mode) ≡ Some mode
 mode_by_name XtsPlain64 = refl
 mode_by_name XtsPlain = refl
 mode_by_name CbcEssivSha256 = refl

@@ -4,7 +4,7 @@ use Rattle.std.proofs.Common.{refl, ap, arith, length-append, lit≤}
 use Rattle.std.specs.Prelude.{codes}
 use Rattle.std.specs.Int.{to_be_bytes, w32}
 use Rattle.std.specs.Option.{option_map_or}
-use Rattle.luks_cipher.specs.Sector.{name_of}
+use Rattle.luks_cipher.specs.Sector.{mode_name}
 use Rattle.luks_cipher.specs.Xts.{joined}
 use Rattle.luks_cipher.specs.declared.mode.Mode.{Mode}
 use Rattle.luks_cipher.specs.declared.mode.Mode.TheVariants.{XtsPlain64, XtsPlain, CbcEssivSha256, CbcPlain64}
@@ -29,7 +29,7 @@ use Rattle.luks1_seal.proofs.Slots1.{found_slot}
 
 -- ---- the header
 
-mode_name_fits : (mode : Mode) → length (name_of mode) ≤ 32
+mode_name_fits : (mode : Mode) → length (mode_name mode) ≤ 32
 mode_name_fits XtsPlain64 = lit≤ tt
 mode_name_fits XtsPlain = lit≤ tt
 mode_name_fits CbcEssivSha256 = lit≤ tt
@@ -45,8 +45,8 @@ hash_name_fits Sha512 = lit≤ tt
 pub length-cipher_name : length (padded 32 (codes "aes")) ≡ 32
 length-cipher_name = length-padded 32 (codes "aes") (lit≤ tt)
 
-pub length-mode_name : (mode : Mode) → length (padded 32 (name_of mode)) ≡ 32
-length-mode_name mode = length-padded 32 (name_of mode) (mode_name_fits mode)
+pub length-mode_name : (mode : Mode) → length (padded 32 (mode_name mode)) ≡ 32
+length-mode_name mode = length-padded 32 (mode_name mode) (mode_name_fits mode)
 
 pub length-hash_name : (h : Hash) → length (padded 32 (hash_name h)) ≡ 32
 length-hash_name h = length-padded 32 (hash_name h) (hash_name_fits h)
@@ -55,7 +55,7 @@ pub length-start1 : (p : Seal1) → length (start1_of p) ≡ 72
 unfolding start1_of
 length-start1 p =
     let mode = length-mode_name p.mode in
-    omega (arith, length-append (padded 32 (codes "aes")) (padded 32 (name_of p.mode)), length-cipher_name, mode)
+    omega (arith, length-append (padded 32 (codes "aes")) (padded 32 (mode_name p.mode)), length-cipher_name, mode)
 
 pub length-middle1 : (p : Seal1) → length (middle1_of p) ≡ 40
 unfolding middle1_of

@@ -7,7 +7,7 @@ use Rattle.std.proofs.lemmas.List.{take_all}
 use Rattle.std.proofs.Math.Nat.{mul-le-mul_right}
 use Rattle.std.proofs.lemmas.Nat.{from_be_bytes-to_be_bytes_4}
 use Rattle.luks_area.specs.Field.{at, be32, text_of}
-use Rattle.luks_cipher.specs.Sector.{name_of}
+use Rattle.luks_cipher.specs.Sector.{mode_name}
 use Rattle.luks_cipher.specs.declared.mode.Mode.{Mode}
 use Rattle.luks_cipher.specs.declared.mode.Mode.TheVariants.{XtsPlain64, XtsPlain, CbcEssivSha256, CbcPlain64}
 use Rattle.luks_cipher.proofs.ModeLemmas.{longest_key}
@@ -45,7 +45,7 @@ cipher_read : text_of (padded 32 (codes "aes")) ≡ codes "aes"
 unfolding padded
 cipher_read = refl
 
-mode_read : (mode : Mode) → text_of (padded 32 (name_of mode)) ≡ name_of mode
+mode_read : (mode : Mode) → text_of (padded 32 (mode_name mode)) ≡ mode_name mode
 unfolding padded
 mode_read XtsPlain64 = refl
 mode_read XtsPlain = refl
@@ -115,7 +115,7 @@ key_slots_read bytes (suc (suc (suc (suc (suc (suc (suc (suc n)))))))) low = abs
 -- the header of these parameters, as it is read
 pub record IsRead1 (p : Seal1) (header : Header1) : Type 0 where
   pub cipher_name : header.cipher_name ≡ codes "aes"
-  pub cipher_mode : header.cipher_mode ≡ name_of p.mode
+  pub cipher_mode : header.cipher_mode ≡ mode_name p.mode
   pub hash_spec : header.hash_spec ≡ hash_name p.hash
   pub payload_offset : header.payload_offset ≡ p.payload_sectors
   pub key_bytes : header.key_bytes ≡ length p.key.now
@@ -188,15 +188,15 @@ module _ (p : Seal1) (fits : AreParameters p) (typed : AreTyped1 p) where
   unfolding start1_of
   cipher_name_is =
       ap text_of (in_start 8 32 (omega arith)
-      ∙ at_first 0 32 (padded 32 (codes "aes")) (padded 32 (name_of p.mode)) (omega (arith, length-cipher_name))
+      ∙ at_first 0 32 (padded 32 (codes "aes")) (padded 32 (mode_name p.mode)) (omega (arith, length-cipher_name))
       ∙ take_all 32 (padded 32 (codes "aes")) (omega (arith, length-cipher_name)))
       ∙ cipher_read
 
-  cipher_mode_is : text_of (at 40 32 (front1_of p)) ≡ name_of p.mode
+  cipher_mode_is : text_of (at 40 32 (front1_of p)) ≡ mode_name p.mode
   unfolding start1_of
   cipher_mode_is =
       ap text_of (in_start 40 32 (omega arith)
-      ∙ at_second 32 32 (padded 32 (codes "aes")) (padded 32 (name_of p.mode)) (sym length-cipher_name)
+      ∙ at_second 32 32 (padded 32 (codes "aes")) (padded 32 (mode_name p.mode)) (sym length-cipher_name)
       (length-mode_name p.mode))
       ∙ mode_read p.mode
 

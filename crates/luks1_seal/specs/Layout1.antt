@@ -3,7 +3,7 @@ use Rattle.std.specs.Prelude.{◌==◌, ℕ, zero, suc, ◌+◌, ◌*◌, if◌t
 use Rattle.std.specs.Prelude.{None, Some}
 use Rattle.std.specs.Int.{to_be_bytes, w32}
 use Rattle.std.specs.Option.{option_map_or}
-use Rattle.luks_cipher.specs.Sector.{name_of}
+use Rattle.luks_cipher.specs.Sector.{mode_name}
 use Rattle.luks_kdf.specs.Hash.{name_of as hash_name}
 use Rattle.luks_kdf.specs.Pbkdf2.{derived_key}
 use Rattle.luks_seal.specs.Pieces.{material_of, padded, sectors_encrypted, stripes_of}
@@ -22,7 +22,7 @@ area_sectors_of p = area_sectors (length p.key.now) p.stripes
 
 -- `magic`, `version`, `cipher-name` and `cipher-mode`
 unfoldable pub start1_of : Seal1 → List ℕ
-start1_of p = (codes "LUKS" ++ 186 ∷ 190 ∷ 0 ∷ 1 ∷ []) ++ padded 32 (codes "aes") ++ padded 32 (name_of p.mode)
+start1_of p = (codes "LUKS" ++ 186 ∷ 190 ∷ 0 ∷ 1 ∷ []) ++ padded 32 (codes "aes") ++ padded 32 (mode_name p.mode)
 
 -- `hash-spec`, `payload-offset` and `key-bytes`
 unfoldable pub middle1_of : Seal1 → List ℕ

@@ -12,7 +12,7 @@ use Rattle.base64.proofs.EngineFacts.{decode_of-encode_of}
 use Rattle.base64.specs.Engines.{standard}
 use Rattle.base64.specs.GeneralPurpose.{decoded_of, encode_of}
 use Rattle.luks_aes.specs.Bytes.{IsBytes}
-use Rattle.luks_cipher.specs.Sector.{name_of}
+use Rattle.luks_cipher.specs.Sector.{mode_name}
 use Rattle.luks_cipher.specs.declared.mode.Mode.{Mode}
 use Rattle.luks_cipher.specs.declared.mode.Mode.TheVariants.{XtsPlain64, XtsPlain, CbcEssivSha256, CbcPlain64}
 use Rattle.luks_kdf.specs.Hash.{hash_named, name_of as hash_name}
@@ -50,7 +50,7 @@ hash_read Sha256 = refl
 hash_read Sha384 = refl
 hash_read Sha512 = refl
 
-pub mode_read : (mode : Mode) → mode_of (codes "aes-" ++ name_of mode) ≡ Some mode
+pub mode_read : (mode : Mode) → mode_of (codes "aes-" ++ mode_name mode) ≡ Some mode
 unfolding mode_of
 mode_read XtsPlain64 = refl
 mode_read XtsPlain = refl

@@ -9,7 +9,7 @@ use Rattle.serde_json.specs.Data.{Data, Members, array, member, no_members, numb
 use Rattle.serde_json.specs.View.{items_of}
 use Rattle.serde_json.specs.Read.{read}
 use Rattle.serde_json.specs.Written.{compact_text}
-use Rattle.luks_cipher.specs.Sector.{name_of}
+use Rattle.luks_cipher.specs.Sector.{mode_name}
 use Rattle.luks_cipher.specs.declared.mode.Mode.{Mode}
 use Rattle.luks_kdf.specs.Hash.{name_of as hash_name, size_of}
 use Rattle.luks_kdf.specs.Pbkdf2.{derived_key}
@@ -34,7 +34,7 @@ base64_text bytes = string (encode_of standard bytes)
 
 -- how sectors are encrypted: AES in this mode
 abbrev pub encryption_text : Mode → Data
-encryption_text mode = string (codes "aes-" ++ name_of mode)
+encryption_text mode = string (codes "aes-" ++ mode_name mode)
 
 -- how the key is split
 unfoldable pub af_object : Slot2 → Data

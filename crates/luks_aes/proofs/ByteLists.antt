@@ -6,7 +6,7 @@ use Rattle.std.specs.Int.Bits.{xor_lt}
 use Rattle.std.proofs.lemmas.Bool.{agree_below_at, ltb-true}
 use Rattle.luks_aes.specs.Field.{◌⊕◌, ◌•◌, times_x, product_of_bits, power_of_x}
 use Rattle.luks_aes.specs.Aes.{sbox, cell, state_of, sub_bytes, shift_rows, multiplied_columns, add_round_key, word_of}
-use Rattle.luks_aes.specs.Aes.{word_at, word_sum, rot_word, sub_word, round_constant, next_word, with_next_word}
+use Rattle.luks_aes.specs.Aes.{word_at, word_xor, rot_word, sub_word, round_constant, next_word, with_next_word}
 use Rattle.luks_aes.specs.Aes.{words_after, key_expansion, state_after, cipher, encrypted}
 use Rattle.luks_aes.specs.Bytes.{IsBytes}
 use Rattle.luks_aes.specs.declared.sbox.TheConstants.{SBOX}
@@ -97,8 +97,8 @@ bytes_choice false xs ys first second = second
 word_at_bytes : (w : List ℕ) (i : ℕ) → IsBytes w → IsBytes (word_at w i)
 word_at_bytes w i all = word_bytes (λ k. slice_index w (4 * i + k)) (λ k. all.each (4 * i + k))
 
-word_sum_bytes : (a b : List ℕ) → IsBytes a → IsBytes b → IsBytes (word_sum a b)
-unfolding word_sum
+word_sum_bytes : (a b : List ℕ) → IsBytes a → IsBytes b → IsBytes (word_xor a b)
+unfolding word_xor
 word_sum_bytes a b first second =
     word_bytes (λ k. slice_index a k ⊕ slice_index b k)
     (λ k. xor_byte (slice_index a k) (slice_index b k) (first.each k) (second.each k))

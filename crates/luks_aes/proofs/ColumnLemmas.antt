@@ -1,11 +1,11 @@
--- The rounds on states that are spelt by four columns.
+-- The rounds on states that are bytes_of_words by four columns.
 use Rattle.std.proofs.Common.{◌≡◌, ℕ, ◌+◌, ◌*◌, List, [], ◌∷◌, ◌++◌, arith, refl, ap, ◌∙◌}
 use Rattle.std.specs.Prelude.{slice_index}
 use Rattle.std.specs.Int.{w32, to_le_bytes}
 use Rattle.luks_aes.specs.Field.{◌⊕◌}
-use Rattle.luks_aes.specs.Aes.{sbox, inv_sbox, word_of, word_sum, sub_bytes, shift_rows, multiplied_columns}
+use Rattle.luks_aes.specs.Aes.{sbox, inv_sbox, word_of, word_xor, sub_bytes, shift_rows, multiplied_columns}
 use Rattle.luks_aes.specs.Aes.{mix_columns, add_round_key, inv_shift_rows, inv_sub_bytes, inv_mix_columns}
-use Rattle.luks_aes.specs.Columns.{spelt, column_product}
+use Rattle.luks_aes.specs.Columns.{bytes_of_words, column_product}
 use Rattle.luks_aes.proofs.ByteLists.{IsState, bytes_nil, bytes_cons}
 
 pub columns_mixed : (s a b c d : List ℕ) (p q r t : ℕ)
@@ -23,8 +23,8 @@ pub columns_mixed : (s a b c d : List ℕ) (p q r t : ℕ)
     → to_le_bytes w32 t
     ≡ column_product (2 ∷ 3 ∷ 1 ∷ 1 ∷ [])
     (sbox (slice_index d 0) ∷ sbox (slice_index a 1) ∷ sbox (slice_index b 2) ∷ sbox (slice_index c 3) ∷ [])
-    → spelt (p ∷ q ∷ r ∷ t ∷ []) ≡ mix_columns (shift_rows (sub_bytes (spelt s)))
-unfolding spelt multiplied_columns shift_rows sub_bytes
+    → bytes_of_words (p ∷ q ∷ r ∷ t ∷ []) ≡ mix_columns (shift_rows (sub_bytes (bytes_of_words s)))
+unfolding bytes_of_words multiplied_columns shift_rows sub_bytes
 columns_mixed s a b c d p q r t at_a at_b at_c at_d first second third fourth =
     let e = rw (at_a, at_b, at_c, at_d) at first in
     let f = rw (at_a, at_b, at_c, at_d) at second in
@@ -32,7 +32,7 @@ columns_mixed s a b c d p q r t at_a at_b at_c at_d first second third fourth =
     let h = rw (at_a, at_b, at_c, at_d) at fourth in
     λ i. e i ++ (f i ++ (g i ++ h i))
 
-pub columns_unmixed : (s a b c d : List ℕ) (p q r t : ℕ)
+pub columns_inv_mixed : (s a b c d : List ℕ) (p q r t : ℕ)
     → a ≡ to_le_bytes w32 (slice_index s 0) → b ≡ to_le_bytes w32 (slice_index s 1)
     → c ≡ to_le_bytes w32 (slice_index s 2) → d ≡ to_le_bytes w32 (slice_index s 3)
     → to_le_bytes w32 p
@@ -51,9 +51,9 @@ pub columns_unmixed : (s a b c d : List ℕ) (p q r t : ℕ)
     ≡ column_product (14 ∷ 11 ∷ 13 ∷ 9 ∷ [])
     (inv_sbox (slice_index d 0) ∷ inv_sbox (slice_index c 1) ∷ inv_sbox (slice_index b 2)
     ∷ inv_sbox (slice_index a 3) ∷ [])
-    → spelt (p ∷ q ∷ r ∷ t ∷ []) ≡ inv_mix_columns (inv_sub_bytes (inv_shift_rows (spelt s)))
-unfolding spelt multiplied_columns inv_shift_rows inv_sub_bytes
-columns_unmixed s a b c d p q r t at_a at_b at_c at_d first second third fourth =
+    → bytes_of_words (p ∷ q ∷ r ∷ t ∷ []) ≡ inv_mix_columns (inv_sub_bytes (inv_shift_rows (bytes_of_words s)))
+unfolding bytes_of_words multiplied_columns inv_shift_rows inv_sub_bytes
+columns_inv_mixed s a b c d p q r t at_a at_b at_c at_d first second third fourth =
     let e = rw (at_a, at_b, at_c, at_d) at first in
     let f = rw (at_a, at_b, at_c, at_d) at second in
     let g = rw (at_a, at_b, at_c, at_d) at third in
@@ -63,13 +63,13 @@ columns_unmixed s a b c d p q r t at_a at_b at_c at_d first second third fourth 
 -- the round key's column k, as it is read from the schedule, and as it is added
 pub key_column : (s w : List ℕ) (round k at p q : ℕ) → at ≡ 4 * (4 * round + k)
     → to_le_bytes w32 q ≡ word_of (λ r. slice_index w (r + at))
-    → to_le_bytes w32 p ≡ word_sum (to_le_bytes w32 (slice_index s k)) (to_le_bytes w32 q)
+    → to_le_bytes w32 p ≡ word_xor (to_le_bytes w32 (slice_index s k)) (to_le_bytes w32 q)
     → to_le_bytes w32 p
     ≡ word_of (λ r. slice_index (to_le_bytes w32 (slice_index s k)) r ⊕ slice_index w (r + 4 * (4 * round + k)))
-unfolding word_sum
+unfolding word_xor
 key_column s w round k at p q place read added =
     let there = rw place at read in
-    added ∙ ap (word_sum (to_le_bytes w32 (slice_index s k))) there
+    added ∙ ap (word_xor (to_le_bytes w32 (slice_index s k))) there
 
 pub round_key_added : (s w : List ℕ) (round p q r t : ℕ)
     → to_le_bytes w32 p
@@ -80,13 +80,13 @@ pub round_key_added : (s w : List ℕ) (round p q r t : ℕ)
     ≡ word_of (λ r. slice_index (to_le_bytes w32 (slice_index s 2)) r ⊕ slice_index w (r + 4 * (4 * round + 2)))
     → to_le_bytes w32 t
     ≡ word_of (λ r. slice_index (to_le_bytes w32 (slice_index s 3)) r ⊕ slice_index w (r + 4 * (4 * round + 3)))
-    → spelt (p ∷ q ∷ r ∷ t ∷ []) ≡ add_round_key (spelt s) w round
-unfolding spelt add_round_key
+    → bytes_of_words (p ∷ q ∷ r ∷ t ∷ []) ≡ add_round_key (bytes_of_words s) w round
+unfolding bytes_of_words add_round_key
 round_key_added s w round p q r t first second third fourth = λ i. first i ++ (second i ++ (third i ++ fourth i))
 
 -- what columns spell is a state
-pub spelt_state : (words : List ℕ) → IsState (spelt words)
-unfolding spelt
+pub spelt_state : (words : List ℕ) → IsState (bytes_of_words words)
+unfolding bytes_of_words
 spelt_state words = record {
   len = refl;
   bytes =

@@ -10,5 +10,5 @@ pub mod Undone
 pub mod WordLemmas
 pub mod TableLemmas
 pub mod ColumnLemmas
-pub mod UnmixedLemmas
+pub mod InvMixedLemmas
 pub mod Redone

@@ -78,8 +78,8 @@ gathered a1 a2 a3 a4 b1 b2 b3 b4 c1 c2 c3 c4 d1 d2 d3 d4 = same_from_bits _ _ (�
 abbrev pub mixed : ℕ → ℕ → ℕ → ℕ → ℕ
 mixed a b c d = 2 • a ⊕ 3 • b ⊕ 1 • c ⊕ 1 • d
 
-abbrev pub unmixed : ℕ → ℕ → ℕ → ℕ → ℕ
-unmixed a b c d = 14 • a ⊕ 11 • b ⊕ 13 • c ⊕ 9 • d
+abbrev pub inv_mixed : ℕ → ℕ → ℕ → ℕ → ℕ
+inv_mixed a b c d = 14 • a ⊕ 11 • b ⊕ 13 • c ⊕ 9 • d
 
 products_of : (k a b c d : ℕ) → a < 256 → b < 256 → c < 256 → d < 256
     → k • mixed a b c d ≡ k • (2 • a) ⊕ k • (3 • b) ⊕ k • (1 • c) ⊕ k • (1 • d)
@@ -87,9 +87,9 @@ products_of k a b c d p q r s =
     product_sum4 k (2 • a) (3 • b) (1 • c) (1 • d) (product_byte 2 a p) (product_byte 3 b q) (product_byte 1 c r)
     (product_byte 1 d s)
 
-pub unmixed_is : (a b c d : ℕ) → a < 256 → b < 256 → c < 256 → d < 256
-    → unmixed (mixed a b c d) (mixed b c d a) (mixed c d a b) (mixed d a b c) ≡ a
-unmixed_is a b c d p q r s =
+pub inv_mixed_is : (a b c d : ℕ) → a < 256 → b < 256 → c < 256 → d < 256
+    → inv_mixed (mixed a b c d) (mixed b c d a) (mixed c d a b) (mixed d a b c) ≡ a
+inv_mixed_is a b c d p q r s =
     rw (
       products_of 14 a b c d p q r s,
       products_of 11 b c d a q r s p,

@@ -10,7 +10,7 @@ use Rattle.luks_aes.proofs.Bytes.{same_below}
 use Rattle.luks_aes.proofs.SboxLemmas.{sbox_entry, inv_sbox_entry, inv_sbox_byte, there_and_back}
 use Rattle.luks_aes.proofs.ByteLists.{IsState, made_state, product_byte, columns_state, add_round_key_state}
 use Rattle.luks_aes.proofs.ByteLists.{expansion_bytes}
-use Rattle.luks_aes.proofs.MixingLemmas.{mixed, unmixed, product_sum4, gathered}
+use Rattle.luks_aes.proofs.MixingLemmas.{mixed, inv_mixed, product_sum4, gathered}
 use Rattle.luks_aes.proofs.Undone.{whole_state, same_states, add_round_key_undone}
 
 -- ---- states of bytes
@@ -80,13 +80,13 @@ unfolding ◌•◌ product_of_bits times_x
 third_row = same_below (λ x. 2 • (9 • x) ⊕ 3 • (13 • x) ⊕ 1 • (11 • x) ⊕ 1 • (14 • x)) (λ x. 0) 256 refl
 
 products_of : (k a b c d : ℕ) → a < 256 → b < 256 → c < 256 → d < 256
-    → k • unmixed a b c d ≡ k • (14 • a) ⊕ k • (11 • b) ⊕ k • (13 • c) ⊕ k • (9 • d)
+    → k • inv_mixed a b c d ≡ k • (14 • a) ⊕ k • (11 • b) ⊕ k • (13 • c) ⊕ k • (9 • d)
 products_of k a b c d p q r s =
     product_sum4 k (14 • a) (11 • b) (13 • c) (9 • d) (product_byte 14 a p) (product_byte 11 b q) (product_byte 13 c r)
     (product_byte 9 d s)
 
 mixed_is : (a b c d : ℕ) → a < 256 → b < 256 → c < 256 → d < 256
-    → mixed (unmixed a b c d) (unmixed b c d a) (unmixed c d a b) (unmixed d a b c) ≡ a
+    → mixed (inv_mixed a b c d) (inv_mixed b c d a) (inv_mixed c d a b) (inv_mixed d a b c) ≡ a
 mixed_is a b c d p q r s =
     rw (
       products_of 2 a b c d p q r s,
@@ -106,10 +106,10 @@ unfolding multiplied_columns
 inv_mix_columns_undone s is =
     same_states
     (λ r c. mixed
-    (unmixed (cell s r c) (cell s ((r + 1) % 4) c) (cell s ((r + 2) % 4) c) (cell s ((r + 3) % 4) c))
-    (unmixed (cell s ((r + 1) % 4) c) (cell s ((r + 2) % 4) c) (cell s ((r + 3) % 4) c) (cell s r c))
-    (unmixed (cell s ((r + 2) % 4) c) (cell s ((r + 3) % 4) c) (cell s r c) (cell s ((r + 1) % 4) c))
-    (unmixed (cell s ((r + 3) % 4) c) (cell s r c) (cell s ((r + 1) % 4) c) (cell s ((r + 2) % 4) c)))
+    (inv_mixed (cell s r c) (cell s ((r + 1) % 4) c) (cell s ((r + 2) % 4) c) (cell s ((r + 3) % 4) c))
+    (inv_mixed (cell s ((r + 1) % 4) c) (cell s ((r + 2) % 4) c) (cell s ((r + 3) % 4) c) (cell s r c))
+    (inv_mixed (cell s ((r + 2) % 4) c) (cell s ((r + 3) % 4) c) (cell s r c) (cell s ((r + 1) % 4) c))
+    (inv_mixed (cell s ((r + 3) % 4) c) (cell s r c) (cell s ((r + 1) % 4) c) (cell s ((r + 2) % 4) c)))
     (cell s)
     (λ r c.
     let byte : (q : ℕ) → cell s q c < 256 = λ q. is.bytes.each (q + 4 * c) in

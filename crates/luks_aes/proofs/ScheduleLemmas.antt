@@ -81,10 +81,10 @@ expansion_begins key schedule is expanded =
     ∙ ap (take (4 * nk)) expanded
     ∙ rw (lengths.whole) (words_begin nk key (4 * (rounds_of key + 1) - nk))
 
-pub expanded_is : (key schedule unmixed : List ℕ) → IsTrue (is_aes_key_length (length key)) → IsBytes schedule
-    → IsMultiplied (14 ∷ 11 ∷ 13 ∷ 9 ∷ []) schedule unmixed 60
-    → take (16 * (rounds_of key + 1)) schedule ≡ key_expansion key → IsSchedule (words_of key) schedule unmixed
-expanded_is key schedule unmixed is bytes products expanded =
+pub expanded_is : (key schedule inv_mixed : List ℕ) → IsTrue (is_aes_key_length (length key)) → IsBytes schedule
+    → IsMultiplied (14 ∷ 11 ∷ 13 ∷ 9 ∷ []) schedule inv_mixed 60
+    → take (16 * (rounds_of key + 1)) schedule ≡ key_expansion key → IsSchedule (words_of key) schedule inv_mixed
+expanded_is key schedule inv_mixed is bytes products expanded =
     let lengths = key_length (length key) is in
     let same : words_of key + 7 ≡ rounds_of key + 1 = omega arith in
     record {
@@ -95,55 +95,55 @@ expanded_is key schedule unmixed is bytes products expanded =
     }
 
 -- the words of the key that a schedule begins with
-words_of_schedule : (words : ℕ) (schedule unmixed : List ℕ) → length schedule ≡ 240 → IsSchedule words schedule unmixed
+words_of_schedule : (words : ℕ) (schedule inv_mixed : List ℕ) → length schedule ≡ 240 → IsSchedule words schedule inv_mixed
     → words_of (take (4 * words) schedule) ≡ words
-words_of_schedule words schedule unmixed len is =
+words_of_schedule words schedule inv_mixed len is =
     let lengths = key_length (4 * words) is.key_length in
     let least = lengths.least in
     let most = lengths.most in
     rw (length-take-le (4 * words) schedule (omega arith)) (omega arith)
 
-pub rounds_are : (words : ℕ) (schedule unmixed key : List ℕ) → length schedule ≡ 240 → IsSchedule words schedule unmixed
+pub rounds_are : (words : ℕ) (schedule inv_mixed key : List ℕ) → length schedule ≡ 240 → IsSchedule words schedule inv_mixed
     → take (4 * words) schedule ≡ key → words + 6 ≡ rounds_of key
-rounds_are words schedule unmixed key len is view =
-    let nk = words_of_schedule words schedule unmixed len is in
+rounds_are words schedule inv_mixed key len is view =
+    let nk = words_of_schedule words schedule inv_mixed len is in
     rw (← view, nk) refl
 
 -- a key's round keys are among the 15 that a schedule has room for
-pub round_in_schedule : (words n : ℕ) (schedule unmixed key : List ℕ) → length schedule ≡ 240
-    → IsSchedule words schedule unmixed → take (4 * words) schedule ≡ key → n ≤ rounds_of key → n < 15
-round_in_schedule words n schedule unmixed key len is view low =
+pub round_in_schedule : (words n : ℕ) (schedule inv_mixed key : List ℕ) → length schedule ≡ 240
+    → IsSchedule words schedule inv_mixed → take (4 * words) schedule ≡ key → n ≤ rounds_of key → n < 15
+round_in_schedule words n schedule inv_mixed key len is view low =
     let most = (key_length (4 * words) is.key_length).most in
-    let rounds = rounds_are words schedule unmixed key len is view in
+    let rounds = rounds_are words schedule inv_mixed key len is view in
     omega arith
 
 -- their bytes in the schedule are those of the key's expansion
-pub round_byte : (words n r c : ℕ) (schedule unmixed key : List ℕ) → length schedule ≡ 240
-    → IsSchedule words schedule unmixed → take (4 * words) schedule ≡ key → n ≤ rounds_of key → r < 4 → c < 4
+pub round_byte : (words n r c : ℕ) (schedule inv_mixed key : List ℕ) → length schedule ≡ 240
+    → IsSchedule words schedule inv_mixed → take (4 * words) schedule ≡ key → n ≤ rounds_of key → r < 4 → c < 4
     → slice_index schedule (r + 4 * (4 * n + c)) ≡ slice_index (key_expansion key) (r + 4 * (4 * n + c))
-round_byte words n r c schedule unmixed key len is view low row column =
+round_byte words n r c schedule inv_mixed key len is view low row column =
     let i = r + 4 * (4 * n + c) in
-    let rounds = rounds_are words schedule unmixed key len is view in
+    let rounds = rounds_are words schedule inv_mixed key len is view in
     sym (get_or-take (16 * (words + 7)) schedule i 0 (omega arith)) ∙ ap (λ l. slice_index l i)
     (is.expanded ∙ ap key_expansion view)
 
 -- the cipher over the schedule is that of the key
-pub encrypted_is : (words : ℕ) (schedule unmixed key block : List ℕ) → length schedule ≡ 240
-    → IsSchedule words schedule unmixed
+pub encrypted_is : (words : ℕ) (schedule inv_mixed key block : List ℕ) → length schedule ≡ 240
+    → IsSchedule words schedule inv_mixed
     → take (4 * words) schedule ≡ key
     → cipher block (words + 6) (take (16 * (words + 6 + 1)) schedule) ≡ encrypted key block
 unfolding encrypted
-encrypted_is words schedule unmixed key block len is view =
-    let nk = words_of_schedule words schedule unmixed len is in
+encrypted_is words schedule inv_mixed key block len is view =
+    let nk = words_of_schedule words schedule inv_mixed len is in
     let same : words + 6 + 1 ≡ words + 7 = omega arith in
     rw (← view, nk, same, is.expanded) refl
 
-pub decrypted_is : (words : ℕ) (schedule unmixed key block : List ℕ) → length schedule ≡ 240
-    → IsSchedule words schedule unmixed
+pub decrypted_is : (words : ℕ) (schedule inv_mixed key block : List ℕ) → length schedule ≡ 240
+    → IsSchedule words schedule inv_mixed
     → take (4 * words) schedule ≡ key
     → inv_cipher block (words + 6) (take (16 * (words + 6 + 1)) schedule) ≡ decrypted key block
 unfolding decrypted
-decrypted_is words schedule unmixed key block len is view =
-    let nk = words_of_schedule words schedule unmixed len is in
+decrypted_is words schedule inv_mixed key block len is view =
+    let nk = words_of_schedule words schedule inv_mixed len is in
     let same : words + 6 + 1 ≡ words + 7 = omega arith in
     rw (← view, nk, same, is.expanded) refl

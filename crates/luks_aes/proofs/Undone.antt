@@ -11,7 +11,7 @@ use Rattle.luks_aes.proofs.SboxLemmas.{sbox_entry, inv_sbox_entry, back_and_ther
 use Rattle.luks_aes.proofs.StateLemmas.{filled_all, cell_at}
 use Rattle.luks_aes.proofs.ByteLists.{IsState, sbox_byte, sub_bytes_state, shift_rows_state, columns_state, after_state}
 use Rattle.luks_aes.proofs.ByteLists.{expansion_bytes}
-use Rattle.luks_aes.proofs.MixingLemmas.{mixed, unmixed, unmixed_is}
+use Rattle.luks_aes.proofs.MixingLemmas.{mixed, inv_mixed, inv_mixed_is}
 
 -- ---- the steps
 
@@ -46,7 +46,7 @@ mix_columns_undone : (s : List ℕ) → IsState s → inv_mix_columns (mix_colum
 unfolding multiplied_columns
 mix_columns_undone s is =
     same_states
-    (λ r c. unmixed
+    (λ r c. inv_mixed
     (mixed (cell s r c) (cell s ((r + 1) % 4) c) (cell s ((r + 2) % 4) c) (cell s ((r + 3) % 4) c))
     (mixed (cell s ((r + 1) % 4) c) (cell s ((r + 2) % 4) c) (cell s ((r + 3) % 4) c) (cell s r c))
     (mixed (cell s ((r + 2) % 4) c) (cell s ((r + 3) % 4) c) (cell s r c) (cell s ((r + 1) % 4) c))
@@ -54,7 +54,7 @@ mix_columns_undone s is =
     (cell s)
     (λ r c.
     let byte : (q : ℕ) → cell s q c < 256 = λ q. is.bytes.each (q + 4 * c) in
-    unmixed_is _ _ _ _ (byte r) (byte ((r + 1) % 4)) (byte ((r + 2) % 4)) (byte ((r + 3) % 4)))
+    inv_mixed_is _ _ _ _ (byte r) (byte ((r + 1) % 4)) (byte ((r + 2) % 4)) (byte ((r + 3) % 4)))
     ∙ sym (whole_state s is.len)
 
 pub add_round_key_undone : (s w : List ℕ) (round : ℕ) → length s ≡ 16

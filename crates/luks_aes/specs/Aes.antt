@@ -7,8 +7,8 @@ use Rattle.luks_aes.specs.Field.{◌⊕◌, ◌•◌, power_of_x, the_element, 
 
 -- ---- the S-box (5.1.1, 5.3.2)
 
--- the inverse in the field, then the affine map: each bit i becomes the sum of the bits i, i + 4, i + 5, i + 6 and i +
--- 7 (modulo 8) and of bit i of 0x63
+-- the inverse in the field, then the affine map: bit i becomes the XOR of the bits i, i + 4, i + 5, i + 6 and i + 7
+-- (modulo 8) and of bit i of 0x63
 unfoldable pub sbox : ℕ → ℕ
 sbox b =
     let a = inverse b in
@@ -36,11 +36,11 @@ state_of f =
 unfoldable pub sub_bytes : List ℕ → List ℕ
 sub_bytes s = state_of (λ r c. sbox (cell s r c))
 
--- ShiftRows: row r turns left by r places (5.1.2)
+-- ShiftRows: row r rotates left by r columns (5.1.2)
 unfoldable pub shift_rows : List ℕ → List ℕ
 shift_rows s = state_of (λ r c. cell s r ((c + r) % 4))
 
--- row r of the matrix whose first row is a, each next row being turned right by one, times column c (4.3)
+-- row r of the matrix whose first row is a, each next row rotated right by one, times column c (4.3)
 abbrev pub matrix_cell : List ℕ → List ℕ → ℕ → ℕ → ℕ
 matrix_cell a s r c =
     slice_index a 0 • cell s r c
@@ -56,13 +56,13 @@ multiplied_columns a s = state_of (matrix_cell a s)
 abbrev pub mix_columns : List ℕ → List ℕ
 mix_columns s = multiplied_columns (2 ∷ 3 ∷ 1 ∷ 1 ∷ []) s
 
--- AddRoundKey: column c of the state is added to word 4 * round + c of the key schedule w (5.1.4)
+-- AddRoundKey: column c of the state XOR word 4 * round + c of the key schedule w (5.1.4)
 unfoldable pub add_round_key : List ℕ → List ℕ → ℕ → List ℕ
 add_round_key s w round = state_of (λ r c. cell s r c ⊕ slice_index w (r + 4 * (4 * round + c)))
 
 -- ---- the transformations of the inverse cipher (5.3)
 
--- InvShiftRows: row r turns right by r places (5.3.1)
+-- InvShiftRows: row r rotates right by r columns (5.3.1)
 unfoldable pub inv_shift_rows : List ℕ → List ℕ
 inv_shift_rows s = state_of (λ r c. cell s r ((c + 4 - r) % 4))
 
@@ -84,11 +84,11 @@ word_of f = f 0 ∷ f 1 ∷ f 2 ∷ f 3 ∷ []
 abbrev pub word_at : List ℕ → ℕ → List ℕ
 word_at w i = word_of (λ k. slice_index w (4 * i + k))
 
--- the sum of two words
-unfoldable pub word_sum : List ℕ → List ℕ → List ℕ
-word_sum a b = word_of (λ k. slice_index a k ⊕ slice_index b k)
+-- XOR of two words
+unfoldable pub word_xor : List ℕ → List ℕ → List ℕ
+word_xor a b = word_of (λ k. slice_index a k ⊕ slice_index b k)
 
--- RotWord: turned left by one byte
+-- RotWord: rotated left by one byte
 unfoldable pub rot_word : List ℕ → List ℕ
 rot_word a = word_of (λ k. slice_index a ((k + 1) % 4))
 
@@ -104,8 +104,8 @@ round_constant j = power_of_x (j - 1) ∷ 0 ∷ 0 ∷ 0 ∷ []
 unfoldable pub next_word : ℕ → List ℕ → ℕ → List ℕ
 next_word nk w i =
     let last = word_at w (i - 1) in
-    word_sum (word_at w (i - nk))
-    (if i % nk == 0 then word_sum (sub_word (rot_word last)) (round_constant (i / nk))
+    word_xor (word_at w (i - nk))
+    (if i % nk == 0 then word_xor (sub_word (rot_word last)) (round_constant (i / nk))
     else if nat_lt 6 nk && (i % nk == 4) then sub_word last
     else last)
 

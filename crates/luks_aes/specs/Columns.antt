@@ -1,19 +1,19 @@
--- Columns of a state as words of 32 bits, and what a table of such words holds. The lowest byte of a word stands in row
--- 0.
+-- Columns of a state as words of 32 bits, and what a table of such words holds. The lowest byte of a word is in
+-- row 0.
 use Rattle.std.specs.Prelude.{◌≡◌, ℕ, ◌+◌, ◌-◌, ◌*◌, ◌%◌, ◌<◌, List, ◌++◌, slice_index}
 use Rattle.std.specs.Int.{w32, to_le_bytes}
 use Rattle.luks_aes.specs.Field.{◌⊕◌, ◌•◌}
 use Rattle.luks_aes.specs.Aes.{word_of, word_at, matrix_cell}
 
--- the state whose columns the four words spell
-unfoldable pub spelt : List ℕ → List ℕ
-spelt words =
+-- the bytes of four words, each in little-endian order: the state whose columns they are
+unfoldable pub bytes_of_words : List ℕ → List ℕ
+bytes_of_words words =
     to_le_bytes w32 (slice_index words 0) ++ (to_le_bytes w32 (slice_index words 1)
     ++ (to_le_bytes w32 (slice_index words 2) ++ to_le_bytes w32 (slice_index words 3)))
 
--- column k of the matrix whose first row is a, each next row being turned right by one, times x
-abbrev pub column_of : List ℕ → ℕ → ℕ → List ℕ
-column_of a k x = word_of (λ r. slice_index a ((4 + k - r) % 4) • x)
+-- column k of the matrix whose first row is a, each next row rotated right by one, times x
+abbrev pub matrix_column : List ℕ → ℕ → ℕ → List ℕ
+matrix_column a k x = word_of (λ r. slice_index a ((4 + k - r) % 4) • x)
 
 -- that matrix times a column
 abbrev pub column_product : List ℕ → List ℕ → List ℕ
@@ -21,7 +21,7 @@ column_product a column = word_of (λ r. matrix_cell a column r 0)
 
 -- entry b of the table is the matrix's first column times f b
 pub record IsColumnTable (a : List ℕ) (f : ℕ → ℕ) (entries : List ℕ) : Type 0 where
-  pub at : (b : ℕ) → b < 256 → to_le_bytes w32 (slice_index entries b) ≡ column_of a 0 (f b)
+  pub at : (b : ℕ) → b < 256 → to_le_bytes w32 (slice_index entries b) ≡ matrix_column a 0 (f b)
 
 -- each of the first n words of a list is the product of the matrix and the word of another in its place
 pub record IsMultiplied (a words products : List ℕ) (n : ℕ) : Type 0 where
@@ -32,7 +32,7 @@ abbrev pub key_byte : List ℕ → ℕ → ℕ → ℕ → ℕ
 key_byte w n r c = slice_index w (r + 4 * (4 * n + c))
 
 -- and of that round key after InvMixColumns
-abbrev pub unmixed_key_byte : List ℕ → ℕ → ℕ → ℕ → ℕ
-unmixed_key_byte w n r c =
+abbrev pub inv_mixed_key_byte : List ℕ → ℕ → ℕ → ℕ → ℕ
+inv_mixed_key_byte w n r c =
     14 • key_byte w n r c ⊕ 11 • key_byte w n ((r + 1) % 4) c ⊕ 13 • key_byte w n ((r + 2) % 4) c ⊕ 9 • key_byte w n
     ((r + 3) % 4) c

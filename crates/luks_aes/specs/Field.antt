@@ -1,10 +1,10 @@
--- The field of 256 elements in which AES computes (FIPS 197, update of 2023, section 4). A byte stands for the
+-- The field of 256 elements in which AES computes (FIPS 197, update of 2023, section 4). A byte represents the
 -- polynomial whose coefficients are its bits, the lowest for the constant. Polynomials are taken modulo m(x) = x^8 +
 -- x^4 + x^3 + x + 1, which is 0x11b.
 use Rattle.std.specs.Prelude.{ℕ, zero, suc, ◌*◌, ◌/◌, ◌%◌, Bool, nat_lt, ◌==◌, bit_xor, unwrap_or, if◌then◌else◌, List}
 use Rattle.std.specs.List.{find, range_with_len}
 
--- the sum of two elements (4.1)
+-- addition (4.1)
 infixl 65 ◌⊕◌
 abbrev pub ◌⊕◌ : ℕ → ℕ → ℕ
 a ⊕ b = bit_xor a b

@@ -5,12 +5,12 @@ ghost use Rattle.std.specs.Prelude.{if◌then◌else◌};
 ghost use Rattle.luks_aes.specs.Aes.{encrypted, decrypted, is_aes_key_length, rounds_of};
 ghost use Rattle.luks_aes.specs.Aes.{key_expansion, cell};
 ghost use Rattle.luks_aes.specs.Bytes.{IsBytes};
-ghost use Rattle.luks_aes.specs.Columns.{key_byte, unmixed_key_byte};
+ghost use Rattle.luks_aes.specs.Columns.{key_byte, inv_mixed_key_byte};
 ghost use Rattle.luks_aes.specs.Schedule.{IsSchedule};
 
 use crate::cipher::{cipher, inv_cipher};
+use crate::inv_mixed::inv_mixed_words;
 use crate::schedule::{LONGEST, key_expansion};
-use crate::unmixed::unmixed_words;
 use std::marker::Model;
 
 /// A key of AES-128, AES-192 or AES-256 (FIPS 197). Contracts see it as its bytes.
@@ -21,7 +21,7 @@ pub struct AesKey {
     // The key schedule, which begins with the key, and zeros.
     schedule: [u8; LONGEST],
     // Its words after InvMixColumns, for the inverse cipher.
-    unmixed: [u8; LONGEST],
+    inv_mixed: [u8; LONGEST],
 }
 
 impl Model for AesKey {
@@ -29,7 +29,7 @@ impl Model for AesKey {
 
     ghost view = { λ k. take (4 * k.words) k.schedule };
 
-    ghost invariant = { λ k. IsSchedule k.words k.schedule k.unmixed };
+    ghost invariant = { λ k. IsSchedule k.words k.schedule k.inv_mixed };
 }
 
 impl AesKey {
@@ -40,11 +40,11 @@ impl AesKey {
         match key.len() {
             16 | 24 | 32 => {
                 let schedule = key_expansion(key);
-                let unmixed = unmixed_words(&schedule);
+                let inv_mixed = inv_mixed_words(&schedule);
                 Some(AesKey {
                     words: key.len() / 4,
                     schedule,
-                    unmixed,
+                    inv_mixed,
                 })
             }
             _ => None,
@@ -68,7 +68,12 @@ impl AesKey {
     {
         let rounds = self.words + 6;
         let end = 16 * (rounds + 1);
-        *block = inv_cipher(*block, rounds, &self.schedule[..end], &self.unmixed[..end]);
+        *block = inv_cipher(
+            *block,
+            rounds,
+            &self.schedule[..end],
+            &self.inv_mixed[..end],
+        );
     }
 
     /// The number of rounds (5).
@@ -91,12 +96,12 @@ impl AesKey {
     }
 
     /// Round key `n` after InvMixColumns (5.3.5).
-    pub fn unmixed_round_key(&self, n: usize) -> [u8; 16]
+    pub fn inv_mixed_round_key(&self, n: usize) -> [u8; 16]
         requires { n ≤ rounds_of self.now }
         ensures { (r c : ℕ) → r < 4 → c < 4
-            → cell result r c ≡ unmixed_key_byte (key_expansion self.now) n r c }
+            → cell result r c ≡ inv_mixed_key_byte (key_expansion self.now) n r c }
     {
-        round_key(&self.unmixed, n)
+        round_key(&self.inv_mixed, n)
     }
 }
 

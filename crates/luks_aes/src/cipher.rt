@@ -5,7 +5,7 @@ ghost use Rattle.luks_aes.specs.Aes.{cipher, inv_cipher};
 ghost use Rattle.luks_aes.specs.Bytes.{IsBytes};
 ghost use Rattle.luks_aes.specs.Columns.{IsMultiplied};
 
-use crate::columns::{bytes_of, columns_of, mixed_columns, unmixed_columns, with_round_key};
+use crate::columns::{bytes_of, columns_of, inv_mixed_columns, mixed_columns, with_round_key};
 use crate::state::{add_round_key, inv_shift_rows, inv_sub_bytes, shift_rows, sub_bytes};
 
 /// The block after `rounds` rounds with the round keys of the schedule.
@@ -23,20 +23,20 @@ pub fn cipher(block: [u8; 16], rounds: usize, schedule: &[u8]) -> [u8; 16]
     add_round_key(shift_rows(sub_bytes(last)), schedule, rounds)
 }
 
-/// The block whose cipher under the same round keys is `block`. `unmixed` has each word of the
+/// The block whose cipher under the same round keys is `block`. `inv_mixed` has each word of the
 /// schedule after InvMixColumns.
-pub fn inv_cipher(block: [u8; 16], rounds: usize, schedule: &[u8], unmixed: &[u8]) -> [u8; 16]
+pub fn inv_cipher(block: [u8; 16], rounds: usize, schedule: &[u8], inv_mixed: &[u8]) -> [u8; 16]
     requires some { 0 < rounds }
     requires words { length schedule.now ≡ 16 * (rounds + 1) }
-    requires same { length unmixed.now ≡ length schedule.now }
-    requires products { IsMultiplied (14 ∷ 11 ∷ 13 ∷ 9 ∷ []) schedule.now unmixed.now
+    requires same { length inv_mixed.now ≡ length schedule.now }
+    requires products { IsMultiplied (14 ∷ 11 ∷ 13 ∷ 9 ∷ []) schedule.now inv_mixed.now
         (4 * (rounds + 1)) }
     ensures { result ≡ inv_cipher block rounds schedule.now }
 {
     let mut state = with_round_key(columns_of(block), schedule, rounds);
     for round in (1..rounds).rev() {
-        let substituted = unmixed_columns(state);
-        state = with_round_key(substituted, unmixed, round);
+        let substituted = inv_mixed_columns(state);
+        state = with_round_key(substituted, inv_mixed, round);
     }
     let last = bytes_of(state);
     add_round_key(inv_sub_bytes(inv_shift_rows(last)), schedule, 0)

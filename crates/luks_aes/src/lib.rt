@@ -8,10 +8,10 @@ mod aes;
 mod cipher;
 mod columns;
 mod field;
+mod inv_mixed;
 mod mixing;
 mod sbox;
 mod schedule;
 mod state;
-mod unmixed;
 
 pub use aes::AesKey;

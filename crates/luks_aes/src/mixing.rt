@@ -1,10 +1,10 @@
 //! SubBytes and MixColumns of a column in one step, and the inverse of both, by tables (FIPS 197,
-//! 5.1.3 and 5.3.3). A column is a word of 32 bits whose lowest byte stands in row 0.
+//! 5.1.3 and 5.3.3). A column is a word of 32 bits whose lowest byte is in row 0.
 
 ghost use Rattle.std.specs.Prelude.{◌≡◌, ℕ, ◌<◌, [], ◌∷◌, slice_index};
 ghost use Rattle.std.specs.Int.{w32, to_le_bytes};
 ghost use Rattle.luks_aes.specs.Aes.{sbox, inv_sbox};
-ghost use Rattle.luks_aes.specs.Columns.{column_of, column_product, IsColumnTable};
+ghost use Rattle.luks_aes.specs.Columns.{matrix_column, column_product, IsColumnTable};
 
 static MIXED: [u32; 256] = [
     0xa56363c6, 0x847c7cf8, 0x997777ee, 0x8d7b7bf6, 0x0df2f2ff, 0xbd6b6bd6, 0xb16f6fde, 0x54c5c591,
@@ -41,7 +41,7 @@ static MIXED: [u32; 256] = [
     0xc3414182, 0xb0999929, 0x772d2d5a, 0x110f0f1e, 0xcbb0b07b, 0xfc5454a8, 0xd6bbbb6d, 0x3a16162c,
 ];
 
-static UNMIXED: [u32; 256] = [
+static INV_MIXED: [u32; 256] = [
     0x50a7f451, 0x5365417e, 0xc3a4171a, 0x965e273a, 0xcb6bab3b, 0xf1459d1f, 0xab58faac, 0x9303e34b,
     0x55fa3020, 0xf66d76ad, 0x9176cc88, 0x254c02f5, 0xfcd7e54f, 0xd7cb2ac5, 0x80443526, 0x8fa362b5,
     0x495ab1de, 0x671bba25, 0x980eea45, 0xe1c0fe5d, 0x02752fc3, 0x12f04c81, 0xa397468d, 0xc6f9d36b,
@@ -86,9 +86,9 @@ struct Mixing {
 
 // The inverse S-box, then the first column of InvMixColumns' matrix, likewise.
 #[derive(Drop)]
-struct Unmixing {
+struct InvMixing {
     entries: &'static [u32; 256],
-    ghost is_unmixing: { IsColumnTable (14 ∷ 11 ∷ 13 ∷ 9 ∷ []) inv_sbox entries.now },
+    ghost is_inv_mixing: { IsColumnTable (14 ∷ 11 ∷ 13 ∷ 9 ∷ []) inv_sbox entries.now },
 }
 
 impl Mixing {
@@ -99,21 +99,23 @@ impl Mixing {
 
     #[inline(always)]
     fn entry(&self, b: u8) -> u32
-        ensures { to_le_bytes w32 result ≡ column_of (2 ∷ 3 ∷ 1 ∷ 1 ∷ []) 0 (sbox b) }
+        ensures { to_le_bytes w32 result ≡ matrix_column (2 ∷ 3 ∷ 1 ∷ 1 ∷ []) 0 (sbox b) }
     {
         self.entries[b as usize]
     }
 }
 
-impl Unmixing {
+impl InvMixing {
     #[inline(always)]
     fn new() -> Self {
-        Unmixing { entries: &UNMIXED }
+        InvMixing {
+            entries: &INV_MIXED,
+        }
     }
 
     #[inline(always)]
     fn entry(&self, b: u8) -> u32
-        ensures { to_le_bytes w32 result ≡ column_of (14 ∷ 11 ∷ 13 ∷ 9 ∷ []) 0 (inv_sbox b) }
+        ensures { to_le_bytes w32 result ≡ matrix_column (14 ∷ 11 ∷ 13 ∷ 9 ∷ []) 0 (inv_sbox b) }
     {
         self.entries[b as usize]
     }
@@ -134,12 +136,12 @@ pub fn mixed(a: u8, b: u8, c: u8, d: u8) -> u32
 
 /// The column of these bytes after InvSubBytes and InvMixColumns.
 #[inline(always)]
-pub fn unmixed(a: u8, b: u8, c: u8, d: u8) -> u32
+pub fn inv_mixed(a: u8, b: u8, c: u8, d: u8) -> u32
     ensures { to_le_bytes w32 result
         ≡ column_product (14 ∷ 11 ∷ 13 ∷ 9 ∷ [])
         (inv_sbox a ∷ inv_sbox b ∷ inv_sbox c ∷ inv_sbox d ∷ []) }
 {
-    let table = Unmixing::new();
+    let table = InvMixing::new();
     table.entry(a)
         ^ table.entry(b).rotate_left(8)
         ^ table.entry(c).rotate_left(16)

@@ -1,7 +1,7 @@
 //! The key schedule (FIPS 197, 5.2): a list of words of 4 bytes, of which the first are the key's.
 
 ghost use Rattle.std.specs.Prelude.{◌≡◌, ◌+◌, ◌*◌, ◌/◌, ◌<◌, ◌≤◌, take, length, IsTrue};
-ghost use Rattle.luks_aes.specs.Aes.{word_at, word_sum, rot_word, sub_word, round_constant};
+ghost use Rattle.luks_aes.specs.Aes.{word_at, word_xor, rot_word, sub_word, round_constant};
 ghost use Rattle.luks_aes.specs.Aes.{next_word, with_next_word, rounds_of, key_expansion};
 ghost use Rattle.luks_aes.specs.Aes.{is_aes_key_length};
 
@@ -29,15 +29,15 @@ fn word_at(schedule: &[u8], i: usize) -> [u8; 4]
     ]
 }
 
-// The sum of two words.
-#[tactic(auto, unfolding(crate::specs::Aes::word_sum))]
-fn word_sum(a: [u8; 4], b: [u8; 4]) -> [u8; 4]
-    ensures { result ≡ word_sum a b }
+// XOR of two words.
+#[tactic(auto, unfolding(crate::specs::Aes::word_xor))]
+fn word_xor(a: [u8; 4], b: [u8; 4]) -> [u8; 4]
+    ensures { result ≡ word_xor a b }
 {
     [a[0] ^ b[0], a[1] ^ b[1], a[2] ^ b[2], a[3] ^ b[3]]
 }
 
-// RotWord: turned left by one byte.
+// RotWord: rotated left by one byte.
 #[tactic(auto, unfolding(crate::specs::Aes::rot_word))]
 fn rot_word(a: [u8; 4]) -> [u8; 4]
     ensures { result ≡ rot_word a }
@@ -70,13 +70,13 @@ fn next_word(key_words: usize, schedule: &[u8], i: usize) -> [u8; 4]
 {
     let last = word_at(schedule, i - 1);
     let change = if i % key_words == 0 {
-        word_sum(sub_word(rot_word(last)), round_constant(i / key_words))
+        word_xor(sub_word(rot_word(last)), round_constant(i / key_words))
     } else if key_words > PLAIN_WORDS && i % key_words == 4 {
         sub_word(last)
     } else {
         last
     };
-    word_sum(word_at(schedule, i - key_words), change)
+    word_xor(word_at(schedule, i - key_words), change)
 }
 
 // Writes word `i` behind the words before it.

@@ -1,5 +1,5 @@
 //! The transformations of a state in the last round (FIPS 197, 5.1 and 5.3). Byte `i` of a state
-//! stands in row `i % 4` and column `i / 4`.
+//! is in row `i % 4` and column `i / 4`.
 
 ghost use Rattle.std.specs.Prelude.{◌≡◌, ◌+◌, ◌*◌, ◌<◌, ◌≤◌, [], ◌∷◌, length};
 ghost use Rattle.luks_aes.specs.Aes.{sub_bytes, shift_rows, add_round_key, inv_shift_rows};
@@ -29,7 +29,7 @@ pub fn inv_sub_bytes(s: [u8; 16]) -> [u8; 16]
     next
 }
 
-/// ShiftRows: row r turns left by r places (5.1.2).
+/// ShiftRows: row r rotates left by r columns (5.1.2).
 pub fn shift_rows(s: [u8; 16]) -> [u8; 16]
     ensures { result ≡ shift_rows s }
 {
@@ -42,7 +42,7 @@ pub fn shift_rows(s: [u8; 16]) -> [u8; 16]
     next
 }
 
-/// InvShiftRows: row r turns right by r places (5.3.1).
+/// InvShiftRows: row r rotates right by r columns (5.3.1).
 pub fn inv_shift_rows(s: [u8; 16]) -> [u8; 16]
     ensures { result ≡ inv_shift_rows s }
 {
@@ -55,7 +55,7 @@ pub fn inv_shift_rows(s: [u8; 16]) -> [u8; 16]
     next
 }
 
-/// AddRoundKey: the state with round key `round` of the schedule added (5.1.4).
+/// AddRoundKey: the state XOR round key `round` of the schedule (5.1.4).
 pub fn add_round_key(s: [u8; 16], schedule: &[u8], round: usize) -> [u8; 16]
     requires { 16 * round + 16 ≤ length schedule.now }
     ensures { result ≡ add_round_key s schedule.now round }

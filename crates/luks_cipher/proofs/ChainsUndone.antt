@@ -7,7 +7,7 @@ use Rattle.luks_aes.specs.Bytes.{IsBytes}
 use Rattle.luks_aes.proofs.ByteLists.{IsState, encrypted_state}
 use Rattle.luks_aes.proofs.Undone.{decrypted-encrypted}
 use Rattle.luks_aes.proofs.Redone.{decrypted_state, encrypted-decrypted}
-use Rattle.luks_cipher.specs.Xts.{block_sum, block_at, joined}
+use Rattle.luks_cipher.specs.Xts.{block_xor, block_at, joined}
 use Rattle.luks_cipher.specs.Cbc.{block_before, chained, cbc_encrypted, cbc_decrypted}
 use Rattle.luks_cipher.proofs.UnitsUndone.{sum_state, sum_twice, joined_same, joined_length, joined_at, joined_count}
 use Rattle.luks_cipher.proofs.UnitsUndone.{joined_blocks, block_state}
@@ -39,12 +39,12 @@ before_encrypted key vector unit n (suc j) keys first size all low =
 
 link_undone : (key vector unit : List ℕ) (n j : ℕ) → IsBytes key → IsState vector → length unit ≡ 16 * n → IsBytes unit
     → j < n
-    → block_sum (decrypted key (chained key vector unit (suc j))) (chained key vector unit j) ≡ block_at unit j
+    → block_xor (decrypted key (chained key vector unit (suc j))) (chained key vector unit j) ≡ block_at unit j
 unfolding chained
 link_undone key vector unit n j keys first size all low =
     let before = chained_state key vector unit n j keys first size all (omega arith) in
     let block = block_state unit n j size low all in
-    rw (decrypted-encrypted key (block_sum (block_at unit j) (chained key vector unit j)) keys
+    rw (decrypted-encrypted key (block_xor (block_at unit j) (chained key vector unit j)) keys
     (sum_state _ _ block before))
     (sum_twice (block_at unit j) (chained key vector unit j) block.len)
 
@@ -60,10 +60,10 @@ cbc_decrypted-cbc_encrypted key vector unit keys first all whole =
     let count : length (joined there n) / 16 ≡ n = rw (joined_length there n sizes) (omega arith) in
     rw count
     (joined_same (λ j.
-    block_sum (decrypted key (block_at (joined there n) j)) (block_before vector (joined there n) j))
+    block_xor (decrypted key (block_at (joined there n) j)) (block_before vector (joined there n) j))
     (block_at unit) n
     (λ j low.
-    (λ i. block_sum (decrypted key (joined_at there n j sizes low i))
+    (λ i. block_xor (decrypted key (joined_at there n j sizes low i))
     (before_encrypted key vector unit n j keys first size all low i))
     ∙ link_undone key vector unit n j keys first size all low)
     ∙ joined_blocks unit n ∙ take_all (16 * n) unit (omega arith))
@@ -74,24 +74,24 @@ unfolding block_before
 before_state vector unit n zero first size all low = first
 before_state vector unit n (suc j) first size all low = block_state unit n j size (omega arith) all
 
-decrypted_len : (a b : List ℕ) → length (block_sum a b) ≡ 16
-unfolding block_sum
+decrypted_len : (a b : List ℕ) → length (block_xor a b) ≡ 16
+unfolding block_xor
 decrypted_len a b = refl
 
 -- what block j of the decrypted unit is chained with stands before it in the encrypted one
 chained_decrypted : (key vector unit : List ℕ) (n j : ℕ) → IsBytes key → IsState vector → length unit ≡ 16 * n
     → IsBytes unit → j ≤ n
-    → chained key vector (joined (λ j. block_sum (decrypted key (block_at unit j)) (block_before vector unit j)) n) j
+    → chained key vector (joined (λ j. block_xor (decrypted key (block_at unit j)) (block_before vector unit j)) n) j
     ≡ block_before vector unit j
 unfolding chained block_before
 chained_decrypted key vector unit n zero keys first size all low = refl
 chained_decrypted key vector unit n (suc j) keys first size all low =
-    let back : ℕ → List ℕ = λ j. block_sum (decrypted key (block_at unit j)) (block_before vector unit j) in
+    let back : ℕ → List ℕ = λ j. block_xor (decrypted key (block_at unit j)) (block_before vector unit j) in
     let here = joined_at back n j
     (λ k below. decrypted_len (decrypted key (block_at unit k)) (block_before vector unit k)) (omega arith) in
     let before = chained_decrypted key vector unit n j keys first size all (omega arith) in
     let block = block_state unit n j size (omega arith) all in
-    (λ i. encrypted key (block_sum (here i) (before i)))
+    (λ i. encrypted key (block_xor (here i) (before i)))
     ∙ ap (encrypted key)
     (sum_twice (decrypted key (block_at unit j)) (block_before vector unit j)
     (decrypted_state key _ keys block).len)
@@ -99,7 +99,7 @@ chained_decrypted key vector unit n (suc j) keys first size all low =
 
 block_after : (key vector unit : List ℕ) (n j : ℕ) → IsBytes key → IsState vector → length unit ≡ 16 * n → IsBytes unit
     → j < n
-    → chained key vector (joined (λ j. block_sum (decrypted key (block_at unit j)) (block_before vector unit j)) n)
+    → chained key vector (joined (λ j. block_xor (decrypted key (block_at unit j)) (block_before vector unit j)) n)
     (suc j) ≡ block_at unit j
 unfolding block_before
 block_after key vector unit n j keys first size all low =
@@ -111,7 +111,7 @@ unfolding cbc_encrypted cbc_decrypted
 cbc_encrypted-cbc_decrypted key vector unit keys first all whole =
     let n = length unit / 16 in
     let size : length unit ≡ 16 * n = omega arith in
-    let back : ℕ → List ℕ = λ j. block_sum (decrypted key (block_at unit j)) (block_before vector unit j) in
+    let back : ℕ → List ℕ = λ j. block_xor (decrypted key (block_at unit j)) (block_before vector unit j) in
     let count = joined_count back n
     (λ j. decrypted_len (decrypted key (block_at unit j)) (block_before vector unit j)) in
     rw count

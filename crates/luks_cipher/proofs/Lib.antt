@@ -2,5 +2,5 @@ pub mod ModeLemmas
 pub mod TweakLemmas
 pub mod UnitsUndone
 pub mod ChainsUndone
-pub mod SliceLemmas
+pub mod BatchLemmas
 pub mod DoublingLemmas

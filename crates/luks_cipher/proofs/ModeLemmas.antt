@@ -3,7 +3,7 @@ use Rattle.std.proofs.Common.{◌≡◌, ◌∙◌, ℕ, ◌/◌, ◌%◌, ◌�
 use Rattle.std.proofs.lemmas.Bool.Decides.{nat_tests}
 use Rattle.luks_cipher.specs.Cbc.{cbc_decrypted}
 use Rattle.luks_cipher.specs.Sector.{Cipher, is_key_length, is_mode_key_length, sector_decrypted}
-use Rattle.luks_cipher.specs.Xts.{block_decrypted, block_sum, joined, xts_decrypted}
+use Rattle.luks_cipher.specs.Xts.{block_decrypted, block_xor, joined, xts_decrypted}
 use Rattle.luks_cipher.specs.declared.mode.Mode.{Mode}
 use Rattle.luks_cipher.specs.declared.mode.Mode.TheVariants.{XtsPlain64, XtsPlain, CbcEssivSha256, CbcPlain64}
 use Rattle.luks_cipher.proofs.UnitsUndone.{joined_length}
@@ -28,7 +28,7 @@ blocks_length f unit sizes whole = joined_length f (length unit / 16) (λ j low.
 
 pub length-sector_decrypted : (cipher : Cipher) (number : ℕ) (unit : List ℕ) → length unit % 16 ≡ 0
     → length (sector_decrypted cipher.0 cipher.1 number unit) ≡ length unit
-unfolding xts_decrypted cbc_decrypted block_decrypted block_sum
+unfolding xts_decrypted cbc_decrypted block_decrypted block_xor
 length-sector_decrypted (XtsPlain64, key) number unit whole = blocks_length _ unit (λ j. refl) whole
 length-sector_decrypted (XtsPlain, key) number unit whole = blocks_length _ unit (λ j. refl) whole
 length-sector_decrypted (CbcEssivSha256, key) number unit whole = blocks_length _ unit (λ j. refl) whole

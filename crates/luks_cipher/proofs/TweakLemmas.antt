@@ -6,7 +6,7 @@ use Rattle.std.proofs.lemmas.List.{take_at, drop_at, take_all, drop-drop}
 use Rattle.std.proofs.lemmas.Slice.{take-put_mid, drop-put_mid}
 use borrow.Rule.Slice.PartMut.{put_mid}
 use Rattle.luks_aes.specs.Aes.{encrypted, decrypted}
-use Rattle.luks_cipher.specs.Xts.{data_key, tweak_key, doubled, tweak_of, block_at, joined, block_sum}
+use Rattle.luks_cipher.specs.Xts.{data_key, tweak_key, doubled, tweak_of, block_at, joined, block_xor}
 use Rattle.luks_cipher.specs.Xts.{block_encrypted, block_decrypted, xts_encrypted, xts_decrypted}
 
 -- ---- the two halves of a key
@@ -21,12 +21,12 @@ unfolding tweak_of
 first_tweak_is a b key block number same whole bytes = ap (encrypted b) bytes ∙ rw ((halves a b key same whole).1) refl
 
 pub piece_encrypted : (a b key tweak piece : List ℕ) → length a ≡ length b → a ++ b ≡ key
-    → block_sum (encrypted a (block_sum piece tweak)) tweak ≡ block_encrypted key tweak piece
+    → block_xor (encrypted a (block_xor piece tweak)) tweak ≡ block_encrypted key tweak piece
 unfolding block_encrypted
 piece_encrypted a b key tweak piece same whole = rw ((halves a b key same whole).0) refl
 
 pub piece_decrypted : (a b key tweak piece : List ℕ) → length a ≡ length b → a ++ b ≡ key
-    → block_sum (decrypted a (block_sum piece tweak)) tweak ≡ block_decrypted key tweak piece
+    → block_xor (decrypted a (block_xor piece tweak)) tweak ≡ block_decrypted key tweak piece
 unfolding block_decrypted
 piece_decrypted a b key tweak piece same whole = rw ((halves a b key same whole).0) refl
 

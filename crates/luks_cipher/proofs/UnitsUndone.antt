@@ -7,7 +7,7 @@ use Rattle.std.proofs.lemmas.List.{length-take-le, take-append-le, drop-append-l
 use Rattle.std.proofs.Math.Seq.{take-add}
 use Rattle.luks_aes.specs.Field.{◌⊕◌}
 use Rattle.luks_aes.specs.Aes.{cell, encrypted, decrypted}
-use Rattle.luks_cipher.specs.Xts.{data_key, doubled_number, doubled, tweak_of, block_sum, block_at, block_encrypted}
+use Rattle.luks_cipher.specs.Xts.{data_key, doubled_number, doubled, tweak_of, block_xor, block_at, block_encrypted}
 use Rattle.luks_cipher.specs.Xts.{block_decrypted, joined, xts_encrypted, xts_decrypted}
 use Rattle.luks_aes.specs.Bytes.{IsBytes}
 use Rattle.luks_aes.proofs.ByteLists.{IsState, made_state, xor_byte, bytes_nil, bytes_cons, bytes_take, bytes_drop}
@@ -17,14 +17,14 @@ use Rattle.luks_aes.proofs.Redone.{decrypted_state, encrypted-decrypted}
 
 -- ---- a block
 
-pub sum_state : (a b : List ℕ) → IsState a → IsState b → IsState (block_sum a b)
-unfolding block_sum
+pub sum_state : (a b : List ℕ) → IsState a → IsState b → IsState (block_xor a b)
+unfolding block_xor
 sum_state a b first second =
     made_state (λ r c. cell a r c ⊕ cell b r c)
     (λ r c. xor_byte (cell a r c) (cell b r c) (first.bytes.each (r + 4 * c)) (second.bytes.each (r + 4 * c)))
 
-pub sum_twice : (a b : List ℕ) → length a ≡ 16 → block_sum (block_sum a b) b ≡ a
-unfolding block_sum
+pub sum_twice : (a b : List ℕ) → length a ≡ 16 → block_xor (block_xor a b) b ≡ a
+unfolding block_xor
 sum_twice a b len =
     same_states (λ r c. (cell a r c ⊕ cell b r c) ⊕ cell b r c) (cell a) (λ r c. xor_twice (cell a r c) (cell b r c))
     ∙ sym (whole_state a len)
@@ -35,9 +35,9 @@ unfolding block_encrypted block_decrypted
 block_undone key tweak block keys masks is =
     let k1 = bytes_take (length key / 2) key keys in
     let masked = sum_state block tweak is masks in
-    let inside = sum_twice (encrypted (data_key key) (block_sum block tweak)) tweak
+    let inside = sum_twice (encrypted (data_key key) (block_xor block tweak)) tweak
     (encrypted_state _ _ k1 masked).len in
-    rw (inside, decrypted-encrypted (data_key key) (block_sum block tweak) k1 masked) (sum_twice block tweak is.len)
+    rw (inside, decrypted-encrypted (data_key key) (block_xor block tweak) k1 masked) (sum_twice block tweak is.len)
 
 block_redone : (key tweak block : List ℕ) → IsBytes key → IsState tweak → IsState block
     → block_encrypted key tweak (block_decrypted key tweak block) ≡ block
@@ -45,9 +45,9 @@ unfolding block_encrypted block_decrypted
 block_redone key tweak block keys masks is =
     let k1 = bytes_take (length key / 2) key keys in
     let masked = sum_state block tweak is masks in
-    let inside = sum_twice (decrypted (data_key key) (block_sum block tweak)) tweak
+    let inside = sum_twice (decrypted (data_key key) (block_xor block tweak)) tweak
     (decrypted_state _ _ k1 masked).len in
-    rw (inside, encrypted-decrypted (data_key key) (block_sum block tweak) k1 masked) (sum_twice block tweak is.len)
+    rw (inside, encrypted-decrypted (data_key key) (block_xor block tweak) k1 masked) (sum_twice block tweak is.len)
 
 -- ---- the tweaks
 
@@ -119,7 +119,7 @@ block_state unit n j size low all = record {
 -- ---- a data unit
 
 block_encrypted_len : (key tweak block : List ℕ) → length (block_encrypted key tweak block) ≡ 16
-unfolding block_encrypted block_sum
+unfolding block_encrypted block_xor
 block_encrypted_len key tweak block = refl
 
 -- a data unit of whole blocks is encrypted to one of the same length
@@ -144,7 +144,7 @@ both_ways f g unit n size all sizes undoes =
     ∙ joined_blocks unit n ∙ take_all (16 * n) unit (omega arith)
 
 block_decrypted_len : (key tweak block : List ℕ) → length (block_decrypted key tweak block) ≡ 16
-unfolding block_decrypted block_sum
+unfolding block_decrypted block_xor
 block_decrypted_len key tweak block = refl
 
 pub joined_count : (f : ℕ → List ℕ) (n : ℕ) → ((j : ℕ) → length (f j) ≡ 16) → length (joined f n) / 16 ≡ n

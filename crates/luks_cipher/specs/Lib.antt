@@ -1,5 +1,5 @@
 pub mod Xts
-pub mod Slices
+pub mod Batches
 pub mod Cbc
 pub mod Sector
 pub mod KeyPair

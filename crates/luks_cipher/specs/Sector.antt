@@ -1,5 +1,5 @@
--- How a disk's sectors are encrypted under AES: the modes that dm-crypt's documentation calls by these names. A sector
--- is a unit of whole blocks, and is known by a number.
+-- How sectors are encrypted under AES, in the modes that dm-crypt's documentation calls by these names. A sector is a
+-- data unit of whole blocks with a number.
 use Rattle.std.specs.Prelude.{ℕ, ◌%◌, ◌^◌, Bool, ◌||◌, ◌==◌, if◌then◌else◌, bytes_eq, codes, List, Option, Some, None}
 use Rattle.std.specs.Int.{w128, to_le_bytes}
 use Rattle.sha2.specs.Sha256.{sha256}
@@ -10,13 +10,13 @@ use Rattle.luks_cipher.specs.declared.mode.Mode.{Mode}
 use Rattle.luks_cipher.specs.declared.mode.Mode.TheVariants.{XtsPlain64, XtsPlain, CbcEssivSha256, CbcPlain64}
 
 -- the name
-abbrev pub name_of : Mode → List ℕ
-name_of XtsPlain64 = codes "xts-plain64"
-name_of XtsPlain = codes "xts-plain"
-name_of CbcEssivSha256 = codes "cbc-essiv:sha256"
-name_of CbcPlain64 = codes "cbc-plain64"
+abbrev pub mode_name : Mode → List ℕ
+mode_name XtsPlain64 = codes "xts-plain64"
+mode_name XtsPlain = codes "xts-plain"
+mode_name CbcEssivSha256 = codes "cbc-essiv:sha256"
+mode_name CbcPlain64 = codes "cbc-plain64"
 
--- the mode of this name, where there is one
+-- the mode of this name, if there is one
 abbrev pub mode_named : List ℕ → Option Mode
 mode_named name =
     if bytes_eq name (codes "xts-plain64") then Some XtsPlain64
@@ -36,13 +36,13 @@ is_mode_key_length CbcPlain64 n = (n == 16) || (n == 32)
 abbrev pub is_key_length : ℕ → Bool
 is_key_length n = n == 16 || n == 32 || n == 64
 
--- plain64: the sector's number, its low byte first, and zeros
-abbrev pub plain64_vector : ℕ → List ℕ
-plain64_vector number = to_le_bytes w128 number
+-- the IV of plain64: the sector's number, little-endian, and zeros
+abbrev pub plain64_iv : ℕ → List ℕ
+plain64_iv number = to_le_bytes w128 number
 
--- essiv:sha256: that block encrypted under the SHA-256 digest of the key
-abbrev pub essiv_vector : List ℕ → ℕ → List ℕ
-essiv_vector key number = encrypted (sha256 key) (to_le_bytes w128 number)
+-- the IV of essiv:sha256: that block encrypted under the SHA-256 digest of the key
+abbrev pub essiv_iv : List ℕ → ℕ → List ℕ
+essiv_iv key number = encrypted (sha256 key) (to_le_bytes w128 number)
 
 -- a mode, and a key of it
 abbrev pub Cipher : Type 0
@@ -52,12 +52,12 @@ Cipher = Mode × List ℕ
 abbrev pub sector_encrypted : Mode → List ℕ → ℕ → List ℕ → List ℕ
 sector_encrypted XtsPlain64 key number sector = xts_encrypted key number sector
 sector_encrypted XtsPlain key number sector = xts_encrypted key (number % 2 ^ 32) sector
-sector_encrypted CbcEssivSha256 key number sector = cbc_encrypted key (essiv_vector key number) sector
-sector_encrypted CbcPlain64 key number sector = cbc_encrypted key (plain64_vector number) sector
+sector_encrypted CbcEssivSha256 key number sector = cbc_encrypted key (essiv_iv key number) sector
+sector_encrypted CbcPlain64 key number sector = cbc_encrypted key (plain64_iv number) sector
 
 -- and decrypted
 abbrev pub sector_decrypted : Mode → List ℕ → ℕ → List ℕ → List ℕ
 sector_decrypted XtsPlain64 key number sector = xts_decrypted key number sector
 sector_decrypted XtsPlain key number sector = xts_decrypted key (number % 2 ^ 32) sector
-sector_decrypted CbcEssivSha256 key number sector = cbc_decrypted key (essiv_vector key number) sector
-sector_decrypted CbcPlain64 key number sector = cbc_decrypted key (plain64_vector number) sector
+sector_decrypted CbcEssivSha256 key number sector = cbc_decrypted key (essiv_iv key number) sector
+sector_decrypted CbcPlain64 key number sector = cbc_decrypted key (plain64_iv number) sector

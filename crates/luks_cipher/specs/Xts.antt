@@ -16,12 +16,11 @@ tweak_key key = drop (length key / 2) key
 abbrev pub is_xts_key_length : ℕ → Bool
 is_xts_key_length n = (n == 32) || (n == 64)
 
--- a number below 2^128 times the primitive element: doubled modulo 2^128, with 0x87 added where the doubling passed
--- 2^128 (5.2)
+-- a number below 2^128 times the primitive element: doubled modulo 2^128, XOR 0x87 if the doubling passed 2^128 (5.2)
 unfoldable pub doubled_number : ℕ → ℕ
 doubled_number n = if nat_lt n (2 ^ 127) then 2 * n else (2 * n - 2 ^ 128) ⊕ 0x87
 
--- the same of a tweak, which is the number whose low byte stands first
+-- a tweak times the primitive element, as the little-endian number that it is
 unfoldable pub doubled : List ℕ → List ℕ
 doubled tweak = to_le_bytes w128 (doubled_number (from_le_bytes w128 tweak))
 
@@ -30,9 +29,9 @@ unfoldable pub tweak_of : List ℕ → ℕ → ℕ → List ℕ
 tweak_of key number zero = encrypted (tweak_key key) (to_le_bytes w128 number)
 tweak_of key number (suc j) = doubled (tweak_of key number j)
 
--- the sum of two blocks
-unfoldable pub block_sum : List ℕ → List ℕ → List ℕ
-block_sum a b = state_of (λ r c. cell a r c ⊕ cell b r c)
+-- XOR of two blocks
+unfoldable pub block_xor : List ℕ → List ℕ → List ℕ
+block_xor a b = state_of (λ r c. cell a r c ⊕ cell b r c)
 
 -- block j of a data unit
 abbrev pub block_at : List ℕ → ℕ → List ℕ
@@ -40,11 +39,11 @@ block_at unit j = take 16 (drop (16 * j) unit)
 
 -- XTS-AES-blockEnc: a block under its tweak (5.3.1)
 unfoldable pub block_encrypted : List ℕ → List ℕ → List ℕ → List ℕ
-block_encrypted key tweak block = block_sum (encrypted (data_key key) (block_sum block tweak)) tweak
+block_encrypted key tweak block = block_xor (encrypted (data_key key) (block_xor block tweak)) tweak
 
 -- XTS-AES-blockDec (5.4.1)
 unfoldable pub block_decrypted : List ℕ → List ℕ → List ℕ → List ℕ
-block_decrypted key tweak block = block_sum (decrypted (data_key key) (block_sum block tweak)) tweak
+block_decrypted key tweak block = block_xor (decrypted (data_key key) (block_xor block tweak)) tweak
 
 -- the blocks f 0 to f (n - 1), joined
 unfoldable pub joined : (ℕ → List ℕ) → ℕ → List ℕ

@@ -1,14 +1,14 @@
 //! Blocks of 16 bytes.
 
 ghost use Rattle.std.specs.Prelude.{◌≡◌, length};
-ghost use Rattle.luks_cipher.specs.Xts.{block_sum};
+ghost use Rattle.luks_cipher.specs.Xts.{block_xor};
 
 use std::simd::prelude::*;
 
-/// The sum of two blocks, byte by byte.
+/// XOR of two blocks, byte by byte.
 #[inline(always)]
-pub fn block_sum(a: [u8; 16], b: [u8; 16]) -> [u8; 16]
-    ensures { result ≡ block_sum a b }
+pub fn block_xor(a: [u8; 16], b: [u8; 16]) -> [u8; 16]
+    ensures { result ≡ block_xor a b }
 {
     let mut sum = [0; 16];
     for i in 0..16 {
@@ -17,7 +17,7 @@ pub fn block_sum(a: [u8; 16], b: [u8; 16]) -> [u8; 16]
     sum
 }
 
-/// The block that the slice is.
+/// The 16 bytes of the slice as a block.
 #[inline(always)]
 pub fn block_of(piece: &[u8]) -> [u8; 16]
     requires { length piece.now ≡ 16 }
@@ -28,11 +28,11 @@ pub fn block_of(piece: &[u8]) -> [u8; 16]
     block
 }
 
-/// Adds the vector to the block that the slice is.
+/// XORs the vector to the 16 bytes of the slice.
 #[inline(always)]
-pub fn add_vector(vector: u8x16, piece: &mut [u8])
+pub fn xor_vector(vector: u8x16, piece: &mut [u8])
     requires { length piece.old ≡ 16 }
-    ensures { piece.new ≡ block_sum piece.old vector }
+    ensures { piece.new ≡ block_xor piece.old vector }
 {
     let sum = u8x16::from_slice(piece) ^ vector;
     sum.copy_to_slice(piece);

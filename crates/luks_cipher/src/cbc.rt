@@ -3,15 +3,15 @@
 ghost use Rattle.std.specs.Prelude.{◌≡◌, ◌%◌, List, length, ℕ};
 ghost use Rattle.luks_aes.specs.Aes.{encrypted, decrypted};
 ghost use Rattle.luks_aes.specs.Bytes.{IsBytes};
-ghost use Rattle.luks_cipher.specs.Xts.{block_sum, block_at, joined};
+ghost use Rattle.luks_cipher.specs.Xts.{block_xor, block_at, joined};
 ghost use Rattle.luks_cipher.specs.Cbc.{block_before, cbc_encrypted, cbc_decrypted};
 
-use crate::block::{add_vector, block_of, block_sum};
+use crate::block::{block_of, block_xor, xor_vector};
 use luks_aes::AesKey;
-use luks_blocks::SliceKey;
+use luks_aes_batch::BatchKey;
 use std::simd::prelude::*;
 
-// The elements of a key are bytes: the call for its number of rounds promises it.
+// The elements of a key are bytes: `AesKey::rounds` promises it.
 #[inline(always)]
 fn holds_bytes(key: &AesKey)
     ensures { IsBytes key.now }
@@ -19,64 +19,64 @@ fn holds_bytes(key: &AesKey)
     let _rounds = key.rounds();
 }
 
-// Encrypts one block of a chain, and gives it for the next one.
+// Encrypts one block of a chain, and returns it for the next one.
 fn encrypt_link(key: &AesKey, before: [u8; 16], piece: &mut [u8]) -> [u8; 16]
     requires { length piece.old ≡ 16 }
-    ensures value { piece.new ≡ encrypted key.now (block_sum piece.old before) }
+    ensures value { piece.new ≡ encrypted key.now (block_xor piece.old before) }
     ensures next { result ≡ piece.new }
 {
-    let mut block = block_sum(block_of(piece), before);
+    let mut block = block_xor(block_of(piece), before);
     key.encrypt_block(&mut block);
     piece.copy_from_slice(&block);
     block
 }
 
-// Decrypts one block of a chain, and gives what it was for the next one.
+// Decrypts one block of a chain, and returns its cipher block for the next one.
 fn decrypt_link(key: &AesKey, before: [u8; 16], piece: &mut [u8]) -> [u8; 16]
     requires { length piece.old ≡ 16 }
-    ensures value { piece.new ≡ block_sum (decrypted key.now piece.old) before }
+    ensures value { piece.new ≡ block_xor (decrypted key.now piece.old) before }
     ensures next { result ≡ piece.old }
 {
     let block = block_of(piece);
     let mut plain = block;
     key.decrypt_block(&mut plain);
-    piece.copy_from_slice(&block_sum(plain, before));
+    piece.copy_from_slice(&block_xor(plain, before));
     block
 }
 
-// Adds to each of the 32 blocks of the slice the cipher block before it, and gives the last one.
-fn add_blocks_before(before: [u8; 16], cipher: &[u8], slice: &mut [u8]) -> [u8; 16]
+// XORs to each of the 32 blocks of a batch the cipher block before it, and returns the last one.
+fn xor_blocks_before(before: [u8; 16], cipher: &[u8], batch: &mut [u8]) -> [u8; 16]
     requires cipher { length cipher.now ≡ 512 }
-    requires slice { length slice.old ≡ 512 }
-    ensures value { slice.new
-        ≡ joined (λ n. block_sum (block_at slice.old n) (block_before before cipher.now n)) 32 }
+    requires batch { length batch.old ≡ 512 }
+    ensures value { batch.new
+        ≡ joined (λ n. block_xor (block_at batch.old n) (block_before before cipher.now n)) 32 }
     ensures next { result ≡ block_before before cipher.now 32 }
 {
     let mut last = before;
     for n in 0..32 {
-        add_vector(u8x16::from_array(last), &mut slice[16 * n..16 * n + 16]);
+        xor_vector(u8x16::from_array(last), &mut batch[16 * n..16 * n + 16]);
         let next = block_of(&cipher[16 * n..16 * n + 16]);
         last = next;
     }
     last
 }
 
-// Decrypts 32 blocks of a chain, and gives what the last one was for the next.
-fn decrypt_slice(key: &SliceKey, before: [u8; 16], slice: &mut [u8]) -> [u8; 16]
-    requires { length slice.old ≡ 512 }
-    ensures value { slice.new
+// Decrypts 32 blocks of a chain, and returns the last cipher block for the next batch.
+fn decrypt_batch(key: &BatchKey, before: [u8; 16], batch: &mut [u8]) -> [u8; 16]
+    requires { length batch.old ≡ 512 }
+    ensures value { batch.new
         ≡ joined
-        (λ n. block_sum (decrypted key.now (block_at slice.old n))
-        (block_before before slice.old n)) 32 }
-    ensures next { result ≡ block_before before slice.old 32 }
+        (λ n. block_xor (decrypted key.now (block_at batch.old n))
+        (block_before before batch.old n)) 32 }
+    ensures next { result ≡ block_before before batch.old 32 }
 {
     let mut cipher = [0; 512];
-    cipher.copy_from_slice(slice);
-    key.decrypt_slice(slice);
-    add_blocks_before(before, &cipher, slice)
+    cipher.copy_from_slice(batch);
+    key.decrypt_batch(batch);
+    xor_blocks_before(before, &cipher, batch)
 }
 
-/// Encrypts the unit under the key and the initialization vector.
+/// Encrypts the data unit under the key and the IV.
 pub fn encrypt_chain(key: &AesKey, vector: [u8; 16], unit: &mut [u8])
     requires { length unit.old % 16 ≡ 0 }
     ensures value { unit.new ≡ cbc_encrypted key.now vector unit.old }
@@ -90,12 +90,12 @@ pub fn encrypt_chain(key: &AesKey, vector: [u8; 16], unit: &mut [u8])
     }
 }
 
-/// Decrypts the unit under the key and the initialization vector.
-pub fn decrypt_chain(key: &SliceKey, vector: [u8; 16], unit: &mut [u8])
+/// Decrypts the data unit under the key and the IV.
+pub fn decrypt_chain(key: &BatchKey, vector: [u8; 16], unit: &mut [u8])
     requires { length unit.old % 16 ≡ 0 }
     ensures value { unit.new ≡ cbc_decrypted key.now vector unit.old }
 
-    // A unit that is some plain one encrypted becomes that one.
+    // The encryption of a plain data unit becomes that data unit.
     ensures undoes { (plain : List ℕ) → IsBytes plain → length plain ≡ length unit.old
         → unit.old ≡ cbc_encrypted key.now vector plain → unit.new ≡ plain }
     ensures undone { cbc_encrypted key.now vector unit.new ≡ unit.old }
@@ -103,12 +103,12 @@ pub fn decrypt_chain(key: &SliceKey, vector: [u8; 16], unit: &mut [u8])
     let block_key = key.key();
     holds_bytes(block_key);
     let mut before = vector;
-    let slices = unit.len() / 512;
-    for i in 0..slices {
-        let next = decrypt_slice(key, before, &mut unit[512 * i..512 * i + 512]);
+    let batches = unit.len() / 512;
+    for i in 0..batches {
+        let next = decrypt_batch(key, before, &mut unit[512 * i..512 * i + 512]);
         before = next;
     }
-    for j in 32 * slices..unit.len() / 16 {
+    for j in 32 * batches..unit.len() / 16 {
         let next = decrypt_link(block_key, before, &mut unit[16 * j..16 * j + 16]);
         before = next;
     }

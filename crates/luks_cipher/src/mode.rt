@@ -1,7 +1,7 @@
 //! The modes in which sectors are encrypted.
 
 ghost use Rattle.std.specs.Prelude.{◌≡◌};
-ghost use Rattle.luks_cipher.specs.Sector.{is_mode_key_length, name_of, mode_named};
+ghost use Rattle.luks_cipher.specs.Sector.{is_mode_key_length, mode_name, mode_named};
 
 /// A mode of AES over sectors, and how a sector's number enters it (the kernel's documentation of
 /// dm-crypt).
@@ -47,7 +47,7 @@ impl Mode {
 
     /// The name.
     pub fn name(self) -> &'static str
-        ensures { result.now ≡ name_of self }
+        ensures { result.now ≡ mode_name self }
     {
         match self {
             Mode::XtsPlain64 => "xts-plain64",

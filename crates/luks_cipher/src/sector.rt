@@ -6,8 +6,8 @@ ghost use Rattle.luks_cipher.specs.declared.mode.Mode.{Mode};
 ghost use Rattle.luks_cipher.specs.declared.mode.Mode.TheVariants.{XtsPlain64, XtsPlain};
 ghost use Rattle.luks_cipher.specs.declared.mode.Mode.TheVariants.{CbcEssivSha256, CbcPlain64};
 ghost use Rattle.luks_cipher.specs.Sector.{is_mode_key_length, sector_encrypted, sector_decrypted};
-ghost use Rattle.luks_cipher.specs.Sector.{essiv_vector};
-ghost use Rattle.luks_cipher.specs.SectorKey.{mode_of, key_of, IsSectorKey};
+ghost use Rattle.luks_cipher.specs.Sector.{essiv_iv};
+ghost use Rattle.luks_cipher.specs.SectorKey.{keys_mode, key_bytes_of, IsSectorKey};
 ghost use Rattle.luks_aes.specs.Bytes.{IsBytes};
 ghost use Rattle.sha2.specs.Sha256.{sha256};
 ghost use Rattle.std.specs.Int.{w128, to_le_bytes};
@@ -16,7 +16,7 @@ use crate::cbc::{decrypt_chain, encrypt_chain};
 use crate::mode::Mode;
 use crate::xts::XtsKey;
 use luks_aes::AesKey;
-use luks_blocks::SliceKey;
+use luks_aes_batch::BatchKey;
 use sha2::{Digest, Sha256};
 use std::marker::Model;
 
@@ -25,8 +25,8 @@ use std::marker::Model;
 enum Keys {
     XtsPlain64(XtsKey),
     XtsPlain(XtsKey),
-    CbcEssivSha256(SliceKey, AesKey),
-    CbcPlain64(SliceKey),
+    CbcEssivSha256(BatchKey, AesKey),
+    CbcPlain64(BatchKey),
 }
 
 /// A key of AES for sectors in one of the modes. Contracts see it as the mode and the key's bytes.
@@ -38,32 +38,32 @@ pub struct SectorCipher {
 impl Model for SectorCipher {
     ghost Value = { Mode × List ℕ };
 
-    ghost view = { λ k. (mode_of k.keys, key_of k.keys) };
+    ghost view = { λ k. (keys_mode k.keys, key_bytes_of k.keys) };
 
     ghost invariant = { λ k. IsSectorKey k.keys };
 }
 
-// The key for the vectors of essiv:sha256: the digest of the key for the data.
-fn vector_key(key: &[u8]) -> Option<AesKey>
+// The key for the IVs of essiv:sha256: the digest of the data key.
+fn iv_key(key: &[u8]) -> Option<AesKey>
     ensures { result ≡ Some (sha256 key.now) }
 {
     AesKey::new(&Sha256::digest(key))
 }
 
-// The block that plain64 makes of a sector's number.
+// The IV of plain64: the sector's number, little-endian.
 fn number_block(number: u64) -> [u8; 16]
     ensures { result ≡ to_le_bytes w128 number }
 {
     u128::from(number).to_le_bytes()
 }
 
-// A key of AES for CBC. There are 16 or 32 bytes of it; at any other number it is `None`.
-fn cbc_key(key: &[u8]) -> Option<SliceKey>
+// An AES key for CBC, of 16 or 32 bytes; `None` for any other length.
+fn cbc_key(key: &[u8]) -> Option<BatchKey>
     ensures { result
         ≡ (if (length key.now == 16) || (length key.now == 32) then Some key.now else None) }
 {
     match key.len() {
-        16 | 32 => SliceKey::new(key),
+        16 | 32 => BatchKey::new(key),
         _ => None,
     }
 }
@@ -92,7 +92,7 @@ impl SectorCipher {
             ≡ (if is_mode_key_length CbcEssivSha256 (length key.now) then Some
             (CbcEssivSha256, key.now) else None) }
     {
-        let keys = Keys::CbcEssivSha256(cbc_key(key)?, vector_key(key)?);
+        let keys = Keys::CbcEssivSha256(cbc_key(key)?, iv_key(key)?);
         Some(SectorCipher { keys })
     }
 
@@ -105,8 +105,8 @@ impl SectorCipher {
         Some(SectorCipher { keys })
     }
 
-    /// The cipher of this mode and key. The key has 32 or 64 bytes for XTS, and 16 or 32 for CBC;
-    /// at any other number it is `None`.
+    /// The cipher of this mode and key: 32 or 64 bytes for XTS, 16 or 32 for CBC; `None` for any other
+    /// length.
     pub fn new(mode: Mode, key: &[u8]) -> Option<SectorCipher>
         ensures { result
             ≡ (if is_mode_key_length mode (length key.now) then Some (mode, key.now) else None) }
@@ -130,9 +130,9 @@ impl SectorCipher {
         match &self.keys {
             Keys::XtsPlain64(key) => key.encrypt_unit(number, unit),
             Keys::XtsPlain(key) => key.encrypt_unit(number % 0x1_0000_0000, unit),
-            Keys::CbcEssivSha256(key, vector_key) => {
+            Keys::CbcEssivSha256(key, iv_key) => {
                 let mut vector = number_block(number);
-                vector_key.encrypt_block(&mut vector);
+                iv_key.encrypt_block(&mut vector);
                 encrypt_chain(key.key(), vector, unit);
             }
             Keys::CbcPlain64(key) => encrypt_chain(key.key(), number_block(number), unit),
@@ -146,7 +146,7 @@ impl SectorCipher {
         requires longest { length unit.old ≤ 4096 }
         ensures value { unit.new ≡ sector_decrypted self.now.0 self.now.1 number unit.old }
 
-        // A sector that is some plain one encrypted becomes that one.
+        // The encryption of a plain sector becomes that sector.
         ensures undoes { (plain : List ℕ) → IsBytes plain → length plain ≡ length unit.old
             → unit.old ≡ sector_encrypted self.now.0 self.now.1 number plain
             → unit.new ≡ plain }
@@ -155,9 +155,9 @@ impl SectorCipher {
         match &self.keys {
             Keys::XtsPlain64(key) => key.decrypt_unit(number, unit),
             Keys::XtsPlain(key) => key.decrypt_unit(number % 0x1_0000_0000, unit),
-            Keys::CbcEssivSha256(key, vector_key) => {
+            Keys::CbcEssivSha256(key, iv_key) => {
                 let mut vector = number_block(number);
-                vector_key.encrypt_block(&mut vector);
+                iv_key.encrypt_block(&mut vector);
                 decrypt_chain(key, vector, unit);
             }
             Keys::CbcPlain64(key) => decrypt_chain(key, number_block(number), unit),

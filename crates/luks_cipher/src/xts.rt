@@ -2,21 +2,21 @@
 
 ghost use Rattle.std.specs.Prelude.{◌≡◌, ◌+◌, ◌*◌, ◌%◌, ◌<◌, ◌≤◌, List, ℕ, ◌++◌, length};
 ghost use Rattle.std.specs.Prelude.{Some, None, if◌then◌else◌};
-ghost use Rattle.luks_cipher.specs.Xts.{doubled, tweak_of, block_sum, block_at, joined};
+ghost use Rattle.luks_cipher.specs.Xts.{doubled, tweak_of, block_xor, block_at, joined};
 ghost use Rattle.luks_cipher.specs.Xts.{block_encrypted, block_decrypted, xts_encrypted};
 ghost use Rattle.luks_cipher.specs.Xts.{xts_decrypted, is_xts_key_length};
 ghost use Rattle.luks_aes.specs.Bytes.{IsBytes};
-ghost use Rattle.luks_cipher.specs.Slices.{tweak_after};
+ghost use Rattle.luks_cipher.specs.Batches.{tweak_after};
 ghost use Rattle.luks_cipher.specs.KeyPair.{IsKeyPair};
 
-use crate::block::{add_vector, block_of};
+use crate::block::{block_of, xor_vector};
 use luks_aes::AesKey;
-use luks_blocks::SliceKey;
+use luks_aes_batch::BatchKey;
 use std::marker::Model;
 use std::simd::prelude::*;
 
-// The tweak times the primitive element (5.2): its halves are doubled, and the bit that leaves one
-// comes into the other, from the low one as 1 and from the high one as 0x87.
+// The tweak times the primitive element (5.2): both halves are doubled, the carry of the low half goes
+// into the high one, and the carry of the high half reduces to 0x87 in the low one.
 #[inline(always)]
 fn doubled(tweak: u8x16) -> u8x16
     ensures { result ≡ doubled tweak }
@@ -26,7 +26,7 @@ fn doubled(tweak: u8x16) -> u8x16
     ((halves << 1) ^ carried).to_le_bytes()
 }
 
-// Writes the tweaks of 32 blocks, of which this is the first one's, and gives the one after them.
+// Writes the tweaks of 32 blocks, the first of which is `tweak`, and returns the one after them.
 fn put_tweaks(tweak: u8x16, tweaks: &mut [u8]) -> u8x16
     requires { length tweaks.old ≡ 512 }
     ensures value { (n : ℕ) → n < 32 → block_at tweaks.new n ≡ tweak_after tweak n }
@@ -41,16 +41,16 @@ fn put_tweaks(tweak: u8x16, tweaks: &mut [u8]) -> u8x16
     last
 }
 
-// Adds to each of the 32 blocks of the slice its tweak.
-fn add_tweaks(tweaks: &[u8], slice: &mut [u8])
+// XORs to each of the 32 blocks of a batch its tweak.
+fn xor_tweaks(tweaks: &[u8], batch: &mut [u8])
     requires tweaks { length tweaks.now ≡ 512 }
-    requires slice { length slice.old ≡ 512 }
-    ensures { slice.new
-        ≡ joined (λ n. block_sum (block_at slice.old n) (block_at tweaks.now n)) 32 }
+    requires batch { length batch.old ≡ 512 }
+    ensures { batch.new
+        ≡ joined (λ n. block_xor (block_at batch.old n) (block_at tweaks.now n)) 32 }
 {
     for n in 0..32 {
         let tweak = block_of(&tweaks[16 * n..16 * n + 16]);
-        add_vector(u8x16::from_array(tweak), &mut slice[16 * n..16 * n + 16]);
+        xor_vector(u8x16::from_array(tweak), &mut batch[16 * n..16 * n + 16]);
     }
 }
 
@@ -58,7 +58,7 @@ fn add_tweaks(tweaks: &[u8], slice: &mut [u8])
 /// first half is the key for the data and the second the key for the tweaks.
 #[derive(Drop)]
 pub struct XtsKey {
-    data_key: SliceKey,
+    data_key: BatchKey,
     tweak_key: AesKey,
 }
 
@@ -71,7 +71,7 @@ impl Model for XtsKey {
 }
 
 impl XtsKey {
-    /// The key of these bytes. There are 32 or 64 of them; at any other number it is `None`.
+    /// The key of 32 or 64 bytes; `None` for any other length.
     pub fn new(key: &[u8]) -> Option<XtsKey>
         ensures { result ≡ (if is_xts_key_length (length key.now) then Some key.now else None) }
     {
@@ -79,7 +79,7 @@ impl XtsKey {
             32 | 64 => {
                 let (data_key, tweak_key) = key.split_at(key.len() / 2);
                 Some(XtsKey {
-                    data_key: SliceKey::new(data_key)?,
+                    data_key: BatchKey::new(data_key)?,
                     tweak_key: AesKey::new(tweak_key)?,
                 })
             }
@@ -102,11 +102,11 @@ impl XtsKey {
         requires { length piece.old ≡ 16 }
         ensures { piece.new ≡ block_encrypted self.now tweak piece.old }
     {
-        add_vector(tweak, piece);
+        xor_vector(tweak, piece);
         let mut block = block_of(piece);
         self.data_key.key().encrypt_block(&mut block);
         piece.copy_from_slice(&block);
-        add_vector(tweak, piece);
+        xor_vector(tweak, piece);
     }
 
     // Decrypts one block under its tweak (5.4.1).
@@ -114,26 +114,26 @@ impl XtsKey {
         requires { length piece.old ≡ 16 }
         ensures { piece.new ≡ block_decrypted self.now tweak piece.old }
     {
-        add_vector(tweak, piece);
+        xor_vector(tweak, piece);
         let mut block = block_of(piece);
         self.data_key.key().decrypt_block(&mut block);
         piece.copy_from_slice(&block);
-        add_vector(tweak, piece);
+        xor_vector(tweak, piece);
     }
 
-    // Decrypts 32 blocks, of which this is the first one's tweak, and gives the next one's.
-    fn decrypt_slice(&self, tweak: u8x16, slice: &mut [u8]) -> u8x16
-        requires { length slice.old ≡ 512 }
-        ensures value { slice.new
+    // Decrypts 32 blocks, the first under `tweak`, and returns the tweak of the block after them.
+    fn decrypt_batch(&self, tweak: u8x16, batch: &mut [u8]) -> u8x16
+        requires { length batch.old ≡ 512 }
+        ensures value { batch.new
             ≡ joined
-            (λ n. block_decrypted self.now (tweak_after tweak n) (block_at slice.old n)) 32 }
+            (λ n. block_decrypted self.now (tweak_after tweak n) (block_at batch.old n)) 32 }
         ensures next { result ≡ tweak_after tweak 32 }
     {
         let mut tweaks = [0; 512];
         let next = put_tweaks(tweak, &mut tweaks);
-        add_tweaks(&tweaks, slice);
-        self.data_key.decrypt_slice(slice);
-        add_tweaks(&tweaks, slice);
+        xor_tweaks(&tweaks, batch);
+        self.data_key.decrypt_batch(batch);
+        xor_tweaks(&tweaks, batch);
         next
     }
 
@@ -162,18 +162,18 @@ impl XtsKey {
         requires longest { length unit.old ≤ 4096 }
         ensures value { unit.new ≡ xts_decrypted self.now number unit.old }
 
-        // A unit that is some plain one encrypted becomes that one.
+        // The encryption of a plain data unit becomes that data unit.
         ensures undoes { (plain : List ℕ) → IsBytes plain → length plain ≡ length unit.old
             → unit.old ≡ xts_encrypted self.now number plain → unit.new ≡ plain }
         ensures undone { xts_encrypted self.now number unit.new ≡ unit.old }
     {
         let mut tweak = self.first_tweak(number);
-        let slices = unit.len() / 512;
-        for i in 0..slices {
-            let next = self.decrypt_slice(tweak, &mut unit[512 * i..512 * i + 512]);
+        let batches = unit.len() / 512;
+        for i in 0..batches {
+            let next = self.decrypt_batch(tweak, &mut unit[512 * i..512 * i + 512]);
             tweak = next;
         }
-        for j in 32 * slices..unit.len() / 16 {
+        for j in 32 * batches..unit.len() / 16 {
             self.decrypt_piece(tweak, &mut unit[16 * j..16 * j + 16]);
             let next = doubled(tweak);
             tweak = next;

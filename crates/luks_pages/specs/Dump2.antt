@@ -2,7 +2,7 @@
 use Rattle.std.specs.Prelude.{ℕ, ◌∷◌, ◌++◌, [], zero, suc, List, Option, Some, None, Result, Ok, Err, codes, flat_map}
 use Rattle.std.specs.Prelude.{length}
 use Rattle.std.specs.Fmt.{decimal}
-use Rattle.luks_cipher.specs.Sector.{name_of as mode_name}
+use Rattle.luks_cipher.specs.Sector.{mode_name}
 use Rattle.luks_kdf.specs.Hash.{name_of}
 use Rattle.luks_kdf.specs.declared.hash.Hash.{Hash}
 use Rattle.luks_verdict.specs.Rule.{most_slots}

@@ -8,7 +8,7 @@ use Rattle.luks_aes.specs.Bytes.{IsBytes}
 use Rattle.luks_area.specs.Field.{at}
 use Rattle.luks_cipher.specs.Cbc.{cbc_encrypted, chained}
 use Rattle.luks_cipher.specs.Sector.{Cipher, sector_encrypted}
-use Rattle.luks_cipher.specs.Xts.{block_encrypted, block_sum, joined, xts_encrypted}
+use Rattle.luks_cipher.specs.Xts.{block_encrypted, block_xor, joined, xts_encrypted}
 use Rattle.luks_cipher.specs.declared.mode.Mode.TheVariants.{XtsPlain64, XtsPlain, CbcEssivSha256, CbcPlain64}
 use Rattle.luks_cipher.proofs.UnitsUndone.{joined_length}
 use Rattle.luks_seal.specs.Pieces.{encrypted_sector, sector_at, sectors_encrypted, unit_number}
@@ -22,7 +22,7 @@ blocks_length f unit sizes whole = joined_length f (length unit / 16) (λ j low.
 
 pub length-sector_encrypted : (cipher : Cipher) (number : ℕ) (unit : List ℕ) → length unit % 16 ≡ 0
     → length (sector_encrypted cipher.0 cipher.1 number unit) ≡ length unit
-unfolding xts_encrypted cbc_encrypted chained block_encrypted block_sum encrypted cipher add_round_key
+unfolding xts_encrypted cbc_encrypted chained block_encrypted block_xor encrypted cipher add_round_key
 length-sector_encrypted (XtsPlain64, key) number unit whole = blocks_length _ unit (λ j. refl) whole
 length-sector_encrypted (XtsPlain, key) number unit whole = blocks_length _ unit (λ j. refl) whole
 length-sector_encrypted (CbcEssivSha256, key) number unit whole = blocks_length _ unit (λ j. refl) whole

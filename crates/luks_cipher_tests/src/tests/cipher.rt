@@ -1,6 +1,6 @@
 //! What the tables speak of: a key and how it is used.
 
-use luks_blocks::SliceKey;
+use luks_aes_batch::BatchKey;
 use luks_cipher::cbc::{decrypt_chain, encrypt_chain};
 use luks_cipher::{AesKey, Mode, SectorCipher, XtsKey};
 use std::process::Abort;
@@ -9,7 +9,7 @@ use std::process::Abort;
 #[derive(Drop)]
 pub enum Cipher {
     Block(AesKey),
-    Chain(SliceKey, [u8; 16]),
+    Chain(BatchKey, [u8; 16]),
     Unit(XtsKey),
     Sector(SectorCipher),
 }
@@ -22,7 +22,7 @@ impl Cipher {
             "cbc" => {
                 let mut block = [0; 16];
                 hex::decode_to_slice(before, &mut block).expect(rt, "a block");
-                Cipher::Chain(SliceKey::new(key).expect(rt, "a key of AES"), block)
+                Cipher::Chain(BatchKey::new(key).expect(rt, "a key of AES"), block)
             }
             "xts" => Cipher::Unit(XtsKey::new(key).expect(rt, "a key of XTS")),
             _ => {

@@ -6,7 +6,7 @@ use super::cipher::Cipher;
 use super::mode_vectors::{CHAINS, DIGESTS, SECTORS, WORKED};
 use super::xts_vectors::{LARGE_NUMBERS, NIST, SHORT};
 use super::{assert_in, bytes, counted};
-use luks_blocks::SliceKey;
+use luks_aes_batch::BatchKey;
 use sha2::{Digest, Sha256};
 use std::process::Abort;
 
@@ -94,7 +94,7 @@ fn sectors_of_slices_and_blocks_have_their_digests(rt: HostRuntime) {
 
 // 32 blocks are decrypted at once, and the first of them alone.
 fn check_slice(rt: &(impl Abort + AllocGlobal), key: &[u8], encrypted: &str, plain: &[u8]) {
-    let key = SliceKey::new(key).expect(rt, "a key of AES");
+    let key = BatchKey::new(key).expect(rt, "a key of AES");
     let mut slice = [0; 512];
     hex::decode_to_slice(encrypted, &mut slice).expect(rt, "a slice");
     let mut block = [0; 16];

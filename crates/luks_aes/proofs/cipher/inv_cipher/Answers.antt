@@ -4,7 +4,7 @@ use Rattle.luks_aes.specs.Bytes.{IsBytes}
 use Rattle.luks_aes.proofs.CipherLemmas.{inv_round_after}
 use Rattle.luks_aes.proofs.ColumnLemmas.{spelt_state}
 use Rattle.luks_aes.proofs.Redone.{inv_shift_rows_state, inv_sub_bytes_state}
-use Rattle.luks_aes.proofs.UnmixedLemmas.{round_key_unmixed}
+use Rattle.luks_aes.proofs.InvMixedLemmas.{round_key_inv_mixed}
 use Rattle.luks_aes.proofs.cipher.inv_cipher.Goals as goal
 
 pub loop-round-init : goal.loop-round-init
@@ -21,14 +21,14 @@ pub loop-round-preserved : goal.loop-round-preserved
 loop-round-preserved c =
     let nr = c.args.rounds in
     let w = c.args.schedule.now in
-    let u = c.args.unmixed.now in
+    let u = c.args.inv_mixed.now in
     let round = c.loop-round.round in
     let bytes : IsBytes w = record { each = λ i. search rules } in
     let shifted = inv_sub_bytes_state _ (inv_shift_rows_state _ (spelt_state c.loop-round.state)) in (
       omega arith,
       c.with_round_key-state-in-loop-round.ensures
-          ∙ ap (λ s. add_round_key s u (round - 1)) c.unmixed_columns-substituted.ensures
-          ∙ sym (round_key_unmixed _ w u _ (round - 1) shifted bytes c.requires.products (omega arith))
+          ∙ ap (λ s. add_round_key s u (round - 1)) c.inv_mixed_columns-substituted.ensures
+          ∙ sym (round_key_inv_mixed _ w u _ (round - 1) shifted bytes c.requires.products (omega arith))
           ∙ inv_round_after c.args.block w _ nr (nr - round) (nr - (round - 1)) (round - 1) c.loop-round.invariant.1
           (omega arith) (omega arith),
     )

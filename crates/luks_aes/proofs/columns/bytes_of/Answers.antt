@@ -1,9 +1,9 @@
 use Rattle.std.proofs.Common.{refl}
-use Rattle.luks_aes.specs.Columns.{spelt}
+use Rattle.luks_aes.specs.Columns.{bytes_of_words}
 use Rattle.luks_aes.proofs.columns.bytes_of.Goals as goal
 
 pub returns : goal.returns
-unfolding spelt
+unfolding bytes_of_words
 returns c =
     let a = c.to_le_bytes-a.ensures in
     let b = c.to_le_bytes-b.ensures in

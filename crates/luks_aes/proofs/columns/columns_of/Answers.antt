@@ -1,10 +1,10 @@
 use Rattle.std.proofs.Common.{sym, ◌∙◌, ◌++◌, arith}
-use Rattle.luks_aes.specs.Columns.{spelt}
+use Rattle.luks_aes.specs.Columns.{bytes_of_words}
 use Rattle.luks_aes.proofs.Undone.{whole_state}
 use Rattle.luks_aes.proofs.columns.columns_of.Goals as goal
 
 pub returns : goal.returns
-unfolding spelt
+unfolding bytes_of_words
 returns c =
     (λ i. c.column_from.ensures i
     ++ (c.column_from-2.ensures i ++ (c.column_from-3.ensures i ++ c.column_from-4.ensures i)))

@@ -1,10 +1,10 @@
 use Rattle.std.proofs.Common.{◌≡◌, ◌*◌, ◌/◌, length, ap, arith, ◌∙◌, add-one, refl, rules}
 use Rattle.luks_aes.specs.Bytes.{IsBytes}
 use Rattle.luks_aes.specs.Aes.{decrypted}
-use Rattle.luks_cipher.specs.Xts.{block_sum}
+use Rattle.luks_cipher.specs.Xts.{block_xor}
 use Rattle.luks_cipher.specs.Cbc.{block_before, cbc_encrypted, cbc_decrypted}
 use Rattle.luks_cipher.proofs.TweakLemmas.{done_none, done_more, done_all, block_is}
-use Rattle.luks_cipher.proofs.SliceLemmas.{done_moved, slice_done, slice_block, cbc_unit_slice, before_next}
+use Rattle.luks_cipher.proofs.BatchLemmas.{done_moved, batch_done, batch_block, cbc_unit_batch, before_next}
 use Rattle.luks_cipher.proofs.ChainsUndone.{cbc_decrypted-cbc_encrypted, cbc_encrypted-cbc_decrypted}
 use Rattle.luks_cipher.proofs.cbc.decrypt_chain.Goals as goal
 
@@ -23,14 +23,14 @@ loop-i-preserved c =
     let vector = c.args.vector in
     let unit = c.args.unit.now in
     let before = c.loop-i.invariant in
-    let same = slice_block unit c.loop-i.unit i before.done.left in
+    let same = batch_block unit c.loop-i.unit i before.done.left in
     record {
       bytes = before.bytes;
       vector = before.vector;
-      last = before_next vector c.loop-i.before unit _ _ i before.last same c.decrypt_slice-next.ensures.next;
-      done = slice_done _ _ _ c.decrypt_slice-next.new.slice i before.done (omega arith) (omega arith)
-          (cbc_unit_slice c.args.key.now vector (32 * i) c.loop-i.before unit _ _ before.last same
-          c.decrypt_slice-next.ensures.value);
+      last = before_next vector c.loop-i.before unit _ _ i before.last same c.decrypt_batch-next.ensures.next;
+      done = batch_done _ _ _ c.decrypt_batch-next.new.batch i before.done (omega arith) (omega arith)
+          (cbc_unit_batch c.args.key.now vector (32 * i) c.loop-i.before unit _ _ before.last same
+          c.decrypt_batch-next.ensures.value);
     }
 
 pub loop-j-init : goal.loop-j-init
@@ -57,7 +57,7 @@ loop-j-preserved c =
       vector = before.vector;
       last = rw add-one (c.decrypt_link-next.ensures.next ∙ block);
       done = done_more _ _ _ _ j before.done (omega arith) (omega arith)
-          (c.decrypt_link-next.ensures.value ∙ (λ i. block_sum (decrypted (held i) (block i)) (last i)));
+          (c.decrypt_link-next.ensures.value ∙ (λ i. block_xor (decrypted (held i) (block i)) (last i)));
     }
 
 pub returns-clause-value : goal.returns-clause-value

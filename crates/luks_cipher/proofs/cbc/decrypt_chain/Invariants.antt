@@ -1,6 +1,6 @@
 use Rattle.std.proofs.Common.{◌≡◌, ◌*◌}
 use Rattle.luks_aes.specs.Aes.{decrypted}
-use Rattle.luks_cipher.specs.Xts.{block_at, block_sum}
+use Rattle.luks_cipher.specs.Xts.{block_at, block_xor}
 use Rattle.luks_aes.specs.Bytes.{IsBytes}
 use Rattle.luks_aes.proofs.ByteLists.{IsState}
 use Rattle.luks_cipher.specs.Cbc.{block_before}
@@ -13,7 +13,7 @@ invariant-loop-i l = record {
   bytes : IsBytes l.fn.unit;
   vector : IsState l.fn.vector;
   last : l.before ≡ block_before l.fn.vector l.fn.unit (32 * l.i);
-  done : IsDoneBefore (λ j. block_sum (decrypted l.key (block_at l.fn.unit j)) (block_before l.fn.vector l.fn.unit j))
+  done : IsDoneBefore (λ j. block_xor (decrypted l.key (block_at l.fn.unit j)) (block_before l.fn.vector l.fn.unit j))
       l.fn.unit l.unit (32 * l.i);
 }
 
@@ -22,6 +22,6 @@ invariant-loop-j l = record {
   bytes : IsBytes l.fn.unit;
   vector : IsState l.fn.vector;
   last : l.before ≡ block_before l.fn.vector l.fn.unit l.j;
-  done : IsDoneBefore (λ j. block_sum (decrypted l.key (block_at l.fn.unit j)) (block_before l.fn.vector l.fn.unit j))
+  done : IsDoneBefore (λ j. block_xor (decrypted l.key (block_at l.fn.unit j)) (block_before l.fn.vector l.fn.unit j))
       l.fn.unit l.unit l.j;
 }

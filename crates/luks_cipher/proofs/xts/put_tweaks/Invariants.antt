@@ -1,5 +1,5 @@
 use Rattle.std.proofs.Common.{◌≡◌, length}
-use Rattle.luks_cipher.specs.Slices.{tweak_after}
+use Rattle.luks_cipher.specs.Batches.{tweak_after}
 use Rattle.luks_cipher.proofs.TweakLemmas.{IsDoneBefore}
 use Rattle.luks_cipher.proofs.xts.put_tweaks.Given as goal
 

@@ -9,11 +9,11 @@ pub returns : goal.returns
 returns c =
     let words = c.self.inside.words in
     let schedule = c.self.inside.schedule in
-    let unmixed = c.self.inside.unmixed in
+    let inv_mixed = c.self.inside.inv_mixed in
     let key = c.args.self.now in
     let block = c.args.block.now in
     let value = c.cipher.ensures
-    ∙ encrypted_is words schedule unmixed key block c.self.told.0 c.self.invariant c.self.view_is in
+    ∙ encrypted_is words schedule inv_mixed key block c.self.told.0 c.self.invariant c.self.view_is in
     let keys = key_bytes words schedule key c.self.invariant.bytes c.self.view_is in
     record {
       value = value;

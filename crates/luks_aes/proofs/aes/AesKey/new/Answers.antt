@@ -6,7 +6,7 @@ pub invariant_of-result : goal.invariant_of-result
 invariant_of-result c =
     expanded_is c.args.key.now c.key_expansion-schedule.result _ (is_key_length _ c.in-16.is) (record
     { each = search rules })
-    c.unmixed_words-unmixed.ensures c.key_expansion-schedule.ensures
+    c.inv_mixed_words-inv_mixed.ensures c.key_expansion-schedule.ensures
 
 pub returns-in-16 : goal.returns-in-16
 returns-in-16 c =

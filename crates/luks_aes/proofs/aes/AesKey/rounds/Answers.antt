@@ -10,7 +10,7 @@ returns c =
     let lengths = key_length (4 * words) is.key_length in
     let least = lengths.least in
     let most = lengths.most in
-    let sum = rounds_are words c.self.inside.schedule c.self.inside.unmixed c.args.self.now c.self.told.0 is
+    let sum = rounds_are words c.self.inside.schedule c.self.inside.inv_mixed c.args.self.now c.self.told.0 is
     c.self.view_is in
     record {
       value = omega (arith, sum);

@@ -6,9 +6,9 @@ returns c =
     let whole = piece_decrypted c.self.inside.data_key c.self.inside.tweak_key c.args.self.now c.args.tweak
     c.args.piece.now
     c.self.invariant.same_length c.self.view_is in
-    let masked = c.add_vector.ensures in
+    let masked = c.xor_vector.ensures in
     let read = c.block_of-block.ensures in
     let ciphered = c.decrypt_block.ensures.value in
     let written = c.copy_from_slice.ensures.after in
-    let summed = c.add_vector-2.ensures in
+    let summed = c.xor_vector-2.ensures in
     cc

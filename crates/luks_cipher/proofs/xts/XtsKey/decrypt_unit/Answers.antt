@@ -1,7 +1,7 @@
 use Rattle.std.proofs.Common.{◌≡◌, ◌*◌, ◌/◌, length, ap, arith, ◌∙◌, rules}
 use Rattle.luks_cipher.specs.Xts.{tweak_of, block_decrypted, xts_encrypted, xts_decrypted}
 use Rattle.luks_cipher.proofs.TweakLemmas.{done_none, done_next, next_tweak, decrypted_unit}
-use Rattle.luks_cipher.proofs.SliceLemmas.{done_moved, slice_done, slice_block, slice_tweak, xts_unit_slice}
+use Rattle.luks_cipher.proofs.BatchLemmas.{done_moved, batch_done, batch_block, batch_tweak, xts_unit_batch}
 use Rattle.luks_cipher.proofs.UnitsUndone.{xts_decrypted-xts_encrypted, xts_encrypted-xts_decrypted}
 use Rattle.luks_cipher.proofs.xts.XtsKey.decrypt_unit.Goals as goal
 
@@ -21,10 +21,10 @@ loop-i-preserved c =
     let before = c.loop-i.invariant in
     record {
       bytes = before.bytes;
-      next_tweak = slice_tweak key number i _ _ before.next_tweak c.decrypt_slice-next.ensures.next;
-      done = slice_done _ _ _ c.decrypt_slice-next.new.slice i before.done (omega arith) (omega arith)
-          (xts_unit_slice key number (32 * i) c.loop-i.tweak unit _ _ before.next_tweak
-          (slice_block unit c.loop-i.unit i before.done.left) c.decrypt_slice-next.ensures.value);
+      next_tweak = batch_tweak key number i _ _ before.next_tweak c.decrypt_batch-next.ensures.next;
+      done = batch_done _ _ _ c.decrypt_batch-next.new.batch i before.done (omega arith) (omega arith)
+          (xts_unit_batch key number (32 * i) c.loop-i.tweak unit _ _ before.next_tweak
+          (batch_block unit c.loop-i.unit i before.done.left) c.decrypt_batch-next.ensures.value);
     }
 
 pub loop-j-init : goal.loop-j-init

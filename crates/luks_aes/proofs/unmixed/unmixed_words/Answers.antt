@@ -1,5 +1,0 @@
-use Rattle.std.proofs.Common.{arith}
-use Rattle.luks_aes.proofs.unmixed.unmixed_words.Goals as goal
-
-pub loop-i-init : goal.loop-i-init
-loop-i-init c = record { at = λ i low. absurd (omega arith) }

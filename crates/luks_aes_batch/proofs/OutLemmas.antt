@@ -1,0 +1,89 @@
+-- BitslicedState of planes as blocks.
+use Rattle.std.proofs.Common.{◌≡◌, ℕ, ◌+◌, ◌*◌, ◌/◌, ◌%◌, ◌<◌, List, [], ◌∷◌, arith, refl, sym, ap, ◌∙◌}
+use Rattle.std.specs.Prelude.{slice_index, slice_index_or}
+use Rattle.std.specs.Int.{bit_at}
+use Rattle.std.specs.Int.Bits.{xor_zero_r}
+use Rattle.luks_aes.specs.Aes.{cell}
+use Rattle.luks_aes.proofs.Bytes.{same_below}
+use Rattle.luks_bitslice.specs.BitPlanes.{column_order, block_index, column_index, HasBits, Represents}
+use Rattle.luks_aes_batch.specs.States.{state_byte}
+use Rattle.luks_bitslice.proofs.LaneLemmas.{each_below_4}
+use Rattle.luks_aes_batch.proofs.WayLemmas.{ordered_below}
+
+-- a byte is the sum of its bits
+sum_of_bits : (x : ℕ) → x < 256
+    → bit_at x 0 + 2 * bit_at x 1 + 4 * bit_at x 2 + 8 * bit_at x 3 + 16 * bit_at x 4 + 32 * bit_at x 5 + 64 * bit_at x
+    6 + 128 * bit_at x 7 ≡ x
+sum_of_bits = same_below
+    (λ x. bit_at x 0 + 2 * bit_at x 1 + 4 * bit_at x 2 + 8 * bit_at x 3 + 16 * bit_at x 4 + 32 * bit_at x 5 + 64 *
+    bit_at x 6 + 128 * bit_at x 7)
+    (λ x. x) 256 refl
+
+-- bytes whose bits are the same
+pub same_bits : (x y : ℕ) → x < 256 → y < 256 → ((k : ℕ) → k < 8 → bit_at x k ≡ bit_at y k) → x ≡ y
+same_bits x y low small same =
+    let b0 : bit_at x 0 ≡ bit_at y 0 = same 0 (omega arith) in
+    let b1 : bit_at x 1 ≡ bit_at y 1 = same 1 (omega arith) in
+    let b2 : bit_at x 2 ≡ bit_at y 2 = same 2 (omega arith) in
+    let b3 : bit_at x 3 ≡ bit_at y 3 = same 3 (omega arith) in
+    let b4 : bit_at x 4 ≡ bit_at y 4 = same 4 (omega arith) in
+    let b5 : bit_at x 5 ≡ bit_at y 5 = same 5 (omega arith) in
+    let b6 : bit_at x 6 ≡ bit_at y 6 = same 6 (omega arith) in
+    let b7 : bit_at x 7 ≡ bit_at y 7 = same 7 (omega arith) in
+    sym (sum_of_bits x low)
+    ∙ (λ i. b0 i + 2 * b1 i + 4 * b2 i + 8 * b3 i + 16 * b4 i + 32 * b5 i + 64 * b6 i + 128 * b7 i)
+    ∙ sum_of_bits y small
+
+-- the planes of a row, bit by bit
+pub stands_shown : (y : ℕ → ℕ) (x : List (List ℕ)) → Represents y x
+    → (j : ℕ) → j < 8 → HasBits (λ p k. bit_at (y (8 * p + k)) j) (slice_index_or x j [])
+stands_shown y x is j low =
+    let plane = is.at j low in
+    record {
+      len = plane.len;
+      at = λ p k inside small.
+          let high : (8 * p + k) / 8 ≡ p = omega arith in
+          let rest : (8 * p + k) % 8 ≡ k = omega arith in
+          rw (high, rest) at (plane.at (8 * p + k) (omega arith));
+    }
+
+twice_ordered : (i : ℕ) → i < 4 → column_order (column_order i) ≡ i
+twice_ordered = same_below (λ i. column_order (column_order i)) (λ i. i) 4 refl
+
+-- what stands at each place of four blocks' rows
+pub at_place : (s : ℕ → List ℕ) (n i : ℕ) → n < 32 → i < 16
+    → state_byte s 0 (i % 4) (8 * (4 * (n % 4) + column_order (i / 4)) + n / 4) ≡ slice_index (s n) i
+at_place s n i low inside =
+    let q = 8 * (4 * (n % 4) + column_order (i / 4)) + n / 4 in
+    let small = ordered_below (i / 4) in
+    let block : block_index q ≡ n = omega (arith, small) in
+    let place : q / 8 % 4 ≡ column_order (i / 4) = omega (arith, small) in
+    let column : column_index q ≡ i / 4 = ap column_order place ∙ twice_ordered (i / 4) (omega arith) in
+    xor_zero_r (cell (s (block_index q)) (i % 4) (column_index q))
+    ∙ (λ t. slice_index (s (block t)) (i % 4 + 4 * column t))
+    ∙ ap (slice_index (s n)) (omega arith)
+
+-- byte i of block m of the four whose rows stand at g
+abbrev pub placed : List (List ℕ) → List (List ℕ) → List (List ℕ) → List (List ℕ) → ℕ → ℕ → ℕ → ℕ
+placed a b c d g m i =
+    slice_index
+    (slice_index_or (slice_index_or a g [] ∷ slice_index_or b g [] ∷ slice_index_or c g [] ∷ slice_index_or d g [] ∷
+    []) (i % 4) [])
+    (4 * m + column_order (i / 4))
+
+pub placed_bits : (y : ℕ → ℕ → ℕ) (a b c d : List (List ℕ)) (g m i : ℕ)
+    → ((p k : ℕ) → p < 16 → k < 8 → bit_at (slice_index (slice_index_or a g []) p) k ≡ bit_at (y 0 (8 * p + g)) k)
+    → ((p k : ℕ) → p < 16 → k < 8 → bit_at (slice_index (slice_index_or b g []) p) k ≡ bit_at (y 1 (8 * p + g)) k)
+    → ((p k : ℕ) → p < 16 → k < 8 → bit_at (slice_index (slice_index_or c g []) p) k ≡ bit_at (y 2 (8 * p + g)) k)
+    → ((p k : ℕ) → p < 16 → k < 8 → bit_at (slice_index (slice_index_or d g []) p) k ≡ bit_at (y 3 (8 * p + g)) k)
+    → (k : ℕ) → m < 4 → i < 16 → k < 8
+    → bit_at (placed a b c d g m i) k ≡ bit_at (y (i % 4) (8 * (4 * m + column_order (i / 4)) + g)) k
+placed_bits y a b c d g m i first second third fourth k low inside bit =
+    let p = 4 * m + column_order (i / 4) in
+    let small : p < 16 = omega (arith, ordered_below (i / 4)) in
+    each_below_4
+    (λ r.
+    bit_at (slice_index (slice_index_or (slice_index_or a g [] ∷ slice_index_or b g [] ∷ slice_index_or c g [] ∷
+    slice_index_or d g [] ∷ []) r []) p) k
+    ≡ bit_at (y r (8 * p + g)) k)
+    (first p k small bit) (second p k small bit) (third p k small bit) (fourth p k small bit) (i % 4) (omega arith)

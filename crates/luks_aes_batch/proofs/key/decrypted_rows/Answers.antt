@@ -1,0 +1,65 @@
+use Rattle.std.proofs.Common.{◌≡◌, ℕ, ◌+◌, ◌-◌, List, arith, refl, sym, ap, subst, ◌∙◌}
+use Rattle.luks_aes.specs.Field.{◌⊕◌}
+use Rattle.luks_aes.specs.Aes.{key_expansion, rounds_of, inv_state_after, inv_cipher, decrypted, add_round_key}
+use Rattle.luks_aes.specs.Aes.{inv_sub_bytes, inv_shift_rows}
+use Rattle.luks_aes.specs.Columns.{key_byte}
+use Rattle.luks_aes.proofs.ByteLists.{expansion_bytes}
+use Rattle.luks_aes.proofs.CipherLemmas.{inv_round_after}
+use Rattle.luks_bitslice.specs.BitPlanes.{column_index}
+use Rattle.luks_aes_batch.specs.RoundKeys.{rows_of, HasRoundKey, HasInvMixedKey}
+use Rattle.luks_aes_batch.proofs.StateLemmas.{all_as}
+use Rattle.luks_aes_batch.proofs.RoundLemmas.{cells, after_bytes, rows_keyed, rows_plain, hold_same, turned_same}
+use Rattle.luks_aes_batch.proofs.key.decrypted_rows.Goals as goal
+
+pub loop-round-init : goal.loop-round-init
+unfolding inv_state_after
+loop-round-init c =
+    let none : c.args.rounds - c.args.rounds ≡ 0 = omega arith in
+    record {
+      some = omega arith;
+      hold = λ key s is rounds bytes all hold.
+          let w = key_expansion key in
+          let first = subst (λ (x : List (List (List ℕ))). HasRoundKey w (rounds_of key) 0x63 x) (sym c.rows.ensures)
+          is.first_key in
+          let keyed = c.add_round_key_batch.ensures (cells s) (λ r q. key_byte w (rounds_of key) r (column_index q) ⊕ 0x63)
+          (rows_plain s c.args.rows hold all) first.stand in
+          let held = rows_keyed s w (rounds_of key) 0x63 _ (omega arith) all (expansion_bytes key bytes) keyed in
+          let inv_shift_rows_batch = c.inv_shift_rows_batch.ensures _ held.stand in
+          turned_same _ _ _ (λ m. ap (add_round_key (s m) w) (sym rounds)
+          ∙ sym (ap (inv_state_after (s m) c.args.rounds w) none))
+          (record { stand = all_as c.new-state.ensures inv_shift_rows_batch });
+    }
+
+pub loop-round-preserved : goal.loop-round-preserved
+loop-round-preserved c =
+    let l = c.loop-round in
+    let round = c.loop-round.round in
+    let nr = c.args.rounds in
+    record {
+      some = omega arith;
+      hold = λ key s is rounds bytes all hold.
+          let w = key_expansion key in
+          let words = expansion_bytes key bytes in
+          let before = l.invariant.hold key s is rounds bytes all hold in
+          let place : round - 1 - 1 + 1 ≡ round - 1 = omega arith in
+          let between = c.key_between.ensures w (rounds_of key) is.between_keys (omega (arith, rounds)) in
+          let after = c.inv_round_batch.ensures _ w (round - 1) (λ m. after_bytes (s m) w nr (nr - round) (all m)
+          words) words before
+          (subst (λ (n : ℕ). HasInvMixedKey w n 0x63 (rows_of c.key_between.result.now)) place between).stand in
+          turned_same _ _ _
+          (λ m. inv_round_after (s m) w _ nr (nr - round) (nr - (round - 1)) (round - 1) refl (omega arith)
+          (omega arith)) after;
+    }
+
+pub returns : goal.returns
+unfolding decrypted inv_cipher
+returns c = λ key s is rounds bytes all hold.
+    let w = key_expansion key in
+    let nr = c.args.rounds in
+    let words = expansion_bytes key bytes in
+    let round = c.loop-round.round in
+    let end : nr - round ≡ rounds_of key - 1 = omega (arith, rounds, c.loop-round.invariant.some) in
+    let before = c.loop-round.invariant.hold key s is rounds bytes all hold in
+    hold_same _ _ 0 _
+    (λ m i. add_round_key (inv_sub_bytes (inv_shift_rows (inv_state_after (s m) (rounds i) w (end i)))) w 0)
+    (c.last_inv_round_batch.ensures _ w 0 (λ m. after_bytes (s m) w nr (nr - round) (all m) words) words before is.last_key.stand)

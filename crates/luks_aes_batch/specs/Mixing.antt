@@ -1,0 +1,48 @@
+-- InvMixColumns (FIPS 197, 5.3.3) by doublings and XORs, plane by plane.
+-- The four products of a column a, b, c, d share three values: all = a + b + c + d, even = 2 * all + (a + c) and
+-- step = 2 * even + a + b. Row 0, 14a + 11b + 13c + 9d, is 2 * step + all + a; the other rows follow from it by the bytes
+-- and by even and step.
+use Rattle.std.specs.Prelude.{ℕ, ◌+◌, ◌%◌, ◌<◌}
+use Rattle.luks_aes.specs.Field.{◌⊕◌, ◌•◌, times_x}
+use Rattle.luks_bitslice.specs.BitPlanes.{IsBitPlane}
+use Rattle.luks_aes_batch.specs.declared.rows.FourPlanes.{FourPlanes}
+use Rattle.luks_aes_batch.specs.declared.mixing.Sums.{Sums}
+
+-- ---- the values that the rows of a column share
+
+abbrev pub sum_of : ℕ → ℕ → ℕ → ℕ → ℕ
+sum_of a b c d = ((a ⊕ c) ⊕ b) ⊕ d
+
+abbrev pub even_of : ℕ → ℕ → ℕ → ℕ → ℕ
+even_of a b c d = times_x (sum_of a b c d) ⊕ (a ⊕ c)
+
+abbrev pub next_of : ℕ → ℕ → ℕ → ℕ → ℕ
+next_of a b c d = (times_x (even_of a b c d) ⊕ a) ⊕ b
+
+-- row r after InvMixColumns, at bit q, of the bytes y r q of the four rows
+abbrev pub inv_mixed_row : (ℕ → ℕ → ℕ) → ℕ → ℕ → ℕ
+inv_mixed_row y r q = 14 • y r q ⊕ 11 • y ((r + 1) % 4) q ⊕ 13 • y ((r + 2) % 4) q ⊕ 9 • y ((r + 3) % 4) q
+
+-- ---- planes
+
+pub record AreBytes (y : ℕ → ℕ → ℕ) : Type 0 where
+  pub at : (r q : ℕ) → r < 4 → y r q < 256
+
+-- `x` holds bit j of the bytes of four rows
+pub record IsOfPlane (y : ℕ → ℕ → ℕ) (j : ℕ) (x : FourPlanes) : Type 0 where
+  pub row_0 : IsBitPlane (y 0) j x.row_0
+  pub row_1 : IsBitPlane (y 1) j x.row_1
+  pub row_2 : IsBitPlane (y 2) j x.row_2
+  pub row_3 : IsBitPlane (y 3) j x.row_3
+
+-- `x` holds bit j of the shared values
+pub record HasSums (y : ℕ → ℕ → ℕ) (j : ℕ) (x : Sums) : Type 0 where
+  pub all : IsBitPlane (λ q. sum_of (y 0 q) (y 1 q) (y 2 q) (y 3 q)) j x.all
+  pub even : IsBitPlane (λ q. even_of (y 0 q) (y 1 q) (y 2 q) (y 3 q)) j x.even
+  pub step : IsBitPlane (λ q. next_of (y 0 q) (y 1 q) (y 2 q) (y 3 q)) j x.step
+
+-- `x` holds bit j of the shared values doubled
+pub record HasDoubled (y : ℕ → ℕ → ℕ) (j : ℕ) (x : Sums) : Type 0 where
+  pub all : IsBitPlane (λ q. times_x (sum_of (y 0 q) (y 1 q) (y 2 q) (y 3 q))) j x.all
+  pub even : IsBitPlane (λ q. times_x (even_of (y 0 q) (y 1 q) (y 2 q) (y 3 q))) j x.even
+  pub step : IsBitPlane (λ q. times_x (next_of (y 0 q) (y 1 q) (y 2 q) (y 3 q))) j x.step

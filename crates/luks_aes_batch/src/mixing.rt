@@ -1,0 +1,126 @@
+//! InvMixColumns, AddRoundKey and InvShiftRows on a bitsliced state, plane by plane.
+
+ghost use Rattle.std.specs.Prelude.{◌≡◌, ◌+◌, ◌%◌, ◌<◌, ℕ};
+ghost use Rattle.luks_aes.specs.Field.{◌⊕◌, ◌•◌, times_x};
+ghost use Rattle.luks_bitslice.specs.BitPlanes.{IsBitPlane, rotated_index};
+ghost use Rattle.luks_aes_batch.specs.Mixing.{sum_of, even_of, next_of, AreBytes, IsOfPlane, HasSums};
+ghost use Rattle.luks_aes_batch.specs.Mixing.{HasDoubled, inv_mixed_row};
+ghost use Rattle.luks_aes_batch.specs.RoundKeys.{rows_of};
+ghost use Rattle.luks_aes_batch.specs.States.{RepresentRows};
+
+use crate::rows::{BitslicedState, FourPlanes};
+use luks_bitslice::{Columns, plane_rotated, xor};
+use std::simd::prelude::*;
+
+/// One plane of the values that the rows after InvMixColumns share: `all` is the XOR of a column's four
+/// bytes, `even` is `all` doubled plus the bytes of the even rows, and `step` is `even` doubled plus
+/// the first two bytes.
+#[derive(Clone, Copy, Drop)]
+struct Sums {
+    all: u8x16,
+    even: u8x16,
+    step: u8x16,
+}
+
+impl Sums {
+    // The values in the plane below, with those in plane 7 XORed in if x^8 reduces to this plane
+    // (FIPS 197, 4.2).
+    #[inline(always)]
+    fn reduced(&self, top: &Sums) -> Sums
+        ensures to_1 { (y : ℕ → ℕ → ℕ) → AreBytes y → HasSums y 0 self.now → HasSums y 7 top.now
+            → HasDoubled y 1 result }
+        ensures to_3 { (y : ℕ → ℕ → ℕ) → AreBytes y → HasSums y 2 self.now → HasSums y 7 top.now
+            → HasDoubled y 3 result }
+        ensures to_4 { (y : ℕ → ℕ → ℕ) → AreBytes y → HasSums y 3 self.now → HasSums y 7 top.now
+            → HasDoubled y 4 result }
+    {
+        Sums {
+            all: xor(self.all, top.all),
+            even: xor(self.even, top.even),
+            step: xor(self.step, top.step),
+        }
+    }
+}
+
+impl FourPlanes {
+    // The shared values in this plane, from the doubled ones in this plane.
+    #[inline(always)]
+    fn sums(&self, all_doubled: u8x16, even_doubled: u8x16) -> Sums
+        ensures all { (y : ℕ → ℕ → ℕ) (j : ℕ) → IsOfPlane y j self.now
+            → IsBitPlane (λ q. sum_of (y 0 q) (y 1 q) (y 2 q) (y 3 q)) j result.all }
+        ensures even { (y : ℕ → ℕ → ℕ) (j : ℕ) → IsOfPlane y j self.now
+            → IsBitPlane (λ q. times_x (sum_of (y 0 q) (y 1 q) (y 2 q) (y 3 q))) j all_doubled
+            → IsBitPlane (λ q. even_of (y 0 q) (y 1 q) (y 2 q) (y 3 q)) j result.even }
+        ensures step { (y : ℕ → ℕ → ℕ) (j : ℕ) → IsOfPlane y j self.now
+            → IsBitPlane (λ q. times_x (even_of (y 0 q) (y 1 q) (y 2 q) (y 3 q))) j even_doubled
+            → IsBitPlane (λ q. next_of (y 0 q) (y 1 q) (y 2 q) (y 3 q)) j result.step }
+    {
+        let ends = xor(self.row_0, self.row_2);
+        let three = xor(ends, self.row_1);
+        let all = xor(three, self.row_3);
+        let even = xor(all_doubled, ends);
+        let with_first = xor(even_doubled, self.row_0);
+        let step = xor(with_first, self.row_1);
+        Sums { all, even, step }
+    }
+
+    // This plane after InvMixColumns, AddRoundKey and InvShiftRows, from the doubled values in this
+    // plane; returns the shared values in this plane.
+    #[inline(always)]
+    fn inv_mix_columns_batch(&mut self, key: &FourPlanes, doubled: Sums) -> Sums
+        ensures plane { (y z : ℕ → ℕ → ℕ) (j : ℕ) → AreBytes y → IsOfPlane y j self.old
+            → IsOfPlane z j key.now → HasDoubled y j doubled
+            → IsOfPlane (λ r q. inv_mixed_row y r (rotated_index r q) ⊕ z r (rotated_index r q)) j
+            self.new }
+        ensures sums { (y : ℕ → ℕ → ℕ) (j : ℕ) → IsOfPlane y j self.old → HasDoubled y j doubled
+            → HasSums y j result }
+    {
+        let sums = self.sums(doubled.all, doubled.even);
+        let with_all = xor(doubled.step, sums.all);
+        let first = xor(with_all, self.row_0);
+        let second = xor(first, sums.step);
+        let third = xor(first, sums.even);
+        let with_even = xor(second, sums.even);
+        let fourth = xor(with_even, sums.all);
+        self.row_0 = xor(first, key.row_0);
+        self.row_1 = plane_rotated(xor(second, key.row_1), Columns::One);
+        self.row_2 = plane_rotated(xor(third, key.row_2), Columns::Two);
+        self.row_3 = plane_rotated(xor(fourth, key.row_3), Columns::Three);
+        sums
+    }
+}
+
+// The shared values in plane 7, which depend on those in planes 5 and 6.
+#[inline(always)]
+fn top_sums(rows: &BitslicedState) -> Sums
+    ensures { (y : ℕ → ℕ → ℕ) → RepresentRows y (rows_of rows.now) → HasSums y 7 result }
+{
+    let unknown = u8x16::splat(0);
+    let below = rows.plane_5.sums(unknown, unknown);
+    let middle = rows.plane_6.sums(below.all, unknown);
+    rows.plane_7.sums(middle.all, middle.even)
+}
+
+/// InvMixColumns (FIPS 197, 5.3.3), AddRoundKey with a round key after InvMixColumns, InvShiftRows.
+#[inline(never)]
+pub fn inv_mix_columns_batch(rows: &mut BitslicedState, key: &BitslicedState)
+    ensures { (y z : ℕ → ℕ → ℕ) → RepresentRows y (rows_of rows.old) → RepresentRows z (rows_of key.now)
+        → RepresentRows (λ r q. inv_mixed_row y r (rotated_index r q) ⊕ z r (rotated_index r q))
+        (rows_of rows.new) }
+{
+    let top = top_sums(rows);
+    let sums_0 = rows.plane_0.inv_mix_columns_batch(&key.plane_0, top);
+    let sums_1 = rows
+        .plane_1
+        .inv_mix_columns_batch(&key.plane_1, sums_0.reduced(&top));
+    let sums_2 = rows.plane_2.inv_mix_columns_batch(&key.plane_2, sums_1);
+    let sums_3 = rows
+        .plane_3
+        .inv_mix_columns_batch(&key.plane_3, sums_2.reduced(&top));
+    let sums_4 = rows
+        .plane_4
+        .inv_mix_columns_batch(&key.plane_4, sums_3.reduced(&top));
+    let sums_5 = rows.plane_5.inv_mix_columns_batch(&key.plane_5, sums_4);
+    let sums_6 = rows.plane_6.inv_mix_columns_batch(&key.plane_6, sums_5);
+    rows.plane_7.inv_mix_columns_batch(&key.plane_7, sums_6);
+}

@@ -1,0 +1,40 @@
+use Rattle.std.proofs.Common.{◌+◌, ◌*◌, ◌/◌, ◌%◌, [], ◌∷◌, length, ap, ◌∙◌}
+use Rattle.std.specs.Prelude.{slice_index, slice_index_or}
+use Rattle.std.specs.Int.{bit_at}
+use Rattle.luks_bitslice.specs.BitPlanes.{column_order, HasBits}
+use Rattle.luks_bitslice.specs.Lanes.{low_words, high_words, low_halves, high_halves}
+use Rattle.luks_bitslice.proofs.LaneLemmas.{each_below_4, shown, row_0, row_1, row_2, row_3}
+use Rattle.luks_bitslice.proofs.lanes.blocks_to_rows.Goals as goal
+
+pub returns : goal.returns
+returns c =
+    let a = c.args.a in
+    let b = c.args.b in
+    let third = c.args.c in
+    let d = c.args.d in
+    let low = c.low_words-low.ensures ∙ (λ i. low_words (c.by_rows-first.ensures i) (c.by_rows-second.ensures i)) in
+    let high = c.high_words-high.ensures ∙ (λ i. high_words (c.by_rows-first.ensures i) (c.by_rows-second.ensures i)) in
+    let other_low = c.low_words-other_low.ensures ∙ (λ i. low_words (c.by_rows-third.ensures i)
+    (c.by_rows-fourth.ensures i)) in
+    let other_high = c.high_words-other_high.ensures ∙ (λ i. high_words (c.by_rows-third.ensures i)
+    (c.by_rows-fourth.ensures i)) in
+    let row0 = c.low_halves.ensures ∙ (λ i. low_halves (low i) (other_low i)) in
+    let row1 = c.high_halves.ensures ∙ (λ i. high_halves (low i) (other_low i)) in
+    let row2 = c.low_halves-2.ensures ∙ (λ i. low_halves (high i) (other_high i)) in
+    let row3 = c.high_halves-2.ensures ∙ (λ i. high_halves (high i) (other_high i)) in
+    each_below_4
+    (λ r. HasBits (λ p k. bit_at (slice_index (slice_index_or (a ∷ b ∷ third ∷ d ∷ []) (p / 4) [])
+    (r + 4 * column_order (p % 4))) k)
+    (slice_index_or (c.low_halves.result ∷ c.high_halves.result ∷ c.low_halves-2.result ∷ c.high_halves-2.result ∷ []) r []))
+    (shown _ (λ p. slice_index (slice_index_or (a ∷ b ∷ third ∷ d ∷ []) (p / 4) []) (0 + 4 * column_order (p % 4)))
+    (ap length row0)
+    (λ p low. ap (λ l. slice_index l p) row0 ∙ row_0 a b third d c.fits-a.0 c.fits-b.0 c.fits-c.0 c.fits-d.0 p low))
+    (shown _ (λ p. slice_index (slice_index_or (a ∷ b ∷ third ∷ d ∷ []) (p / 4) []) (1 + 4 * column_order (p % 4)))
+    (ap length row1)
+    (λ p low. ap (λ l. slice_index l p) row1 ∙ row_1 a b third d c.fits-a.0 c.fits-b.0 c.fits-c.0 c.fits-d.0 p low))
+    (shown _ (λ p. slice_index (slice_index_or (a ∷ b ∷ third ∷ d ∷ []) (p / 4) []) (2 + 4 * column_order (p % 4)))
+    (ap length row2)
+    (λ p low. ap (λ l. slice_index l p) row2 ∙ row_2 a b third d c.fits-a.0 c.fits-b.0 c.fits-c.0 c.fits-d.0 p low))
+    (shown _ (λ p. slice_index (slice_index_or (a ∷ b ∷ third ∷ d ∷ []) (p / 4) []) (3 + 4 * column_order (p % 4)))
+    (ap length row3)
+    (λ p low. ap (λ l. slice_index l p) row3 ∙ row_3 a b third d c.fits-a.0 c.fits-b.0 c.fits-c.0 c.fits-d.0 p low))

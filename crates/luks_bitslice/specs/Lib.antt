@@ -1,0 +1,4 @@
+pub mod BitPlanes
+pub mod Lanes
+pub mod Runs
+pub mod Columns

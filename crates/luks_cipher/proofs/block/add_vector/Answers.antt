@@ -1,6 +1,0 @@
-use Rattle.std.proofs.Common.{arith}
-use Rattle.luks_cipher.proofs.SliceLemmas.{piece_sum}
-use Rattle.luks_cipher.proofs.block.add_vector.Goals as goal
-
-pub returns : goal.returns
-returns c = piece_sum c.args.piece.now c.args.vector (omega arith) c.fits-vector.0

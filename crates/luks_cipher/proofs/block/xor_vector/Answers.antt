@@ -1,0 +1,6 @@
+use Rattle.std.proofs.Common.{arith}
+use Rattle.luks_cipher.proofs.BatchLemmas.{piece_sum}
+use Rattle.luks_cipher.proofs.block.xor_vector.Goals as goal
+
+pub returns : goal.returns
+returns c = piece_sum c.args.piece.now c.args.vector (omega arith) c.fits-vector.0

@@ -1,4 +1,0 @@
-pub mod Planes
-pub mod Lanes
-pub mod Runs
-pub mod Columns
