@@ -11,7 +11,7 @@ returns g c = λ pass holds_inner holds_outer is_inner is_outer k below.
     let first = digest_at (size_of h) k c.first_turns.new.u in
     sum_of_block h pass c.args.salt.now blocks.inner blocks.outer first _ _ c.args.iterations is_inner is_outer
     (c.first_turns.ensures pass holds_inner holds_outer k below) c.requires.turns
-    (c.add_chains.ensures k (omega arith)
+    (c.add_chains.ensures k below
     ∙ ap (λ (t : List ℕ). chain_sum (hash_of h) blocks.inner blocks.outer first (digest_at (size_of h) k t)
     (c.args.iterations - 1))
     c.copy_from_slice.ensures.after)
