@@ -13,7 +13,7 @@ use Rattle.luks_verdict.specs.declared.refusal.SegmentFault.TheVariants.{Hash as
 use Rattle.luks_verdict.specs.declared.segment.Segment.{Segment}
 use Rattle.luks_verdict.proofs.MadeLemmas.{digest_from-some, refused_or-fault, refused_or-none, refused_or-ok}
 use Rattle.luks_verdict.proofs.TableLemmas.{first_not}
-use Rattle.luks1_header.specs.Segment1.{fault1_of, is_key_length1, made1, segment1_of, segment_parts1_of, starts_inside}
+use Rattle.luks1_header.specs.Segment1.{fault1_of, is_key_length1, made1, segment1_of, segment_parts1_of, overlaps_header1}
 use Rattle.luks1_header.specs.Slot1.{digest1_of, digest_parts1_of, hash1_of, mode1_of}
 use Rattle.luks1_header.specs.declared.header.Header1.{Header1}
 
@@ -33,22 +33,22 @@ some_from_not_none None h = cc
 some_from_not_none (Some t) h = (t, refl)
 
 -- a payload in the header's image that does not start inside the header starts behind it
-starts_behind : (header : Header1) → starts_inside header ≡ false → header.detached ≡ false
+starts_behind : (header : Header1) → overlaps_header1 header ≡ false → header.detached ≡ false
     → 592 ≤ 512 * header.payload_offset
-unfolding starts_inside
+unfolding overlaps_header1
 starts_behind header outside attached = ltb-false (512 * header.payload_offset) 592 (rw attached at outside)
 
 IsReadable-none : (header : Header1) → fault1_of header ≡ None → IsReadable header
 unfolding fault1_of
 IsReadable-none header none =
-    let last : List (Bool × SegmentFault) = (starts_inside header, Offset) ∷ [] in
+    let last : List (Bool × SegmentFault) = (overlaps_header1 header, Offset) ∷ [] in
     let third : List (Bool × SegmentFault) = (not (is_key_length1 (mode1_of header) header.key_bytes), KeyBytes)
     ∷ last in
     let mode = first_not (is_none (mode1_of header)) Encryption ((is_none (hash1_of header), UnknownHash) ∷ third)
     none in
     let hash = first_not (is_none (hash1_of header)) UnknownHash third mode.1 in
     let key = first_not (not (is_key_length1 (mode1_of header) header.key_bytes)) KeyBytes last hash.1 in
-    let offset = first_not (starts_inside header) Offset [] key.1 in
+    let offset = first_not (overlaps_header1 header) Offset [] key.1 in
     record {
       mode = some_from_not_none (mode1_of header) mode.0;
       hash = some_from_not_none (hash1_of header) hash.0;

@@ -4,10 +4,10 @@ use Rattle.std.proofs.Common.{Some, None, arith}
 use Rattle.std.specs.Prelude.{if◌then◌else◌, option_map, option_and_then, slice_get}
 use Rattle.std.proofs.lemmas.Bool.Decides.{nat_tests}
 use Rattle.std.proofs.lemmas.Option.{same_Some}
-use Rattle.luks_area.specs.Area.{longest_area}
+use Rattle.luks_area.specs.Area.{max_area_len}
 use Rattle.luks_verdict.specs.Digest.{is_undigested}
 use Rattle.luks_verdict.specs.Rule.{exceeds, is_beyond, is_in_range, is_misplaced, is_unstriped, need_of}
-use Rattle.luks_verdict.specs.Slot.{are_in_range, end_of, judged, judgement_of, slot_of}
+use Rattle.luks_verdict.specs.Slot.{are_in_range, material_end, judged, judgement_of, slot_of}
 use Rattle.luks_verdict.proofs.MadeLemmas.{slot_from-yes}
 use Rattle.luks_verdict.proofs.TableLemmas.{first_not}
 use Rattle.luks_verdict.specs.declared.digest.KeyDigest.{KeyDigest}
@@ -18,7 +18,7 @@ use Rattle.luks_verdict.specs.declared.slot.Verdict.TheVariants.{Usable}
 use Rattle.luks_verdict.specs.declared.slot.Verdict.TheVariants.{Disabled as Unused}
 use Rattle.luks_verdict.specs.declared.slot.Judgement.TheVariants.{Usable as Open}
 use Rattle.luks1_header.specs.Slot1.{digest1_of, hash1_of, is_damaged, is_disabled, is_misplaced1, mode1_of}
-use Rattle.luks1_header.specs.Slot1.{payload1_of, reason1_of, slot1_at, slot1_of, slot_parts1_of, verdict1_at}
+use Rattle.luks1_header.specs.Slot1.{payload1_start, reason1_of, slot1_at, slot1_of, slot_parts1_of, verdict1_at}
 use Rattle.luks1_header.specs.Slot1.{verdict1_of}
 use Rattle.luks1_header.specs.declared.header.Header1.{Header1}
 use Rattle.luks1_header.specs.declared.header.KeySlot.{KeySlot}
@@ -46,8 +46,8 @@ no_reason header limit slot none =
 
 -- its key material is in its place
 placed : (header : Header1) (slot : KeySlot) → is_misplaced1 header slot ≡ false
-    → (exceeds (payload1_of header) (512 * slot.offset + need_of header.key_bytes slot.stripes) ≡ false)
-    × (512 * slot.offset + need_of header.key_bytes slot.stripes ≤ longest_area)
+    → (exceeds (payload1_start header) (512 * slot.offset + need_of header.key_bytes slot.stripes) ≡ false)
+    × (512 * slot.offset + need_of header.key_bytes slot.stripes ≤ max_area_len)
 unfolding is_misplaced1 is_misplaced
 placed header slot is = (grind (arith, nat_tests), grind (arith, nat_tests))
 
@@ -89,7 +89,7 @@ pub record IsOf (header : Header1) (usable : Slot) : Type 0 where
   pub volume_key : usable.parts.key_bytes ≡ header.key_bytes
   pub area_key : usable.parts.area_key_bytes ≡ header.key_bytes
   pub area_mode : usable.parts.area_mode ≡ mode1_of header
-  pub before_payload : exceeds (payload1_of header) (end_of usable) ≡ false
+  pub before_payload : exceeds (payload1_start header) (material_end usable) ≡ false
   pub digest : (digest : KeyDigest) × (digest1_of header ≡ Some digest)
 
 digest_there : (limit : Option ℕ) (digest : Option KeyDigest) → is_undigested limit digest ≡ false

@@ -19,13 +19,13 @@ abbrev pub header1_len : ℕ
 header1_len = 592
 
 -- the state that a number says
-abbrev pub state_of : ℕ → SlotState
-state_of n = if n == 0x00ac71f3 then Enabled else if n == 0x0000dead then Disabled else Damaged n
+abbrev pub slot_state : ℕ → SlotState
+slot_state n = if n == 0x00ac71f3 then Enabled else if n == 0x0000dead then Disabled else Damaged n
 
 -- the key slot that 48 bytes write
 unfoldable pub key_slot_of : List ℕ → KeySlot
 key_slot_of bytes = record {
-  state = state_of (be32 (at 0 4 bytes));
+  state = slot_state (be32 (at 0 4 bytes));
   iterations = be32 (at 4 4 bytes);
   salt = at 8 32 bytes;
   offset = be32 (at 40 4 bytes);

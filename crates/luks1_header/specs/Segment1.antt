@@ -4,7 +4,7 @@ use Rattle.std.specs.Prelude.{Result, is_none}
 use Rattle.luks_cipher.specs.Sector.{is_mode_key_length}
 use Rattle.luks_cipher.specs.declared.mode.Mode.{Mode}
 use Rattle.luks_verdict.specs.Segment.{refused_or, segment_from, segment_of_all}
-use Rattle.luks_verdict.specs.Table.{first_holding}
+use Rattle.luks_verdict.specs.Table.{first_match}
 use Rattle.luks_verdict.specs.declared.refusal.SegmentFault.{SegmentFault}
 use Rattle.luks_verdict.specs.declared.refusal.SegmentFault.TheVariants.{Encryption, Hash, KeyBytes, Offset}
 use Rattle.luks_verdict.specs.declared.sector_size.SectorSize.TheVariants.{B512}
@@ -20,16 +20,16 @@ is_key_length1 (Some mode) n = is_mode_key_length mode n
 is_key_length1 None n = false
 
 -- the payload starts inside the header, where both stand in one image. (It starts where a sector of 512 bytes does.)
-unfoldable pub starts_inside : Header1 → Bool
-starts_inside header = not header.detached && nat_lt (512 * header.payload_offset) header1_len
+unfoldable pub overlaps_header1 : Header1 → Bool
+overlaps_header1 header = not header.detached && nat_lt (512 * header.payload_offset) header1_len
 
 -- the first fault of the segment
 unfoldable pub fault1_of : Header1 → Option SegmentFault
-fault1_of header = first_holding (
+fault1_of header = first_match (
     (is_none (mode1_of header), Encryption)
     ∷ (is_none (hash1_of header), Hash)
     ∷ (not (is_key_length1 (mode1_of header) header.key_bytes), KeyBytes)
-    ∷ (starts_inside header, Offset)
+    ∷ (overlaps_header1 header, Offset)
     ∷ [])
 
 -- what the header says of the segment: its units are numbered from 0 in sectors of 512 bytes up to the image's end
@@ -44,7 +44,7 @@ segment_parts1_of header = record {
 
 -- a segment whose mode is known is made
 made_in : (mode : Option Mode) (others : List (Bool × SegmentFault)) (offset : ℕ)
-    → first_holding ((is_none mode, Encryption) ∷ others) ≡ None
+    → first_match ((is_none mode, Encryption) ∷ others) ≡ None
     → segment_of_all (Some offset) (Some None) (Some 0) (Some B512) mode ≢ None
 made_in None others offset no_fault none = cc
 made_in (Some mode) others offset no_fault none = cc
@@ -56,7 +56,7 @@ made1 header =
     made_in (mode1_of header) (
     (is_none (hash1_of header), Hash)
     ∷ (not (is_key_length1 (mode1_of header) header.key_bytes), KeyBytes)
-    ∷ (starts_inside header, Offset)
+    ∷ (overlaps_header1 header, Offset)
     ∷ []) (512 * header.payload_offset)
 
 -- the segment, or its first fault

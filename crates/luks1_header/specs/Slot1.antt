@@ -8,7 +8,7 @@ use Rattle.luks_kdf.specs.declared.hash.Hash.{Hash}
 use Rattle.luks_verdict.specs.Digest.{digest_from, is_undigested}
 use Rattle.luks_verdict.specs.Rule.{is_beyond, is_misplaced, is_unstriped, need_of}
 use Rattle.luks_verdict.specs.Slot.{judged, slot_from}
-use Rattle.luks_verdict.specs.Table.{first_holding}
+use Rattle.luks_verdict.specs.Table.{first_match}
 use Rattle.luks_verdict.specs.declared.digest.DigestParts.{DigestParts}
 use Rattle.luks_verdict.specs.declared.digest.KeyDigest.{KeyDigest}
 use Rattle.luks_verdict.specs.declared.refusal.SkipReason.{SkipReason}
@@ -58,18 +58,18 @@ unfoldable pub digest1_of : Header1 → Option KeyDigest
 digest1_of header = digest_from (digest_parts1_of header)
 
 -- where the payload starts, if it stands in the header's image. Key material ends there at the latest
-unfoldable pub payload1_of : Header1 → Option ℕ
-payload1_of header = if header.detached then None else Some (512 * header.payload_offset)
+unfoldable pub payload1_start : Header1 → Option ℕ
+payload1_start header = if header.detached then None else Some (512 * header.payload_offset)
 
 -- the key material of a slot does not fit. Its area has just the bytes that it needs
 unfoldable pub is_misplaced1 : Header1 → KeySlot → Bool
 is_misplaced1 header slot =
-    is_misplaced header1_len (payload1_of header) (512 * slot.offset)
+    is_misplaced header1_len (payload1_start header) (512 * slot.offset)
     (need_of header.key_bytes slot.stripes) (need_of header.key_bytes slot.stripes)
 
 -- the first reason to skip a slot that is not disabled
 unfoldable pub reason1_of : Header1 → Option ℕ → KeySlot → Option SkipReason
-reason1_of header limit slot = first_holding (
+reason1_of header limit slot = first_match (
     (is_damaged slot.state, State)
     ∷ (is_unstriped slot.stripes, Stripes)
     ∷ (is_beyond limit slot.iterations, Iterations)

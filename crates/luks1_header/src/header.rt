@@ -2,7 +2,7 @@
 
 ghost use Rattle.std.specs.Prelude.{◌≡◌, length};
 ghost use Rattle.luks1_header.specs.Header1.{header1_of, is_luks1, key_slot_of, key_slots_of};
-ghost use Rattle.luks1_header.specs.Header1.{state_of};
+ghost use Rattle.luks1_header.specs.Header1.{slot_state};
 
 use luks_area::field::{bytes_at, number_at, text_at};
 use luks_area::text::Text;
@@ -70,7 +70,7 @@ pub enum SlotState {
 impl SlotState {
     /// The state that the number says.
     pub fn from_number(number: u32) -> SlotState
-        ensures { result ≡ state_of number }
+        ensures { result ≡ slot_state number }
     {
         match number {
             0x00ac71f3 => SlotState::Enabled,

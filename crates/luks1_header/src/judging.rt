@@ -4,9 +4,9 @@ ghost use Rattle.std.specs.Prelude.{◌≡◌, ◌*◌, option_map, IfOk};
 ghost use Rattle.luks_cipher.specs.Sector.{mode_named};
 ghost use Rattle.luks_verdict.specs.Digest.{is_undigested};
 ghost use Rattle.luks_verdict.specs.Slot.{judgement_of};
-ghost use Rattle.luks1_header.specs.Segment1.{fault1_of, segment1_of, starts_inside};
+ghost use Rattle.luks1_header.specs.Segment1.{fault1_of, segment1_of, overlaps_header1};
 ghost use Rattle.luks1_header.specs.Slot1.{digest1_of, hash1_of, is_disabled, is_misplaced1};
-ghost use Rattle.luks1_header.specs.Slot1.{mode1_of, payload1_of, reason1_of, slot1_at, slot1_of};
+ghost use Rattle.luks1_header.specs.Slot1.{mode1_of, payload1_start, reason1_of, slot1_at, slot1_of};
 ghost use Rattle.luks1_header.specs.Slot1.{verdict1_at, verdict1_of};
 
 use crate::header::{HEADER1_LEN, Header1, KeySlot, SlotState};
@@ -66,9 +66,9 @@ fn place(sector: u32) -> u64
 }
 
 // Where the payload starts, if it stands in the header's image.
-#[tactic(auto, unfolding(crate::specs::Slot1::payload1_of))]
+#[tactic(auto, unfolding(crate::specs::Slot1::payload1_start))]
 fn payload(header: &Header1) -> Option<u64>
-    ensures { result ≡ payload1_of header.now }
+    ensures { result ≡ payload1_start header.now }
 {
     if header.detached {
         None
@@ -195,9 +195,9 @@ pub fn digest(alloc: Global, header: &Header1) -> Result<Option<KeyDigest>, Allo
 }
 
 // The payload starts inside the header, where both stand in one image.
-#[tactic(auto, unfolding(crate::specs::Segment1::starts_inside))]
+#[tactic(auto, unfolding(crate::specs::Segment1::overlaps_header1))]
 fn starts_inside(header: &Header1) -> bool
-    ensures { result ≡ starts_inside header.now }
+    ensures { result ≡ overlaps_header1 header.now }
 {
     !header.detached && place(header.payload_offset) < HEADER_END
 }

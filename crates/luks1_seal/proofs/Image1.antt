@@ -9,8 +9,8 @@ use Rattle.luks_seal.specs.declared.parameters.Seal1.{Seal1}
 use Rattle.luks_seal.specs.declared.parameters.Slot1.{Slot1}
 use Rattle.luks_seal.proofs.SectorLemmas.{piece_at}
 use Rattle.luks_seal.proofs.SlicingLemmas.{at_at, at_behind, at_first, at_padded, at_second}
-use Rattle.luks1_seal.specs.Layout1.{area1_of, area_sectors_of, areas1_below, header1_of, image1_of, material1_of}
-use Rattle.luks1_seal.specs.Layout1.{payload1_of, slot1_numbered}
+use Rattle.luks1_seal.specs.Layout1.{area1_of, area_sectors_of, areas1_below, header1_bytes, image1_of, material1_of}
+use Rattle.luks1_seal.specs.Layout1.{payload1_bytes, slot1_numbered}
 use Rattle.luks1_seal.specs.Ranges1.{AreParameters, FitsSlot}
 use Rattle.luks1_seal.specs.Typed1.{AreTyped1}
 use Rattle.luks1_seal.proofs.Layout1Lemmas.{areas_fit, areas_joined, length-area1, length-areas1, length-before_payload}
@@ -20,31 +20,31 @@ use Rattle.luks1_seal.proofs.Read1.{front1_of}
 
 module _ (p : Seal1) (fits : AreParameters p) (typed : AreTyped1 p) where
   -- what stands before the payload
-  before_payload : (place len : ℕ) → place + len ≤ length (header1_of p ++ areas1_below p 8)
-      → at place len (image1_of p) ≡ at place len (header1_of p ++ areas1_below p 8)
+  before_payload : (place len : ℕ) → place + len ≤ length (header1_bytes p ++ areas1_below p 8)
+      → at place len (image1_of p) ≡ at place len (header1_bytes p ++ areas1_below p 8)
   unfolding image1_of
   before_payload place len inside =
-      let front = header1_of p ++ areas1_below p 8 in
+      let front = header1_bytes p ++ areas1_below p 8 in
       let room = areas_fit p fits typed in
       let long = length-before_payload p fits typed in
-      at_first place len (padded (p.payload_sectors * 512) front) (payload1_of p) (omega (arith, room, long))
+      at_first place len (padded (p.payload_sectors * 512) front) (payload1_bytes p) (omega (arith, room, long))
       ∙ at_padded place len (p.payload_sectors * 512) front inside
 
-  length-areas : length (header1_of p ++ areas1_below p 8) ≡ 4096 + 8 * (area_sectors_of p * 512)
+  length-areas : length (header1_bytes p ++ areas1_below p 8) ≡ 4096 + 8 * (area_sectors_of p * 512)
   length-areas =
       omega (
         arith,
-        length-append (header1_of p) (areas1_below p 8),
+        length-append (header1_bytes p) (areas1_below p 8),
         length-header1 p fits typed,
         length-areas1 p fits typed 8,
       )
 
   -- the header
   pub image_header : (place len : ℕ) → place + len ≤ 592 → at place len (image1_of p) ≡ at place len (front1_of p)
-  unfolding header1_of
+  unfolding header1_bytes
   image_header place len inside =
       before_payload place len (omega (arith, length-areas))
-      ∙ at_first place len (header1_of p) (areas1_below p 8) (omega (arith, length-header1 p fits typed))
+      ∙ at_first place len (header1_bytes p) (areas1_below p 8) (omega (arith, length-header1 p fits typed))
       ∙ at_padded place len 4096 (front1_of p) (omega (arith, length-front1 p fits typed))
 
   -- the areas
@@ -52,15 +52,15 @@ module _ (p : Seal1) (fits : AreParameters p) (typed : AreTyped1 p) where
       → at place len (image1_of p) ≡ at k len (areas1_below p 8)
   image_areas place k len is inside =
       before_payload place len (omega (arith, length-areas))
-      ∙ at_behind place k len (header1_of p) (areas1_below p 8) (omega (arith, length-header1 p fits typed))
+      ∙ at_behind place k len (header1_bytes p) (areas1_below p 8) (omega (arith, length-header1 p fits typed))
 
   -- the payload
   pub image_payload : (place : ℕ) → place ≡ p.payload_sectors * 512
-      → at place (length p.plain.now) (image1_of p) ≡ payload1_of p
+      → at place (length p.plain.now) (image1_of p) ≡ payload1_bytes p
   unfolding image1_of
   image_payload place is =
-      at_second place (length p.plain.now) (padded (p.payload_sectors * 512) (header1_of p ++ areas1_below p 8))
-      (payload1_of p) (is ∙ sym (length-before_payload p fits typed)) (length-payload1 p fits typed)
+      at_second place (length p.plain.now) (padded (p.payload_sectors * 512) (header1_bytes p ++ areas1_below p 8))
+      (payload1_bytes p) (is ∙ sym (length-before_payload p fits typed)) (length-payload1 p fits typed)
 
   -- ---- the area of a slot
 

@@ -7,7 +7,7 @@ use Rattle.std.proofs.lemmas.Bool.Decides.{nat_tests}
 use Rattle.luks_cipher.specs.Sector.{is_mode_key_length, mode_named, mode_name}
 use Rattle.luks_cipher.specs.declared.mode.Mode.{Mode}
 use Rattle.luks_cipher.specs.declared.mode.Mode.TheVariants.{XtsPlain64, XtsPlain, CbcEssivSha256, CbcPlain64}
-use Rattle.luks_kdf.specs.Hash.{hash_named, name_of as hash_name}
+use Rattle.luks_kdf.specs.Hash.{hash_named, hash_name}
 use Rattle.luks_kdf.specs.declared.hash.Hash.{Hash}
 use Rattle.luks_kdf.specs.declared.hash.Hash.TheVariants.{Sha1, Sha224, Sha256, Sha384, Sha512}
 use Rattle.luks_kdf.proofs.Pbkdf2Lemmas.{length-derived_key}
@@ -18,9 +18,9 @@ use Rattle.luks_verdict.specs.Slot.{are_in_range, slot_of}
 use Rattle.luks_verdict.specs.declared.sector_size.SectorSize.TheVariants.{B512}
 use Rattle.luks_verdict.specs.declared.slot.Verdict.TheVariants.{Usable}
 use Rattle.luks_verdict.proofs.MadeLemmas.{digest_from-yes, undigested-yes}
-use Rattle.luks1_header.specs.Segment1.{fault1_of, segment1_of, segment_parts1_of, starts_inside}
+use Rattle.luks1_header.specs.Segment1.{fault1_of, segment1_of, segment_parts1_of, overlaps_header1}
 use Rattle.luks1_header.specs.Slot1.{digest1_of, digest_parts1_of, hash1_of, is_damaged, is_disabled, is_misplaced1}
-use Rattle.luks1_header.specs.Slot1.{mode1_of, payload1_of, reason1_of, slot_parts1_of, verdict1_of}
+use Rattle.luks1_header.specs.Slot1.{mode1_of, payload1_start, reason1_of, slot_parts1_of, verdict1_of}
 use Rattle.luks1_header.specs.declared.header.Header1.{Header1}
 use Rattle.luks1_header.specs.declared.header.KeySlot.{KeySlot}
 use Rattle.luks1_header.proofs.SegmentLemmas.{segment1-none}
@@ -61,8 +61,8 @@ module _ (p : Seal1) (header : Header1) (fits : AreParameters p) (typed : AreTyp
   pub payload_starts : 512 * header.payload_offset ≡ p.payload_sectors * 512
   payload_starts = omega (arith, read.payload_offset)
 
-  outside : starts_inside header ≡ false
-  unfolding starts_inside
+  outside : overlaps_header1 header ≡ false
+  unfolding overlaps_header1
   outside =
       rw (read.attached, le-ltb (512 * header.payload_offset) 592 (omega (arith, payload_starts, fits.counts.3))) refl
 
@@ -139,7 +139,7 @@ module _ (p : Seal1) (header : Header1) (fits : AreParameters p) (typed : AreTyp
         omega (arith, product, below, payload_starts, is.offset, fits.counts.3)
 
     placed : is_misplaced1 header stored ≡ false
-    unfolding is_misplaced1 is_misplaced payload1_of
+    unfolding is_misplaced1 is_misplaced payload1_start
     placed =
         let need = need_of header.key_bytes stored.stripes in
         let room = before_payload in

@@ -9,7 +9,7 @@ use Rattle.luks_cipher.specs.Xts.{joined}
 use Rattle.luks_cipher.specs.declared.mode.Mode.{Mode}
 use Rattle.luks_cipher.specs.declared.mode.Mode.TheVariants.{XtsPlain64, XtsPlain, CbcEssivSha256, CbcPlain64}
 use Rattle.luks_cipher.proofs.ModeLemmas.{longest_key}
-use Rattle.luks_kdf.specs.Hash.{name_of as hash_name}
+use Rattle.luks_kdf.specs.Hash.{hash_name}
 use Rattle.luks_kdf.specs.Pbkdf2.{derived_key}
 use Rattle.luks_kdf.specs.declared.hash.Hash.{Hash}
 use Rattle.luks_kdf.specs.declared.hash.Hash.TheVariants.{Sha1, Sha224, Sha256, Sha384, Sha512}
@@ -20,9 +20,9 @@ use Rattle.luks_seal.specs.declared.parameters.Slot1.{Slot1}
 use Rattle.luks_seal.proofs.MaterialLemmas.{AreDrawn, length-material_of, length-stripes_of}
 use Rattle.luks_seal.proofs.SectorLemmas.{length-sectors_encrypted, pieces_length}
 use Rattle.luks_seal.proofs.SlicingLemmas.{length-padded}
-use Rattle.luks1_seal.specs.Layout1.{area1_of, area_key1_of, area_sectors_of, areas1_below, digest1_of, fields1_of}
-use Rattle.luks1_seal.specs.Layout1.{header1_of, image1_of, key_slot1_of, key_slots1_below, material1_of, middle1_of}
-use Rattle.luks1_seal.specs.Layout1.{payload1_of, slot1_numbered, start1_of, state1_of}
+use Rattle.luks1_seal.specs.Layout1.{area1_of, area_key1_of, area_sectors_of, areas1_below, digest1_fields, fields1_of}
+use Rattle.luks1_seal.specs.Layout1.{header1_bytes, image1_of, key_slot1_of, key_slots1_below, material1_of, middle1_of}
+use Rattle.luks1_seal.specs.Layout1.{payload1_bytes, slot1_numbered, start1_of, state1_of}
 use Rattle.luks1_seal.specs.Ranges1.{AreParameters, FitsSlot}
 use Rattle.luks1_seal.specs.Typed1.{AreTyped1, IsTypedSlot1}
 use Rattle.luks1_seal.proofs.Slots1.{found_slot}
@@ -66,8 +66,8 @@ length-middle1 p =
     omega (arith, length-append (hash ++ sectors) key, length-append hash sectors, length-hash_name p.hash)
 
 module _ (p : Seal1) (fits : AreParameters p) (typed : AreTyped1 p) where
-  pub length-digest1 : length (digest1_of p) ≡ 56
-  unfolding digest1_of
+  pub length-digest1 : length (digest1_fields p) ≡ 56
+  unfolding digest1_fields
   length-digest1 =
       let digest = derived_key p.hash p.key.now p.digest_salt p.digest_iterations 20 in
       let turns = to_be_bytes w32 p.digest_iterations in
@@ -84,7 +84,7 @@ module _ (p : Seal1) (fits : AreParameters p) (typed : AreTyped1 p) where
   length-fields1 =
       let start = start1_of p in
       let middle = middle1_of p in
-      let digest = digest1_of p in
+      let digest = digest1_fields p in
       omega (
         arith,
         length-append (start ++ middle ++ digest) (padded 40 p.uuid.now),
@@ -128,8 +128,8 @@ module _ (p : Seal1) (fits : AreParameters p) (typed : AreTyped1 p) where
   length-front1 =
       omega (arith, length-append (fields1_of p) (key_slots1_below p 8), length-fields1, length-key_slots1 8)
 
-  pub length-header1 : length (header1_of p) ≡ 4096
-  unfolding header1_of
+  pub length-header1 : length (header1_bytes p) ≡ 4096
+  unfolding header1_bytes
   length-header1 = length-padded 4096 (fields1_of p ++ key_slots1_below p 8) (omega (arith, length-front1))
 
   -- ---- the areas
@@ -180,18 +180,18 @@ module _ (p : Seal1) (fits : AreParameters p) (typed : AreTyped1 p) where
   -- ---- the image
 
   -- the header and the areas end where the payload begins, or before
-  pub areas_fit : length (header1_of p ++ areas1_below p 8) ≤ p.payload_sectors * 512
+  pub areas_fit : length (header1_bytes p ++ areas1_below p 8) ≤ p.payload_sectors * 512
   areas_fit =
       let room = fits.counts.3 in
-      omega (arith, length-append (header1_of p) (areas1_below p 8), length-header1, length-areas1 8)
+      omega (arith, length-append (header1_bytes p) (areas1_below p 8), length-header1, length-areas1 8)
 
   -- so the payload begins where it should
-  pub length-before_payload : length (padded (p.payload_sectors * 512) (header1_of p ++ areas1_below p 8))
+  pub length-before_payload : length (padded (p.payload_sectors * 512) (header1_bytes p ++ areas1_below p 8))
       ≡ p.payload_sectors * 512
-  length-before_payload = length-padded (p.payload_sectors * 512) (header1_of p ++ areas1_below p 8) areas_fit
+  length-before_payload = length-padded (p.payload_sectors * 512) (header1_bytes p ++ areas1_below p 8) areas_fit
 
-  pub length-payload1 : length (payload1_of p) ≡ length p.plain.now
-  unfolding payload1_of
+  pub length-payload1 : length (payload1_bytes p) ≡ length p.plain.now
+  unfolding payload1_bytes
   length-payload1 = length-sectors_encrypted (p.mode, p.key.now) 0 1 512 p.plain.now refl fits.plain.0
 
   pub length-image1 : length (image1_of p) ≡ p.payload_sectors * 512 + length p.plain.now
@@ -199,7 +199,7 @@ module _ (p : Seal1) (fits : AreParameters p) (typed : AreTyped1 p) where
   length-image1 =
       omega (
         arith,
-        length-append (padded (p.payload_sectors * 512) (header1_of p ++ areas1_below p 8)) (payload1_of p),
+        length-append (padded (p.payload_sectors * 512) (header1_bytes p ++ areas1_below p 8)) (payload1_bytes p),
         length-before_payload,
         length-payload1,
       )

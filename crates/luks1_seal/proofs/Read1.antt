@@ -11,7 +11,7 @@ use Rattle.luks_cipher.specs.Sector.{mode_name}
 use Rattle.luks_cipher.specs.declared.mode.Mode.{Mode}
 use Rattle.luks_cipher.specs.declared.mode.Mode.TheVariants.{XtsPlain64, XtsPlain, CbcEssivSha256, CbcPlain64}
 use Rattle.luks_cipher.proofs.ModeLemmas.{longest_key}
-use Rattle.luks_kdf.specs.Hash.{name_of as hash_name}
+use Rattle.luks_kdf.specs.Hash.{hash_name}
 use Rattle.luks_kdf.specs.Pbkdf2.{derived_key}
 use Rattle.luks_kdf.specs.declared.hash.Hash.{Hash}
 use Rattle.luks_kdf.specs.declared.hash.Hash.TheVariants.{Sha1, Sha224, Sha256, Sha384, Sha512}
@@ -26,7 +26,7 @@ use Rattle.luks_seal.specs.declared.parameters.Seal1.{Seal1}
 use Rattle.luks_seal.specs.declared.parameters.Slot1.{Slot1}
 use Rattle.luks_seal.proofs.SectorLemmas.{piece_at}
 use Rattle.luks_seal.proofs.SlicingLemmas.{at_behind, at_first, at_second}
-use Rattle.luks1_seal.specs.Layout1.{area_sectors_of, digest1_of, fields1_of, key_slot1_of, key_slots1_below}
+use Rattle.luks1_seal.specs.Layout1.{area_sectors_of, digest1_fields, fields1_of, key_slot1_of, key_slots1_below}
 use Rattle.luks1_seal.specs.Layout1.{middle1_of, slot1_numbered, start1_of, state1_of}
 use Rattle.luks1_seal.specs.Ranges1.{AreParameters}
 use Rattle.luks1_seal.specs.Typed1.{AreTyped1}
@@ -139,41 +139,41 @@ module _ (p : Seal1) (fits : AreParameters p) (typed : AreTyped1 p) where
   length-start_middle : length (start1_of p ++ middle1_of p) ≡ 112
   length-start_middle = omega (arith, length-append (start1_of p) (middle1_of p), length-start1 p, length-middle1 p)
 
-  length-digested : length (start1_of p ++ middle1_of p ++ digest1_of p) ≡ 168
+  length-digested : length (start1_of p ++ middle1_of p ++ digest1_fields p) ≡ 168
   length-digested =
       omega (
         arith,
-        length-append (start1_of p ++ middle1_of p) (digest1_of p),
+        length-append (start1_of p ++ middle1_of p) (digest1_fields p),
         length-start_middle,
         length-digest1 p fits typed,
       )
 
   in_digested : (place len : ℕ) → place + len ≤ 168
-      → at place len (front1_of p) ≡ at place len (start1_of p ++ middle1_of p ++ digest1_of p)
+      → at place len (front1_of p) ≡ at place len (start1_of p ++ middle1_of p ++ digest1_fields p)
   unfolding fields1_of
   in_digested place len inside =
       in_fields place len (omega arith)
-      ∙ at_first place len (start1_of p ++ middle1_of p ++ digest1_of p) (padded 40 p.uuid.now)
+      ∙ at_first place len (start1_of p ++ middle1_of p ++ digest1_fields p) (padded 40 p.uuid.now)
       (omega (arith, length-digested))
 
   pub in_start : (place len : ℕ) → place + len ≤ 72 → at place len (front1_of p) ≡ at place len (start1_of p)
   in_start place len inside =
       in_digested place len (omega arith)
-      ∙ at_first place len (start1_of p ++ middle1_of p) (digest1_of p) (omega (arith, length-start_middle))
+      ∙ at_first place len (start1_of p ++ middle1_of p) (digest1_fields p) (omega (arith, length-start_middle))
       ∙ at_first place len (start1_of p) (middle1_of p) (omega (arith, length-start1 p))
 
   in_middle : (place k len : ℕ) → place ≡ 72 + k → k + len ≤ 40
       → at place len (front1_of p) ≡ at k len (middle1_of p)
   in_middle place k len is inside =
       in_digested place len (omega arith)
-      ∙ at_first place len (start1_of p ++ middle1_of p) (digest1_of p) (omega (arith, length-start_middle))
+      ∙ at_first place len (start1_of p ++ middle1_of p) (digest1_fields p) (omega (arith, length-start_middle))
       ∙ at_behind place k len (start1_of p) (middle1_of p) (omega (arith, length-start1 p))
 
   in_digest : (place k len : ℕ) → place ≡ 112 + k → k + len ≤ 56
-      → at place len (front1_of p) ≡ at k len (digest1_of p)
+      → at place len (front1_of p) ≡ at k len (digest1_fields p)
   in_digest place k len is inside =
       in_digested place len (omega arith)
-      ∙ at_behind place k len (start1_of p ++ middle1_of p) (digest1_of p) (omega (arith, length-start_middle))
+      ∙ at_behind place k len (start1_of p ++ middle1_of p) (digest1_fields p) (omega (arith, length-start_middle))
 
   in_slots : (number : ℕ) → number < 8 → at (208 + 48 * number) 48 (front1_of p) ≡ key_slot1_of p number
   in_slots number low =
@@ -237,7 +237,7 @@ module _ (p : Seal1) (fits : AreParameters p) (typed : AreTyped1 p) where
       ∙ at_second 36 4 (hash ++ sectors) key (omega (arith, length-append hash sectors, length-hash_name p.hash)) refl)
 
   digest_is : at 112 20 (front1_of p) ≡ derived_key p.hash p.key.now p.digest_salt p.digest_iterations 20
-  unfolding digest1_of
+  unfolding digest1_fields
   digest_is =
       let digest = derived_key p.hash p.key.now p.digest_salt p.digest_iterations 20 in
       let turns = to_be_bytes w32 p.digest_iterations in
@@ -248,7 +248,7 @@ module _ (p : Seal1) (fits : AreParameters p) (typed : AreTyped1 p) where
       ∙ take_all 20 digest (omega (arith, long))
 
   digest_salt_is : at 132 32 (front1_of p) ≡ p.digest_salt
-  unfolding digest1_of
+  unfolding digest1_fields
   digest_salt_is =
       let digest = derived_key p.hash p.key.now p.digest_salt p.digest_iterations 20 in
       let turns = to_be_bytes w32 p.digest_iterations in
@@ -259,7 +259,7 @@ module _ (p : Seal1) (fits : AreParameters p) (typed : AreTyped1 p) where
       ∙ at_second 20 32 digest p.digest_salt (sym long) typed.salt
 
   digest_iterations_is : be32 (at 164 4 (front1_of p)) ≡ p.digest_iterations
-  unfolding digest1_of
+  unfolding digest1_fields
   digest_iterations_is =
       let digest = derived_key p.hash p.key.now p.digest_salt p.digest_iterations 20 in
       let turns = to_be_bytes w32 p.digest_iterations in

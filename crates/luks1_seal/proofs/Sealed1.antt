@@ -26,7 +26,7 @@ use Rattle.luks_seal.specs.declared.parameters.Seal1.{Seal1}
 use Rattle.luks_seal.specs.declared.parameters.Slot1.{Slot1}
 use Rattle.luks_seal.proofs.MaterialLemmas.{gives_key}
 use Rattle.luks_seal.proofs.SectorLemmas.{sectors_stand}
-use Rattle.luks1_seal.specs.Layout1.{area_key1_of, area_sectors_of, image1_of, key_slot1_of, material1_of, payload1_of}
+use Rattle.luks1_seal.specs.Layout1.{area_key1_of, area_sectors_of, image1_of, key_slot1_of, material1_of, payload1_bytes}
 use Rattle.luks1_seal.specs.Layout1.{slot1_numbered, start1_of}
 use Rattle.luks1_seal.specs.Passphrases.{passphrases1_of}
 use Rattle.luks1_seal.specs.Ranges1.{AreParameters, FitsSlot}
@@ -119,7 +119,7 @@ module _ (p : Seal1) (fits : AreParameters p) (typed : AreTyped1 p) where
 
   seals_plain1 : SealsPlain (segment_by (512 * (read_header1 (front1_of p)).payload_offset) None 0 B512 p.mode refl)
       (image1_of p) p.key.now p.plain.now
-  unfolding segment_by payload1_of
+  unfolding segment_by payload1_bytes
   seals_plain1 =
       let place = 512 * (read_header1 (front1_of p)).payload_offset in
       let starts = payload_starts p (read_header1 (front1_of p)) fits typed read in

@@ -4,9 +4,9 @@ use Rattle.std.specs.Prelude.{None, Some}
 use Rattle.std.specs.Int.{to_be_bytes, w32}
 use Rattle.std.specs.Option.{option_map_or}
 use Rattle.luks_cipher.specs.Sector.{mode_name}
-use Rattle.luks_kdf.specs.Hash.{name_of as hash_name}
+use Rattle.luks_kdf.specs.Hash.{hash_name}
 use Rattle.luks_kdf.specs.Pbkdf2.{derived_key}
-use Rattle.luks_seal.specs.Pieces.{material_of, padded, sectors_encrypted, stripes_of}
+use Rattle.luks_seal.specs.Pieces.{encrypted_material, padded, sectors_encrypted, stripes_of}
 use Rattle.luks_seal.specs.declared.parameters.Seal1.{Seal1}
 use Rattle.luks_seal.specs.declared.parameters.Slot1.{Slot1}
 use Rattle.luks1_seal.specs.Ranges1.{area_sectors}
@@ -30,14 +30,14 @@ middle1_of p =
     padded 32 (hash_name p.hash) ++ to_be_bytes w32 p.payload_sectors ++ to_be_bytes w32 (length p.key.now)
 
 -- `mk-digest`, which is PBKDF2 of the key, `mk-digest-salt` and `mk-digest-iter`
-unfoldable pub digest1_of : Seal1 → List ℕ
-digest1_of p =
+unfoldable pub digest1_fields : Seal1 → List ℕ
+digest1_fields p =
     derived_key p.hash p.key.now p.digest_salt p.digest_iterations 20 ++ p.digest_salt
     ++ to_be_bytes w32 p.digest_iterations
 
 -- the header as far as the key slots, which ends with `uuid`
 unfoldable pub fields1_of : Seal1 → List ℕ
-fields1_of p = start1_of p ++ middle1_of p ++ digest1_of p ++ padded 40 p.uuid.now
+fields1_of p = start1_of p ++ middle1_of p ++ digest1_fields p ++ padded 40 p.uuid.now
 
 -- `active`, `iterations` and `salt` of a slot, in use or not
 unfoldable pub state1_of : Option Slot1 → List ℕ
@@ -62,7 +62,7 @@ area_key1_of p slot = derived_key p.hash slot.passphrase.now slot.salt slot.iter
 -- a slot's key material
 unfoldable pub material1_of : Seal1 → Slot1 → List ℕ
 material1_of p slot =
-    material_of (p.mode, area_key1_of p slot) (stripes_of p.hash p.key.now p.stripes slot.random.now)
+    encrypted_material (p.mode, area_key1_of p slot) (stripes_of p.hash p.key.now p.stripes slot.random.now)
 
 -- the area of the slot of this number: its key material where it is in use, and zeros
 unfoldable pub area1_of : Seal1 → ℕ → List ℕ
@@ -75,13 +75,13 @@ areas1_below p zero = []
 areas1_below p (suc n) = areas1_below p n ++ area1_of p n
 
 -- the payload, its sectors of 512 bytes numbered from 0
-unfoldable pub payload1_of : Seal1 → List ℕ
-payload1_of p = sectors_encrypted (p.mode, p.key.now) 0 1 512 p.plain.now
+unfoldable pub payload1_bytes : Seal1 → List ℕ
+payload1_bytes p = sectors_encrypted (p.mode, p.key.now) 0 1 512 p.plain.now
 
 -- the header with its eight key slots, and zeros to sector 8
-unfoldable pub header1_of : Seal1 → List ℕ
-header1_of p = padded 4096 (fields1_of p ++ key_slots1_below p 8)
+unfoldable pub header1_bytes : Seal1 → List ℕ
+header1_bytes p = padded 4096 (fields1_of p ++ key_slots1_below p 8)
 
 -- the whole image: the areas follow the header, and the payload begins at its sector
 unfoldable pub image1_of : Seal1 → List ℕ
-image1_of p = padded (p.payload_sectors * 512) (header1_of p ++ areas1_below p 8) ++ payload1_of p
+image1_of p = padded (p.payload_sectors * 512) (header1_bytes p ++ areas1_below p 8) ++ payload1_bytes p

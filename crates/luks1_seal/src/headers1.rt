@@ -2,7 +2,7 @@
 
 ghost use Rattle.std.specs.Prelude.{◌≡◌, ◌-◌, ◌*◌, ◌<◌, ◌++◌, IfOk, IfSome, OnOk, length};
 ghost use Rattle.std.specs.Prelude.{option_copied};
-ghost use Rattle.luks1_seal.specs.Layout1.{digest1_of, fields1_of, header1_of, key_slot1_of};
+ghost use Rattle.luks1_seal.specs.Layout1.{digest1_fields, fields1_of, header1_bytes, key_slot1_of};
 ghost use Rattle.luks1_seal.specs.Layout1.{key_slots1_below, middle1_of, slot1_numbered, start1_of};
 ghost use Rattle.luks1_seal.specs.Layout1.{state1_of};
 ghost use Rattle.luks1_seal.specs.Ranges1.{AreParameters, FitsSlot};
@@ -56,10 +56,10 @@ fn push_middle(alloc: Global, header: &mut Vec<u8>, seal: &Seal1<'_>) -> Result<
 }
 
 /// Adds `mk-digest`, `mk-digest-salt` and `mk-digest-iter`.
-#[tactic(auto, unfolding(crate::specs::Layout1::digest1_of))]
+#[tactic(auto, unfolding(crate::specs::Layout1::digest1_fields))]
 fn push_digest(alloc: Global, header: &mut Vec<u8>, seal: &Seal1<'_>) -> Result<(), AllocError>
     requires { AreParameters seal.now }
-    ensures { OnOk result (header.new.items ≡ header.old.items ++ digest1_of seal.now) }
+    ensures { OnOk result (header.new.items ≡ header.old.items ++ digest1_fields seal.now) }
 {
     let mut digest = vec![in alloc; 0; 20]?;
     pbkdf2(
@@ -154,10 +154,10 @@ fn push_key_slots(alloc: Global, header: &mut Vec<u8>, seal: &Seal1<'_>) -> Resu
 }
 
 /// The header with its eight key slots, and zeros to sector 8.
-#[tactic(auto, unfolding(crate::specs::Layout1::header1_of))]
+#[tactic(auto, unfolding(crate::specs::Layout1::header1_bytes))]
 pub(crate) fn header_of(alloc: Global, seal: &Seal1<'_>) -> Result<Vec<u8>, AllocError>
     requires { AreParameters seal.now }
-    ensures { IfOk result (λ header. header.items ≡ header1_of seal.now) }
+    ensures { IfOk result (λ header. header.items ≡ header1_bytes seal.now) }
 {
     let mut header = Vec::new(alloc);
     push_fields(alloc, &mut header, seal)?;

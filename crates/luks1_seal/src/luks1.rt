@@ -2,10 +2,10 @@
 
 ghost use Rattle.std.specs.Prelude.{◌≡◌, ◌-◌, ◌*◌, ◌++◌, [], IfOk, OnOk, length};
 ghost use Rattle.std.specs.Option.{option_map_or};
-ghost use Rattle.luks_seal.specs.Ranges.{SealsOrSays};
+ghost use Rattle.luks_seal.specs.Ranges.{SealAnswer};
 ghost use Rattle.luks_seal.specs.Sealed.{Sealed};
 ghost use Rattle.luks1_seal.specs.Layout1.{area1_of, area_key1_of, areas1_below, image1_of};
-ghost use Rattle.luks1_seal.specs.Layout1.{material1_of, payload1_of, slot1_numbered};
+ghost use Rattle.luks1_seal.specs.Layout1.{material1_of, payload1_bytes, slot1_numbered};
 ghost use Rattle.luks1_seal.specs.Passphrases.{passphrases1_of};
 ghost use Rattle.luks1_seal.specs.Ranges1.{AreParameters, FitsSlot};
 
@@ -91,10 +91,10 @@ fn push_areas(alloc: Global, image: &mut Vec<u8>, seal: &Seal1<'_>) -> Result<()
 }
 
 /// The payload.
-#[tactic(auto, unfolding(crate::specs::Layout1::payload1_of))]
+#[tactic(auto, unfolding(crate::specs::Layout1::payload1_bytes))]
 fn payload_of(alloc: Global, seal: &Seal1<'_>) -> Result<Vec<u8>, AllocError>
     requires { AreParameters seal.now }
-    ensures { IfOk result (λ payload. payload.items ≡ payload1_of seal.now) }
+    ensures { IfOk result (λ payload. payload.items ≡ payload1_bytes seal.now) }
 {
     let cipher = cipher_of(seal.mode, seal.key);
     encrypted(alloc, &cipher, 0, 1, SectorSize::B512, seal.plain)
@@ -123,7 +123,7 @@ fn image_of(alloc: Global, seal: &Seal1<'_>) -> Result<Vec<u8>, AllocError>
 /// [`Parameters`](SealFault::Parameters) says that a parameter is outside its range, and comes
 /// before any memory is taken.
 pub fn seal1(alloc: Global, seal: &Seal1<'_>) -> Result<Vec<u8>, SealFault>
-    ensures answer { SealsOrSays (AreParameters seal.now) result }
+    ensures answer { SealAnswer (AreParameters seal.now) result }
     ensures image { IfOk result (λ image. image.items ≡ image1_of seal.now) }
     ensures sealed { IfOk result (λ image.
         Sealed image.items (passphrases1_of seal.now) seal.now.key.now seal.now.plain.now) }

@@ -2,7 +2,7 @@
 use Rattle.std.proofs.Common.{◌≡◌, ℕ, ◌<◌, ◌≤◌, List, [], ◌∷◌, None, Err, Bool, false, refl, length, min, arith}
 use Rattle.luks_area.specs.declared.fault.HeaderFault.TheVariants.{NotLuks}
 use Rattle.luks2_header.specs.Choice2.{header2_of, is_valid}
-use Rattle.luks2_header.specs.Cost2.{cost2_of}
+use Rattle.luks2_header.specs.Cost2.{header2_read_len}
 use Rattle.luks2_header.specs.Header2.{sizes}
 use Rattle.luks2_header.proofs.ChoiceLemmas.{chosen_other, reach_some}
 use Rattle.luks2_header.proofs.SearchLemmas.{least_is}
@@ -10,18 +10,18 @@ use Rattle.luks2_header.proofs.ValidLemmas.{short-fits, unfit-is_valid}
 use Rattle.luks2_header.proofs.WalkLemmas.{first_valid}
 
 -- at least 4,096 bytes are read, or all
-pub cost_least : (image : List ℕ) → min 4096 (length image) ≤ cost2_of image
-unfolding cost2_of
+pub cost_least : (image : List ℕ) → min 4096 (length image) ≤ header2_read_len image
+unfolding header2_read_len
 cost_least image = omega (arith, reach_some image)
 
 -- and no byte that is not there
-pub cost2_there : (image : List ℕ) → cost2_of image ≤ length image
-unfolding cost2_of
+pub cost2_there : (image : List ℕ) → header2_read_len image ≤ length image
+unfolding header2_read_len
 cost2_there image = omega arith
 
 -- of a shorter image all
-pub cost_short : (image : List ℕ) → length image < 4096 → cost2_of image ≡ length image
-unfolding cost2_of
+pub cost_short : (image : List ℕ) → length image < 4096 → header2_read_len image ≡ length image
+unfolding header2_read_len
 cost_short image short = omega (arith, reach_some image)
 
 -- where no place is valid, there is no first one

@@ -7,13 +7,13 @@ use Rattle.std.proofs.lemmas.Bool.{le-leb, lt-leb}
 use Rattle.std.proofs.lemmas.List.{drop-take, take-take}
 use Rattle.luks_area.specs.Field.{at}
 use Rattle.luks2_header.specs.Choice2.{fits, is_valid, size_at}
-use Rattle.luks2_header.specs.Cost2.{reach_at}
+use Rattle.luks2_header.specs.Cost2.{probe_end}
 use Rattle.luks2_header.specs.Header2.{size_in}
-use Rattle.luks2_header.specs.Front2.{IsFront, valid_size}
+use Rattle.luks2_header.specs.Front2.{IsPrefixOf, valid_size}
 use Rattle.luks2_header.proofs.FrontLemmas.{short_from_not}
 use Rattle.luks2_header.proofs.ValidLemmas.{unfit-is_valid}
 
-module _ (held : List ℕ) (ended : Bool) (image : List ℕ) (front : IsFront held ended image) where
+module _ (held : List ℕ) (ended : Bool) (image : List ℕ) (front : IsPrefixOf held ended image) where
   -- bytes that are held are the image's
   pub at-front : (place n : ℕ) → place + n ≤ length held → at place n held ≡ at place n image
   at-front place n within =
@@ -71,23 +71,23 @@ pub no_size : (image : List ℕ) (place : ℕ) → is_valid image place ≡ fals
 no_size image place is = rw is refl
 
 -- a place is looked at by a binary header's length at least
-pub reach_least : (image : List ℕ) (place : ℕ) → place + 4096 ≤ reach_at image place
-unfolding reach_at
+pub reach_least : (image : List ℕ) (place : ℕ) → place + 4096 ≤ probe_end image place
+unfolding probe_end
 reach_least image place = omega arith
 
 -- and by no more where none fits
-pub reach_unfit : (image : List ℕ) (place : ℕ) → fits image place ≡ false → reach_at image place ≡ place + 4096
-unfolding reach_at
+pub reach_unfit : (image : List ℕ) (place : ℕ) → fits image place ≡ false → probe_end image place ≡ place + 4096
+unfolding probe_end
 reach_unfit image place is = rw is (omega arith)
 
 -- and by the header's whole length where one fits
 pub reach_fit : (image : List ℕ) (place : ℕ) → fits image place ≡ true
-    → reach_at image place ≡ max (place + 4096) (place + size_at image place)
-unfolding reach_at
+    → probe_end image place ≡ max (place + 4096) (place + size_at image place)
+unfolding probe_end
 reach_fit image place is = rw is refl
 
 -- where less is there than was asked for, the image is held whole
-pub whole_image : (held : List ℕ) (ended : Bool) (image : List ℕ) (whole : Bool) (end : ℕ) → IsFront held ended image
+pub whole_image : (held : List ℕ) (ended : Bool) (image : List ℕ) (whole : Bool) (end : ℕ) → IsPrefixOf held ended image
     → (IsTrue whole ↔ (end ≤ length held)) → (ended ≡ false → end ≤ length held) → whole ≡ false
     → (image ≡ held) × (length held < end)
 whole_image held true image whole end front iff settled is =
@@ -105,7 +105,7 @@ pub some_holds : (b : Bool) (size n : ℕ) → Some size ≡ (if b then Some n e
 some_holds true size n is = (refl, cc)
 some_holds false size n is = absurd (cc)
 
-module _ (held : List ℕ) (ended : Bool) (image bytes : List ℕ) (place : ℕ) (front : IsFront held ended image)
+module _ (held : List ℕ) (ended : Bool) (image bytes : List ℕ) (place : ℕ) (front : IsPrefixOf held ended image)
     (is : bytes ≡ held) (there : place + 4096 ≤ length held) where
   fits-bytes : fits bytes place ≡ fits image place
   fits-bytes = ap (λ l. fits l place) is ∙ fits-front held ended image front place there
@@ -128,7 +128,7 @@ then_some_is true n = refl
 then_some_is false n = refl
 
 -- a header that fits and is held whole
-pub valid_here : (held : List ℕ) (ended : Bool) (image bytes : List ℕ) (place size : ℕ) → IsFront held ended image
+pub valid_here : (held : List ℕ) (ended : Bool) (image bytes : List ℕ) (place size : ℕ) → IsPrefixOf held ended image
     → bytes ≡ held → place + 4096 ≤ length held → size ≡ size_at image place → place + size ≤ length held
     → then_some (is_valid bytes place) size ≡ valid_size image place
 valid_here held ended image bytes place size front is there long whole =

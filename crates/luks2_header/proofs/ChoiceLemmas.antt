@@ -4,9 +4,9 @@ use Rattle.std.proofs.Common.{length, max, arith}
 use Rattle.std.specs.Prelude.{IfErr, IfOk, OnOk, Result, Ok, Err, option_and_then}
 use Rattle.luks_area.specs.declared.fault.HeaderFault.{HeaderFault}
 use Rattle.luks_area.specs.declared.fault.HeaderFault.TheVariants.{Memory}
-use Rattle.luks2_header.specs.Choice2.{beside_primary, binary_at, chosen2_of, found_at, is_valid, least_valid, size_at}
-use Rattle.luks2_header.specs.Cost2.{reach2_of, reach_at, search_reach}
-use Rattle.luks2_header.specs.Front2.{FallsShort, IsFront, OfEach, Reaches, StaysBelow, valid_size}
+use Rattle.luks2_header.specs.Choice2.{with_valid_primary, binary_at, chosen2_of, found_at, is_valid, least_valid, size_at}
+use Rattle.luks2_header.specs.Cost2.{reach2_of, probe_end, search_reach}
+use Rattle.luks2_header.specs.Front2.{FallsShort, IsPrefixOf, OfEach, Reaches, StaysBelow, valid_size}
 use Rattle.luks2_header.specs.declared.header.Header2.{Header2}
 use Rattle.luks2_header.proofs.AgreeLemmas.{at-front, reach_fit, reach_least, some_holds, none_fails, valid-front}
 use Rattle.luks2_header.proofs.FrontLemmas.{over_joined}
@@ -14,7 +14,7 @@ use Rattle.luks2_header.proofs.ValidLemmas.{fits_parts, size_is_place, valid_par
 
 module _ (image : List ℕ) where
   -- an image with a valid primary header
-  pub chosen_primary : is_valid image 0 ≡ true → chosen2_of image ≡ beside_primary image
+  pub chosen_primary : is_valid image 0 ≡ true → chosen2_of image ≡ with_valid_primary image
   unfolding chosen2_of
   chosen_primary is = rw is refl
 
@@ -28,14 +28,14 @@ module _ (image : List ℕ) where
   unfolding chosen2_of
   chosen_other is = rw is refl
 
-  pub reach_other : is_valid image 0 ≡ false → reach2_of image ≡ max (reach_at image 0) (search_reach image)
+  pub reach_other : is_valid image 0 ≡ false → reach2_of image ≡ max (probe_end image 0) (search_reach image)
   unfolding reach2_of
   reach_other is = rw is refl
 
   -- the primary header is read in each case
-  pub reach_first : reach_at image 0 ≤ reach2_of image
+  pub reach_first : probe_end image 0 ≤ reach2_of image
   reach_first = by (is_valid image 0) refl where
-    by : (b : Bool) → is_valid image 0 ≡ b → reach_at image 0 ≤ reach2_of image
+    by : (b : Bool) → is_valid image 0 ≡ b → probe_end image 0 ≤ reach2_of image
     by true e =
         let fit = valid_parts image 0 e in
         let range = valid_range image 0 e in
@@ -46,10 +46,10 @@ module _ (image : List ℕ) where
   pub reach_some : 4096 ≤ reach2_of image
   reach_some = omega (arith, reach_first, reach_least image 0)
 
-module _ (held : List ℕ) (ended : Bool) (image : List ℕ) (front : IsFront held ended image)
+module _ (held : List ℕ) (ended : Bool) (image : List ℕ) (front : IsPrefixOf held ended image)
     (valid : is_valid image 0 ≡ true) where
-  beside_whole : 2 * size_at image 0 ≤ length held → beside_primary held ≡ beside_primary image
-  unfolding beside_primary
+  beside_whole : 2 * size_at image 0 ≤ length held → with_valid_primary held ≡ with_valid_primary image
+  unfolding with_valid_primary
   beside_whole whole =
       let range = valid_range image 0 valid in
       let size = size_at image 0 in
@@ -67,10 +67,10 @@ module _ (held : List ℕ) (ended : Bool) (image : List ℕ) (front : IsFront he
       ) refl
 
   -- what is held of the two headers says which is chosen
-  pub beside_same : (ended ≡ false → 2 * size_at image 0 ≤ length held) → beside_primary held ≡ beside_primary image
+  pub beside_same : (ended ≡ false → 2 * size_at image 0 ≤ length held) → with_valid_primary held ≡ with_valid_primary image
   beside_same whole = by ended refl where
-    by : (b : Bool) → ended ≡ b → beside_primary held ≡ beside_primary image
-    by true e = ap beside_primary (sym (front.ends e))
+    by : (b : Bool) → ended ≡ b → with_valid_primary held ≡ with_valid_primary image
+    by true e = ap with_valid_primary (sym (front.ends e))
     by false e = beside_whole (whole e)
 
 -- a valid header's length that was answered
@@ -84,7 +84,7 @@ no_size_valid image place is = none_fails (is_valid image place) (size_at image 
 
 -- what is held once a valid primary header was seen
 pub primary_within : (image old first both : List ℕ) (size : ℕ) → Some size ≡ valid_size image 0
-    → length first ≤ max (length old) (reach_at image 0) → length both ≤ max (length first) (2 * size)
+    → length first ≤ max (length old) (probe_end image 0) → length both ≤ max (length first) (2 * size)
     → length both ≤ max (length old) (reach2_of image)
 primary_within image old first both size is near far =
     let valid = size_valid image 0 size is in
@@ -102,7 +102,7 @@ found_chosen held ended (Err fault) none is = tt
 -- and so far is read for it
 pub found_settled : (held' : List ℕ) (ended' : Bool) (found : Result (Option Header2) HeaderFault)
     → OfEach held' ended' (λ image. is_valid image 0 ≡ false)
-    → OfEach held' ended' (λ image. ended' ≡ false → reach_at image 0 ≤ length held')
+    → OfEach held' ended' (λ image. ended' ≡ false → probe_end image 0 ≤ length held')
     → OnOk found (Reaches held' ended' search_reach)
     → OnOk found (Reaches held' ended' reach2_of)
 found_settled held' ended' (Ok header) none first reaches = λ image front goes.
@@ -120,13 +120,13 @@ found_early held' ended' (Err fault) none early = λ stops image front.
 
 -- and less is held where the end was found
 pub found_over : (held held' : List ℕ) (e e1 e2 : Bool) (found : Result (Option Header2) HeaderFault)
-    → ((image : List ℕ) → IsFront held' e2 image → IsFront held e1 image)
+    → ((image : List ℕ) → IsPrefixOf held' e2 image → IsPrefixOf held e1 image)
     → OfEach held' e2 (λ image. is_valid image 0 ≡ false)
-    → FallsShort held e e1 (λ image. reach_at image 0) → OnOk found (FallsShort held' e1 e2 search_reach)
+    → FallsShort held e e1 (λ image. probe_end image 0) → OnOk found (FallsShort held' e1 e2 search_reach)
     → OnOk found (FallsShort held' e e2 reach2_of)
 found_over held held' e e1 e2 (Ok header) fronts none first then = λ image front.
     let other = reach_other image (none image front) in
-    over_joined image held held' e e1 e2 (reach_at image 0) (search_reach image) (reach2_of image)
+    over_joined image held held' e e1 e2 (probe_end image 0) (search_reach image) (reach2_of image)
     (fronts image front) front (first image (fronts image front)) (then image front)
     (omega (arith, other)) (omega (arith, other))
 found_over held held' e e1 e2 (Err fault) fronts none first then = tt

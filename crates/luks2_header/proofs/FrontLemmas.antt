@@ -7,10 +7,10 @@ use Rattle.std.proofs.lemmas.Bool.{cases_lt}
 use Rattle.std.proofs.Math.Seq.{take-add}
 use Rattle.std.proofs.lemmas.List.{drop-drop, length-take, take-take}
 use Rattle.luks_io.specs.Bytes.{counted}
-use Rattle.luks_area.specs.Area.{BreaksTaking, TookBehind}
+use Rattle.luks_area.specs.Area.{AbortsConsuming, ConsumedOnto}
 use Rattle.luks_area.specs.declared.fault.HeaderFault.{HeaderFault}
 use Rattle.luks_area.specs.declared.fault.HeaderFault.TheVariants.{NotLuks, Cut, Json, Read, Memory}
-use Rattle.luks2_header.specs.Front2.{Grew, HoldsFront, IsFront}
+use Rattle.luks2_header.specs.Front2.{Extended, HoldsFront, IsPrefixOf}
 
 -- a list whose first bytes are another list is no shorter
 pub longer_than : (old new : List ℕ) → take (length old) new ≡ old → length old ≤ length new
@@ -22,8 +22,8 @@ not_grown old new end same some =
     elim (cases_lt (length old) end) [ inl few ↦ omega (arith, few, ap length same) | inr all ↦ absurd (some all) ]
 
 -- a front of a front is a front
-front_of : (old new image : List ℕ) (ended' : Bool) → take (length old) new ≡ old → IsFront new ended' image
-    → IsFront old false image
+front_of : (old new image : List ℕ) (ended' : Bool) → take (length old) new ≡ old → IsPrefixOf new ended' image
+    → IsPrefixOf old false image
 front_of old new image ended' kept front = record {
   begins = sym (take-take (length old) (length new) image (longer_than old new kept))
       ∙ (ap (take (length old)) front.begins ∙ kept);
@@ -33,7 +33,7 @@ front_of old new image ended' kept front = record {
 
 -- the bytes that were taken went behind those that were held
 holds_more : (image old new known : List ℕ) (ended' : Bool) (left left' : Option (List ℕ)) (count : ℕ)
-    → HoldsFront image old false left → left ≡ Some known → TookBehind old new known left' count
+    → HoldsFront image old false left → left ≡ Some known → ConsumedOnto old new known left' count
     → (ended' ≡ true → length known ≤ count) → HoldsFront image new ended' left'
 holds_more image old new known ended' left left' count holds is took all =
     let rest : known ≡ drop (length old) image =
@@ -64,8 +64,8 @@ holds_more image old new known ended' left left' count holds is took all =
 pub grew_by : (old new : List ℕ) (ended' : Bool) (left left' : Option (List ℕ)) (ends ends' : ℕ)
     → take (length old) new ≡ old
     → ((known : List ℕ) → left ≡ Some known
-    → (count : ℕ) × TookBehind old new known left' count × (ended' ≡ true → length known ≤ count))
-    → ends' ≡ counted ended' ends → Grew old new false ended' left left' ends ends'
+    → (count : ℕ) × ConsumedOnto old new known left' count × (ended' ≡ true → length known ≤ count))
+    → ends' ≡ counted ended' ends → Extended old new false ended' left left' ends ends'
 grew_by old new ended' left left' ends ends' kept gave found = record {
   fronts = λ image front. front_of old new image ended' kept front;
   longer = longer_than old new kept;
@@ -78,7 +78,7 @@ grew_by old new ended' left left' ends ends' kept gave found = record {
 
 -- where nothing is done nothing changes
 pub grew_none : (held : List ℕ) (ended : Bool) (left : Option (List ℕ)) (ends : ℕ)
-    → Grew held held ended ended left left ends ends
+    → Extended held held ended ended left left ends ends
 grew_none held ended left ends = record {
   fronts = λ image front. front;
   longer = omega arith;
@@ -98,7 +98,7 @@ short_from_not false end len iff is =
 
 -- where not all is there that was asked for, the image was taken to its end
 pub ended_short : (old new known : List ℕ) (whole : Bool) (left' : Option (List ℕ)) (end : ℕ)
-    → TookBehind old new known left' (min (end - length old) (length known))
+    → ConsumedOnto old new known left' (min (end - length old) (length known))
     → (IsTrue whole ↔ (end ≤ length new)) → not whole ≡ true → length known ≤ min (end - length old) (length known)
 ended_short old new known whole left' end took iff short =
     let count = min (end - length old) (length known) in
@@ -113,8 +113,8 @@ ended_short old new known whole left' end took iff short =
 
 -- what stops an area from taking bytes
 pub gave_broken : (most : ℕ) (old new known : List ℕ) (left' : Option (List ℕ)) (fault : HeaderFault)
-    → BreaksTaking most old new known left' fault
-    → (count : ℕ) × TookBehind old new known left' count × (false ≡ true → length known ≤ count)
+    → AbortsConsuming most old new known left' fault
+    → (count : ℕ) × ConsumedOnto old new known left' count × (false ≡ true → length known ≤ count)
 gave_broken most old new known left' Read (count, few, took) = (count, took, λ wrong. absurd (cc))
 gave_broken most old new known left' Memory took = (0, took, λ wrong. absurd (cc))
 gave_broken most old new known left' NotLuks h = absurd h
@@ -133,7 +133,7 @@ found_join false false e2 n n1 n2 s s1 h h1 = h1 ∙ ap (counted e2) h
 
 -- more came to be held, and then more again
 pub grew_more : (a b c : List ℕ) (e e1 e2 : Bool) (l l1 l2 : Option (List ℕ)) (n n1 n2 : ℕ)
-    → Grew a b e e1 l l1 n n1 → Grew b c e1 e2 l1 l2 n1 n2 → Grew a c e e2 l l2 n n2
+    → Extended a b e e1 l l1 n n1 → Extended b c e1 e2 l1 l2 n1 n2 → Extended a c e e2 l l2 n n2
 grew_more a b c e e1 e2 l l1 l2 n n1 n2 first then = record {
   fronts = λ image front. first.fronts image (then.fronts image front);
   longer = omega (arith, first.longer, then.longer);
@@ -143,7 +143,7 @@ grew_more a b c e e1 e2 l l1 l2 n n1 n2 first then = record {
 }
 
 -- what is held is its own front
-pub front_self : (held : List ℕ) (ended : Bool) → IsFront held ended held
+pub front_self : (held : List ℕ) (ended : Bool) → IsPrefixOf held ended held
 front_self held ended = record {
   begins = take_all (length held) held (omega arith);
   within = omega arith;
@@ -156,8 +156,8 @@ not_ended true ended' stays goes = absurd (let wrong = stays refl in cc)
 not_ended false ended' stays goes = refl
 
 -- the end was found in one of two calls, so that less is held than is to be read
-pub over_joined : (image held held' : List ℕ) (e e1 e2 : Bool) (near far most : ℕ) → IsFront held e1 image
-    → IsFront held' e2 image → (e ≡ false → e1 ≡ true → length held < near)
+pub over_joined : (image held held' : List ℕ) (e e1 e2 : Bool) (near far most : ℕ) → IsPrefixOf held e1 image
+    → IsPrefixOf held' e2 image → (e ≡ false → e1 ≡ true → length held < near)
     → (e1 ≡ false → e2 ≡ true → length held' < far) → near ≤ most → far ≤ most → e ≡ false → e2 ≡ true
     → length held' < most
 over_joined image held held' e true e2 near far most first then over over' below below' goes found =

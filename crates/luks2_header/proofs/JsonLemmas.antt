@@ -7,11 +7,11 @@ use Rattle.std.proofs.lemmas.Option.{option_and_then_some}
 use Rattle.luks_kdf.specs.declared.hash.Hash.{Hash}
 use Rattle.luks_area.specs.declared.fault.HeaderFault.TheVariants.{NotLuks}
 use Rattle.luks_area.specs.Field.{at, text_of}
-use Rattle.luks2_header.specs.Choice2.{beside_primary, binary_at, chosen2_of, found_at, header2_of, is_valid}
+use Rattle.luks2_header.specs.Choice2.{with_valid_primary, binary_at, chosen2_of, found_at, header2_of, is_valid}
 use Rattle.luks2_header.specs.Choice2.{least_valid, size_at}
-use Rattle.luks2_header.specs.Cost2.{cost2_of, reach2_of, reach_at}
-use Rattle.luks2_header.specs.Header2.{binary_len, hash_in, header_in, sequence_in, size_in, sizes}
-use Rattle.luks2_header.specs.Text2.{json_area_of, json_text_of, place_of}
+use Rattle.luks2_header.specs.Cost2.{header2_read_len, reach2_of, probe_end}
+use Rattle.luks2_header.specs.Header2.{binary_len, checksum_hash_in, header2_from, sequence_in, size_in, sizes}
+use Rattle.luks2_header.specs.Text2.{json_area_of, json_text_of, header_offset}
 use Rattle.luks2_header.specs.declared.header.Finding.{Finding}
 use Rattle.luks2_header.specs.declared.header.Finding.TheVariants.{PrimaryNotValid, SecondaryNotValid, SequencesDiffer}
 use Rattle.luks2_header.specs.declared.header.Header2.{Header2}
@@ -39,11 +39,11 @@ first_is valid reach (here ∷ places) place is = by (valid here) refl (first_is
 
 -- what the fields of a header say of its place, its length and the payload's image
 made_of : (place : Place) (finding : Option Finding) (binary : List ℕ) (header : Header2)
-    → header_in place finding binary ≡ Some header
+    → header2_from place finding binary ≡ Some header
     → (header.place ≡ place) × (header.size ≡ size_in binary) × (header.detached ≡ false)
-unfolding header_in
-made_of place finding binary header is = by (hash_in binary) refl where
-  by : (known : Option Hash) → hash_in binary ≡ known
+unfolding header2_from
+made_of place finding binary header is = by (checksum_hash_in binary) refl where
+  by : (known : Option Hash) → checksum_hash_in binary ≡ known
       → (header.place ≡ place) × (header.size ≡ size_in binary) × (header.detached ≡ false)
   by (Some hash) e = (let made = rw e at is in (cc, cc, cc))
   by None e = absurd (let made = rw e at is in cc)
@@ -51,7 +51,7 @@ made_of place finding binary header is = by (hash_in binary) refl where
 -- the header stands at this place of the image, where it is valid, and that is looked at as far as it goes
 record Stands (image : List ℕ) (header : Header2) (place : ℕ) : Type 0 where
   pub valid : is_valid image place ≡ true
-  pub here : place_of header.place header.size ≡ place
+  pub here : header_offset header.place header.size ≡ place
   pub size : header.size ≡ size_at image place
   pub reached : place + header.size ≤ reach2_of image
   pub attached : header.detached ≡ false
@@ -63,12 +63,12 @@ sequence_at image place = sequence_in (binary_at image place)
 module _ (image : List ℕ) (header : Header2) where
   -- a primary header
   primary_stands : (finding : Option Finding) → is_valid image 0 ≡ true
-      → header_in Primary finding (binary_at image 0) ≡ Some header → Stands image header 0
+      → header2_from Primary finding (binary_at image 0) ≡ Some header → Stands image header 0
   primary_stands finding valid is =
       let made = made_of Primary finding (binary_at image 0) header is in
       record {
         valid = valid;
-        here = ap (λ p. place_of p header.size) made.0;
+        here = ap (λ p. header_offset p header.size) made.0;
         size = made.1;
         reached = omega (arith, made.1, reach_primary image valid);
         attached = made.2;
@@ -77,22 +77,22 @@ module _ (image : List ℕ) (header : Header2) where
   -- a secondary header, which is as long as its place says
   secondary_stands : (finding : Option Finding) (place : ℕ) → is_valid image place ≡ true → (place ≡ 0 → ⊥)
       → place + place ≤ reach2_of image
-      → header_in Secondary finding (binary_at image place) ≡ Some header → Stands image header place
+      → header2_from Secondary finding (binary_at image place) ≡ Some header → Stands image header place
   secondary_stands finding place valid some reach is =
       let made = made_of Secondary finding (binary_at image place) header is in
       let fit = fits_parts image place (valid_parts image place valid).0 in
       let own = size_is_place place (binary_at image place) fit.1 some in
       record {
         valid = valid;
-        here = ap (λ p. place_of p header.size) made.0 ∙ made.1 ∙ own;
+        here = ap (λ p. header_offset p header.size) made.0 ∙ made.1 ∙ own;
         size = made.1;
         reached = omega (arith, made.1, own, reach);
         attached = made.2;
       }
 
   -- the header of an image with a valid primary one
-  beside_stands : is_valid image 0 ≡ true → beside_primary image ≡ Some header → (place : ℕ) × Stands image header place
-  unfolding beside_primary
+  beside_stands : is_valid image 0 ≡ true → with_valid_primary image ≡ Some header → (place : ℕ) × Stands image header place
+  unfolding with_valid_primary
   beside_stands valid is = by (is_valid image (size_at image 0)) refl where
     earlier : is_valid image (size_at image 0) ≡ true
         → nat_lt (sequence_at image 0) (sequence_at image (size_at image 0)) ≡ false
@@ -122,7 +122,7 @@ module _ (image : List ℕ) (header : Header2) where
   found_stands : is_valid image 0 ≡ false → (place : ℕ) → least_valid image ≡ Some place
       → found_at image place ≡ Some header → Stands image header place
   found_stands none place least is =
-      let one = first_is (is_valid image) (reach_at image) sizes place (sym (least_is image) ∙ least) in
+      let one = first_is (is_valid image) (probe_end image) sizes place (sym (least_is image) ∙ least) in
       let some : place ≡ 0 → ⊥ =
       λ start. (let wrong : true ≡ false = sym one.0 ∙ ap (is_valid image) start ∙ none in cc) in
       let fit = valid_parts image place one.0 in
@@ -162,8 +162,8 @@ read_attached image header is = (stands image header is).1.attached
 
 -- and it ends with its JSON area within the bytes that were read to choose it
 pub json_within : (image : List ℕ) (header : Header2) → header2_of image ≡ Ok header
-    → place_of header.place header.size + binary_len + (header.size - binary_len) ≤ cost2_of image
-unfolding cost2_of
+    → header_offset header.place header.size + binary_len + (header.size - binary_len) ≤ header2_read_len image
+unfolding header2_read_len
 json_within image header is =
     let it = stands image header is in
     let whole = valid_parts image it.0 it.1.valid in
@@ -178,8 +178,8 @@ at_beginning place len n image before =
 
 -- so those bytes say the header's JSON text
 pub json_beginning : (image : List ℕ) (header : Header2) → header2_of image ≡ Ok header
-    → json_text_of (take (cost2_of image) image) header ≡ json_text_of image header
+    → json_text_of (take (header2_read_len image) image) header ≡ json_text_of image header
 unfolding json_text_of json_area_of
 json_beginning image header is =
-    let place = place_of header.place header.size + binary_len in
-    ap text_of (at_beginning place (header.size - binary_len) (cost2_of image) image (json_within image header is))
+    let place = header_offset header.place header.size + binary_len in
+    ap text_of (at_beginning place (header.size - binary_len) (header2_read_len image) image (json_within image header is))

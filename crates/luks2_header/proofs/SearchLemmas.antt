@@ -8,9 +8,9 @@ use Rattle.std.proofs.lemmas.List.{drop_all}
 use Rattle.std.proofs.lemmas.List.Sums.{AllPass-from_list_all}
 use Rattle.luks_area.specs.Field.{at}
 use Rattle.luks2_header.specs.Choice2.{binary_at, found_at, is_tried, is_valid, least_valid, size_at}
-use Rattle.luks2_header.specs.Cost2.{reach_at, search_reach}
-use Rattle.luks2_header.specs.Front2.{IsFront, valid_size}
-use Rattle.luks2_header.specs.Header2.{header_in, sizes}
+use Rattle.luks2_header.specs.Cost2.{probe_end, search_reach}
+use Rattle.luks2_header.specs.Front2.{IsPrefixOf, valid_size}
+use Rattle.luks2_header.specs.Header2.{header2_from, sizes}
 use Rattle.luks2_header.specs.declared.header.Finding.TheVariants.{PrimaryNotValid}
 use Rattle.luks2_header.specs.declared.header.Header2.{Header2}
 use Rattle.luks2_header.specs.declared.header.Place.TheVariants.{Secondary}
@@ -21,7 +21,7 @@ use Rattle.luks2_header.proofs.WalkLemmas.{are_one, first_valid, furthest}
 
 -- how far the places from number k on are looked at
 abbrev pub ahead : List ℕ → ℕ → ℕ
-ahead image k = furthest (is_valid image) (reach_at image) (drop k sizes)
+ahead image k = furthest (is_valid image) (probe_end image) (drop k sizes)
 
 -- none of the first k places has a valid header, and as much is held as they are looked at
 pub record Searched (image old held : List ℕ) (ended : Bool) (k : ℕ) : Type 0 where
@@ -42,17 +42,17 @@ searched_none image held ended = record {
 -- the definitions say what the walk says
 pub least_is : (image : List ℕ) → least_valid image ≡ first_valid (is_valid image) sizes
 unfolding least_valid is_tried
-least_is image = (let one = are_one (is_valid image) (reach_at image) in sym one.0)
+least_is image = (let one = are_one (is_valid image) (probe_end image) in sym one.0)
 
 pub search_reach_is : (image : List ℕ) → search_reach image ≡ ahead image 0
 unfolding search_reach is_tried
-search_reach_is image = (let one = are_one (is_valid image) (reach_at image) in sym one.1)
+search_reach_is image = (let one = are_one (is_valid image) (probe_end image) in sym one.1)
 
 -- at place number k of a list that is that of the places
 module _ (image old held held' : List ℕ) (ended ended' : Bool) (k : ℕ) (items : List ℕ) (are : items ≡ sizes)
     (inside : k < length items) (so_far : Searched image old held ended k)
     (longer : length held ≤ length held') (stays : ended ≡ true → ended' ≡ true)
-    (within : length held' ≤ max (length held) (reach_at image (get_or items k 0))) where
+    (within : length held' ≤ max (length held) (probe_end image (get_or items k 0))) where
   abbrev pub place : ℕ
   place = get_or items k 0
 
@@ -68,16 +68,16 @@ module _ (image old held held' : List ℕ) (ended ended' : Bool) (k : ℕ) (item
     went false e = e
 
   -- how far the places from this one on are looked at
-  reached : (is_valid image place ≡ false) → ahead image k ≡ max (reach_at image place) (ahead image (suc k))
+  reached : (is_valid image place ≡ false) → ahead image k ≡ max (probe_end image place) (ahead image (suc k))
   unfolding furthest
   reached fails = rw (here, fails) refl
 
-  reached_last : (is_valid image place ≡ true) → ahead image k ≡ reach_at image place
+  reached_last : (is_valid image place ≡ true) → ahead image k ≡ probe_end image place
   unfolding furthest
   reached_last holds = rw (here, holds) (omega arith)
 
   -- no valid header here: the search goes on
-  pub searched_on : is_valid image place ≡ false → (ended' ≡ false → reach_at image place ≤ length held')
+  pub searched_on : is_valid image place ≡ false → (ended' ≡ false → probe_end image place ≤ length held')
       → Searched image old held' ended' (k + 1)
   unfolding first_valid
   searched_on fails settled = rw add-one record {
@@ -88,9 +88,9 @@ module _ (image old held held' : List ℕ) (ended ended' : Bool) (k : ℕ) (item
   }
 
   -- this place is one of those that are looked at
-  pub reach_below : reach_at image place ≤ search_reach image
+  pub reach_below : probe_end image place ≤ search_reach image
   reach_below = by (is_valid image place) refl where
-    by : (b : Bool) → is_valid image place ≡ b → reach_at image place ≤ search_reach image
+    by : (b : Bool) → is_valid image place ≡ b → probe_end image place ≤ search_reach image
     by true e = omega (arith, reached_last e, so_far.behind, search_reach_is image)
     by false e = omega (arith, reached e, so_far.behind, search_reach_is image)
 
@@ -99,12 +99,12 @@ module _ (image old held held' : List ℕ) (ended ended' : Bool) (k : ℕ) (item
   searched_within = omega (arith, reach_below, so_far.within, within, search_reach_is image)
 
   -- where the end was found by now less is held than the search looks at
-  pub over_here : (before : Bool) → IsFront held ended image → IsFront held' ended' image
+  pub over_here : (before : Bool) → IsPrefixOf held ended image → IsPrefixOf held' ended' image
       → (before ≡ false → ended ≡ true → length held < search_reach image)
-      → (ended ≡ false → ended' ≡ true → length held' < reach_at image place)
+      → (ended ≡ false → ended' ≡ true → length held' < probe_end image place)
       → before ≡ false → ended' ≡ true → length held' < search_reach image
   over_here before front front' over over' =
-      over_joined image held held' before ended ended' (search_reach image) (reach_at image place)
+      over_joined image held held' before ended ended' (search_reach image) (probe_end image place)
       (search_reach image) front front' over over' (omega arith) reach_below
 
   -- a valid header is here: the search ends
@@ -112,7 +112,7 @@ module _ (image old held held' : List ℕ) (ended ended' : Bool) (k : ℕ) (item
   unfolding first_valid
   searched_place holds = so_far.place ∙ rw (here, holds) refl
 
-  pub searched_settled : is_valid image place ≡ true → (ended' ≡ false → reach_at image place ≤ length held')
+  pub searched_settled : is_valid image place ≡ true → (ended' ≡ false → probe_end image place ≤ length held')
       → ended' ≡ false → search_reach image ≤ length held'
   searched_settled holds settled goes =
       omega (
@@ -151,15 +151,15 @@ place_range k inside =
 
 -- the header that was found is that of the least place
 pub found_least : (held : List ℕ) (ended : Bool) (image bytes : List ℕ) (place : ℕ) (header : Option Header2)
-    → IsFront held ended image → bytes ≡ held → is_valid held place ≡ true
-    → header ≡ header_in Secondary (Some PrimaryNotValid) (binary_at bytes place)
+    → IsPrefixOf held ended image → bytes ≡ held → is_valid held place ≡ true
+    → header ≡ header2_from Secondary (Some PrimaryNotValid) (binary_at bytes place)
     → first_valid (is_valid image) sizes ≡ Some place
     → header ≡ option_and_then (found_at image) (least_valid image)
 found_least held ended image bytes place header front is valid made first =
     let range = valid_range held place valid in
     let same : binary_at bytes place ≡ binary_at image place = ap (λ l. at place 4096 l) is
     ∙ at-front held ended image front place 4096 range.0 in
-    made ∙ ap (header_in Secondary (Some PrimaryNotValid)) same
+    made ∙ ap (header2_from Secondary (Some PrimaryNotValid)) same
     ∙ sym (ap (option_and_then (found_at image)) (least_is image ∙ first))
 
 -- where no place is left none has a valid header

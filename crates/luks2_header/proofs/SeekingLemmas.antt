@@ -4,28 +4,28 @@ use Rattle.std.proofs.Common.{Bool, true, false, ap, sym, subst, refl, take, dro
 use Rattle.std.specs.Prelude.{IfErr, IfOk, Result, ok_or}
 use Rattle.std.proofs.Math.Seq.{drop-append_seam, take-append-add, take-append_seam}
 use Rattle.std.proofs.lemmas.List.{drop-drop}
-use Rattle.luks_io.specs.Bytes.{WhereKnown}
-use Rattle.luks_area.specs.Area.{TookBehind}
+use Rattle.luks_io.specs.Bytes.{IfKnown}
+use Rattle.luks_area.specs.Area.{ConsumedOnto}
 use Rattle.luks_area.specs.declared.fault.HeaderFault.{HeaderFault}
 use Rattle.luks_area.specs.declared.fault.HeaderFault.TheVariants.{NotLuks, Cut, Json, Read, Memory}
 use Rattle.luks2_header.specs.Choice2.{chosen2_of, header2_of}
-use Rattle.luks2_header.specs.Cost2.{cost2_of, reach2_of}
-use Rattle.luks2_header.specs.Front2.{BreaksSeeking, HoldsFront, IsFront, TookCost}
+use Rattle.luks2_header.specs.Cost2.{header2_read_len, reach2_of}
+use Rattle.luks2_header.specs.Front2.{BreaksSeeking, HoldsFront, IsPrefixOf, TookCost}
 use Rattle.luks2_header.specs.declared.header.Header2.{Header2}
 use Rattle.luks2_header.proofs.ChoiceLemmas.{reach_some}
 
-module _ (image old new : List ℕ) (ended : Bool) (front : IsFront new ended image) (few : length old ≤ 4096)
+module _ (image old new : List ℕ) (ended : Bool) (front : IsPrefixOf new ended image) (few : length old ≤ 4096)
     (within : length new ≤ max (length old) (reach2_of image)) where
   -- no more is held than the header costs
-  pub below_cost : length new ≤ cost2_of image
-  unfolding cost2_of
+  pub below_cost : length new ≤ header2_read_len image
+  unfolding header2_read_len
   below_cost = omega (arith, reach_some image, within, front.within)
 
   -- and just that where the header was found
-  pub cost_held : (ended ≡ false → reach2_of image ≤ length new) → length new ≡ cost2_of image
-  unfolding cost2_of
+  pub cost_held : (ended ≡ false → reach2_of image ≤ length new) → length new ≡ header2_read_len image
+  unfolding header2_read_len
   cost_held settled = by ended refl where
-    by : (b : Bool) → ended ≡ b → length new ≡ cost2_of image
+    by : (b : Bool) → ended ≡ b → length new ≡ header2_read_len image
     by true e = omega (arith, reach_some image, within, ap length (front.ends e))
     by false e = omega (arith, reach_some image, within, settled e, front.within)
 
@@ -60,7 +60,7 @@ holds_start old rest left is = record {
 module _ (old new rest : List ℕ) (ended : Bool) (left' : Option (List ℕ)) where
   -- what was taken went behind what was held
   pub took_count : HoldsFront (old ++ rest) new ended left' → length old ≤ length new
-      → TookBehind old new rest left' (length new - length old)
+      → ConsumedOnto old new rest left' (length new - length old)
   took_count holds longer =
       let count = length new - length old in
       let split : length new ≡ length old + count = omega arith in (
@@ -76,15 +76,15 @@ module _ (old new rest : List ℕ) (ended : Bool) (left' : Option (List ℕ)) wh
 
   -- all that the header costs was taken
   pub took_cost : HoldsFront (old ++ rest) new ended left' → length old ≤ length new
-      → length new ≡ cost2_of (old ++ rest) → TookCost (old ++ rest) old new rest left'
+      → length new ≡ header2_read_len (old ++ rest) → TookCost (old ++ rest) old new rest left'
   took_cost holds longer cost = (
     sym holds.front.begins ∙ ap (λ n. take n (old ++ rest)) cost,
-    subst (λ n. TookBehind old new rest left' (n - length old)) cost (took_count holds longer),
+    subst (λ n. ConsumedOnto old new rest left' (n - length old)) cost (took_count holds longer),
   )
 
   -- no more than that was taken before something failed, and less than was to be read where memory was refused
   pub breaks_seeking : (fault : HeaderFault) → (fault ≡ Read) ⊎ (fault ≡ Memory)
-      → HoldsFront (old ++ rest) new ended left' → length old ≤ length new → length new ≤ cost2_of (old ++ rest)
+      → HoldsFront (old ++ rest) new ended left' → length old ≤ length new → length new ≤ header2_read_len (old ++ rest)
       → (fault ≡ Memory → length new < reach2_of (old ++ rest))
       → BreaksSeeking (old ++ rest) old new rest left' fault
   breaks_seeking Read which holds longer within early =
@@ -101,20 +101,20 @@ module _ (old new : List ℕ) (left left' : Option (List ℕ)) (chosen : Option 
     (is : answer ≡ ok_or chosen NotLuks)
     (known : (rest : List ℕ) → left ≡ Some rest
     → (header2_of (old ++ rest) ≡ answer) × TookCost (old ++ rest) old new rest left') where
-  pub header_taken : IfOk answer (λ header. WhereKnown left (λ rest. (header2_of (old ++ rest) ≡ Ok header)
+  pub header_taken : IfOk answer (λ header. IfKnown left (λ rest. (header2_of (old ++ rest) ≡ Ok header)
       × TookCost (old ++ rest) old new rest left'))
   header_taken = by answer known where
     by : (r : Result Header2 HeaderFault) → ((rest : List ℕ) → left ≡ Some rest
         → (header2_of (old ++ rest) ≡ r) × TookCost (old ++ rest) old new rest left')
-        → IfOk r (λ header. WhereKnown left (λ rest. (header2_of (old ++ rest) ≡ Ok header)
+        → IfOk r (λ header. IfKnown left (λ rest. (header2_of (old ++ rest) ≡ Ok header)
         × TookCost (old ++ rest) old new rest left'))
     by (Ok header) facts = facts
     by (Err fault) facts = tt
 
-  pub none_taken : IfErr answer (λ fault. WhereKnown left (λ rest.
+  pub none_taken : IfErr answer (λ fault. IfKnown left (λ rest.
       BreaksSeeking (old ++ rest) old new rest left' fault))
   none_taken = by chosen is where
-    by : (o : Option Header2) → answer ≡ ok_or o NotLuks → IfErr answer (λ fault. WhereKnown left (λ rest.
+    by : (o : Option Header2) → answer ≡ ok_or o NotLuks → IfErr answer (λ fault. IfKnown left (λ rest.
         BreaksSeeking (old ++ rest) old new rest left' fault))
     by (Some header) e = rw e tt
     by None e = rw e (λ rest knows. (let facts = known rest knows in (facts.0 ∙ e, facts.1)))

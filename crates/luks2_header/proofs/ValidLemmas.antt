@@ -5,9 +5,9 @@ use Rattle.std.specs.List.{list_any}
 use Rattle.std.proofs.lemmas.Bool.{leb-true, eqb-true, lt-leb, ne_eqb}
 use Rattle.std.proofs.lemmas.Bool.Decides.{nat_tests}
 use Rattle.luks_area.specs.Field.{at}
-use Rattle.luks2_header.specs.Checksum2.{is_intact}
+use Rattle.luks2_header.specs.Checksum2.{checksum_matches}
 use Rattle.luks2_header.specs.Choice2.{beginning_at, binary_at, fits, is_binary_of, is_valid, size_at}
-use Rattle.luks2_header.specs.Header2.{hash_in, place_in, size_in, sizes}
+use Rattle.luks2_header.specs.Header2.{checksum_hash_in, hdr_offset_in, size_in, sizes}
 
 -- both of two tests hold
 pub and_parts : (a b : Bool) → (a && b) ≡ true → (a ≡ true) × (b ≡ true)
@@ -36,8 +36,8 @@ module _ (place : ℕ) (binary : List ℕ) (is : is_binary_of place binary ≡ t
       let begins = bytes_eq (at 0 8 binary) (beginning_at place) in
       let sized = list_any (λ size. size == size_in binary) sizes in
       let own = place == 0 || size_in binary == place in
-      let there = place_in binary == place in
-      let known = is_some (hash_in binary) in
+      let there = hdr_offset_in binary == place in
+      let known = is_some (checksum_hash_in binary) in
       let four = and_parts (begins && sized && own && there) known is in
       let three = and_parts (begins && sized && own) there four.0 in
       let two = and_parts (begins && sized) own three.0 in
@@ -78,7 +78,7 @@ module _ (image : List ℕ) (place : ℕ) where
   unfolding is_valid
   valid_parts h =
       let whole = nat_le (place + size_at image place) (length image) in
-      let two = and_parts (fits image place && whole) (is_intact (at place (size_at image place) image)) h in
+      let two = and_parts (fits image place && whole) (checksum_matches (at place (size_at image place) image)) h in
       let one = and_parts (fits image place) whole two.0 in
       (one.0, leb-true (place + size_at image place) (length image) one.1)
 

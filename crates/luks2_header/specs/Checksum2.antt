@@ -2,8 +2,8 @@
 use Rattle.std.specs.Prelude.{ℕ, ◌++◌, Bool, false, List, bytes_eq, drop, replicate, take}
 use Rattle.std.specs.Option.{option_map_or}
 use Rattle.luks_area.specs.Field.{at}
-use Rattle.luks_kdf.specs.Hash.{hash_of, size_of}
-use Rattle.luks2_header.specs.Header2.{hash_in}
+use Rattle.luks_kdf.specs.Hash.{hash_of, digest_len}
+use Rattle.luks2_header.specs.Header2.{checksum_hash_in}
 
 -- zeros in the length of the checksum's field
 unfoldable pub no_checksum : List ℕ
@@ -15,7 +15,7 @@ without_checksum header = take 448 header ++ no_checksum ++ drop 512 header
 
 -- the checksum agrees: it is the hash of the whole header and JSON area, but for itself. Of its field as many bytes
 -- count as the hash has
-unfoldable pub is_intact : List ℕ → Bool
-is_intact header =
-    option_map_or (λ hash. bytes_eq (hash_of hash (without_checksum header)) (at 448 (size_of hash) header))
-    (hash_in header) false
+unfoldable pub checksum_matches : List ℕ → Bool
+checksum_matches header =
+    option_map_or (λ hash. bytes_eq (hash_of hash (without_checksum header)) (at 448 (digest_len hash) header))
+    (checksum_hash_in header) false

@@ -6,8 +6,8 @@ use Rattle.std.specs.List.{find, list_any}
 use Rattle.luks_area.specs.Field.{at}
 use Rattle.luks_area.specs.declared.fault.HeaderFault.{HeaderFault}
 use Rattle.luks_area.specs.declared.fault.HeaderFault.TheVariants.{NotLuks}
-use Rattle.luks2_header.specs.Checksum2.{is_intact}
-use Rattle.luks2_header.specs.Header2.{binary_len, hash_in, header_in, place_in, sequence_in, size_in, sizes}
+use Rattle.luks2_header.specs.Checksum2.{checksum_matches}
+use Rattle.luks2_header.specs.Header2.{binary_len, checksum_hash_in, header2_from, hdr_offset_in, sequence_in, size_in, sizes}
 use Rattle.luks2_header.specs.declared.header.Finding.TheVariants.{PrimaryNotValid, SecondaryNotValid, SequencesDiffer}
 use Rattle.luks2_header.specs.declared.header.Header2.{Header2}
 use Rattle.luks2_header.specs.declared.header.Place.TheVariants.{Primary, Secondary}
@@ -26,8 +26,8 @@ is_binary_of place binary =
     bytes_eq (at 0 8 binary) (beginning_at place)
     && list_any (λ size. size == size_in binary) sizes
     && (place == 0 || size_in binary == place)
-    && place_in binary == place
-    && is_some (hash_in binary)
+    && hdr_offset_in binary == place
+    && is_some (checksum_hash_in binary)
 
 -- the 4096 bytes at a place
 abbrev pub binary_at : List ℕ → ℕ → List ℕ
@@ -46,7 +46,7 @@ unfoldable pub is_valid : List ℕ → ℕ → Bool
 is_valid image place =
     fits image place
     && nat_le (place + size_at image place) (length image)
-    && is_intact (at place (size_at image place) image)
+    && checksum_matches (at place (size_at image place) image)
 
 -- a place is tried, where the primary header is not valid: one of the nine before which there is no valid header
 unfoldable pub is_tried : List ℕ → ℕ → Bool
@@ -58,24 +58,24 @@ least_valid image = find (λ place. is_tried image place && is_valid image place
 
 -- the header of an image whose primary one is valid: the secondary one right behind it, where that is valid and of a
 -- later sequence number, and otherwise the primary
-unfoldable pub beside_primary : List ℕ → Option Header2
-beside_primary image =
+unfoldable pub with_valid_primary : List ℕ → Option Header2
+with_valid_primary image =
     let primary = binary_at image 0 in
     let secondary = binary_at image (size_at image 0) in
-    if not (is_valid image (size_at image 0)) then header_in Primary (Some SecondaryNotValid) primary
+    if not (is_valid image (size_at image 0)) then header2_from Primary (Some SecondaryNotValid) primary
     else if nat_lt (sequence_in primary) (sequence_in secondary)
-    then header_in Secondary (Some SequencesDiffer) secondary
-    else if nat_lt (sequence_in secondary) (sequence_in primary) then header_in Primary (Some SequencesDiffer) primary
-    else header_in Primary None primary
+    then header2_from Secondary (Some SequencesDiffer) secondary
+    else if nat_lt (sequence_in secondary) (sequence_in primary) then header2_from Primary (Some SequencesDiffer) primary
+    else header2_from Primary None primary
 
 -- the header that is found at a place by the search
 abbrev pub found_at : List ℕ → ℕ → Option Header2
-found_at image place = header_in Secondary (Some PrimaryNotValid) (binary_at image place)
+found_at image place = header2_from Secondary (Some PrimaryNotValid) (binary_at image place)
 
 -- the header of an image, where it has one
 unfoldable pub chosen2_of : List ℕ → Option Header2
 chosen2_of image =
-    if is_valid image 0 then beside_primary image else option_and_then (found_at image) (least_valid image)
+    if is_valid image 0 then with_valid_primary image else option_and_then (found_at image) (least_valid image)
 
 -- the header of an image that is not of LUKS1, or that there is none
 unfoldable pub header2_of : List ℕ → Result Header2 HeaderFault

@@ -5,8 +5,8 @@ use Rattle.luks2_header.specs.Header2.{binary_len, sizes}
 
 -- how far a place is looked at: a binary header's length, and where one fits its whole length. At one of the nine
 -- places that is twice the place
-unfoldable pub reach_at : List ℕ → ℕ → ℕ
-reach_at image place = max (place + binary_len) (if fits image place then place + size_at image place else 0)
+unfoldable pub probe_end : List ℕ → ℕ → ℕ
+probe_end image place = max (place + binary_len) (if fits image place then place + size_at image place else 0)
 
 -- the greatest of some numbers
 abbrev pub greatest : List ℕ → ℕ
@@ -15,15 +15,15 @@ greatest (number ∷ numbers) = max number (greatest numbers)
 
 -- how far the places that are tried are looked at
 unfoldable pub search_reach : List ℕ → ℕ
-search_reach image = greatest (map (reach_at image) (filter (is_tried image) sizes))
+search_reach image = greatest (map (probe_end image) (filter (is_tried image) sizes))
 
 -- how far an image is read where it is long enough: both headers of a valid primary one, and otherwise the image's
 -- start and each place that is tried
 unfoldable pub reach2_of : List ℕ → ℕ
 reach2_of image =
     if is_valid image 0 then 2 * size_at image 0
-    else max (reach_at image 0) (search_reach image)
+    else max (probe_end image 0) (search_reach image)
 
 -- how many bytes of the image are read
-unfoldable pub cost2_of : List ℕ → ℕ
-cost2_of image = min (reach2_of image) (length image)
+unfoldable pub header2_read_len : List ℕ → ℕ
+header2_read_len image = min (reach2_of image) (length image)

@@ -2,27 +2,27 @@
 use Rattle.std.specs.Prelude.{◌≡◌, ◌+◌, ◌-◌, ◌<◌, ◌≤◌, ◌&&◌, ℕ, Bool, true, false, not, if◌then◌else◌, List, Option}
 use Rattle.std.specs.Prelude.{Some, None, Result, Ok, Err, drop, length, max, nat_lt, take}
 use Rattle.luks_io.specs.Bytes.{counted}
-use Rattle.luks_area.specs.Area.{TookBehind}
+use Rattle.luks_area.specs.Area.{ConsumedOnto}
 use Rattle.luks_area.specs.declared.fault.HeaderFault.{HeaderFault}
 use Rattle.luks_area.specs.declared.fault.HeaderFault.TheVariants.{NotLuks, Cut, Json, Read, Memory}
 use Rattle.luks2_header.specs.Choice2.{header2_of, is_valid, size_at}
-use Rattle.luks2_header.specs.Cost2.{cost2_of, reach2_of}
+use Rattle.luks2_header.specs.Cost2.{header2_read_len, reach2_of}
 
 -- what is held is the front of the image, and all of it where its end was found
-pub record IsFront (held : List ℕ) (ended : Bool) (image : List ℕ) : Type 0 where
+pub record IsPrefixOf (held : List ℕ) (ended : Bool) (image : List ℕ) : Type 0 where
   pub begins : take (length held) image ≡ held
   pub within : length held ≤ length image
   pub ends : ended ≡ true → image ≡ held
 
 -- the front of the image is held, and what is behind it is left in a source that knows its bytes
 pub record HoldsFront (image held : List ℕ) (ended : Bool) (left : Option (List ℕ)) : Type 0 where
-  pub front : IsFront held ended image
+  pub front : IsPrefixOf held ended image
   pub behind : left ≡ Some (drop (length held) image)
 
 -- more of an image came to be held, from a source that counts how often it found the end
-pub record Grew (held held' : List ℕ) (ended ended' : Bool) (left left' : Option (List ℕ)) (ends ends' : ℕ) : Type 0
+pub record Extended (held held' : List ℕ) (ended ended' : Bool) (left left' : Option (List ℕ)) (ends ends' : ℕ) : Type 0
   where
-    pub fronts : (image : List ℕ) → IsFront held' ended' image → IsFront held ended image
+    pub fronts : (image : List ℕ) → IsPrefixOf held' ended' image → IsPrefixOf held ended image
     pub longer : length held ≤ length held'
     pub holds : (image : List ℕ) → HoldsFront image held ended left → HoldsFront image held' ended' left'
     pub stays : ended ≡ true → ended' ≡ true
@@ -34,7 +34,7 @@ valid_size image place = if is_valid image place then Some (size_at image place)
 
 -- a fact of each image of which this is the front
 abbrev pub OfEach : List ℕ → Bool → (List ℕ → Type 0) → Type 0
-OfEach held ended Holds = (image : List ℕ) → IsFront held ended image → Holds image
+OfEach held ended Holds = (image : List ℕ) → IsPrefixOf held ended image → Holds image
 
 -- of an image as many bytes are held as were held or as it is to be read at most
 abbrev pub WithinReach : List ℕ → List ℕ → Bool → (List ℕ → ℕ) → Type 0
@@ -55,18 +55,18 @@ StaysBelow held ended reach = OfEach held ended (λ image. length held < reach i
 
 -- the rest of an image, as much of it as the header costs, went behind what was held
 abbrev pub TookCost : List ℕ → List ℕ → List ℕ → List ℕ → Option (List ℕ) → Type 0
-TookCost image held held' rest left = (held' ≡ take (cost2_of image) image)
-    × TookBehind held held' rest left (cost2_of image - length held)
+TookCost image held held' rest left = (held' ≡ take (header2_read_len image) image)
+    × ConsumedOnto held held' rest left (header2_read_len image - length held)
 
 -- some of the rest went behind it: no more than that
 abbrev pub TookBelow : List ℕ → List ℕ → List ℕ → List ℕ → Option (List ℕ) → Type 0
-TookBelow image held held' rest left = (count : ℕ) × (count ≤ cost2_of image - length held)
-    × TookBehind held held' rest left count
+TookBelow image held held' rest left = (count : ℕ) × (count ≤ header2_read_len image - length held)
+    × ConsumedOnto held held' rest left count
 
 -- some of the rest went behind it, and less is held than the image is to be read
 abbrev pub TookEarly : List ℕ → List ℕ → List ℕ → List ℕ → Option (List ℕ) → Type 0
 TookEarly image held held' rest left = (count : ℕ) × (length held + count < reach2_of image)
-    × TookBehind held held' rest left count
+    × ConsumedOnto held held' rest left count
 
 -- seeking the header ended without one. Where the image has none, as many of its bytes are held as that costs to learn;
 -- a failed read ended it somewhere before, and want of memory where more was still to be read

@@ -25,17 +25,17 @@ unfoldable pub sequence_in : List ℕ → ℕ
 sequence_in binary = be64 (at 16 8 binary)
 
 -- `csum_alg`: the hash function of the checksum, where its name is known
-unfoldable pub hash_in : List ℕ → Option Hash
-hash_in binary = hash_named (text_of (at 72 32 binary))
+unfoldable pub checksum_hash_in : List ℕ → Option Hash
+checksum_hash_in binary = hash_named (text_of (at 72 32 binary))
 
 -- `hdr_offset`: the header's own place in bytes
-unfoldable pub place_in : List ℕ → ℕ
-place_in binary = be64 (at 256 8 binary)
+unfoldable pub hdr_offset_in : List ℕ → ℕ
+hdr_offset_in binary = be64 (at 256 8 binary)
 
 -- the header that 4096 bytes write, where the hash function is known. It is read as one that stands in the payload's
 -- image
-unfoldable pub header_in : Place → Option Finding → List ℕ → Option Header2
-header_in place finding binary =
+unfoldable pub header2_from : Place → Option Finding → List ℕ → Option Header2
+header2_from place finding binary =
     option_map (λ hash. record {
       place = place;
       size = size_in binary;
@@ -47,7 +47,7 @@ header_in place finding binary =
       subsystem = text_of (at 208 48 binary);
       finding = finding;
       detached = false;
-    }) (hash_in binary)
+    }) (checksum_hash_in binary)
 
 -- the first byte behind both headers of an image
 abbrev pub end2_of : Header2 → ℕ

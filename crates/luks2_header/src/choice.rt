@@ -1,8 +1,8 @@
 //! Which of two valid headers is chosen.
 
 ghost use Rattle.std.specs.Prelude.{◌≡◌, ◌≤◌, true};
-ghost use Rattle.luks2_header.specs.Choice2.{beside_primary, binary_at, is_valid, size_at};
-ghost use Rattle.luks2_header.specs.Header2.{header_in};
+ghost use Rattle.luks2_header.specs.Choice2.{with_valid_primary, binary_at, is_valid, size_at};
+ghost use Rattle.luks2_header.specs.Header2.{header2_from};
 
 use crate::header::{Finding, Header2, Place, sequence_in};
 use crate::validity::{binary_at, is_valid};
@@ -16,19 +16,19 @@ pub(crate) fn valid_header(
 ) -> Option<Header2>
     requires valid { is_valid bytes.now start ≡ true }
     requires range { start ≤ 4194304 }
-    ensures { result ≡ header_in place finding (binary_at bytes.now start) }
+    ensures { result ≡ header2_from place finding (binary_at bytes.now start) }
 {
     Header2::from_bytes(place, finding, binary_at(bytes, start))
 }
 
 /// The header of an image whose primary one is valid and of this length: the secondary one where
 /// that is valid and of a later sequence number, and otherwise the primary.
-#[tactic(auto, unfolding(crate::specs::Choice2::beside_primary))]
+#[tactic(auto, unfolding(crate::specs::Choice2::with_valid_primary))]
 pub(crate) fn beside_primary(bytes: &[u8], size: usize) -> Option<Header2>
     requires valid { is_valid bytes.now 0 ≡ true }
     requires long { size ≡ size_at bytes.now 0 }
     requires range { size ≤ 4194304 }
-    ensures { result ≡ beside_primary bytes.now }
+    ensures { result ≡ with_valid_primary bytes.now }
 {
     if !is_valid(bytes, size) {
         return valid_header(bytes, 0, Place::Primary, Some(Finding::SecondaryNotValid));

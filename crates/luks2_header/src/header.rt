@@ -2,7 +2,7 @@
 
 ghost use Rattle.std.specs.Prelude.{◌≡◌, ◌≤◌, ◌==◌, length, position};
 ghost use Rattle.luks_area.specs.Field.{at, text_of};
-ghost use Rattle.luks2_header.specs.Header2.{end2_of, hash_in, header_in, place_in, sequence_in};
+ghost use Rattle.luks2_header.specs.Header2.{end2_of, checksum_hash_in, header2_from, hdr_offset_in, sequence_in};
 ghost use Rattle.luks2_header.specs.Header2.{size_in};
 ghost use Rattle.luks2_header.specs.Text2.{json_text_of};
 
@@ -60,10 +60,10 @@ pub struct Header2 {
 }
 
 /// The hash function of a header's checksum, where its name is known.
-#[tactic(auto, unfolding(crate::specs::Header2::hash_in))]
+#[tactic(auto, unfolding(crate::specs::Header2::checksum_hash_in))]
 pub(crate) fn hash_in(binary: &[u8]) -> Option<Hash>
     requires { 4096 ≤ length binary.now }
-    ensures { result ≡ hash_in binary.now }
+    ensures { result ≡ checksum_hash_in binary.now }
 {
     Hash::from_bytes(text_at::<32>(binary, 72).as_bytes())
 }
@@ -87,10 +87,10 @@ pub(crate) fn sequence_in(binary: &[u8]) -> u64
 }
 
 /// The place that a header gives for itself.
-#[tactic(auto, unfolding(crate::specs::Header2::place_in))]
+#[tactic(auto, unfolding(crate::specs::Header2::hdr_offset_in))]
 pub(crate) fn place_in(binary: &[u8]) -> u64
     requires { 4096 ≤ length binary.now }
-    ensures { result ≡ place_in binary.now }
+    ensures { result ≡ hdr_offset_in binary.now }
 {
     number64_at(binary, 256)
 }
@@ -105,7 +105,7 @@ impl Header2 {
     ) -> Option<Header2>
         requires whole { 4096 ≤ length binary.now }
         requires sized { size_in binary.now ≤ 4194304 }
-        ensures { result ≡ header_in place finding binary.now }
+        ensures { result ≡ header2_from place finding binary.now }
     {
         let hash = hash_in(binary)?;
         Some(Header2 {

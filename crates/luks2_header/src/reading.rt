@@ -3,11 +3,11 @@
 ghost use Rattle.std.specs.Prelude.{◌≡◌, ◌+◌, ◌≤◌, ◌↔◌, ◌⊎◌, ◌++◌, ◌<◌, true, false, length, max};
 ghost use Rattle.std.specs.Prelude.{take, IsTrue, Ok, Err, IfOk, IfErr, IfSome, OnErr, OnOk, List};
 ghost use Rattle.std.specs.Prelude.{ℕ, option_and_then};
-ghost use Rattle.luks_io.specs.Bytes.{WhereKnown, counted};
-ghost use Rattle.luks_area.specs.Area.{is_read, longest_area};
+ghost use Rattle.luks_io.specs.Bytes.{IfKnown, counted};
+ghost use Rattle.luks_area.specs.Area.{is_read, max_area_len};
 ghost use Rattle.luks2_header.specs.Choice2.{chosen2_of, found_at, header2_of, least_valid};
-ghost use Rattle.luks2_header.specs.Cost2.{cost2_of, reach2_of, reach_at, search_reach};
-ghost use Rattle.luks2_header.specs.Front2.{BreaksSeeking, FallsShort, Grew, finds_end, OfEach};
+ghost use Rattle.luks2_header.specs.Cost2.{header2_read_len, reach2_of, probe_end, search_reach};
+ghost use Rattle.luks2_header.specs.Front2.{BreaksSeeking, FallsShort, Extended, finds_end, OfEach};
 ghost use Rattle.luks2_header.specs.Front2.{Reaches, StaysBelow, TookCost, WithinReach, valid_size};
 
 use crate::choice::{beside_primary, valid_header};
@@ -25,14 +25,14 @@ fn grow<S: Source>(
     ended: &mut bool,
     end: usize,
 ) -> Result<bool, HeaderFault>
-    requires { end ≤ longest_area }
+    requires { end ≤ max_area_len }
     ensures whole { IfOk result (λ whole. IsTrue whole ↔ (end ≤ length area.new)) }
     ensures settled { OnOk result (ended.new ≡ false → end ≤ length area.new) }
     ensures within { length area.new ≤ max (length area.old) end }
     ensures over { OnOk result (ended.old ≡ false → ended.new ≡ true → length area.new < end) }
     ensures going { OnErr result (ended.new ≡ false) }
     ensures early { IfErr result (λ fault. fault ≡ HeaderFault.Memory → length area.new < end) }
-    ensures grew { Grew area.old area.new ended.old ended.new (S.to_come source.old)
+    ensures grew { Extended area.old area.new ended.old ended.new (S.to_come source.old)
         (S.to_come source.new) (S.ends source.old) (S.ends source.new) }
     ensures refusals { IfErr result (λ fault.
         (fault ≡ HeaderFault.Read) ⊎ (fault ≡ HeaderFault.Memory)) }
@@ -59,14 +59,14 @@ fn header_at<S: Source>(
         OfEach area.new ended.new (λ image. size ≡ valid_size image place)) }
     ensures range { IfOk result (λ found. IfSome found (λ size.
         (16384 ≤ size) × (size ≤ 4194304))) }
-    ensures within { WithinReach area.old area.new ended.new (λ image. reach_at image place) }
-    ensures settled { OnOk result (Reaches area.new ended.new (λ image. reach_at image place)) }
+    ensures within { WithinReach area.old area.new ended.new (λ image. probe_end image place) }
+    ensures settled { OnOk result (Reaches area.new ended.new (λ image. probe_end image place)) }
     ensures over { OnOk result (FallsShort area.new ended.old ended.new
-        (λ image. reach_at image place)) }
+        (λ image. probe_end image place)) }
     ensures going { OnErr result (ended.new ≡ false) }
     ensures early { IfErr result (λ fault. fault ≡ HeaderFault.Memory
-        → StaysBelow area.new ended.new (λ image. reach_at image place)) }
-    ensures grew { Grew area.old area.new ended.old ended.new (S.to_come source.old)
+        → StaysBelow area.new ended.new (λ image. probe_end image place)) }
+    ensures grew { Extended area.old area.new ended.old ended.new (S.to_come source.old)
         (S.to_come source.new) (S.ends source.old) (S.ends source.new) }
     ensures refusals { IfErr result (λ fault.
         (fault ≡ HeaderFault.Read) ⊎ (fault ≡ HeaderFault.Memory)) }
@@ -98,7 +98,7 @@ fn search<S: Source>(
     ensures going { OnErr result (ended.new ≡ false) }
     ensures early { IfErr result (λ fault. fault ≡ HeaderFault.Memory
         → StaysBelow area.new ended.new search_reach) }
-    ensures grew { Grew area.old area.new ended.old ended.new (S.to_come source.old)
+    ensures grew { Extended area.old area.new ended.old ended.new (S.to_come source.old)
         (S.to_come source.new) (S.ends source.old) (S.ends source.new) }
     ensures refusals { IfErr result (λ fault.
         (fault ≡ HeaderFault.Read) ⊎ (fault ≡ HeaderFault.Memory)) }
@@ -129,7 +129,7 @@ fn choose<S: Source>(
     ensures going { OnErr result (ended.new ≡ false) }
     ensures early { IfErr result (λ fault. fault ≡ HeaderFault.Memory
         → StaysBelow area.new ended.new reach2_of) }
-    ensures grew { Grew area.old area.new ended.old ended.new (S.to_come source.old)
+    ensures grew { Extended area.old area.new ended.old ended.new (S.to_come source.old)
         (S.to_come source.new) (S.ends source.old) (S.ends source.new) }
     ensures refusals { IfErr result (λ fault.
         (fault ≡ HeaderFault.Read) ⊎ (fault ≡ HeaderFault.Memory)) }
@@ -154,17 +154,17 @@ pub fn read_header2<S: Source>(
     source: &mut S,
 ) -> Result<Header2, HeaderFault>
     requires { length area.old ≤ 4096 }
-    ensures taken { IfOk result (λ header. WhereKnown (S.to_come source.old) (λ rest.
+    ensures taken { IfOk result (λ header. IfKnown (S.to_come source.old) (λ rest.
         (header2_of (area.old ++ rest) ≡ Ok header)
         × TookCost (area.old ++ rest) area.old area.new rest (S.to_come source.new))) }
-    ensures broken { IfErr result (λ fault. WhereKnown (S.to_come source.old) (λ rest.
+    ensures broken { IfErr result (λ fault. IfKnown (S.to_come source.old) (λ rest.
         BreaksSeeking (area.old ++ rest) area.old area.new rest (S.to_come source.new) fault)) }
 
     // Whether or not the source knows its bytes:
     ensures held { IfOk result (λ header. header2_of area.new ≡ Ok header) }
-    ensures only { IfOk result (λ header. length area.new ≡ cost2_of area.new) }
+    ensures only { IfOk result (λ header. length area.new ≡ header2_read_len area.new) }
     ensures none { result ≡ Err HeaderFault.NotLuks
-        → (header2_of area.new ≡ Err HeaderFault.NotLuks) × (length area.new ≡ cost2_of area.new) }
+        → (header2_of area.new ≡ Err HeaderFault.NotLuks) × (length area.new ≡ header2_read_len area.new) }
     ensures early { IfErr result (λ fault. fault ≡ HeaderFault.Memory
         → StaysBelow area.new false reach2_of) }
     ensures kept { take (length area.old) area.new ≡ area.old }

@@ -3,12 +3,12 @@
 ghost use Rattle.std.specs.Prelude.{◌≡◌, ◌+◌, ◌≤◌, ◌++◌, ◌==◌, ◌&&◌, ◌||◌, IfSome, bytes_eq};
 ghost use Rattle.std.specs.Prelude.{if◌then◌else◌, length, Some, None};
 ghost use Rattle.std.specs.List.{list_any};
-ghost use Rattle.luks_kdf.specs.Hash.{hash_of, size_of};
+ghost use Rattle.luks_kdf.specs.Hash.{hash_of, digest_len};
 ghost use Rattle.luks_area.specs.Field.{at};
-ghost use Rattle.luks2_header.specs.Checksum2.{is_intact, no_checksum, without_checksum};
+ghost use Rattle.luks2_header.specs.Checksum2.{checksum_matches, no_checksum, without_checksum};
 ghost use Rattle.luks2_header.specs.Choice2.{beginning_at, binary_at, fits, is_binary_of, is_valid};
 ghost use Rattle.luks2_header.specs.Choice2.{size_at};
-ghost use Rattle.luks2_header.specs.Header2.{hash_in, size_in, sizes};
+ghost use Rattle.luks2_header.specs.Header2.{checksum_hash_in, size_in, sizes};
 
 use crate::header::{BINARY_LEN, hash_in, place_in, size_in};
 use luks_kdf::{Hash, digest};
@@ -91,19 +91,19 @@ fn no_checksum() -> &'static [u8]
 #[tactic(auto, unfolding(crate::specs::Checksum2::without_checksum))]
 fn agrees(hash: Hash, header: &[u8], sum: &mut [u8]) -> bool
     requires whole { 4096 ≤ length header.now }
-    requires room { length sum.old ≡ size_of hash }
+    requires room { length sum.old ≡ digest_len hash }
     ensures { result ≡ bytes_eq (hash_of hash (without_checksum header.now))
-        (at 448 (size_of hash) header.now) }
+        (at 448 (digest_len hash) header.now) }
 {
     digest(hash, &header[..448], no_checksum(), &header[512..], sum);
     header[448..].starts_with(sum)
 }
 
 // The checksum of a header and its JSON area is the one that it holds.
-#[tactic(auto, unfolding(crate::specs::Checksum2::is_intact))]
+#[tactic(auto, unfolding(crate::specs::Checksum2::checksum_matches))]
 fn is_intact(header: &[u8]) -> bool
     requires { 4096 ≤ length header.now }
-    ensures { result ≡ is_intact header.now }
+    ensures { result ≡ checksum_matches header.now }
 {
     let mut sum = [0; 64];
     match hash_in(header) {

@@ -37,8 +37,8 @@ unfoldable pub has_texts : List ℕ → Data → Bool
 has_texts name owner = unwrap_or (option_map (all_items is_text) (list_at name owner)) false
 
 -- there is a list under this name, and it has the text
-unfoldable pub lists : List ℕ → List ℕ → Data → Bool
-lists name text owner = unwrap_or (option_map (any_item (is_the_text text)) (list_at name owner)) false
+unfoldable pub array_contains : List ℕ → List ℕ → Data → Bool
+array_contains name text owner = unwrap_or (option_map (any_item (is_the_text text)) (list_at name owner)) false
 
 -- the texts of the list under this name
 unfoldable pub texts_at : List ℕ → Data → List (List ℕ)

@@ -1,6 +1,6 @@
 -- The kinds of members (LUKS2 On-Disk Format Specification 1.1, section 3): each word finds what an object has under a
 -- name, where it is there and of that kind. JSON's null is a value like others: a member that is null is there, and is
--- neither a number nor a text nor an object.
+-- neither a number nor a string_member nor an object.
 use Rattle.std.specs.Prelude.{ℕ, ◌&&◌, ◌^◌, Bool, false, List, Option, Some, None, bytes_eq, codes, is_some, length}
 use Rattle.std.specs.Prelude.{nat_le, nat_lt, if◌then◌else◌, option_and_then, option_map, unwrap_or}
 use Rattle.std.specs.Char.{is_ascii_digit}
@@ -12,35 +12,35 @@ use Rattle.serde_json.specs.Data.{Data}
 use Rattle.serde_json.specs.Find.{as_number, as_str, as_u64, get}
 
 -- a whole number: a JSON number without sign, fraction or exponent, below 2^64
-unfoldable pub whole_number : List ℕ → Data → Option ℕ
-whole_number name owner = option_and_then as_u64 (option_and_then as_number (get name owner))
+unfoldable pub integer_member : List ℕ → Data → Option ℕ
+integer_member name owner = option_and_then as_u64 (option_and_then as_number (get name owner))
 
--- a text
-unfoldable pub text : List ℕ → Data → Option (List ℕ)
-text name owner = option_and_then as_str (get name owner)
+-- a string_member
+unfoldable pub string_member : List ℕ → Data → Option (List ℕ)
+string_member name owner = option_and_then as_str (get name owner)
 
--- the text is a number below 2^64 in 1 to 20 decimal digits, of which the first may be zeros
+-- the string_member is a number below 2^64 in 1 to 20 decimal digits, of which the first may be zeros
 abbrev pub is_decimal : List ℕ → Bool
 is_decimal digits = nat_lt 0 (length digits) && nat_le (length digits) 20 && list_all is_ascii_digit digits
     && nat_lt (digits_value 10 digits) (2 ^ 64)
 
--- the number that such a text writes
+-- the number that such a string_member writes
 unfoldable pub decimal_of : List ℕ → Option ℕ
 decimal_of digits = if is_decimal digits then Some (digits_value 10 digits) else None
 
 -- a number in decimal digits: JSON has no numbers of 64 bits, so the format writes them as texts
-unfoldable pub decimal_text : List ℕ → Data → Option ℕ
-decimal_text name owner = option_and_then decimal_of (text name owner)
+unfoldable pub decimal_member : List ℕ → Data → Option ℕ
+decimal_member name owner = option_and_then decimal_of (string_member name owner)
 
 -- bytes, in the standard alphabet of base64 and with its padding (RFC 4648, section 4)
-unfoldable pub base64_text : List ℕ → Data → Option (List ℕ)
-base64_text name owner = option_and_then (decoded_of standard) (text name owner)
+unfoldable pub base64_member : List ℕ → Data → Option (List ℕ)
+base64_member name owner = option_and_then (decoded_of standard) (string_member name owner)
 
--- the text under this name is that one
+-- the string_member under this name is that one
 unfoldable pub is_named : List ℕ → List ℕ → Data → Bool
-is_named name expected owner = unwrap_or (option_map (bytes_eq expected) (text name owner)) false
+is_named name expected owner = unwrap_or (option_map (bytes_eq expected) (string_member name owner)) false
 
--- the member `type` is this text
+-- the member `type` is this string_member
 abbrev pub is_type : List ℕ → Data → Bool
 is_type expected owner = is_named (codes "type") expected owner
 
@@ -49,8 +49,8 @@ abbrev pub has : List ℕ → Data → Bool
 has name owner = is_some (get name owner)
 
 -- what is found in the member of this name
-abbrev pub within : {T : Type 0} → List ℕ → (Data → Option T) → Data → Option T
-within name find owner = option_and_then find (get name owner)
+abbrev pub in_member : {T : Type 0} → List ℕ → (Data → Option T) → Data → Option T
+in_member name find owner = option_and_then find (get name owner)
 
 -- the member of this name is there and passes the test
 abbrev pub passes : List ℕ → (Data → Bool) → Data → Bool

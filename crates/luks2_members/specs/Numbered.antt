@@ -3,14 +3,14 @@
 use Rattle.std.specs.Prelude.{ℕ, zero, suc, ◌||◌, not, Bool, false, List, Option, None, bytes_eq, codes, decimal}
 use Rattle.std.specs.Prelude.{nat_lt, if◌then◌else◌, option_map, unwrap_or}
 use Rattle.std.specs.Option.{option_or}
-use Rattle.luks_verdict.specs.Rule.{most_slots}
-use Rattle.luks2_members.specs.Member.{within}
+use Rattle.luks_verdict.specs.Rule.{max_slots}
+use Rattle.luks2_members.specs.Member.{in_member}
 use Rattle.serde_json.specs.Data.{Data, Members, no_members, member}
 use Rattle.serde_json.specs.Find.{as_object, get}
 
 -- what the object of these names, `keyslots` or `digests`, has for a number
-unfoldable pub numbered : List ℕ → Data → ℕ → Option Data
-numbered names tree number = if nat_lt number most_slots then within names (get (decimal number)) tree else None
+unfoldable pub object_numbered : List ℕ → Data → ℕ → Option Data
+object_numbered names tree number = if nat_lt number max_slots then in_member names (get (decimal number)) tree else None
 
 -- the name is that of a number below n
 unfoldable pub is_number_below : ℕ → List ℕ → Bool
@@ -23,10 +23,10 @@ any_name test no_members = false
 any_name test (member name value rest) = test name || any_name test rest
 
 -- a member of `keyslots` is passed over
-unfoldable pub passes_over : Data → Bool
-passes_over tree =
-    unwrap_or (option_map (any_name (λ name. not (is_number_below most_slots name)))
-    (within (codes "keyslots") as_object tree)) false
+unfoldable pub has_name_out_of_range : Data → Bool
+has_name_out_of_range tree =
+    unwrap_or (option_map (any_name (λ name. not (is_number_below max_slots name)))
+    (in_member (codes "keyslots") as_object tree)) false
 
 -- what is made of the lowest number below n of which something is made
 unfoldable pub lowest : {T : Type 0} → (ℕ → Option T) → ℕ → Option T

@@ -1,8 +1,8 @@
 //! What is said of a use of PBKDF2. Key slots and digests say it alike.
 
 ghost use Rattle.std.specs.Prelude.{◌≡◌, [], IfOk, unwrap_or};
-ghost use Rattle.luks2_members.specs.Derivation.{hash_in, iterations_in, salt_in};
-ghost use Rattle.luks2_members.specs.Member.{base64_text};
+ghost use Rattle.luks2_members.specs.Derivation.{hash_member, iterations_in, salt_in};
+ghost use Rattle.luks2_members.specs.Member.{base64_member};
 ghost use Rattle.serde_json.specs.View.{view as data_of};
 
 use crate::member::{base64_text, text, whole_number};
@@ -12,9 +12,9 @@ use serde_json::Value;
 use std::alloc::{AllocError, Global};
 
 /// The hash function that the object's member `hash` names, where it is known.
-#[tactic(auto, unfolding(crate::specs::Derivation::hash_in))]
+#[tactic(auto, unfolding(crate::specs::Derivation::hash_member))]
 pub fn hash_in(object: &Value) -> Option<Hash>
-    ensures { result ≡ hash_in (data_of object.now) }
+    ensures { result ≡ hash_member (data_of object.now) }
 {
     Hash::from_name(text(object, "hash")?)
 }
@@ -30,7 +30,7 @@ pub fn iterations_in(object: &Value) -> u64
 /// The bytes under this name in base64, or none where they are missing.
 pub fn bytes_in(alloc: Global, object: &Value, name: &str) -> Result<HeaderBytes, AllocError>
     ensures { IfOk result (λ bytes. bytes
-        ≡ unwrap_or (base64_text name.now (data_of object.now)) []) }
+        ≡ unwrap_or (base64_member name.now (data_of object.now)) []) }
 {
     match base64_text(alloc, object, name)? {
         Some(bytes) => HeaderBytes::new(alloc, bytes.as_slice()),

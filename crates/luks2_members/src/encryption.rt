@@ -1,14 +1,14 @@
 //! How sectors are encrypted.
 
 ghost use Rattle.std.specs.Prelude.{◌≡◌};
-ghost use Rattle.luks2_members.specs.Encryption.{is_length_for, mode_of};
+ghost use Rattle.luks2_members.specs.Encryption.{is_length_for, encryption_mode};
 
 use luks_cipher::Mode;
 
 /// The mode that a text names behind `aes-`, where it is a known one.
-#[tactic(auto, unfolding(crate::specs::Encryption::mode_of))]
+#[tactic(auto, unfolding(crate::specs::Encryption::encryption_mode))]
 pub fn mode_of(encryption: &str) -> Option<Mode>
-    ensures { result ≡ mode_of encryption.now }
+    ensures { result ≡ encryption_mode encryption.now }
 {
     Mode::from_name(encryption.strip_prefix("aes-")?)
 }

@@ -3,7 +3,7 @@
 ghost use Rattle.std.specs.Prelude.{◌≡◌, ◌++◌, [], IfOk, OnOk, List, ℕ, map, string_bytes};
 ghost use Rattle.std.specs.List.{cons_option};
 ghost use Rattle.luks2_members.specs.List.{all_items, any_item, has_texts, is_text, is_the_text};
-ghost use Rattle.luks2_members.specs.List.{lists, texts_among, texts_at};
+ghost use Rattle.luks2_members.specs.List.{array_contains, texts_among, texts_at};
 ghost use Rattle.serde_json.specs.Find.{as_str};
 ghost use Rattle.serde_json.specs.View.{items_view, view as data_of};
 
@@ -50,9 +50,9 @@ pub fn has_texts(object: &Value, name: &str) -> bool
 }
 
 /// There is a list under this name, and it has the text.
-#[tactic(auto, unfolding(crate::specs::List::lists))]
+#[tactic(auto, unfolding(crate::specs::List::array_contains))]
 pub fn lists(object: &Value, name: &str, text: &str) -> bool
-    ensures { result ≡ lists name.now text.now (data_of object.now) }
+    ensures { result ≡ array_contains name.now text.now (data_of object.now) }
 {
     let Some(list) = object.get(name) else {
         return false;

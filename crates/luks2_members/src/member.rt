@@ -4,8 +4,8 @@
 ghost use Rattle.std.specs.Prelude.{◌≡◌, List, ℕ, length, option_map, IfOk};
 ghost use Rattle.std.specs.Char.{is_ascii_digit};
 ghost use Rattle.std.specs.List.{list_all};
-ghost use Rattle.luks2_members.specs.Member.{base64_text, decimal_of, decimal_text, is_named};
-ghost use Rattle.luks2_members.specs.Member.{is_type, text as text_of, whole_number};
+ghost use Rattle.luks2_members.specs.Member.{base64_member, decimal_of, decimal_member, is_named};
+ghost use Rattle.luks2_members.specs.Member.{is_type, string_member as text_of, integer_member};
 ghost use Rattle.serde_json.specs.View.{view};
 
 use crate::encoded::{decoded, encoded_len};
@@ -13,15 +13,15 @@ use serde_json::Value;
 use std::alloc::{AllocError, Global};
 
 /// The whole number under this name.
-#[tactic(auto, unfolding(crate::specs::Member::whole_number))]
+#[tactic(auto, unfolding(crate::specs::Member::integer_member))]
 pub fn whole_number(object: &Value, name: &str) -> Option<u64>
-    ensures { result ≡ whole_number name.now (view object.now) }
+    ensures { result ≡ integer_member name.now (view object.now) }
 {
     object.get(name)?.as_u64()
 }
 
 /// The text under this name.
-#[tactic(auto, unfolding(crate::specs::Member::text))]
+#[tactic(auto, unfolding(crate::specs::Member::string_member))]
 pub fn text<'v>(object: &'v Value, name: &str) -> Option<&'v str>
     ensures { option_map (λ t. t.now) result ≡ text_of name.now (view object.now) }
 {
@@ -65,27 +65,27 @@ fn number_of(text: &str) -> Option<u64>
 }
 
 /// The number below 2^64 that the text under this name writes in 1 to 20 decimal digits.
-#[tactic(auto, unfolding(crate::specs::Member::decimal_text))]
+#[tactic(auto, unfolding(crate::specs::Member::decimal_member))]
 pub fn decimal_text(object: &Value, name: &str) -> Option<u64>
-    ensures { result ≡ decimal_text name.now (view object.now) }
+    ensures { result ≡ decimal_member name.now (view object.now) }
 {
     number_of(text(object, name)?)
 }
 
 /// How many bytes are under this name in base64. This takes no memory.
-#[tactic(auto, unfolding(crate::specs::Member::base64_text))]
+#[tactic(auto, unfolding(crate::specs::Member::base64_member))]
 pub fn base64_len(object: &Value, name: &str) -> Option<usize>
     ensures { result ≡ option_map (λ (bytes : List ℕ). length bytes)
-        (base64_text name.now (view object.now)) }
+        (base64_member name.now (view object.now)) }
 {
     encoded_len(text(object, name)?)
 }
 
 /// The bytes under this name in base64.
-#[tactic(auto, unfolding(crate::specs::Member::base64_text))]
+#[tactic(auto, unfolding(crate::specs::Member::base64_member))]
 pub fn base64_text(alloc: Global, object: &Value, name: &str) -> Result<Option<Vec<u8>>, AllocError>
     ensures { IfOk result (λ bytes. option_map (λ b. b.items) bytes
-        ≡ base64_text name.now (view object.now)) }
+        ≡ base64_member name.now (view object.now)) }
 {
     match text(object, name) {
         Some(text) => decoded(alloc, text),

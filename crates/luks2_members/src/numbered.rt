@@ -1,8 +1,8 @@
 //! Members under numbers.
 
 ghost use Rattle.std.specs.Prelude.{◌≡◌, bytes_eq, decimal, not, option_map, string_bytes};
-ghost use Rattle.luks_verdict.specs.Rule.{most_slots};
-ghost use Rattle.luks2_members.specs.Numbered.{any_name, is_number_below, numbered, passes_over};
+ghost use Rattle.luks_verdict.specs.Rule.{max_slots};
+ghost use Rattle.luks2_members.specs.Numbered.{any_name, is_number_below, object_numbered, has_name_out_of_range};
 ghost use Rattle.serde_json.specs.View.{members_view, view as data_of};
 
 use crate::tree::Metadata;
@@ -11,10 +11,10 @@ use luks_verdict::rule::MOST_SLOTS;
 use serde_json::{Map, Value};
 
 /// What the object of these names has for the number, which is below 32.
-#[tactic(auto, unfolding(crate::specs::Numbered::numbered))]
+#[tactic(auto, unfolding(crate::specs::Numbered::object_numbered))]
 pub fn numbered<'v>(tree: &'v Value, names: &str, number: u8) -> Option<&'v Value>
     ensures { option_map (λ value. data_of value.now) result
-        ≡ numbered names.now (data_of tree.now) number }
+        ≡ object_numbered names.now (data_of tree.now) number }
 {
     if number >= MOST_SLOTS {
         return None;
@@ -33,7 +33,7 @@ fn is_name(name: &str, number: u8) -> bool
 
 // The name is that of a number below 32.
 fn is_number(name: &str) -> bool
-    ensures { result ≡ is_number_below most_slots name.now }
+    ensures { result ≡ is_number_below max_slots name.now }
 {
     for number in 0..MOST_SLOTS {
         if is_name(name, number) {
@@ -45,7 +45,7 @@ fn is_number(name: &str) -> bool
 
 // A member has another name.
 fn any_other_name(members: &Map<String, Value>) -> bool
-    ensures { result ≡ any_name (λ name. not (is_number_below most_slots name))
+    ensures { result ≡ any_name (λ name. not (is_number_below max_slots name))
         (members_view members.now.entries) }
 {
     members.keys().any(|name| !is_number(name.as_str()))
@@ -53,9 +53,9 @@ fn any_other_name(members: &Map<String, Value>) -> bool
 
 /// Whether a member of `keyslots` is passed over, since its name is no number below 32. This takes
 /// no memory.
-#[tactic(auto, unfolding(crate::specs::Numbered::passes_over))]
+#[tactic(auto, unfolding(crate::specs::Numbered::has_name_out_of_range))]
 pub fn passes_over(metadata: &Metadata) -> bool
-    ensures { result ≡ passes_over metadata.now }
+    ensures { result ≡ has_name_out_of_range metadata.now }
 {
     let Some(keyslots) = metadata.tree().get("keyslots") else {
         return false;

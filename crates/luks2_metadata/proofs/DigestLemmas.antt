@@ -4,17 +4,17 @@ use Rattle.std.proofs.Common.{length}
 use Rattle.std.specs.Prelude.{◌&&◌, codes, if◌then◌else◌, is_some, option_and_then, option_map}
 use Rattle.luks_kdf.specs.declared.hash.Hash.{Hash}
 use Rattle.luks2_members.specs.List.{has_texts}
-use Rattle.luks2_members.specs.Member.{base64_text, is_type, whole_number}
+use Rattle.luks2_members.specs.Member.{base64_member, is_type, integer_member}
 use Rattle.std.proofs.lemmas.Bool.Decides.{nat_tests}
 use Rattle.luks_verdict.proofs.MadeLemmas.{digest_from-no, digest_from-some, digest_from-yes}
 use Rattle.luks_verdict.specs.Digest.{digest_from, digest_of}
-use Rattle.luks_verdict.specs.Rule.{is_beyond, is_digest, most_iterations, most_slots, usable_digest}
+use Rattle.luks_verdict.specs.Rule.{is_beyond, is_digest, most_iterations, max_slots, usable_digest}
 use Rattle.luks_verdict.specs.declared.digest.KeyDigest.{KeyDigest}
 use Rattle.luks2_members.proofs.NumberedLemmas.{lowest_found, lowest_made}
-use Rattle.luks2_members.specs.Numbered.{lowest, numbered}
+use Rattle.luks2_members.specs.Numbered.{lowest, object_numbered}
 use Rattle.luks2_metadata.specs.Digest2.{digest2_for, digest2_of, own_digest, own_digest_at, digest_parts2_of}
-use Rattle.luks2_metadata.specs.Digest2.{is_digest2, is_of_slot, iterations_of, value_in}
-use Rattle.luks2_members.specs.Derivation.{hash_in, iterations_in}
+use Rattle.luks2_metadata.specs.Digest2.{is_digest2, is_of_slot, iterations_of_digest, value_in}
+use Rattle.luks2_members.specs.Derivation.{hash_member, iterations_in}
 use Rattle.serde_json.specs.Data.{Data}
 
 -- one that lacks a member, or has one of a wrong kind
@@ -41,7 +41,7 @@ many_iterations digest is many =
 -- one whose numbers are in range
 pub in_range : (digest : Data) → is_digest2 digest ≡ true
     → is_digest (iterations_in digest) (length (value_in digest)) ≡ true
-    → option_map iterations_of (digest2_of digest) ≡ Some (iterations_in digest)
+    → option_map iterations_of_digest (digest2_of digest) ≡ Some (iterations_in digest)
 unfolding digest2_of digest_of
 in_range digest is held = rw (is, digest_from-yes (digest_parts2_of digest) held) refl
 
@@ -50,15 +50,15 @@ few_iterations iterations len is = (usable_digest iterations len is).few_iterati
 
 -- ---- the lowest one
 
-pub same_some : (o : Option KeyDigest) → is_some (option_map iterations_of o) ≡ is_some o
+pub same_some : (o : Option KeyDigest) → is_some (option_map iterations_of_digest o) ≡ is_some o
 same_some None = refl
 same_some (Some key) = refl
 
 pub iterations_found : (f : ℕ → Option KeyDigest) (n m : ℕ) → lowest f n ≡ None → n < m
-    → is_some (option_map iterations_of (f n)) ≡ true
-    → option_map iterations_of (lowest f m) ≡ option_map iterations_of (f n)
+    → is_some (option_map iterations_of_digest (f n)) ≡ true
+    → option_map iterations_of_digest (lowest f m) ≡ option_map iterations_of_digest (f n)
 iterations_found f n m none below is =
-    ap (option_map iterations_of) (lowest_found f n m none below (sym (same_some (f n)) ∙ is))
+    ap (option_map iterations_of_digest) (lowest_found f n m none below (sym (same_some (f n)) ∙ is))
 
 -- ---- the hash function of a usable digest is a known one
 
@@ -70,21 +70,21 @@ both : (a b : Bool) → (a && b) ≡ true → (a ≡ true) × (b ≡ true)
 both true b is = (refl, is)
 both false b is = absurd cc
 
-has_hash : (digest : Data) → is_digest2 digest ≡ true → (hash : Hash) × (hash_in digest ≡ Some hash)
+has_hash : (digest : Data) → is_digest2 digest ≡ true → (hash : Hash) × (hash_member digest ≡ Some hash)
 unfolding is_digest2
 has_hash digest is =
     let kind = is_type (codes "pbkdf2") digest in
     let keyslots = has_texts (codes "keyslots") digest in
     let segments = has_texts (codes "segments") digest in
-    let hash = is_some (hash_in digest) in
-    let iterations = is_some (whole_number (codes "iterations") digest) in
-    let salt = is_some (base64_text (codes "salt") digest) in
-    let value = is_some (base64_text (codes "digest") digest) in
+    let hash = is_some (hash_member digest) in
+    let iterations = is_some (integer_member (codes "iterations") digest) in
+    let salt = is_some (base64_member (codes "salt") digest) in
+    let value = is_some (base64_member (codes "digest") digest) in
     let first = both (kind && keyslots && segments && hash && iterations && salt) value is in
     let second = both (kind && keyslots && segments && hash && iterations) salt first.0 in
     let third = both (kind && keyslots && segments && hash) iterations second.0 in
     let fourth = both (kind && keyslots && segments) hash third.0 in
-    some_from_is_some (hash_in digest) fourth.1
+    some_from_is_some (hash_member digest) fourth.1
 
 of_usable : (digest : Data) (key : KeyDigest) (test : Bool) → is_digest2 digest ≡ test
     → (if test then digest_from (digest_parts2_of digest) else None) ≡ Some key
@@ -116,5 +116,5 @@ pub digest2_hash : (tree : Data) (number : ℕ) (key : KeyDigest) → digest2_fo
     → (hash : Hash) × (key.hash ≡ Some hash)
 unfolding digest2_for own_digest_at
 digest2_hash tree number key is =
-    let made = lowest_made (own_digest_at tree number) most_slots key is in
-    of_there number (numbered (codes "digests") tree made.0) key made.1
+    let made = lowest_made (own_digest_at tree number) max_slots key is in
+    of_there number (object_numbered (codes "digests") tree made.0) key made.1

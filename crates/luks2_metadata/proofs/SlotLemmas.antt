@@ -4,13 +4,13 @@ use Rattle.std.specs.Prelude.{◌&&◌, ◌||◌, nat_lt, not, codes, is_none, o
 use Rattle.std.proofs.lemmas.Bool.Decides.{nat_tests}
 use Rattle.std.proofs.lemmas.Bool.{ltb-false}
 use Rattle.std.proofs.lemmas.Option.{same_Some}
-use Rattle.luks_area.specs.Area.{longest_area}
+use Rattle.luks_area.specs.Area.{max_area_len}
 use Rattle.luks_cipher.specs.declared.mode.Mode.{Mode}
 use Rattle.luks_cipher.proofs.ModeLemmas.{longest_key}
 use Rattle.luks_verdict.specs.Digest.{is_undigested}
 use Rattle.luks_verdict.specs.Rule.{exceeds, is_beyond, is_in_range, is_misplaced, is_unstriped, most_iterations}
 use Rattle.luks_verdict.specs.Rule.{need_of}
-use Rattle.luks_verdict.specs.Slot.{are_in_range, end_of, judged, judgement_of, slot_of}
+use Rattle.luks_verdict.specs.Slot.{are_in_range, material_end, judged, judgement_of, slot_of}
 use Rattle.luks_verdict.proofs.MadeLemmas.{slot_from-yes}
 use Rattle.luks_verdict.specs.declared.refusal.SkipReason.{SkipReason}
 use Rattle.luks_verdict.specs.declared.digest.KeyDigest.{KeyDigest}
@@ -19,7 +19,7 @@ use Rattle.luks_verdict.specs.declared.slot.Verdict.TheVariants.{Usable}
 use Rattle.luks_verdict.specs.declared.slot.Judgement.TheVariants.{Usable as Open}
 use Rattle.luks_kdf.specs.declared.hash.Hash.{Hash}
 use Rattle.luks_cipher.specs.Sector.{is_mode_key_length}
-use Rattle.luks2_members.specs.Numbered.{numbered}
+use Rattle.luks2_members.specs.Numbered.{object_numbered}
 use Rattle.luks_verdict.proofs.TableLemmas.{none_holds}
 use Rattle.luks2_members.specs.Encryption.{is_length_for}
 use Rattle.luks2_members.specs.Member.{is_type}
@@ -28,8 +28,8 @@ use Rattle.luks2_segment.specs.declared.bounds.Bounds.{Bounds}
 use Rattle.luks2_segment.specs.Segment2.{payload2_of, payload_mode2_of}
 use Rattle.luks2_metadata.specs.Slot2.{slot_reasons, af_hash_of, are_key_sizes, area_key_size_of, area_mode_of}
 use Rattle.luks2_metadata.specs.Slot2.{area_offset_of, area_size_of, has_members, has_unknown_hash, is_kdf_type}
-use Rattle.luks2_metadata.specs.Slot2.{is_misplaced2, iterations_of, kdf_hash_of, key_size_of, priority_of, reason2_of}
-use Rattle.luks2_metadata.specs.Slot2.{slot2_at, slot2_of, slot_parts2_of, stripes_of, verdict2_at, verdict2_of}
+use Rattle.luks2_metadata.specs.Slot2.{is_misplaced2, iterations_of_slot, kdf_hash_of, key_size_of, priority_of, reason2_of}
+use Rattle.luks2_metadata.specs.Slot2.{slot2_at, slot2_of, slot_parts2_of, stripes_member, verdict2_at, verdict2_of}
 use Rattle.serde_json.specs.Data.{Data}
 
 -- ---- key lengths
@@ -69,8 +69,8 @@ pub record NoReason (tree : Data) (bounds : Bounds) (limit : Option ℕ) (number
   pub hash : has_unknown_hash slot ≡ false
   pub encryption : is_none (area_mode_of slot) ≡ false
   pub key_size : not (are_key_sizes (payload_mode2_of tree bounds) slot) ≡ false
-  pub stripes : is_unstriped (stripes_of slot) ≡ false
-  pub iterations : is_beyond limit (iterations_of slot) ≡ false
+  pub stripes : is_unstriped (stripes_member slot) ≡ false
+  pub iterations : is_beyond limit (iterations_of_slot slot) ≡ false
   pub area : is_misplaced2 bounds.end (payload2_of tree bounds) slot ≡ false
   pub digest : is_undigested limit (digest2_for tree number) ≡ false
 
@@ -130,7 +130,7 @@ no_reason_none tree bounds limit number slot none =
       none.encryption,
       none.key_size,
       none.stripes,
-      beyond_none limit (iterations_of slot) none.iterations,
+      beyond_none limit (iterations_of_slot slot) none.iterations,
       none.area,
       undigested_none limit (digest2_for tree number) none.digest,
     ) refl
@@ -157,8 +157,8 @@ judged_usable tree bounds limit number slot none =
 
 -- the lengths of its keys, its stripes and its iterations fit into four bytes
 pub record IsSmall (slot : Data) : Type 0 where
-  pub iterations : iterations_of slot ≤ most_iterations
-  pub stripes : stripes_of slot ≤ 4000
+  pub iterations : iterations_of_slot slot ≤ most_iterations
+  pub stripes : stripes_member slot ≤ 4000
   pub key : key_size_of slot ≤ 64
   pub area_key : area_key_size_of slot ≤ 64
 
@@ -173,8 +173,8 @@ small_of tree bounds number slot none =
     let keys = key_sizes_few (payload_mode2_of tree bounds) slot
     (not_not (are_key_sizes (payload_mode2_of tree bounds) slot) no.key_size) in
     record {
-      iterations = iterations_few None (iterations_of slot) no.iterations;
-      stripes = stripes_few (stripes_of slot) no.stripes;
+      iterations = iterations_few None (iterations_of_slot slot) no.iterations;
+      stripes = stripes_few (stripes_member slot) no.stripes;
       key = keys.1;
       area_key = keys.0;
     }
@@ -190,7 +190,7 @@ pub record IsOf2 (tree : Data) (bounds : Bounds) (number : ℕ) (usable : Slot) 
       × (is_mode_key_length mode usable.parts.area_key_bytes ≡ true)
   pub volume_key : is_length_for (payload_mode2_of tree bounds) usable.parts.key_bytes ≡ true
   pub behind_header : bounds.end ≤ usable.parts.area_offset
-  pub before_payload : exceeds (payload2_of tree bounds) (end_of usable) ≡ false
+  pub before_payload : exceeds (payload2_of tree bounds) (material_end usable) ≡ false
   pub digest : (digest : KeyDigest) × (digest2_for tree number ≡ Some digest)
 
 some_from_not_none : {T : Type 0} (o : Option T) → is_none o ≡ false → (x : T) × (o ≡ Some x)
@@ -219,7 +219,7 @@ placed : (start : ℕ) (payload : Option ℕ) (offset size need : ℕ) → is_mi
 unfolding is_misplaced
 placed start payload offset size need is =
     let past = neither (nat_lt offset start || nat_lt size need || exceeds payload (offset + need))
-    (nat_lt longest_area (offset + need)) is in
+    (nat_lt max_area_len (offset + need)) is in
     let before = neither (nat_lt offset start || nat_lt size need) (exceeds payload (offset + need)) past.0 in
     let room = neither (nat_lt offset start) (nat_lt size need) before.0 in
     (ltb-false offset start room.0, before.1)
@@ -249,7 +249,7 @@ usable_is tree bounds limit number slot usable is =
     let hashes = known_hashes slot no.hash in
     let sizes = both _ _ (not_not _ no.key_size) in
     let place = placed bounds.end (payload2_of tree bounds) (area_offset_of slot) (area_size_of slot)
-    (need_of (key_size_of slot) (stripes_of slot)) no.area in
+    (need_of (key_size_of slot) (stripes_member slot)) no.area in
     let known : IsOf2 tree bounds number (slot_of (slot_parts2_of slot) there.0) = record {
       kdf = hashes.0;
       af = hashes.1;
@@ -266,7 +266,7 @@ pub usable2_at : (tree : Data) (bounds : Bounds) (limit : Option ℕ) (number : 
     → verdict2_at tree bounds limit number ≡ Some (Usable usable)
     → IsOf2 tree bounds number usable × (slot2_at tree bounds number ≡ Some usable)
 unfolding verdict2_at slot2_at
-usable2_at tree bounds limit number usable is = of_slot (numbered (codes "keyslots") tree number) is
+usable2_at tree bounds limit number usable is = of_slot (object_numbered (codes "keyslots") tree number) is
   where
     of_slot : (slot : Option Data) → option_map (verdict2_of tree bounds limit number) slot ≡ Some (Usable usable)
         → IsOf2 tree bounds number usable × (option_and_then (slot2_of tree bounds number) slot ≡ Some usable)

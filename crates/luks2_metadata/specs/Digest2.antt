@@ -2,20 +2,20 @@
 use Rattle.std.specs.Prelude.{ℕ, ◌&&◌, Bool, List, [], Option, None, codes, decimal, is_some, if◌then◌else◌}
 use Rattle.std.specs.Prelude.{option_and_then, option_map, unwrap_or}
 use Rattle.luks_verdict.specs.Digest.{digest_from}
-use Rattle.luks_verdict.specs.Rule.{most_slots}
-use Rattle.luks_verdict.specs.Table.{rising}
+use Rattle.luks_verdict.specs.Rule.{max_slots}
+use Rattle.luks_verdict.specs.Table.{ascending}
 use Rattle.luks_verdict.specs.declared.digest.DigestParts.{DigestParts}
 use Rattle.luks_verdict.specs.declared.digest.KeyDigest.{KeyDigest}
-use Rattle.luks2_members.specs.Derivation.{hash_in, iterations_in, salt_in}
-use Rattle.luks2_members.specs.List.{has_texts, lists, texts_at}
-use Rattle.luks2_members.specs.Member.{base64_text, is_type, whole_number}
-use Rattle.luks2_members.specs.Numbered.{lowest, numbered}
+use Rattle.luks2_members.specs.Derivation.{hash_member, iterations_in, salt_in}
+use Rattle.luks2_members.specs.List.{has_texts, array_contains, texts_at}
+use Rattle.luks2_members.specs.Member.{base64_member, is_type, integer_member}
+use Rattle.luks2_members.specs.Numbered.{lowest, object_numbered}
 use Rattle.luks2_metadata.specs.declared.digest.Digest.{Digest}
 use Rattle.serde_json.specs.Data.{Data}
 
 -- the value of a digest (no bytes where it is missing)
 unfoldable pub value_in : Data → List ℕ
-value_in digest = unwrap_or (base64_text (codes "digest") digest) []
+value_in digest = unwrap_or (base64_member (codes "digest") digest) []
 
 -- each member of a digest is there, in its kind, and its hash function is known
 unfoldable pub is_digest2 : Data → Bool
@@ -23,15 +23,15 @@ is_digest2 digest =
     is_type (codes "pbkdf2") digest
     && has_texts (codes "keyslots") digest
     && has_texts (codes "segments") digest
-    && is_some (hash_in digest)
-    && is_some (whole_number (codes "iterations") digest)
-    && is_some (base64_text (codes "salt") digest)
-    && is_some (base64_text (codes "digest") digest)
+    && is_some (hash_member digest)
+    && is_some (integer_member (codes "iterations") digest)
+    && is_some (base64_member (codes "salt") digest)
+    && is_some (base64_member (codes "digest") digest)
 
 -- what is said of a digest
 abbrev pub digest_parts2_of : Data → DigestParts
 digest_parts2_of digest = record {
-  hash = hash_in digest;
+  hash = hash_member digest;
   iterations = iterations_in digest;
   salt = salt_in digest;
   value = value_in digest;
@@ -41,10 +41,10 @@ digest_parts2_of digest = record {
 unfoldable pub digest2_of : Data → Option KeyDigest
 digest2_of digest = if is_digest2 digest then digest_from (digest_parts2_of digest) else None
 
--- the digest lists the key slot of this number, and the segment
+-- the digest array_contains the key slot of this number, and the segment
 unfoldable pub is_of_slot : ℕ → Data → Bool
 is_of_slot number digest =
-    lists (codes "keyslots") (decimal number) digest && lists (codes "segments") (codes "0") digest
+    array_contains (codes "keyslots") (decimal number) digest && array_contains (codes "segments") (codes "0") digest
 
 -- the digest, where it is usable and is of the key slot of this number: its own
 unfoldable pub own_digest : ℕ → Data → Option KeyDigest
@@ -52,17 +52,17 @@ own_digest number digest = if is_of_slot number digest then digest2_of digest el
 
 -- the digest of number n, where it is usable and is of the key slot of this number: its own
 unfoldable pub own_digest_at : Data → ℕ → ℕ → Option KeyDigest
-own_digest_at tree number n = option_and_then (own_digest number) (numbered (codes "digests") tree n)
+own_digest_at tree number n = option_and_then (own_digest number) (object_numbered (codes "digests") tree n)
 
 -- the digest that the key slot of this number is opened against: the usable one of it with the lowest number
 unfoldable pub digest2_for : Data → ℕ → Option KeyDigest
-digest2_for tree number = lowest (own_digest_at tree number) most_slots
+digest2_for tree number = lowest (own_digest_at tree number) max_slots
 
 -- its iterations
-abbrev pub iterations_of : KeyDigest → ℕ
-iterations_of key = key.iterations
+abbrev pub iterations_of_digest : KeyDigest → ℕ
+iterations_of_digest key = key.iterations
 
--- a digest as dumps tell it, where it is usable: with the names that it lists
+-- a digest as dumps tell it, where it is usable: with the names that it array_contains
 unfoldable pub listed_of : Data → Option Digest
 listed_of digest =
     option_map (λ key. record {
@@ -73,8 +73,8 @@ listed_of digest =
 
 -- the digest of number n beside its number, where there is one
 abbrev pub digest2_numbered : Data → ℕ → Option (ℕ × Option Digest)
-digest2_numbered tree n = option_map (λ digest. (n, listed_of digest)) (numbered (codes "digests") tree n)
+digest2_numbered tree n = option_map (λ digest. (n, listed_of digest)) (object_numbered (codes "digests") tree n)
 
--- the digests by rising number
+-- the digests by ascending number
 unfoldable pub digests2_of : Data → List (ℕ × Option Digest)
-digests2_of tree = rising (digest2_numbered tree) most_slots
+digests2_of tree = ascending (digest2_numbered tree) max_slots

@@ -6,7 +6,7 @@ use Rattle.luks_kdf.specs.declared.hash.Hash.{Hash}
 use Rattle.luks_verdict.specs.Digest.{is_undigested}
 use Rattle.luks_verdict.specs.Rule.{is_beyond, is_misplaced, is_unstriped, need_of}
 use Rattle.luks_verdict.specs.Slot.{judged, slot_from}
-use Rattle.luks_verdict.specs.Table.{first_holding}
+use Rattle.luks_verdict.specs.Table.{first_match}
 use Rattle.luks_verdict.specs.declared.refusal.SkipReason.{SkipReason}
 use Rattle.luks_verdict.specs.declared.refusal.SkipReason.TheVariants.{Kind, Member, Argon2i, Argon2id, Kdf}
 use Rattle.luks_verdict.specs.declared.refusal.SkipReason.TheVariants.{Hash as UnknownHash, Encryption, KeySize}
@@ -14,11 +14,11 @@ use Rattle.luks_verdict.specs.declared.refusal.SkipReason.TheVariants.{Stripes, 
 use Rattle.luks_verdict.specs.declared.slot.Slot.{Slot}
 use Rattle.luks_verdict.specs.declared.slot.SlotParts.{SlotParts}
 use Rattle.luks_verdict.specs.declared.slot.Verdict.{Verdict}
-use Rattle.luks2_members.specs.Member.{base64_text, decimal_text, is_type, passes, text, whole_number, within}
-use Rattle.luks2_members.specs.Derivation.{hash_in, iterations_in, salt_in}
+use Rattle.luks2_members.specs.Member.{base64_member, decimal_member, is_type, passes, string_member, integer_member, in_member}
+use Rattle.luks2_members.specs.Derivation.{hash_member, iterations_in, salt_in}
 use Rattle.luks2_metadata.specs.Digest2.{digest2_for}
-use Rattle.luks2_members.specs.Encryption.{is_length_for, mode_of}
-use Rattle.luks2_members.specs.Numbered.{numbered}
+use Rattle.luks2_members.specs.Encryption.{is_length_for, encryption_mode}
+use Rattle.luks2_members.specs.Numbered.{object_numbered}
 use Rattle.luks2_segment.specs.declared.bounds.Bounds.{Bounds}
 use Rattle.luks2_segment.specs.Segment2.{payload2_of, payload_mode2_of}
 use Rattle.serde_json.specs.Data.{Data}
@@ -30,7 +30,7 @@ use Rattle.serde_json.specs.Find.{get}
 abbrev pub priority_said : Option Data → Data → Option ℕ
 priority_said None slot = Some 1
 priority_said (Some _) slot =
-    option_and_then (λ n. if nat_le n 2 then Some n else None) (whole_number (codes "priority") slot)
+    option_and_then (λ n. if nat_le n 2 then Some n else None) (integer_member (codes "priority") slot)
 
 unfoldable pub priority_of : Data → Option ℕ
 priority_of slot = priority_said (get (codes "priority") slot) slot
@@ -39,32 +39,32 @@ priority_of slot = priority_said (get (codes "priority") slot) slot
 unfoldable pub is_af : Data → Bool
 is_af af =
     is_type (codes "luks1") af
-    && is_some (whole_number (codes "stripes") af)
-    && is_some (text (codes "hash") af)
+    && is_some (integer_member (codes "stripes") af)
+    && is_some (string_member (codes "hash") af)
 
 -- where the key material lies, and how it is encrypted
 unfoldable pub is_area : Data → Bool
 is_area area =
     is_type (codes "raw") area
-    && is_some (decimal_text (codes "offset") area)
-    && is_some (decimal_text (codes "size") area)
-    && is_some (text (codes "encryption") area)
-    && is_some (whole_number (codes "key_size") area)
+    && is_some (decimal_member (codes "offset") area)
+    && is_some (decimal_member (codes "size") area)
+    && is_some (string_member (codes "encryption") area)
+    && is_some (integer_member (codes "key_size") area)
 
 -- how the key material's key comes of a passphrase. Members are known of PBKDF2 alone
 unfoldable pub is_pbkdf2 : Data → Bool
 is_pbkdf2 kdf =
-    is_some (text (codes "hash") kdf)
-    && is_some (whole_number (codes "iterations") kdf)
-    && is_some (base64_text (codes "salt") kdf)
+    is_some (string_member (codes "hash") kdf)
+    && is_some (integer_member (codes "iterations") kdf)
+    && is_some (base64_member (codes "salt") kdf)
 
 unfoldable pub is_kdf : Data → Bool
-is_kdf kdf = is_some (text (codes "type") kdf) && (not (is_type (codes "pbkdf2") kdf) || is_pbkdf2 kdf)
+is_kdf kdf = is_some (string_member (codes "type") kdf) && (not (is_type (codes "pbkdf2") kdf) || is_pbkdf2 kdf)
 
 -- each member of a key slot is there, in its kind
 unfoldable pub has_members : Data → Bool
 has_members slot =
-    is_some (whole_number (codes "key_size") slot)
+    is_some (integer_member (codes "key_size") slot)
     && is_some (priority_of slot)
     && passes (codes "af") is_af slot
     && passes (codes "area") is_area slot
@@ -77,37 +77,37 @@ abbrev pub is_kdf_type : List ℕ → Data → Bool
 is_kdf_type type slot = passes (codes "kdf") (is_type type) slot
 
 abbrev pub kdf_hash_of : Data → Option Hash
-kdf_hash_of slot = within (codes "kdf") hash_in slot
+kdf_hash_of slot = in_member (codes "kdf") hash_member slot
 
-abbrev pub iterations_of : Data → ℕ
-iterations_of slot = unwrap_or (option_map iterations_in (get (codes "kdf") slot)) 0
+abbrev pub iterations_of_slot : Data → ℕ
+iterations_of_slot slot = unwrap_or (option_map iterations_in (get (codes "kdf") slot)) 0
 
 abbrev pub salt_of : Data → List ℕ
 salt_of slot = unwrap_or (option_map salt_in (get (codes "kdf") slot)) []
 
 abbrev pub af_hash_of : Data → Option Hash
-af_hash_of slot = within (codes "af") hash_in slot
+af_hash_of slot = in_member (codes "af") hash_member slot
 
-abbrev pub stripes_of : Data → ℕ
-stripes_of slot = unwrap_or (within (codes "af") (whole_number (codes "stripes")) slot) 0
+abbrev pub stripes_member : Data → ℕ
+stripes_member slot = unwrap_or (in_member (codes "af") (integer_member (codes "stripes")) slot) 0
 
 -- the length in bytes of the volume key
 abbrev pub key_size_of : Data → ℕ
-key_size_of slot = unwrap_or (whole_number (codes "key_size") slot) 0
+key_size_of slot = unwrap_or (integer_member (codes "key_size") slot) 0
 
 -- the length in bytes of the key material's key
 abbrev pub area_key_size_of : Data → ℕ
-area_key_size_of slot = unwrap_or (within (codes "area") (whole_number (codes "key_size")) slot) 0
+area_key_size_of slot = unwrap_or (in_member (codes "area") (integer_member (codes "key_size")) slot) 0
 
 -- the mode in which the key material is encrypted by AES
 abbrev pub area_mode_of : Data → Option Mode
-area_mode_of slot = option_and_then mode_of (within (codes "area") (text (codes "encryption")) slot)
+area_mode_of slot = option_and_then encryption_mode (in_member (codes "area") (string_member (codes "encryption")) slot)
 
 abbrev pub area_offset_of : Data → ℕ
-area_offset_of slot = unwrap_or (within (codes "area") (decimal_text (codes "offset")) slot) 0
+area_offset_of slot = unwrap_or (in_member (codes "area") (decimal_member (codes "offset")) slot) 0
 
 abbrev pub area_size_of : Data → ℕ
-area_size_of slot = unwrap_or (within (codes "area") (decimal_text (codes "size")) slot) 0
+area_size_of slot = unwrap_or (in_member (codes "area") (decimal_member (codes "size")) slot) 0
 
 -- ---- the table of reasons
 
@@ -124,7 +124,7 @@ are_key_sizes payload_mode slot =
 -- the key material does not fit
 unfoldable pub is_misplaced2 : ℕ → Option ℕ → Data → Bool
 is_misplaced2 end payload slot =
-    is_misplaced end payload (area_offset_of slot) (area_size_of slot) (need_of (key_size_of slot) (stripes_of slot))
+    is_misplaced end payload (area_offset_of slot) (area_size_of slot) (need_of (key_size_of slot) (stripes_member slot))
 
 -- the reasons to skip the slot of this number, in a header with these bounds
 abbrev pub slot_reasons : Data → Bounds → Option ℕ → ℕ → Data → List (Bool × SkipReason)
@@ -137,15 +137,15 @@ slot_reasons tree bounds limit number slot =
     ∷ (has_unknown_hash slot, UnknownHash)
     ∷ (is_none (area_mode_of slot), Encryption)
     ∷ (not (are_key_sizes (payload_mode2_of tree bounds) slot), KeySize)
-    ∷ (is_unstriped (stripes_of slot), Stripes)
-    ∷ (is_beyond limit (iterations_of slot), Iterations)
+    ∷ (is_unstriped (stripes_member slot), Stripes)
+    ∷ (is_beyond limit (iterations_of_slot slot), Iterations)
     ∷ (is_misplaced2 bounds.end (payload2_of tree bounds) slot, Area)
     ∷ (is_undigested limit (digest2_for tree number), Digest)
     ∷ []
 
 -- the first of them that holds
 unfoldable pub reason2_of : Data → Bounds → Option ℕ → ℕ → Data → Option SkipReason
-reason2_of tree bounds limit number slot = first_holding (slot_reasons tree bounds limit number slot)
+reason2_of tree bounds limit number slot = first_match (slot_reasons tree bounds limit number slot)
 
 -- ---- verdicts
 
@@ -154,10 +154,10 @@ unfoldable pub slot_parts2_of : Data → SlotParts
 slot_parts2_of slot = record {
   priority = unwrap_or (priority_of slot) 0;
   kdf_hash = kdf_hash_of slot;
-  iterations = iterations_of slot;
+  iterations = iterations_of_slot slot;
   salt = salt_of slot;
   af_hash = af_hash_of slot;
-  stripes = stripes_of slot;
+  stripes = stripes_member slot;
   key_bytes = key_size_of slot;
   area_key_bytes = area_key_size_of slot;
   area_offset = area_offset_of slot;
@@ -178,8 +178,8 @@ verdict2_of tree bounds limit number slot =
 -- what becomes of the key slot of this number, where there is one
 unfoldable pub verdict2_at : Data → Bounds → Option ℕ → ℕ → Option Verdict
 verdict2_at tree bounds limit number =
-    option_map (verdict2_of tree bounds limit number) (numbered (codes "keyslots") tree number)
+    option_map (verdict2_of tree bounds limit number) (object_numbered (codes "keyslots") tree number)
 
 -- what it takes to open it
 unfoldable pub slot2_at : Data → Bounds → ℕ → Option Slot
-slot2_at tree bounds number = option_and_then (slot2_of tree bounds number) (numbered (codes "keyslots") tree number)
+slot2_at tree bounds number = option_and_then (slot2_of tree bounds number) (object_numbered (codes "keyslots") tree number)

@@ -1,10 +1,10 @@
 //! The digests of a header, by which its volume key is known.
 
 ghost use Rattle.std.specs.Prelude.{◌≡◌, ◌≤◌, [], IfOk, length, option_map, unwrap_or, vec_len};
-ghost use Rattle.luks_verdict.specs.Rule.{most_slots};
+ghost use Rattle.luks_verdict.specs.Rule.{max_slots};
 ghost use Rattle.luks2_metadata.specs.Digest2.{own_digest_at, digest2_for, digest2_numbered};
 ghost use Rattle.luks2_metadata.specs.Digest2.{digest2_of, digests2_of, is_digest2, is_of_slot};
-ghost use Rattle.luks2_metadata.specs.Digest2.{iterations_of, listed_of, value_in};
+ghost use Rattle.luks2_metadata.specs.Digest2.{iterations_of_digest, listed_of, value_in};
 ghost use Rattle.serde_json.specs.View.{view as data_of};
 
 use itoa::Buffer;
@@ -92,7 +92,7 @@ fn usable(alloc: Global, digest: &Value) -> Result<Option<KeyDigest>, AllocError
 
 // The iterations of the digest, where it is usable.
 fn usable_iterations(digest: &Value) -> Option<u32>
-    ensures { result ≡ option_map iterations_of (digest2_of (data_of digest.now)) }
+    ensures { result ≡ option_map iterations_of_digest (digest2_of (data_of digest.now)) }
 {
     if !is_digest(digest) {
         return None;
@@ -124,7 +124,7 @@ fn of_slot_at(
 #[tactic(auto, unfolding(crate::specs::Digest2::own_digest, crate::specs::Digest2::own_digest_at))]
 fn iterations_of_slot_at(tree: &Value, slot: u8, number: u8) -> Option<u32>
     ensures { result
-        ≡ option_map iterations_of (own_digest_at (data_of tree.now) slot number) }
+        ≡ option_map iterations_of_digest (own_digest_at (data_of tree.now) slot number) }
 {
     match numbered(tree, "digests", number) {
         Some(digest) if is_of_slot(digest, slot) => usable_iterations(digest),
@@ -152,7 +152,7 @@ pub fn digest_for(
 
 /// The iterations of that digest. This takes no memory.
 pub(crate) fn iterations_for(tree: &Value, number: u8) -> Option<u32>
-    ensures { result ≡ option_map iterations_of (digest2_for (data_of tree.now) number) }
+    ensures { result ≡ option_map iterations_of_digest (digest2_for (data_of tree.now) number) }
 {
     for digest in 0..MOST_SLOTS {
         let found = iterations_of_slot_at(tree, number, digest);
@@ -196,7 +196,7 @@ fn numbered_digest(
 /// usable.
 pub fn digests(alloc: Global, metadata: &Metadata) -> Result<Vec<(u8, Option<Digest>)>, AllocError>
     ensures value { IfOk result (λ digests. digests.items ≡ digests2_of metadata.now) }
-    ensures few { IfOk result (λ digests. vec_len digests ≤ most_slots) }
+    ensures few { IfOk result (λ digests. vec_len digests ≤ max_slots) }
 {
     let mut digests = Vec::new(alloc);
     for number in 0..MOST_SLOTS {

@@ -8,9 +8,9 @@ ghost use Rattle.luks2_metadata.specs.Digest2.{digest2_for};
 ghost use Rattle.luks2_metadata.specs.Slot2.{af_hash_of, are_key_sizes, area_key_size_of};
 ghost use Rattle.luks2_metadata.specs.Slot2.{area_mode_of, area_offset_of, area_size_of};
 ghost use Rattle.luks2_metadata.specs.Slot2.{has_unknown_hash, is_kdf_type, is_misplaced2};
-ghost use Rattle.luks2_metadata.specs.Slot2.{iterations_of, kdf_hash_of, key_size_of, reason2_of};
+ghost use Rattle.luks2_metadata.specs.Slot2.{iterations_of_slot, kdf_hash_of, key_size_of, reason2_of};
 ghost use Rattle.luks2_metadata.specs.Slot2.{salt_of, slot2_at, slot2_of, slot_parts2_of};
-ghost use Rattle.luks2_metadata.specs.Slot2.{stripes_of, verdict2_at, verdict2_of};
+ghost use Rattle.luks2_metadata.specs.Slot2.{stripes_member, verdict2_at, verdict2_of};
 ghost use Rattle.serde_json.specs.View.{view as data_of};
 
 mod members;
@@ -52,7 +52,7 @@ fn kdf_hash(slot: &Value) -> Option<Hash>
 
 // The iterations by which it does, or 0 where they are missing.
 fn iterations(slot: &Value) -> u64
-    ensures { result ≡ iterations_of (data_of slot.now) }
+    ensures { result ≡ iterations_of_slot (data_of slot.now) }
 {
     match slot.get("kdf") {
         Some(kdf) => iterations_in(kdf),
@@ -79,7 +79,7 @@ fn af_hash(slot: &Value) -> Option<Hash>
 
 // How many stripes the key material has, or 0 where that is missing.
 fn stripes(slot: &Value) -> u64
-    ensures { result ≡ stripes_of (data_of slot.now) }
+    ensures { result ≡ stripes_member (data_of slot.now) }
 {
     match slot.get("af") {
         Some(af) => whole_number(af, "stripes").unwrap_or(0),
@@ -152,7 +152,7 @@ fn are_key_sizes(payload_mode: Option<Mode>, slot: &Value) -> bool
 #[tactic(auto, unfolding(crate::specs::Slot2::is_misplaced2))]
 fn is_misplaced(header_end: u64, payload: Option<u64>, slot: &Value) -> bool
     requires short { key_size_of (data_of slot.now) ≤ 64 }
-    requires few { stripes_of (data_of slot.now) ≤ 4000 }
+    requires few { stripes_member (data_of slot.now) ≤ 4000 }
     ensures { result ≡ is_misplaced2 header_end payload (data_of slot.now) }
 {
     let need = need(key_size(slot) as u32, stripes(slot) as u32);
@@ -253,8 +253,8 @@ pub fn judge(
 // What is said of a slot.
 #[tactic(auto, unfolding(crate::specs::Slot2::slot_parts2_of))]
 fn parts(alloc: Global, slot: &Value) -> Result<SlotParts, AllocError>
-    requires iterations { iterations_of (data_of slot.now) ≤ most_iterations }
-    requires stripes { stripes_of (data_of slot.now) ≤ 4000 }
+    requires iterations { iterations_of_slot (data_of slot.now) ≤ most_iterations }
+    requires stripes { stripes_member (data_of slot.now) ≤ 4000 }
     requires key { key_size_of (data_of slot.now) ≤ 64 }
     requires area_key { area_key_size_of (data_of slot.now) ≤ 64 }
     ensures { IfOk result (λ parts. parts ≡ slot_parts2_of (data_of slot.now)) }

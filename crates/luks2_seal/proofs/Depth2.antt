@@ -11,9 +11,9 @@ use Rattle.serde_json.specs.Read.{read}
 use Rattle.serde_json.specs.View.{items_of}
 use Rattle.luks_seal.specs.declared.parameters.Seal2.{Seal2}
 use Rattle.luks_seal.specs.declared.parameters.Slot2.{Slot2}
-use Rattle.luks2_seal.specs.Metadata2.{ReadsBack, af_object, area_object, config_object, decimal_text, digest_object}
+use Rattle.luks2_seal.specs.Metadata2.{ReadsBack, af_object, area_object, config_object, decimal_value, digest_object}
 use Rattle.luks2_seal.specs.Metadata2.{json_of, kdf_object, keyslot_object, keyslots_below, metadata_of, names_below}
-use Rattle.luks2_seal.specs.Metadata2.{segment_object, size_text}
+use Rattle.luks2_seal.specs.Metadata2.{segment_object, size_value}
 use Rattle.luks2_seal.specs.Numbered.{slot_numbered}
 
 -- a member more
@@ -47,12 +47,12 @@ keyslots_depth p (suc n) =
 
 -- a list of texts
 texts_depth : (ds : List Data) (n : ℕ) → items_depth (items_of ds) ≤ 0
-    → items_depth (items_of (ds ++ decimal_text n ∷ [])) ≤ 0
+    → items_depth (items_of (ds ++ decimal_value n ∷ [])) ≤ 0
 texts_depth [] n of_ds = omega arith
 texts_depth (d ∷ ds) n of_ds = omega (arith, texts_depth ds n (omega arith))
 
 name_depth : (n : ℕ) (ds : List Data) (found : Option Slot2) → items_depth (items_of ds) ≤ 0
-    → items_depth (items_of (option_map_or (λ slot. ds ++ decimal_text n ∷ []) found ds)) ≤ 0
+    → items_depth (items_of (option_map_or (λ slot. ds ++ decimal_value n ∷ []) found ds)) ≤ 0
 name_depth n ds None of_ds = of_ds
 name_depth n ds (Some slot) of_ds = texts_depth ds n of_ds
 
@@ -61,7 +61,7 @@ unfolding names_below
 names_depth p zero = omega arith
 names_depth p (suc n) = name_depth n (names_below p n) (slot_numbered n p.slots.now) (names_depth p n)
 
-size_depth : (fixed : Bool) (len : ℕ) → depth (size_text fixed len) ≡ 0
+size_depth : (fixed : Bool) (len : ℕ) → depth (size_value fixed len) ≡ 0
 size_depth true len = refl
 size_depth false len = refl
 

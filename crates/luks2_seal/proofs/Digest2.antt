@@ -3,7 +3,7 @@ use Rattle.std.proofs.Common.{◌≡◌, ◌∙◌, ◌<◌, ◌≤◌, ◌^◌,
 use Rattle.std.specs.Prelude.{codes}
 use Rattle.std.proofs.lemmas.Bool.Decides.{nat_tests}
 use Rattle.std.proofs.lemmas.Fmt.{decimal_digit}
-use Rattle.luks_kdf.specs.Hash.{size_of}
+use Rattle.luks_kdf.specs.Hash.{digest_len}
 use Rattle.luks_kdf.specs.Pbkdf2.{derived_key}
 use Rattle.luks_kdf.proofs.HashLemmas.{sizes}
 use Rattle.luks_kdf.proofs.Pbkdf2Lemmas.{length-derived_key}
@@ -12,10 +12,10 @@ use Rattle.luks_verdict.specs.Rule.{is_beyond, is_digest}
 use Rattle.luks_verdict.specs.declared.digest.DigestParts.{DigestParts}
 use Rattle.luks_verdict.specs.declared.digest.KeyDigest.{KeyDigest}
 use Rattle.luks_verdict.proofs.MadeLemmas.{digest_from-yes}
-use Rattle.luks2_members.specs.Derivation.{hash_in, iterations_in, salt_in}
-use Rattle.luks2_members.specs.List.{has_texts, lists}
-use Rattle.luks2_members.specs.Member.{base64_text, is_named, text, whole_number}
-use Rattle.luks2_members.specs.Numbered.{numbered}
+use Rattle.luks2_members.specs.Derivation.{hash_member, iterations_in, salt_in}
+use Rattle.luks2_members.specs.List.{has_texts, array_contains}
+use Rattle.luks2_members.specs.Member.{base64_member, is_named, string_member, integer_member}
+use Rattle.luks2_members.specs.Numbered.{object_numbered}
 use Rattle.luks2_members.proofs.NumberedLemmas.{lowest_found, lowest_none}
 use Rattle.luks2_metadata.specs.Digest2.{digest2_for, digest2_of, digest_parts2_of, is_digest2, is_of_slot, own_digest}
 use Rattle.luks2_metadata.specs.Digest2.{own_digest_at, value_in}
@@ -36,7 +36,7 @@ digest_parts p = record {
   hash = Some p.digest_hash;
   iterations = p.digest_iterations;
   salt = p.digest_salt;
-  value = derived_key p.digest_hash p.key.now p.digest_salt p.digest_iterations (size_of p.digest_hash);
+  value = derived_key p.digest_hash p.key.now p.digest_salt p.digest_iterations (digest_len p.digest_hash);
 }
 
 in_range : (iterations len : ℕ) → 1 ≤ iterations → iterations < 2 ^ 32 → 20 ≤ len → len ≤ 64
@@ -47,38 +47,38 @@ in_range iterations len some few least most = grind (arith, nat_tests)
 module _ (p : Seal2) (fits : AreParameters2 p) (typed : AreTyped2 p) where
   -- ---- members
 
-  hash_said : hash_in (digest_object p) ≡ Some p.digest_hash
-  unfolding hash_in digest_object text
+  hash_said : hash_member (digest_object p) ≡ Some p.digest_hash
+  unfolding hash_member digest_object string_member
   hash_said = hash_read p.digest_hash
 
-  salt_said : base64_text (codes "salt") (digest_object p) ≡ Some p.digest_salt
-  unfolding base64_text digest_object text
+  salt_said : base64_member (codes "salt") (digest_object p) ≡ Some p.digest_salt
+  unfolding base64_member digest_object string_member
   salt_said = base64_read p.digest_salt typed.digest_salt
 
-  value_said : base64_text (codes "digest") (digest_object p)
-      ≡ Some (derived_key p.digest_hash p.key.now p.digest_salt p.digest_iterations (size_of p.digest_hash))
-  unfolding base64_text digest_object text
+  value_said : base64_member (codes "digest") (digest_object p)
+      ≡ Some (derived_key p.digest_hash p.key.now p.digest_salt p.digest_iterations (digest_len p.digest_hash))
+  unfolding base64_member digest_object string_member
   value_said =
       base64_read _
-      (derived_bytes p.digest_hash p.key.now p.digest_salt p.digest_iterations (size_of p.digest_hash))
+      (derived_bytes p.digest_hash p.key.now p.digest_salt p.digest_iterations (digest_len p.digest_hash))
 
   keyslots_said : has_texts (codes "keyslots") (digest_object p) ≡ true
   unfolding has_texts digest_object
   keyslots_said = names_texts p 32
 
   is_said : is_digest2 (digest_object p) ≡ true
-  unfolding is_digest2 has_texts digest_object is_named text whole_number
+  unfolding is_digest2 has_texts digest_object is_named string_member integer_member
   is_said = rw (keyslots_said, hash_said, salt_said, value_said) refl
 
   parts_said : digest_parts2_of (digest_object p) ≡ digest_parts p
-  unfolding iterations_in salt_in value_in digest_object whole_number
+  unfolding iterations_in salt_in value_in digest_object integer_member
   parts_said = rw (hash_said, salt_said, value_said) refl
 
   -- ---- the digest
 
   pub usable : is_usable (digest_parts p) ≡ true
   usable =
-      let len = length-derived_key p.digest_hash p.key.now p.digest_salt p.digest_iterations (size_of p.digest_hash) in
+      let len = length-derived_key p.digest_hash p.key.now p.digest_salt p.digest_iterations (digest_len p.digest_hash) in
       let size = sizes p.digest_hash in
       in_range p.digest_iterations _ fits.turns typed.digest_iterations (omega (arith, len, size.least))
       (omega (arith, len, size.greatest))
@@ -97,17 +97,17 @@ module _ (p : Seal2) (fits : AreParameters2 p) (typed : AreTyped2 p) where
     hash = p.digest_hash;
     is_hash = refl;
     value = ap (derived_key p.digest_hash p.key.now p.digest_salt p.digest_iterations)
-        (sym (length-derived_key p.digest_hash p.key.now p.digest_salt p.digest_iterations (size_of p.digest_hash)));
+        (sym (length-derived_key p.digest_hash p.key.now p.digest_salt p.digest_iterations (digest_len p.digest_hash)));
   }
 
   -- and of each key slot
   of_slot : (number : ℕ) (slot : Slot2) → slot_numbered number p.slots.now ≡ Some slot → number < 32
       → is_of_slot number (digest_object p) ≡ true
-  unfolding is_of_slot lists digest_object
+  unfolding is_of_slot array_contains digest_object
   of_slot number slot is below = rw (slot_listed p number 32 slot is below) refl
 
-  first_there : numbered (codes "digests") (metadata_of p) 0 ≡ Some (digest_object p)
-  unfolding numbered metadata_of
+  first_there : object_numbered (codes "digests") (metadata_of p) 0 ≡ Some (digest_object p)
+  unfolding object_numbered metadata_of
   first_there = rw (decimal_digit 0 (omega arith)) refl
 
   own_is : (number : ℕ) (slot : Slot2) → slot_numbered number p.slots.now ≡ Some slot → number < 32

@@ -13,13 +13,13 @@ use Rattle.luks_area.specs.Field.{at, be64, text_of}
 use Rattle.luks_kdf.specs.Hash.{hash_named, hash_of}
 use Rattle.luks_kdf.specs.declared.hash.Hash.TheVariants.{Sha256}
 use Rattle.luks_kdf.proofs.HashLemmas.{length-hash_of}
-use Rattle.luks2_header.specs.Checksum2.{is_intact, no_checksum, without_checksum}
+use Rattle.luks2_header.specs.Checksum2.{checksum_matches, no_checksum, without_checksum}
 use Rattle.luks2_header.specs.Choice2.{beginning_at, is_binary_of}
-use Rattle.luks2_header.specs.Header2.{hash_in, place_in, sequence_in, size_in, sizes}
+use Rattle.luks2_header.specs.Header2.{checksum_hash_in, hdr_offset_in, sequence_in, size_in, sizes}
 use Rattle.luks_seal.specs.Pieces.{padded}
 use Rattle.luks_seal.specs.declared.parameters.Seal2.{Seal2}
 use Rattle.luks_seal.proofs.SlicingLemmas.{at_at, at_behind, at_first, at_padded, at_second, length-padded}
-use Rattle.luks2_seal.specs.Layout2.{end_of, fields_of, header_of, middle_of, primary_magic, rest_of, secondary_magic}
+use Rattle.luks2_seal.specs.Layout2.{fields_end_bytes, fields_of, header2_bytes, middle_of, primary_magic, body_bytes, secondary_magic}
 use Rattle.luks2_seal.specs.Layout2.{start_of}
 use Rattle.luks2_seal.specs.Metadata2.{FitsJson, json_of}
 use Rattle.luks2_seal.specs.Ranges2.{AreParameters2, is_header_size}
@@ -72,7 +72,7 @@ secondary_start p fits = record {
 
 -- the checksum of a header
 abbrev sum_of : Seal2 → List ℕ → List ℕ → ℕ → List ℕ
-sum_of p magic salt place = hash_of Sha256 (fields_of p magic salt place ++ padded 64 [] ++ rest_of p)
+sum_of p magic salt place = hash_of Sha256 (fields_of p magic salt place ++ padded 64 [] ++ body_bytes p)
 
 -- the checksum's field filled with something else
 zeroed_of : (front sum rest zeros : List ℕ) → length front ≡ 448 → length sum ≡ 64
@@ -93,8 +93,8 @@ module _ (p : Seal2) (fits : AreParameters2 p) (json : FitsJson p) (magic salt :
       let name = length-padded 32 (codes "sha256") (omega arith) in
       rw (length-append, length-append, label, name, salted) refl
 
-  length-end : length (end_of p place) ≡ 280
-  unfolding end_of
+  length-end : length (fields_end_bytes p place) ≡ 280
+  unfolding fields_end_bytes
   length-end =
       let uuid = length-padded 40 p.uuid.now fits.texts.0.0 in
       let subsystem = length-padded 48 p.subsystem.now fits.texts.2.0 in
@@ -104,8 +104,8 @@ module _ (p : Seal2) (fits : AreParameters2 p) (json : FitsJson p) (magic salt :
   length-fields : length (fields_of p magic salt place) ≡ 448
   length-fields = rw (length-append, length-append, start.len, length-middle, length-end) refl
 
-  length-rest : length (rest_of p) ≡ p.hdr_size - 512
-  unfolding rest_of
+  length-rest : length (body_bytes p) ≡ p.hdr_size - 512
+  unfolding body_bytes
   length-rest =
       let room = size_range p.hdr_size fits.size in
       let zeros = length-padded 3584 [] (omega arith) in
@@ -113,13 +113,13 @@ module _ (p : Seal2) (fits : AreParameters2 p) (json : FitsJson p) (magic salt :
       rw (length-append, zeros, text) (omega (arith, room.0))
 
   sum_long : length (sum_of p magic salt place) ≡ 32
-  sum_long = length-hash_of Sha256 (fields_of p magic salt place ++ padded 64 [] ++ rest_of p)
+  sum_long = length-hash_of Sha256 (fields_of p magic salt place ++ padded 64 [] ++ body_bytes p)
 
   length-sum : length (padded 64 (sum_of p magic salt place)) ≡ 64
   length-sum = length-padded 64 (sum_of p magic salt place) (omega (arith, sum_long))
 
-  pub length-header : length (header_of p magic salt place) ≡ p.hdr_size
-  unfolding header_of
+  pub length-header : length (header2_bytes p magic salt place) ≡ p.hdr_size
+  unfolding header2_bytes
   length-header =
       let room = size_range p.hdr_size fits.size in
       rw (length-append, length-append, length-fields, length-sum, length-rest) (omega (arith, room.0))
@@ -128,78 +128,78 @@ module _ (p : Seal2) (fits : AreParameters2 p) (json : FitsJson p) (magic salt :
 
   -- what lies before the checksum
   in_fields : (k len : ℕ) → k + len ≤ 448
-      → at k len (header_of p magic salt place) ≡ at k len (fields_of p magic salt place)
-  unfolding header_of
+      → at k len (header2_bytes p magic salt place) ≡ at k len (fields_of p magic salt place)
+  unfolding header2_bytes
   in_fields k len below =
       let fields = fields_of p magic salt place in
       let sum = padded 64 (sum_of p magic salt place) in
-      at_first k len (fields ++ sum) (rest_of p) (omega (arith, length-append fields sum, length-fields))
+      at_first k len (fields ++ sum) (body_bytes p) (omega (arith, length-append fields sum, length-fields))
       ∙ at_first k len fields sum (omega (arith, length-fields))
 
   length-before : length (start_of p magic ++ middle_of p salt) ≡ 168
   length-before = rw (length-append, start.len, length-middle) refl
 
   -- what lies within the first 24 bytes
-  in_start : (k len : ℕ) → k + len ≤ 24 → at k len (header_of p magic salt place) ≡ at k len (start_of p magic)
+  in_start : (k len : ℕ) → k + len ≤ 24 → at k len (header2_bytes p magic salt place) ≡ at k len (start_of p magic)
   in_start k len below =
       in_fields k len (omega arith)
-      ∙ at_first k len (start_of p magic ++ middle_of p salt) (end_of p place) (omega (arith, length-before))
+      ∙ at_first k len (start_of p magic ++ middle_of p salt) (fields_end_bytes p place) (omega (arith, length-before))
       ∙ at_first k len (start_of p magic) (middle_of p salt) (omega (arith, start.len))
 
   -- the name of the checksum's hash function
-  name_there : at 72 32 (header_of p magic salt place) ≡ padded 32 (codes "sha256")
+  name_there : at 72 32 (header2_bytes p magic salt place) ≡ padded 32 (codes "sha256")
   unfolding middle_of padded
   name_there =
       let label = padded 48 p.label.now in
       let name = padded 32 (codes "sha256") in
       let long : length label ≡ 48 = length-padded 48 p.label.now fits.texts.1.0 in
       in_fields 72 32 (omega arith)
-      ∙ at_first 72 32 (start_of p magic ++ middle_of p salt) (end_of p place) (omega (arith, length-before))
+      ∙ at_first 72 32 (start_of p magic ++ middle_of p salt) (fields_end_bytes p place) (omega (arith, length-before))
       ∙ at_behind 72 48 32 (start_of p magic) (middle_of p salt) (omega (arith, start.len))
       ∙ at_first 48 32 (label ++ name) salt (omega (arith, length-append label name, long))
       ∙ at_behind 48 0 32 label name (omega (arith, long))
 
   -- the header's own place
-  own_there : at 256 8 (header_of p magic salt place) ≡ to_be_bytes w64 place
-  unfolding end_of padded
+  own_there : at 256 8 (header2_bytes p magic salt place) ≡ to_be_bytes w64 place
+  unfolding fields_end_bytes padded
   own_there =
       let uuid = padded 40 p.uuid.now in
       let subsystem = padded 48 p.subsystem.now in
       let long : length uuid ≡ 40 = length-padded 40 p.uuid.now fits.texts.0.0 in
       let longer : length subsystem ≡ 48 = length-padded 48 p.subsystem.now fits.texts.2.0 in
       in_fields 256 8 (omega arith)
-      ∙ at_behind 256 88 8 (start_of p magic ++ middle_of p salt) (end_of p place) (omega (arith, length-before))
+      ∙ at_behind 256 88 8 (start_of p magic ++ middle_of p salt) (fields_end_bytes p place) (omega (arith, length-before))
       ∙ at_behind 88 0 8 (uuid ++ subsystem) (padded 192 (to_be_bytes w64 place))
       (omega (arith, length-append uuid subsystem, long, longer))
 
   -- ---- the checksum
 
-  sum_there : at 448 32 (header_of p magic salt place) ≡ sum_of p magic salt place
-  unfolding header_of
+  sum_there : at 448 32 (header2_bytes p magic salt place) ≡ sum_of p magic salt place
+  unfolding header2_bytes
   sum_there =
       let fields = fields_of p magic salt place in
       let sum = sum_of p magic salt place in
-      at_first 448 32 (fields ++ padded 64 sum) (rest_of p)
+      at_first 448 32 (fields ++ padded 64 sum) (body_bytes p)
       (omega (arith, length-append fields (padded 64 sum), length-fields, length-sum))
       ∙ at_behind 448 0 32 fields (padded 64 sum) (omega (arith, length-fields))
       ∙ at_padded 0 32 64 sum (omega (arith, sum_long))
       ∙ take_all 32 sum (omega (arith, sum_long))
 
   -- what the checksum is made of
-  zeroed : without_checksum (header_of p magic salt place)
-      ≡ fields_of p magic salt place ++ padded 64 [] ++ rest_of p
-  unfolding without_checksum no_checksum header_of padded
+  zeroed : without_checksum (header2_bytes p magic salt place)
+      ≡ fields_of p magic salt place ++ padded 64 [] ++ body_bytes p
+  unfolding without_checksum no_checksum header2_bytes padded
   zeroed =
-      zeroed_of (fields_of p magic salt place) (padded 64 (sum_of p magic salt place)) (rest_of p) no_checksum
+      zeroed_of (fields_of p magic salt place) (padded 64 (sum_of p magic salt place)) (body_bytes p) no_checksum
       length-fields length-sum
 
-  hash_known : hash_in (header_of p magic salt place) ≡ Some Sha256
-  unfolding hash_in padded
+  hash_known : checksum_hash_in (header2_bytes p magic salt place) ≡ Some Sha256
+  unfolding checksum_hash_in padded
   hash_known = ap (λ field. hash_named (text_of field)) name_there
 
   -- it agrees
-  pub intact : is_intact (header_of p magic salt place) ≡ true
-  unfolding is_intact
+  pub intact : checksum_matches (header2_bytes p magic salt place) ≡ true
+  unfolding checksum_matches
   intact =
       let sum = sum_of p magic salt place in
       rw (hash_known, zeroed, sum_there) ((bytes_eq-Decides sum sum).1 refl)
@@ -208,36 +208,36 @@ module _ (p : Seal2) (fits : AreParameters2 p) (json : FitsJson p) (magic salt :
 
   -- what lies within the first 4096 bytes
   in_binary : (k len : ℕ) → k + len ≤ 4096
-      → at k len (at 0 4096 (header_of p magic salt place)) ≡ at k len (header_of p magic salt place)
+      → at k len (at 0 4096 (header2_bytes p magic salt place)) ≡ at k len (header2_bytes p magic salt place)
   in_binary k len below =
-      at_at k len 0 4096 (header_of p magic salt place) below
-      ∙ ap (λ n. at n len (header_of p magic salt place)) (omega arith)
+      at_at k len 0 4096 (header2_bytes p magic salt place) below
+      ∙ ap (λ n. at n len (header2_bytes p magic salt place)) (omega arith)
 
-  pub binary_begins : at 0 8 (at 0 4096 (header_of p magic salt place)) ≡ beginning_at place
+  pub binary_begins : at 0 8 (at 0 4096 (header2_bytes p magic salt place)) ≡ beginning_at place
   binary_begins = in_binary 0 8 (omega arith) ∙ (in_start 0 8 (omega arith) ∙ start.begins)
 
-  pub binary_size : size_in (at 0 4096 (header_of p magic salt place)) ≡ p.hdr_size
+  pub binary_size : size_in (at 0 4096 (header2_bytes p magic salt place)) ≡ p.hdr_size
   unfolding size_in be64
   binary_size =
       ap be64 (in_binary 8 8 (omega arith) ∙ (in_start 8 8 (omega arith) ∙ start.size))
       ∙ from_be_bytes-to_be_bytes_8 p.hdr_size (omega (arith, (size_range p.hdr_size fits.size).1))
 
-  pub binary_sequence : sequence_in (at 0 4096 (header_of p magic salt place)) ≡ be64 (to_be_bytes w64 p.seqid)
+  pub binary_sequence : sequence_in (at 0 4096 (header2_bytes p magic salt place)) ≡ be64 (to_be_bytes w64 p.seqid)
   unfolding sequence_in
   binary_sequence = ap be64 (in_binary 16 8 (omega arith) ∙ (in_start 16 8 (omega arith) ∙ start.sequence))
 
-  binary_place : place_in (at 0 4096 (header_of p magic salt place)) ≡ place
-  unfolding place_in be64
+  binary_place : hdr_offset_in (at 0 4096 (header2_bytes p magic salt place)) ≡ place
+  unfolding hdr_offset_in be64
   binary_place =
       ap be64 (in_binary 256 8 (omega arith) ∙ own_there)
       ∙ from_be_bytes-to_be_bytes_8 place (omega (arith, start.within, (size_range p.hdr_size fits.size).1))
 
-  pub binary_hash : hash_in (at 0 4096 (header_of p magic salt place)) ≡ Some Sha256
-  unfolding hash_in padded
+  pub binary_hash : checksum_hash_in (at 0 4096 (header2_bytes p magic salt place)) ≡ Some Sha256
+  unfolding checksum_hash_in padded
   binary_hash = ap (λ field. hash_named (text_of field)) (in_binary 72 32 (omega arith) ∙ name_there)
 
   -- it is one of its place
-  pub is_binary : is_binary_of place (at 0 4096 (header_of p magic salt place)) ≡ true
+  pub is_binary : is_binary_of place (at 0 4096 (header2_bytes p magic salt place)) ≡ true
   unfolding is_binary_of
   is_binary =
       let begins = (bytes_eq-Decides (beginning_at place) (beginning_at place)).1 refl in
@@ -255,13 +255,13 @@ module _ (p : Seal2) (fits : AreParameters2 p) (json : FitsJson p) (magic salt :
 
   -- ---- the JSON area
 
-  pub json_there : at 4096 (p.hdr_size - 4096) (header_of p magic salt place) ≡ padded (p.hdr_size - 4096) (json_of p)
-  unfolding header_of rest_of
+  pub json_there : at 4096 (p.hdr_size - 4096) (header2_bytes p magic salt place) ≡ padded (p.hdr_size - 4096) (json_of p)
+  unfolding header2_bytes body_bytes
   json_there =
       let fields = fields_of p magic salt place in
       let sum = padded 64 (sum_of p magic salt place) in
       let text = length-padded (p.hdr_size - 4096) (json_of p) (omega (arith, json.0)) in
-      at_behind 4096 3584 (p.hdr_size - 4096) (fields ++ sum) (rest_of p)
+      at_behind 4096 3584 (p.hdr_size - 4096) (fields ++ sum) (body_bytes p)
       (omega (arith, length-append fields sum, length-fields, length-sum))
       ∙ at_second 3584 (p.hdr_size - 4096) (padded 3584 []) (padded (p.hdr_size - 4096) (json_of p))
       (sym (length-padded 3584 [] (omega arith))) text

@@ -13,13 +13,13 @@ use Rattle.luks_verdict.specs.Rule.{need_of}
 use Rattle.luks_verdict.specs.SectorSize.{bytes_of}
 use Rattle.luks_verdict.specs.declared.sector_size.SectorSize.{SectorSize}
 use Rattle.luks_verdict.specs.declared.sector_size.SectorSize.TheVariants.{B512, B1024, B2048, B4096}
-use Rattle.luks_seal.specs.Pieces.{material_of, padded, stripes_of}
+use Rattle.luks_seal.specs.Pieces.{encrypted_material, padded, stripes_of}
 use Rattle.luks_seal.specs.declared.parameters.Seal2.{Seal2}
 use Rattle.luks_seal.specs.declared.parameters.Slot2.{Slot2}
 use Rattle.luks_seal.proofs.MaterialLemmas.{AreDrawn, length-material_of, length-stripes_of}
 use Rattle.luks_seal.proofs.SectorLemmas.{length-sectors_encrypted}
 use Rattle.luks_seal.proofs.SlicingLemmas.{at_at, at_behind, at_first, at_padded, at_second, length-padded}
-use Rattle.luks2_seal.specs.Layout2.{area_key_of, area_of, areas_below, header_of, headers_of, image2_of, payload_of}
+use Rattle.luks2_seal.specs.Layout2.{area_key_of, area_of, areas_below, header2_bytes, headers_of, image2_of, payload_of}
 use Rattle.luks2_seal.specs.Layout2.{primary_magic, secondary_magic}
 use Rattle.luks2_seal.specs.Metadata2.{FitsJson}
 use Rattle.luks2_seal.specs.Numbered.{area_size, area_start, slot_numbered}
@@ -46,7 +46,7 @@ numbered_fits P number (other ∷ slots) slot all is =
 -- the key material of a slot
 abbrev pub material2_of : Seal2 → Slot2 → List ℕ
 material2_of p slot =
-    material_of (p.area_mode, area_key_of p slot) (stripes_of slot.af_hash p.key.now slot.stripes slot.random.now)
+    encrypted_material (p.area_mode, area_key_of p slot) (stripes_of slot.af_hash p.key.now slot.stripes slot.random.now)
 
 -- each sector has whole blocks
 pub whole_blocks : (size : SectorSize) → bytes_of size % 16 ≡ 0
@@ -98,10 +98,10 @@ module _ (p : Seal2) (fits : AreParameters2 p) (json : FitsJson p) (typed : AreT
       let both = length-append (areas_below p n) (option_map_or (area_of p) (slot_numbered n p.slots.now) []) in
       omega (arith, length-areas n, here, both)
 
-  length-primary : length (header_of p primary_magic p.primary_salt 0) ≡ p.hdr_size
+  length-primary : length (header2_bytes p primary_magic p.primary_salt 0) ≡ p.hdr_size
   length-primary = length-header p fits json primary_magic p.primary_salt 0 (primary_start p) typed.primary_salt
 
-  length-secondary : length (header_of p secondary_magic p.secondary_salt p.hdr_size) ≡ p.hdr_size
+  length-secondary : length (header2_bytes p secondary_magic p.secondary_salt p.hdr_size) ≡ p.hdr_size
   length-secondary =
       length-header p fits json secondary_magic p.secondary_salt p.hdr_size (secondary_start p fits)
       typed.secondary_salt
@@ -152,22 +152,22 @@ module _ (p : Seal2) (fits : AreParameters2 p) (json : FitsJson p) (typed : AreT
       before_payload place len (omega (arith, length-areas 32))
       ∙ at_first place len (headers_of p) (areas_below p 32) (omega (arith, length-headers))
 
-  pub image_primary : at 0 p.hdr_size (image2_of p) ≡ header_of p primary_magic p.primary_salt 0
+  pub image_primary : at 0 p.hdr_size (image2_of p) ≡ header2_bytes p primary_magic p.primary_salt 0
   unfolding headers_of
   image_primary =
-      let first = header_of p primary_magic p.primary_salt 0 in
-      let second = header_of p secondary_magic p.secondary_salt p.hdr_size in
+      let first = header2_bytes p primary_magic p.primary_salt 0 in
+      let second = header2_bytes p secondary_magic p.secondary_salt p.hdr_size in
       in_headers 0 p.hdr_size (omega arith)
       ∙ at_first 0 p.hdr_size first second (omega (arith, length-primary))
       ∙ take_all p.hdr_size first (omega (arith, length-primary))
 
   pub image_secondary : at p.hdr_size p.hdr_size (image2_of p)
-      ≡ header_of p secondary_magic p.secondary_salt p.hdr_size
+      ≡ header2_bytes p secondary_magic p.secondary_salt p.hdr_size
   unfolding headers_of
   image_secondary =
       in_headers p.hdr_size p.hdr_size (omega arith)
-      ∙ at_second p.hdr_size p.hdr_size (header_of p primary_magic p.primary_salt 0)
-      (header_of p secondary_magic p.secondary_salt p.hdr_size) (sym length-primary) length-secondary
+      ∙ at_second p.hdr_size p.hdr_size (header2_bytes p primary_magic p.primary_salt 0)
+      (header2_bytes p secondary_magic p.secondary_salt p.hdr_size) (sym length-primary) length-secondary
 
   -- ---- the areas
 

@@ -3,7 +3,7 @@ use Rattle.std.proofs.Common.{◌≡◌, ◌∙◌, ◌+◌, ◌*◌, ◌<◌, �
 use Rattle.std.specs.Prelude.{◌&&◌, ◌||◌, codes, is_none}
 use Rattle.std.proofs.lemmas.Bool.{lt-ltb}
 use Rattle.std.proofs.lemmas.Bool.Decides.{nat_tests}
-use Rattle.luks_area.specs.Area.{longest_area}
+use Rattle.luks_area.specs.Area.{max_area_len}
 use Rattle.luks_verdict.specs.Digest.{digest_of, is_undigested}
 use Rattle.luks_verdict.specs.Rule.{is_beyond, is_misplaced, is_unstriped, need_of}
 use Rattle.luks_verdict.specs.Segment.{segment_by}
@@ -13,12 +13,12 @@ use Rattle.luks_verdict.specs.declared.slot.SlotParts.{SlotParts}
 use Rattle.luks_verdict.specs.declared.slot.Verdict.TheVariants.{Usable}
 use Rattle.luks_verdict.proofs.MadeLemmas.{slot_from-yes}
 use Rattle.luks2_members.specs.Encryption.{is_length_for}
-use Rattle.luks2_members.specs.Member.{is_named, text}
-use Rattle.luks2_members.specs.Numbered.{numbered}
+use Rattle.luks2_members.specs.Member.{is_named, string_member}
+use Rattle.luks2_members.specs.Numbered.{object_numbered}
 use Rattle.luks2_metadata.specs.Digest2.{digest2_for}
 use Rattle.luks2_segment.specs.Segment2.{payload2_of, payload_mode2_of}
-use Rattle.luks2_metadata.specs.Slot2.{are_key_sizes, area_mode_of, has_unknown_hash, is_misplaced2, iterations_of}
-use Rattle.luks2_metadata.specs.Slot2.{reason2_of, slot2_of, slot_parts2_of, stripes_of, verdict2_at, verdict2_of}
+use Rattle.luks2_metadata.specs.Slot2.{are_key_sizes, area_mode_of, has_unknown_hash, is_misplaced2, iterations_of_slot}
+use Rattle.luks2_metadata.specs.Slot2.{reason2_of, slot2_of, slot_parts2_of, stripes_member, verdict2_at, verdict2_of}
 use Rattle.luks2_segment.proofs.SegmentLemmas.{segment2-ok}
 use Rattle.luks2_metadata.proofs.SlotLemmas.{no_reason, range_of}
 use Rattle.luks_seal.specs.declared.parameters.Seal2.{Seal2}
@@ -48,7 +48,7 @@ unfolding need_of
 need_fits key stripes = omega arith
 
 well_placed : (start payload offset size need : ℕ) → start ≤ offset → need ≤ size → offset + size ≤ payload
-    → payload ≤ longest_area → is_misplaced start (Some payload) offset size need ≡ false
+    → payload ≤ max_area_len → is_misplaced start (Some payload) offset size need ≡ false
 unfolding is_misplaced
 well_placed start payload offset size need behind room before held = grind (arith, nat_tests)
 
@@ -89,13 +89,13 @@ module _ (p : Seal2) (fits : AreParameters2 p) (typed : AreTyped2 p) (slot : Slo
       && is_length_for (Some p.mode) parts.key_bytes) (parts_said p slot placed)
       ∙ rw (fits.keys.0, fits.keys.1) refl)
 
-  striped : is_unstriped (stripes_of (keyslot_object p slot)) ≡ false
+  striped : is_unstriped (stripes_member (keyslot_object p slot)) ≡ false
   unfolding slot_parts2_of
   striped =
       ap (λ (parts : SlotParts). is_unstriped parts.stripes) (parts_said p slot placed)
       ∙ few_stripes slot.stripes placed.fits.3 placed.fits.4
 
-  counted : is_beyond None (iterations_of (keyslot_object p slot)) ≡ false
+  counted : is_beyond None (iterations_of_slot (keyslot_object p slot)) ≡ false
   unfolding slot_parts2_of
   counted =
       ap (λ (parts : SlotParts). is_beyond None parts.iterations) (parts_said p slot placed)
@@ -113,7 +113,7 @@ module _ (p : Seal2) (fits : AreParameters2 p) (typed : AreTyped2 p) (slot : Slo
 
   -- none of them holds
   no_reasons : reason2_of (metadata_of p) (bounds_of p) None slot.number (keyslot_object p slot) ≡ None
-  unfolding reason2_of is_named text keyslot_object kdf_object
+  unfolding reason2_of is_named string_member keyslot_object kdf_object
   no_reasons =
       rw (members_said p slot placed, hashes_known, mode_known, keys_fit, striped, counted, area_fits, digested) refl
 
@@ -130,8 +130,8 @@ module _ (p : Seal2) (fits : AreParameters2 p) (typed : AreTyped2 p) (slot : Slo
   unfolding slot_is slot_of
   slot_parts = parts_said p slot placed
 
-  there : numbered (codes "keyslots") (metadata_of p) slot.number ≡ Some (keyslot_object p slot)
-  unfolding numbered metadata_of
+  there : object_numbered (codes "keyslots") (metadata_of p) slot.number ≡ Some (keyslot_object p slot)
+  unfolding object_numbered metadata_of
   there =
       rw (lt-ltb slot.number 32 (omega (arith, placed.fits.0)))
       (keyslot_found p slot.number 32 slot placed.numbered (omega (arith, placed.fits.0)) (omega arith))

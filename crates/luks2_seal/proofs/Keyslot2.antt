@@ -3,8 +3,8 @@ use Rattle.std.proofs.Common.{◌≡◌, ◌+◌, ◌*◌, ◌≤◌, Some, true
 use Rattle.std.specs.Prelude.{codes}
 use Rattle.std.proofs.lemmas.Bool.{le-leb}
 use Rattle.luks_verdict.specs.declared.slot.SlotParts.{SlotParts}
-use Rattle.luks2_members.specs.Derivation.{hash_in, iterations_in, salt_in}
-use Rattle.luks2_members.specs.Member.{base64_text, decimal_text, is_named, text, whole_number}
+use Rattle.luks2_members.specs.Derivation.{hash_member, iterations_in, salt_in}
+use Rattle.luks2_members.specs.Member.{base64_member, decimal_member, is_named, string_member, integer_member}
 use Rattle.luks2_metadata.specs.Slot2.{af_hash_of, area_mode_of, has_members, is_af, is_area, is_kdf, is_pbkdf2}
 use Rattle.luks2_metadata.specs.Slot2.{kdf_hash_of, priority_of, slot_parts2_of}
 use Rattle.luks_seal.specs.declared.parameters.Seal2.{Seal2}
@@ -43,53 +43,53 @@ parts_of p slot = record {
 module _ (p : Seal2) (slot : Slot2) (placed : IsPlaced p slot) where
   -- ---- members
 
-  offset_said : decimal_text (codes "offset") (area_object p slot) ≡ Some (area_start p slot.number)
-  unfolding area_object decimal_text text
+  offset_said : decimal_member (codes "offset") (area_object p slot) ≡ Some (area_start p slot.number)
+  unfolding area_object decimal_member string_member
   offset_said = decimal_read (area_start p slot.number) (omega (arith, placed.before, placed.held))
 
-  size_said : decimal_text (codes "size") (area_object p slot) ≡ Some (area_size (length p.key.now) slot.stripes)
-  unfolding area_object decimal_text text
+  size_said : decimal_member (codes "size") (area_object p slot) ≡ Some (area_size (length p.key.now) slot.stripes)
+  unfolding area_object decimal_member string_member
   size_said =
       decimal_read (area_size (length p.key.now) slot.stripes) (omega (arith, placed.before, placed.held))
 
   mode_said : area_mode_of (keyslot_object p slot) ≡ Some p.area_mode
-  unfolding keyslot_object area_object text
+  unfolding keyslot_object area_object string_member
   mode_said = mode_read p.area_mode
 
-  salt_said : base64_text (codes "salt") (kdf_object slot) ≡ Some slot.salt
-  unfolding kdf_object base64_text text
+  salt_said : base64_member (codes "salt") (kdf_object slot) ≡ Some slot.salt
+  unfolding kdf_object base64_member string_member
   salt_said = base64_read slot.salt placed.typed.salt
 
   kdf_hash_said : kdf_hash_of (keyslot_object p slot) ≡ Some slot.hash
-  unfolding keyslot_object kdf_object hash_in text
+  unfolding keyslot_object kdf_object hash_member string_member
   kdf_hash_said = hash_read slot.hash
 
   af_hash_said : af_hash_of (keyslot_object p slot) ≡ Some slot.af_hash
-  unfolding keyslot_object af_object hash_in text
+  unfolding keyslot_object af_object hash_member string_member
   af_hash_said = hash_read slot.af_hash
 
   priority_said : priority_of (keyslot_object p slot) ≡ Some slot.priority
-  unfolding keyslot_object priority_of whole_number
+  unfolding keyslot_object priority_of integer_member
   priority_said = rw (le-leb slot.priority 2 placed.fits.1) refl
 
   pub parts_said : slot_parts2_of (keyslot_object p slot) ≡ parts_of p slot
-  unfolding slot_parts2_of keyslot_object kdf_object area_object af_object whole_number iterations_in salt_in
+  unfolding slot_parts2_of keyslot_object kdf_object area_object af_object integer_member iterations_in salt_in
   parts_said = rw (priority_said, kdf_hash_said, salt_said, af_hash_said, offset_said, size_said, mode_said) refl
 
   -- ---- kinds
 
   af_is : is_af (af_object slot) ≡ true
-  unfolding is_af af_object is_named text whole_number
+  unfolding is_af af_object is_named string_member integer_member
   af_is = refl
 
   area_is : is_area (area_object p slot) ≡ true
-  unfolding is_area area_object is_named text whole_number
+  unfolding is_area area_object is_named string_member integer_member
   area_is = rw (offset_said, size_said) refl
 
   kdf_is : is_kdf (kdf_object slot) ≡ true
-  unfolding is_kdf is_pbkdf2 kdf_object is_named text whole_number
+  unfolding is_kdf is_pbkdf2 kdf_object is_named string_member integer_member
   kdf_is = rw salt_said refl
 
   pub members_said : has_members (keyslot_object p slot) ≡ true
-  unfolding has_members keyslot_object whole_number
+  unfolding has_members keyslot_object integer_member
   members_said = rw (priority_said, af_is, area_is, kdf_is) refl

@@ -11,9 +11,9 @@ use Rattle.std.proofs.lemmas.Str.{is_utf8-from_IsUtf8}
 use Rattle.luks_area.specs.Field.{at, be64, text_of}
 use Rattle.luks_kdf.specs.declared.hash.Hash.TheVariants.{Sha256}
 use Rattle.luks1_header.specs.Header1.{is_luks1}
-use Rattle.luks2_header.specs.Choice2.{beginning_at, beside_primary, binary_at, chosen2_of, fits, header2_of, is_valid}
+use Rattle.luks2_header.specs.Choice2.{beginning_at, with_valid_primary, binary_at, chosen2_of, fits, header2_of, is_valid}
 use Rattle.luks2_header.specs.Choice2.{size_at}
-use Rattle.luks2_header.specs.Header2.{hash_in, header_in, sequence_in, size_in}
+use Rattle.luks2_header.specs.Header2.{checksum_hash_in, header2_from, sequence_in, size_in}
 use Rattle.luks2_header.specs.Text2.{json_area_of, json_text_of}
 use Rattle.luks2_header.specs.declared.header.Header2.{Header2}
 use Rattle.luks2_header.specs.declared.header.Place.TheVariants.{Primary}
@@ -24,7 +24,7 @@ use Rattle.luks_header.specs.declared.header.Header.TheVariants.{V2}
 use Rattle.luks_seal.specs.Pieces.{padded}
 use Rattle.luks_seal.specs.declared.parameters.Seal2.{Seal2}
 use Rattle.luks_seal.proofs.SlicingLemmas.{at_at}
-use Rattle.luks2_seal.specs.Layout2.{header_of, image2_of, primary_magic, secondary_magic}
+use Rattle.luks2_seal.specs.Layout2.{header2_bytes, image2_of, primary_magic, secondary_magic}
 use Rattle.luks2_seal.specs.Metadata2.{FitsJson, ReadsBack, json_of, metadata_of}
 use Rattle.luks2_seal.specs.Numbered.{area_start}
 use Rattle.luks2_seal.specs.Ranges2.{AreParameters2}
@@ -62,9 +62,9 @@ text_back room text some =
 
 module _ (p : Seal2) (fit : AreParameters2 p) (json : FitsJson p) (magic salt : List ℕ) (place : ℕ)
     (start : IsStart p magic place) (salted : length salt ≡ 64) (image : List ℕ)
-    (there : at place p.hdr_size image ≡ header_of p magic salt place)
+    (there : at place p.hdr_size image ≡ header2_bytes p magic salt place)
     (long : place + p.hdr_size ≤ length image) where
-  binary_there : binary_at image place ≡ at 0 4096 (header_of p magic salt place)
+  binary_there : binary_at image place ≡ at 0 4096 (header2_bytes p magic salt place)
   binary_there =
       let same : place ≡ place + 0 = omega arith in
       let room = size_range p.hdr_size fit.size in
@@ -116,13 +116,13 @@ module _ (p : Seal2) (fit : AreParameters2 p) (json : FitsJson p) (back : ReadsB
   both_long = omega (arith, start_rises p 0 32, length-image p fit json typed, fit.offset.2)
 
   -- the primary one
-  primary_there : at 0 p.hdr_size (image2_of p) ≡ header_of p primary_magic p.primary_salt 0
+  primary_there : at 0 p.hdr_size (image2_of p) ≡ header2_bytes p primary_magic p.primary_salt 0
   primary_there = image_primary p fit json typed
 
   primary_long : 0 + p.hdr_size ≤ length (image2_of p)
   primary_long = omega (arith, both_long)
 
-  primary_binary : binary_at (image2_of p) 0 ≡ at 0 4096 (header_of p primary_magic p.primary_salt 0)
+  primary_binary : binary_at (image2_of p) 0 ≡ at 0 4096 (header2_bytes p primary_magic p.primary_salt 0)
   primary_binary =
       binary_there p fit json primary_magic p.primary_salt 0 (primary_start p) typed.primary_salt (image2_of p)
       primary_there primary_long
@@ -132,14 +132,14 @@ module _ (p : Seal2) (fit : AreParameters2 p) (json : FitsJson p) (back : ReadsB
       size_there p fit json primary_magic p.primary_salt 0 (primary_start p) typed.primary_salt (image2_of p)
       primary_there primary_long
 
-  primary_hash : hash_in (binary_at (image2_of p) 0) ≡ Some Sha256
+  primary_hash : checksum_hash_in (binary_at (image2_of p) 0) ≡ Some Sha256
   primary_hash =
-      ap hash_in primary_binary
+      ap checksum_hash_in primary_binary
       ∙ binary_hash p fit json primary_magic p.primary_salt 0 (primary_start p) typed.primary_salt
 
   -- both headers are valid, with one sequence number
   chosen : chosen2_of (image2_of p) ≡ Some header_is
-  unfolding chosen2_of beside_primary header_in header_is
+  unfolding chosen2_of with_valid_primary header2_from header_is
   chosen =
       let image = image2_of p in
       let first = valid_there p fit json primary_magic p.primary_salt 0 (primary_start p) typed.primary_salt image

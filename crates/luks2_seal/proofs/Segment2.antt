@@ -12,16 +12,16 @@ use Rattle.luks_verdict.specs.declared.sector_size.SectorSize.{SectorSize}
 use Rattle.luks_verdict.specs.declared.sector_size.SectorSize.TheVariants.{B512, B1024, B2048, B4096}
 use Rattle.luks_verdict.specs.declared.segment.Segment.{Segment}
 use Rattle.luks_verdict.proofs.MadeLemmas.{segment_of_all-yes}
-use Rattle.luks2_members.specs.Member.{decimal_of, decimal_text, is_named, text, whole_number}
+use Rattle.luks2_members.specs.Member.{decimal_of, decimal_member, is_named, string_member, integer_member}
 use Rattle.luks2_segment.specs.Segment2.{fault2_of, has_requirement, has_segment_members, is_segment, is_torn}
 use Rattle.luks2_segment.specs.Segment2.{iv_tweak_of, mode2_of, offset_of, sector_size_of, sector_size_with}
-use Rattle.luks2_segment.specs.Segment2.{segment2_of, segment_parts2_of, size_of, starts_inside, starts_wrong}
+use Rattle.luks2_segment.specs.Segment2.{segment2_of, segment_parts2_of, size_member, overlaps_headers2, starts_wrong}
 use Rattle.luks2_segment.specs.Segment2.{the_segment}
 use Rattle.luks2_segment.specs.declared.bounds.Bounds.{Bounds}
 use Rattle.luks2_segment.proofs.SegmentLemmas.{said-there, segment2-none}
 use Rattle.serde_json.specs.Find.{as_str}
 use Rattle.luks_seal.specs.declared.parameters.Seal2.{Seal2}
-use Rattle.luks2_seal.specs.Metadata2.{config_object, metadata_of, segment_object, size_text}
+use Rattle.luks2_seal.specs.Metadata2.{config_object, metadata_of, segment_object, size_value}
 use Rattle.luks2_seal.specs.Numbered.{area_start}
 use Rattle.luks2_seal.specs.Ranges2.{AreParameters2}
 use Rattle.luks2_seal.specs.Typed2.{AreTyped2}
@@ -45,8 +45,8 @@ not_dynamic n small =
     true≢false (sym (ap (list_all is_ascii_digit) is ∙ decimal_digits n small)))
 
 size_read : (fixed : Bool) (len : ℕ) → len < 2 ^ 64
-    → (if unwrap_or (option_map (bytes_eq (codes "dynamic")) (as_str (size_text fixed len))) false then Some None
-    else option_map (λ (bytes : ℕ). Some bytes) (option_and_then decimal_of (as_str (size_text fixed len))))
+    → (if unwrap_or (option_map (bytes_eq (codes "dynamic")) (as_str (size_value fixed len))) false then Some None
+    else option_map (λ (bytes : ℕ). Some bytes) (option_and_then decimal_of (as_str (size_value fixed len))))
     ≡ Some (fixed_size fixed len)
 size_read true len small = rw (not_dynamic len small, decimal_read len small) refl
 size_read false len small = refl
@@ -66,23 +66,23 @@ module _ (p : Seal2) (fits : AreParameters2 p) (typed : AreTyped2 p) where
   -- ---- members
 
   offset_said : offset_of (segment_object p) ≡ Some p.offset
-  unfolding segment_object decimal_text text
+  unfolding segment_object decimal_member string_member
   offset_said = decimal_read p.offset (omega (arith, fits.offset.1))
 
-  size_said : size_of (segment_object p) ≡ Some (fixed_size p.fixed (length p.plain.now))
-  unfolding size_of is_named segment_object decimal_text text
+  size_said : size_member (segment_object p) ≡ Some (fixed_size p.fixed (length p.plain.now))
+  unfolding size_member is_named segment_object decimal_member string_member
   size_said = size_read p.fixed (length p.plain.now) (omega (arith, fits.plain.1))
 
   iv_tweak_said : iv_tweak_of (segment_object p) ≡ Some p.iv_tweak
-  unfolding segment_object decimal_text text
+  unfolding segment_object decimal_member string_member
   iv_tweak_said = decimal_read p.iv_tweak typed.iv_tweak
 
   sector_size_said : sector_size_of (segment_object p) ≡ Some p.sector_size
-  unfolding sector_size_of segment_object whole_number
+  unfolding sector_size_of segment_object integer_member
   sector_size_said = sector_size_read p.sector_size
 
   mode_said : mode2_of (segment_object p) ≡ Some p.mode
-  unfolding mode2_of segment_object text
+  unfolding mode2_of segment_object string_member
   mode_said = mode_read p.mode
 
   pub whole : are_sectors (fixed_size p.fixed (length p.plain.now)) p.sector_size ≡ true
@@ -99,7 +99,7 @@ module _ (p : Seal2) (fits : AreParameters2 p) (typed : AreTyped2 p) where
   requires_none = refl
 
   starts_right : starts_wrong (bounds_of p) (Some p.offset) ≡ false
-  unfolding starts_wrong starts_inside area_start
+  unfolding starts_wrong overlaps_headers2 area_start
   starts_right =
       let rises = start_rises p 0 32 in
       let behind : 2 * p.hdr_size ≤ p.offset = omega (arith, rises, fits.offset.2) in
@@ -107,7 +107,7 @@ module _ (p : Seal2) (fits : AreParameters2 p) (typed : AreTyped2 p) where
       rw (le-ltb p.offset (2 * p.hdr_size) behind, eq-eqb (p.offset % 512) 0 whole) refl
 
   is_said : is_segment (segment_object p) ≡ true
-  unfolding is_segment has_segment_members is_named text segment_object whole_number
+  unfolding is_segment has_segment_members is_named string_member segment_object integer_member
   is_said = rw (offset_said, size_said, iv_tweak_said) refl
 
   -- the segment
@@ -115,7 +115,7 @@ module _ (p : Seal2) (fits : AreParameters2 p) (typed : AreTyped2 p) where
   segment_is = segment_by p.offset (fixed_size p.fixed (length p.plain.now)) p.iv_tweak p.sector_size p.mode whole
 
   no_fault : fault2_of (metadata_of p) (bounds_of p) ≡ None
-  unfolding fault2_of is_torn is_named segment_object text
+  unfolding fault2_of is_torn is_named segment_object string_member
   no_fault =
       rw (requires_none, is_there, is_said, mode_said, sector_size_said, offset_said, starts_right, size_said, whole)
       refl

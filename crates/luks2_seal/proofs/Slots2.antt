@@ -14,7 +14,7 @@ use Rattle.serde_json.specs.View.{items_of}
 use Rattle.luks2_members.specs.List.{all_items, any_item, is_text, is_the_text}
 use Rattle.luks_seal.specs.declared.parameters.Seal2.{Seal2}
 use Rattle.luks_seal.specs.declared.parameters.Slot2.{Slot2}
-use Rattle.luks2_seal.specs.Metadata2.{decimal_text, keyslot_object, keyslots_below, names_below}
+use Rattle.luks2_seal.specs.Metadata2.{decimal_value, keyslot_object, keyslots_below, names_below}
 use Rattle.luks2_seal.specs.Numbered.{area_size_at, area_start, slot_numbered}
 use Rattle.luks2_seal.specs.Ranges2.{AreDistinct2}
 
@@ -31,7 +31,7 @@ numbered_each (slot ∷ slots) distinct (suc k) d below =
 -- ---- names
 
 -- a number's text is that number's name
-same_name : (n : ℕ) → is_the_text (decimal n) (decimal_text n) ≡ true
+same_name : (n : ℕ) → is_the_text (decimal n) (decimal_value n) ≡ true
 same_name n = (bytes_eq-Decides (decimal n) (decimal n)).1 refl
 
 -- a list with a text more behind it
@@ -54,13 +54,13 @@ any_last test (e ∷ ds) d is = by (test e) (any_last test ds d is) where
   by false later = later
 
 all_more : (ds : List Data) (n : ℕ) → all_items is_text (items_of ds) ≡ true
-    → all_items is_text (items_of (ds ++ decimal_text n ∷ [])) ≡ true
+    → all_items is_text (items_of (ds ++ decimal_value n ∷ [])) ≡ true
 all_more [] n are = refl
 all_more (e ∷ ds) n are = by (is_text e) (all_more ds n) are where
   by : (here : Bool)
-      → (all_items is_text (items_of ds) ≡ true → all_items is_text (items_of (ds ++ decimal_text n ∷ [])) ≡ true)
+      → (all_items is_text (items_of ds) ≡ true → all_items is_text (items_of (ds ++ decimal_value n ∷ [])) ≡ true)
       → (here && all_items is_text (items_of ds)) ≡ true
-      → (here && all_items is_text (items_of (ds ++ decimal_text n ∷ []))) ≡ true
+      → (here && all_items is_text (items_of (ds ++ decimal_value n ∷ []))) ≡ true
   by true later rest = later rest
   by false later rest = absurd (cc)
 
@@ -96,11 +96,11 @@ module _ (p : Seal2) where
   -- what is listed behind it leaves it
   listed_later : (n m : ℕ) (next : Option Slot2)
       → any_item (is_the_text (decimal n)) (items_of (names_below p m)) ≡ true
-      → any_item (is_the_text (decimal n)) (items_of (option_map_or (λ other. names_below p m ++ decimal_text m ∷ [])
+      → any_item (is_the_text (decimal n)) (items_of (option_map_or (λ other. names_below p m ++ decimal_value m ∷ [])
       next (names_below p m))) ≡ true
   listed_later n m None before = before
   listed_later n m (Some other) before =
-      any_kept (is_the_text (decimal n)) (names_below p m) (decimal_text m) before
+      any_kept (is_the_text (decimal n)) (names_below p m) (decimal_value m) before
 
   pub slot_listed : (n m : ℕ) (slot : Slot2) → slot_numbered n p.slots.now ≡ Some slot → n < m
       → any_item (is_the_text (decimal n)) (items_of (names_below p m)) ≡ true
@@ -110,11 +110,11 @@ module _ (p : Seal2) where
     | inl earlier ↦ listed_later n m (slot_numbered m p.slots.now) (slot_listed n m slot is earlier)
     | inr last ↦
         let same : n ≡ m = omega arith in
-        rw (← same, is) (any_last (is_the_text (decimal n)) (names_below p n) (decimal_text n) (same_name n))
+        rw (← same, is) (any_last (is_the_text (decimal n)) (names_below p n) (decimal_value n) (same_name n))
   ]
 
   texts_more : (m : ℕ) (next : Option Slot2) → all_items is_text (items_of (names_below p m)) ≡ true
-      → all_items is_text (items_of (option_map_or (λ other. names_below p m ++ decimal_text m ∷ [])
+      → all_items is_text (items_of (option_map_or (λ other. names_below p m ++ decimal_value m ∷ [])
       next (names_below p m))) ≡ true
   texts_more m None before = before
   texts_more m (Some other) before = all_more (names_below p m) m before

@@ -15,10 +15,10 @@ use Rattle.luks_aes.specs.Bytes.{IsBytes}
 use Rattle.luks_cipher.specs.Sector.{mode_name}
 use Rattle.luks_cipher.specs.declared.mode.Mode.{Mode}
 use Rattle.luks_cipher.specs.declared.mode.Mode.TheVariants.{XtsPlain64, XtsPlain, CbcEssivSha256, CbcPlain64}
-use Rattle.luks_kdf.specs.Hash.{hash_named, name_of as hash_name}
+use Rattle.luks_kdf.specs.Hash.{hash_named, hash_name}
 use Rattle.luks_kdf.specs.declared.hash.Hash.{Hash}
 use Rattle.luks_kdf.specs.declared.hash.Hash.TheVariants.{Sha1, Sha224, Sha256, Sha384, Sha512}
-use Rattle.luks2_members.specs.Encryption.{mode_of}
+use Rattle.luks2_members.specs.Encryption.{encryption_mode}
 use Rattle.luks2_members.specs.Member.{decimal_of}
 
 numerals : IsNumeralModel (λ ds. list_all is_ascii_digit ds ≡ true) (digits_value 10)
@@ -50,8 +50,8 @@ hash_read Sha256 = refl
 hash_read Sha384 = refl
 hash_read Sha512 = refl
 
-pub mode_read : (mode : Mode) → mode_of (codes "aes-" ++ mode_name mode) ≡ Some mode
-unfolding mode_of
+pub mode_read : (mode : Mode) → encryption_mode (codes "aes-" ++ mode_name mode) ≡ Some mode
+unfolding encryption_mode
 mode_read XtsPlain64 = refl
 mode_read XtsPlain = refl
 mode_read CbcEssivSha256 = refl

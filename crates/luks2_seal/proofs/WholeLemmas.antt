@@ -11,9 +11,9 @@ use Rattle.serde_json.specs.View.{items_of}
 use Rattle.serde_json.specs.Written.{has_float, items_have_float, members_have_float}
 use Rattle.luks_seal.specs.declared.parameters.Seal2.{Seal2}
 use Rattle.luks_seal.specs.declared.parameters.Slot2.{Slot2}
-use Rattle.luks2_seal.specs.Metadata2.{af_object, area_object, config_object, decimal_text, digest_object, kdf_object}
+use Rattle.luks2_seal.specs.Metadata2.{af_object, area_object, config_object, decimal_value, digest_object, kdf_object}
 use Rattle.luks2_seal.specs.Metadata2.{keyslot_object, keyslots_below, metadata_of, names_below, segment_object}
-use Rattle.luks2_seal.specs.Metadata2.{size_text}
+use Rattle.luks2_seal.specs.Metadata2.{size_value}
 use Rattle.luks2_seal.specs.Numbered.{slot_numbered}
 
 -- where one or the other is false, both are
@@ -34,7 +34,7 @@ put_whole k d (member l e ms) of_d of_ms =
       | Greater ↦ rw (parts.0) (put_whole k d ms of_d parts.1)
     ]
 
-size_whole : (fixed : Bool) (len : ℕ) → has_float (size_text fixed len) ≡ false
+size_whole : (fixed : Bool) (len : ℕ) → has_float (size_value fixed len) ≡ false
 size_whole true len = refl
 size_whole false len = refl
 
@@ -56,14 +56,14 @@ keyslots_whole p (suc n) =
 
 -- a text at the end
 item_whole : (ds : List Data) (n : ℕ) → items_have_float (items_of ds) ≡ false
-    → items_have_float (items_of (ds ++ decimal_text n ∷ [])) ≡ false
+    → items_have_float (items_of (ds ++ decimal_value n ∷ [])) ≡ false
 item_whole [] n of_ds = refl
 item_whole (d ∷ ds) n of_ds =
     let parts = both_false (has_float d) (items_have_float (items_of ds)) of_ds in
     rw (parts.0) (item_whole ds n parts.1)
 
 name_whole : (n : ℕ) (ds : List Data) (found : Option Slot2) → items_have_float (items_of ds) ≡ false
-    → items_have_float (items_of (option_map_or (λ slot. ds ++ decimal_text n ∷ []) found ds)) ≡ false
+    → items_have_float (items_of (option_map_or (λ slot. ds ++ decimal_value n ∷ []) found ds)) ≡ false
 name_whole n ds None of_ds = of_ds
 name_whole n ds (Some slot) of_ds = item_whole ds n of_ds
 

@@ -6,7 +6,7 @@ use Rattle.luks_kdf.specs.Hash.{hash_of}
 use Rattle.luks_kdf.specs.Pbkdf2.{derived_key}
 use Rattle.luks_kdf.specs.declared.hash.Hash.TheVariants.{Sha256}
 use Rattle.luks_verdict.specs.SectorSize.{bytes_of}
-use Rattle.luks_seal.specs.Pieces.{material_of, padded, sectors_encrypted, stripes_of}
+use Rattle.luks_seal.specs.Pieces.{encrypted_material, padded, sectors_encrypted, stripes_of}
 use Rattle.luks_seal.specs.declared.parameters.Seal2.{Seal2}
 use Rattle.luks_seal.specs.declared.parameters.Slot2.{Slot2}
 use Rattle.luks2_seal.specs.Metadata2.{json_of}
@@ -28,26 +28,26 @@ unfoldable pub middle_of : Seal2 → List ℕ → List ℕ
 middle_of p salt = padded 48 p.label.now ++ padded 32 (codes "sha256") ++ salt
 
 -- `uuid`, `subsystem` and `hdr_offset`, which is the header's own place in bytes, and the zeros before the checksum
-unfoldable pub end_of : Seal2 → ℕ → List ℕ
-end_of p place = padded 40 p.uuid.now ++ padded 48 p.subsystem.now ++ padded 192 (to_be_bytes w64 place)
+unfoldable pub fields_end_bytes : Seal2 → ℕ → List ℕ
+fields_end_bytes p place = padded 40 p.uuid.now ++ padded 48 p.subsystem.now ++ padded 192 (to_be_bytes w64 place)
 
 -- the bytes before the checksum
 abbrev pub fields_of : Seal2 → List ℕ → List ℕ → ℕ → List ℕ
-fields_of p magic salt place = start_of p magic ++ middle_of p salt ++ end_of p place
+fields_of p magic salt place = start_of p magic ++ middle_of p salt ++ fields_end_bytes p place
 
 -- the bytes behind it: zeros to byte 4096, and the JSON area
-unfoldable pub rest_of : Seal2 → List ℕ
-rest_of p = padded 3584 [] ++ padded (p.hdr_size - 4096) (json_of p)
+unfoldable pub body_bytes : Seal2 → List ℕ
+body_bytes p = padded 3584 [] ++ padded (p.hdr_size - 4096) (json_of p)
 
 -- a header with its JSON area. The checksum is the hash of them with zeros in its place
-unfoldable pub header_of : Seal2 → List ℕ → List ℕ → ℕ → List ℕ
-header_of p magic salt place =
+unfoldable pub header2_bytes : Seal2 → List ℕ → List ℕ → ℕ → List ℕ
+header2_bytes p magic salt place =
     let fields = fields_of p magic salt place in
-    fields ++ padded 64 (hash_of Sha256 (fields ++ padded 64 [] ++ rest_of p)) ++ rest_of p
+    fields ++ padded 64 (hash_of Sha256 (fields ++ padded 64 [] ++ body_bytes p)) ++ body_bytes p
 
 -- both headers
 unfoldable pub headers_of : Seal2 → List ℕ
-headers_of p = header_of p primary_magic p.primary_salt 0 ++ header_of p secondary_magic p.secondary_salt p.hdr_size
+headers_of p = header2_bytes p primary_magic p.primary_salt 0 ++ header2_bytes p secondary_magic p.secondary_salt p.hdr_size
 
 -- the key that encrypts a slot's area: PBKDF2 of the passphrase
 unfoldable pub area_key_of : Seal2 → Slot2 → List ℕ
@@ -57,7 +57,7 @@ area_key_of p slot = derived_key slot.hash slot.passphrase.now slot.salt slot.it
 unfoldable pub area_of : Seal2 → Slot2 → List ℕ
 area_of p slot =
     padded (area_size (length p.key.now) slot.stripes)
-    (material_of (p.area_mode, area_key_of p slot)
+    (encrypted_material (p.area_mode, area_key_of p slot)
     (stripes_of slot.af_hash p.key.now slot.stripes slot.random.now))
 
 -- the areas of the slots with numbers below this one

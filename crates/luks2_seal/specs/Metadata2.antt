@@ -11,7 +11,7 @@ use Rattle.serde_json.specs.Read.{read}
 use Rattle.serde_json.specs.Written.{compact_text}
 use Rattle.luks_cipher.specs.Sector.{mode_name}
 use Rattle.luks_cipher.specs.declared.mode.Mode.{Mode}
-use Rattle.luks_kdf.specs.Hash.{name_of as hash_name, size_of}
+use Rattle.luks_kdf.specs.Hash.{hash_name, digest_len}
 use Rattle.luks_kdf.specs.Pbkdf2.{derived_key}
 use Rattle.luks_verdict.specs.SectorSize.{bytes_of}
 use Rattle.luks_seal.specs.Ranges.{FitsText}
@@ -25,12 +25,12 @@ members [] = no_members
 members (m ∷ ms) = member m.0 m.1 (members ms)
 
 -- a number of bytes, which the format writes as a text
-abbrev pub decimal_text : ℕ → Data
-decimal_text n = string (decimal n)
+abbrev pub decimal_value : ℕ → Data
+decimal_value n = string (decimal n)
 
 -- bytes in base64
-abbrev pub base64_text : List ℕ → Data
-base64_text bytes = string (encode_of standard bytes)
+abbrev pub base64_value : List ℕ → Data
+base64_value bytes = string (encode_of standard bytes)
 
 -- how sectors are encrypted: AES in this mode
 abbrev pub encryption_text : Mode → Data
@@ -49,8 +49,8 @@ unfoldable pub area_object : Seal2 → Slot2 → Data
 area_object p slot = object (members (
     (codes "encryption", encryption_text p.area_mode)
     ∷ (codes "key_size", number (unsigned p.area_key_size))
-    ∷ (codes "offset", decimal_text (area_start p slot.number))
-    ∷ (codes "size", decimal_text (area_size (length p.key.now) slot.stripes))
+    ∷ (codes "offset", decimal_value (area_start p slot.number))
+    ∷ (codes "size", decimal_value (area_size (length p.key.now) slot.stripes))
     ∷ (codes "type", string (codes "raw"))
     ∷ []))
 
@@ -59,7 +59,7 @@ unfoldable pub kdf_object : Slot2 → Data
 kdf_object slot = object (members (
     (codes "hash", string (hash_name slot.hash))
     ∷ (codes "iterations", number (unsigned slot.iterations))
-    ∷ (codes "salt", base64_text slot.salt)
+    ∷ (codes "salt", base64_value slot.salt)
     ∷ (codes "type", string (codes "pbkdf2"))
     ∷ []))
 
@@ -84,44 +84,44 @@ keyslots_below p (suc n) =
 unfoldable pub names_below : Seal2 → ℕ → List Data
 names_below p zero = []
 names_below p (suc n) =
-    option_map_or (λ slot. names_below p n ++ decimal_text n ∷ []) (slot_numbered n p.slots.now) (names_below p n)
+    option_map_or (λ slot. names_below p n ++ decimal_value n ∷ []) (slot_numbered n p.slots.now) (names_below p n)
 
 -- the digest of the volume key, which is in all key slots
 unfoldable pub digest_object : Seal2 → Data
 digest_object p = object (members ((
   codes "digest",
-  base64_text (derived_key p.digest_hash p.key.now p.digest_salt p.digest_iterations
-      (size_of p.digest_hash)),
+  base64_value (derived_key p.digest_hash p.key.now p.digest_salt p.digest_iterations
+      (digest_len p.digest_hash)),
 )
     ∷ (codes "hash", string (hash_name p.digest_hash))
     ∷ (codes "iterations", number (unsigned p.digest_iterations))
     ∷ (codes "keyslots", array (items_of (names_below p 32)))
-    ∷ (codes "salt", base64_text p.digest_salt)
+    ∷ (codes "salt", base64_value p.digest_salt)
     ∷ (codes "segments", array (items_of (string (codes "0") ∷ [])))
     ∷ (codes "type", string (codes "pbkdf2"))
     ∷ []))
 
 -- the payload's length, where it is fixed
-abbrev pub size_text : Bool → ℕ → Data
-size_text true len = decimal_text len
-size_text false len = string (codes "dynamic")
+abbrev pub size_value : Bool → ℕ → Data
+size_value true len = decimal_value len
+size_value false len = string (codes "dynamic")
 
 -- where the payload is, and how it is encrypted
 unfoldable pub segment_object : Seal2 → Data
 segment_object p = object (members (
     (codes "encryption", encryption_text p.mode)
-    ∷ (codes "iv_tweak", decimal_text p.iv_tweak)
-    ∷ (codes "offset", decimal_text p.offset)
+    ∷ (codes "iv_tweak", decimal_value p.iv_tweak)
+    ∷ (codes "offset", decimal_value p.offset)
     ∷ (codes "sector_size", number (unsigned (bytes_of p.sector_size)))
-    ∷ (codes "size", size_text p.fixed (length p.plain.now))
+    ∷ (codes "size", size_value p.fixed (length p.plain.now))
     ∷ (codes "type", string (codes "crypt"))
     ∷ []))
 
 -- the lengths of the JSON area, and of the room for key material
 unfoldable pub config_object : Seal2 → Data
 config_object p = object (members (
-    (codes "json_size", decimal_text (p.hdr_size - 4096))
-    ∷ (codes "keyslots_size", decimal_text (p.offset - 2 * p.hdr_size))
+    (codes "json_size", decimal_value (p.hdr_size - 4096))
+    ∷ (codes "keyslots_size", decimal_value (p.offset - 2 * p.hdr_size))
     ∷ []))
 
 unfoldable pub metadata_of : Seal2 → Data

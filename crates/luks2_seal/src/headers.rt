@@ -4,8 +4,8 @@ ghost use Rattle.std.specs.Prelude.{◌≡◌, ◌++◌, [], IfOk, OnOk};
 ghost use Rattle.luks_kdf.specs.Hash.{hash_of};
 ghost use Rattle.luks_kdf.specs.declared.hash.Hash.TheVariants.{Sha256};
 ghost use Rattle.luks_seal.specs.Pieces.{padded};
-ghost use Rattle.luks2_seal.specs.Layout2.{end_of, fields_of, header_of, headers_of, middle_of};
-ghost use Rattle.luks2_seal.specs.Layout2.{rest_of, start_of};
+ghost use Rattle.luks2_seal.specs.Layout2.{fields_end_bytes, fields_of, header2_bytes, headers_of, middle_of};
+ghost use Rattle.luks2_seal.specs.Layout2.{body_bytes, start_of};
 ghost use Rattle.luks2_seal.specs.Metadata2.{json_of};
 ghost use Rattle.luks2_seal.specs.Ranges2.{AreParameters2};
 
@@ -44,14 +44,14 @@ fn push_middle(
 }
 
 /// Adds `uuid`, `subsystem` and `hdr_offset`, and the zeros before the checksum.
-#[tactic(auto, unfolding(crate::specs::Layout2::end_of))]
+#[tactic(auto, unfolding(crate::specs::Layout2::fields_end_bytes))]
 fn push_end(
     alloc: Global,
     header: &mut Vec<u8>,
     seal: &Seal2<'_>,
     place: u64,
 ) -> Result<(), AllocError>
-    ensures { OnOk result (header.new.items ≡ header.old.items ++ end_of seal.now place) }
+    ensures { OnOk result (header.new.items ≡ header.old.items ++ fields_end_bytes seal.now place) }
 {
     push_padded(alloc, header, seal.uuid, 40)?;
     push_padded(alloc, header, seal.subsystem, 48)?;
@@ -77,11 +77,11 @@ fn fields_of(
 }
 
 /// The bytes behind the checksum: zeros, and the JSON area.
-#[tactic(auto, unfolding(crate::specs::Layout2::rest_of))]
+#[tactic(auto, unfolding(crate::specs::Layout2::body_bytes))]
 fn rest_of(alloc: Global, seal: &Seal2<'_>, json: &[u8]) -> Result<Vec<u8>, AllocError>
     requires fits { AreParameters2 seal.now }
     requires json { json.now ≡ json_of seal.now }
-    ensures { IfOk result (λ rest. rest.items ≡ rest_of seal.now) }
+    ensures { IfOk result (λ rest. rest.items ≡ body_bytes seal.now) }
 {
     let mut rest = padded(alloc, b"", 3584)?;
     push_padded(alloc, &mut rest, json, (seal.hdr_size - 4096) as usize)?;
@@ -100,7 +100,7 @@ fn checksum_of(alloc: Global, fields: &[u8], rest: &[u8]) -> Result<Vec<u8>, All
 }
 
 /// Adds a header with its JSON area, where `rest` is what stands behind the checksum.
-#[tactic(auto, unfolding(crate::specs::Layout2::header_of))]
+#[tactic(auto, unfolding(crate::specs::Layout2::header2_bytes))]
 fn push_header(
     alloc: Global,
     image: &mut Vec<u8>,
@@ -110,9 +110,9 @@ fn push_header(
     salt: &[u8],
     place: u64,
 ) -> Result<(), AllocError>
-    requires { rest.now ≡ rest_of seal.now }
+    requires { rest.now ≡ body_bytes seal.now }
     ensures { OnOk result (image.new.items
-        ≡ image.old.items ++ header_of seal.now magic.now salt.now place) }
+        ≡ image.old.items ++ header2_bytes seal.now magic.now salt.now place) }
 {
     let fields = fields_of(alloc, seal, magic, salt, place)?;
     let checksum = checksum_of(alloc, &fields, rest)?;

@@ -4,7 +4,7 @@ ghost use Rattle.std.specs.Prelude.{◌≡◌, IfOk, OnOk};
 ghost use Rattle.serde_json.specs.Data.{no_members, object, put};
 ghost use Rattle.serde_json.specs.View.{members_view, view};
 ghost use Rattle.luks2_seal.specs.Members.{data_of, with_members};
-ghost use Rattle.luks2_seal.specs.Metadata2.{base64_text, decimal_text, encryption_text};
+ghost use Rattle.luks2_seal.specs.Metadata2.{base64_value, decimal_value, encryption_text};
 
 use base64::engine::general_purpose::STANDARD;
 use luks_cipher::Mode;
@@ -28,14 +28,14 @@ pub(crate) enum Content<'a> {
 
 /// A number in decimal digits, as a text.
 pub(crate) fn decimal_text(alloc: Global, number: u64) -> Result<Value, AllocError>
-    ensures { IfOk result (λ value. view value ≡ decimal_text number) }
+    ensures { IfOk result (λ value. view value ≡ decimal_value number) }
 {
     Ok(Value::from(number.to_string(alloc)?))
 }
 
 /// Bytes in base64.
 fn base64_text(alloc: Global, bytes: &[u8]) -> Result<Value, AllocError>
-    ensures { IfOk result (λ value. view value ≡ base64_text bytes.now) }
+    ensures { IfOk result (λ value. view value ≡ base64_value bytes.now) }
 {
     Ok(Value::from(STANDARD.encode(alloc, bytes)?))
 }

@@ -1,13 +1,13 @@
 //! The JSON text of a volume of LUKS2 (LUKS2 On-Disk Format Specification 1.1, section 3).
 
 ghost use Rattle.std.specs.Prelude.{◌≡◌, [], ◌∷◌, IfOk, OnOk, codes, length, map};
-ghost use Rattle.luks_kdf.specs.Hash.{size_of};
+ghost use Rattle.luks_kdf.specs.Hash.{digest_len};
 ghost use Rattle.luks_kdf.specs.Pbkdf2.{derived_key};
 ghost use Rattle.luks2_seal.specs.Members.{data_of};
-ghost use Rattle.luks2_seal.specs.Metadata2.{ReadsBack, af_object, area_object, base64_text};
+ghost use Rattle.luks2_seal.specs.Metadata2.{ReadsBack, af_object, area_object, base64_value};
 ghost use Rattle.luks2_seal.specs.Metadata2.{config_object, digest_object, json_of, kdf_object};
 ghost use Rattle.luks2_seal.specs.Metadata2.{keyslot_object, keyslots_below, metadata_of};
-ghost use Rattle.luks2_seal.specs.Metadata2.{names_below, segment_object, size_text};
+ghost use Rattle.luks2_seal.specs.Metadata2.{names_below, segment_object, size_value};
 ghost use Rattle.luks2_seal.specs.Ranges2.{AreParameters2, FitsSlot2};
 ghost use Rattle.serde_json.specs.Data.{array, member, no_members, object, put, string};
 ghost use Rattle.serde_json.specs.View.{items_of, members_view, view};
@@ -165,8 +165,8 @@ fn put_digest_text(
 ) -> Result<(), AllocError>
     requires { AreParameters2 seal.now }
     ensures { OnOk result (members_view map.new.entries ≡ put (codes "digest")
-        (base64_text (derived_key seal.now.digest_hash seal.now.key.now seal.now.digest_salt
-        seal.now.digest_iterations (size_of seal.now.digest_hash)))
+        (base64_value (derived_key seal.now.digest_hash seal.now.key.now seal.now.digest_salt
+        seal.now.digest_iterations (digest_len seal.now.digest_hash)))
         (members_view map.old.entries)) }
 {
     let mut digest = vec![in alloc; 0; seal.digest_hash.size()]?;
@@ -236,7 +236,7 @@ fn put_digest(
 
 /// The payload's length, where it is fixed.
 fn size_text<'a>(fixed: bool, len: usize) -> Content<'a>
-    ensures { data_of result ≡ size_text fixed len }
+    ensures { data_of result ≡ size_value fixed len }
 {
     if fixed {
         Content::Decimal(len as u64)

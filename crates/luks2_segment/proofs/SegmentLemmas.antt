@@ -11,15 +11,15 @@ use Rattle.std.proofs.lemmas.Bool.{ne_eqb}
 use Rattle.luks2_segment.specs.Segment2.{are_none, fault2_of, has_requirement, is_empty_list, made2, offset_of}
 use Rattle.luks2_segment.specs.Segment2.{only_member}
 use Rattle.luks2_segment.specs.Segment2.{payload2_of, payload_mode2_of, segment2_of, segment_faults, segment_parts2_of}
-use Rattle.luks2_segment.specs.Segment2.{segment_said, starts_inside, starts_wrong, the_segment}
+use Rattle.luks2_segment.specs.Segment2.{segment_said, overlaps_headers2, starts_wrong, the_segment}
 use Rattle.luks2_segment.specs.declared.bounds.Bounds.{Bounds}
 use Rattle.luks_cipher.specs.declared.mode.Mode.{Mode}
 use Rattle.luks_verdict.proofs.MadeLemmas.{refused_or-fault, refused_or-none, refused_or-ok}
 use Rattle.luks_verdict.proofs.TableLemmas.{none_holds}
-use Rattle.luks_verdict.specs.Evidence.{where_true}
+use Rattle.luks_verdict.specs.Evidence.{evidence_if}
 use Rattle.luks_verdict.specs.SectorSize.{are_sectors}
 use Rattle.luks_verdict.specs.Segment.{segment_by, segment_from, segment_of_all}
-use Rattle.luks_verdict.specs.Table.{first_holding}
+use Rattle.luks_verdict.specs.Table.{first_match}
 use Rattle.luks_verdict.specs.declared.refusal.SegmentFault.{SegmentFault}
 use Rattle.luks_verdict.specs.declared.refusal.SegmentFault.TheVariants.{Requirement, Segments}
 use Rattle.luks_verdict.specs.declared.sector_size.SectorSize.{SectorSize as Sector}
@@ -103,7 +103,7 @@ fault2-segments tree bounds requires none = rw (requires, none) refl
 
 -- where nothing is required and there is one, it is that of its members
 pub fault2-there : (tree : Data) (bounds : Bounds) (segment : Data) → has_requirement tree ≡ false
-    → the_segment tree ≡ Some segment → fault2_of tree bounds ≡ first_holding (segment_faults bounds segment)
+    → the_segment tree ≡ Some segment → fault2_of tree bounds ≡ first_match (segment_faults bounds segment)
 unfolding fault2_of
 fault2-there tree bounds segment requires there = rw (requires, there) refl
 
@@ -138,7 +138,7 @@ offset_made : (offset : Option ℕ) (size : Option (Option ℕ)) (iv_tweak : Opt
     → offset ≡ Some segment.offset
 unfolding segment_by
 offset_made (Some offset) (Some size) (Some iv_tweak) (Some sector_size) (Some mode) segment is =
-    let made = mapped (segment_by offset size iv_tweak sector_size mode) (where_true (are_sectors size sector_size))
+    let made = mapped (segment_by offset size iv_tweak sector_size mode) (evidence_if (are_sectors size sector_size))
     segment is in
     ap (λ (s : Segment). Some s.offset) made.1
 offset_made _ _ _ _ _ segment is = absurd cc
@@ -146,7 +146,7 @@ offset_made _ _ _ _ _ segment is = absurd cc
 -- a payload in the header's image that does not start wrong starts behind the header
 starts_right : (bounds : Bounds) (offset : ℕ) → starts_wrong bounds (Some offset) ≡ false → bounds.detached ≡ false
     → bounds.end ≤ offset
-unfolding starts_wrong starts_inside
+unfolding starts_wrong overlaps_headers2
 starts_right bounds offset is attached =
     let right : (nat_lt offset bounds.end || not (offset % 512 == 0)) ≡ false = rw attached at is in
     grind (arith, nat_tests)

@@ -6,10 +6,10 @@ use Rattle.std.specs.Prelude.{option_and_then, option_map, unwrap_or}
 use Rattle.std.specs.Result.{result_ok}
 use Rattle.std.proofs.lemmas.Bool.{and_parts}
 use Rattle.luks_cipher.specs.declared.mode.Mode.{Mode}
-use Rattle.luks_verdict.specs.Evidence.{where_true}
+use Rattle.luks_verdict.specs.Evidence.{evidence_if}
 use Rattle.luks_verdict.specs.SectorSize.{are_sectors}
 use Rattle.luks_verdict.specs.Segment.{refused_or, segment_by, segment_from, segment_of_all}
-use Rattle.luks_verdict.specs.Table.{first_holding}
+use Rattle.luks_verdict.specs.Table.{first_match}
 use Rattle.luks_verdict.proofs.TableLemmas.{none_holds}
 use Rattle.luks_verdict.specs.declared.refusal.SegmentFault.{SegmentFault}
 use Rattle.luks_verdict.specs.declared.refusal.SegmentFault.TheVariants.{Requirement, Segments, Member, Kind, Integrity}
@@ -19,8 +19,8 @@ use Rattle.luks_verdict.specs.declared.sector_size.SectorSize.TheVariants.{B512,
 use Rattle.luks_verdict.specs.declared.segment.Segment.{Segment}
 use Rattle.luks_verdict.specs.declared.segment.SegmentParts.{SegmentParts}
 use Rattle.luks2_segment.specs.declared.bounds.Bounds.{Bounds}
-use Rattle.luks2_members.specs.Member.{decimal_text, has, is_named, is_type, text, whole_number, within}
-use Rattle.luks2_members.specs.Encryption.{mode_of}
+use Rattle.luks2_members.specs.Member.{decimal_member, has, is_named, is_type, string_member, integer_member, in_member}
+use Rattle.luks2_members.specs.Encryption.{encryption_mode}
 use Rattle.serde_json.specs.Data.{Data, null, Items, no_items, item, Members, no_members, member}
 use Rattle.serde_json.specs.Find.{as_array, as_object, get}
 
@@ -48,7 +48,7 @@ requires_nothing requirements =
 unfoldable pub has_requirement : Data → Bool
 has_requirement tree =
     unwrap_or (option_map (λ requirements. not (requires_nothing requirements))
-    (within (codes "config") (get (codes "requirements")) tree)) false
+    (in_member (codes "config") (get (codes "requirements")) tree)) false
 
 -- ---- the segment and its members
 
@@ -60,7 +60,7 @@ only_member name (member _ _ (member _ _ _)) = None
 
 -- the segment, where there is exactly one and it is named 0
 unfoldable pub the_segment : Data → Option Data
-the_segment tree = option_and_then (only_member (codes "0")) (within (codes "segments") as_object tree)
+the_segment tree = option_and_then (only_member (codes "0")) (in_member (codes "segments") as_object tree)
 
 -- what is said of it (nothing where it is not there)
 abbrev pub segment_said : Data → Data
@@ -68,16 +68,16 @@ segment_said tree = unwrap_or (the_segment tree) null
 
 -- its first byte
 abbrev pub offset_of : Data → Option ℕ
-offset_of segment = decimal_text (codes "offset") segment
+offset_of segment = decimal_member (codes "offset") segment
 
 -- its length in bytes, or None inside where it goes to the image's end
-unfoldable pub size_of : Data → Option (Option ℕ)
-size_of segment = if is_named (codes "size") (codes "dynamic") segment then Some None
-    else option_map (λ bytes. Some bytes) (decimal_text (codes "size") segment)
+unfoldable pub size_member : Data → Option (Option ℕ)
+size_member segment = if is_named (codes "size") (codes "dynamic") segment then Some None
+    else option_map (λ bytes. Some bytes) (decimal_member (codes "size") segment)
 
 -- the unit number of its first sector
 abbrev pub iv_tweak_of : Data → Option ℕ
-iv_tweak_of segment = decimal_text (codes "iv_tweak") segment
+iv_tweak_of segment = decimal_member (codes "iv_tweak") segment
 
 -- the length of a sector of so many bytes, where there is one
 abbrev pub sector_size_with : ℕ → Option Sector
@@ -89,36 +89,36 @@ sector_size_with bytes =
     else None
 
 unfoldable pub sector_size_of : Data → Option Sector
-sector_size_of segment = option_and_then sector_size_with (whole_number (codes "sector_size") segment)
+sector_size_of segment = option_and_then sector_size_with (integer_member (codes "sector_size") segment)
 
 -- the mode in which its sectors are encrypted by AES
 unfoldable pub mode2_of : Data → Option Mode
-mode2_of segment = option_and_then mode_of (text (codes "encryption") segment)
+mode2_of segment = option_and_then encryption_mode (string_member (codes "encryption") segment)
 
 -- each member of a segment of type crypt is there, in its kind
 unfoldable pub has_segment_members : Data → Bool
 has_segment_members segment =
     is_some (offset_of segment)
-    && is_some (size_of segment)
+    && is_some (size_member segment)
     && is_some (iv_tweak_of segment)
-    && is_some (text (codes "encryption") segment)
-    && is_some (whole_number (codes "sector_size") segment)
+    && is_some (string_member (codes "encryption") segment)
+    && is_some (integer_member (codes "sector_size") segment)
 
--- its type is a text, and a segment of type crypt has its members
+-- its type is a string_member, and a segment of type crypt has its members
 unfoldable pub is_segment : Data → Bool
 is_segment segment =
-    is_some (text (codes "type") segment) && (not (is_type (codes "crypt") segment) || has_segment_members segment)
+    is_some (string_member (codes "type") segment) && (not (is_type (codes "crypt") segment) || has_segment_members segment)
 
 -- ---- the table of faults
 
 -- it starts inside the header, where both stand in one image
-unfoldable pub starts_inside : Bounds → ℕ → Bool
-starts_inside bounds offset = not bounds.detached && nat_lt offset bounds.end
+unfoldable pub overlaps_headers2 : Bounds → ℕ → Bool
+overlaps_headers2 bounds offset = not bounds.detached && nat_lt offset bounds.end
 
--- it starts inside the header, or within a sector of 512 bytes
+-- it starts inside the header, or in_member a sector of 512 bytes
 unfoldable pub starts_wrong : Bounds → Option ℕ → Bool
 starts_wrong bounds None = true
-starts_wrong bounds (Some offset) = starts_inside bounds offset || not (offset % 512 == 0)
+starts_wrong bounds (Some offset) = overlaps_headers2 bounds offset || not (offset % 512 == 0)
 
 -- its length is fixed and is no multiple of its sectors' length
 unfoldable pub is_torn : Option (Option ℕ) → Option Sector → Bool
@@ -134,12 +134,12 @@ segment_faults bounds segment =
     ∷ (is_none (mode2_of segment), Encryption)
     ∷ (is_none (sector_size_of segment), SectorSize)
     ∷ (starts_wrong bounds (offset_of segment), Offset)
-    ∷ (is_torn (size_of segment) (sector_size_of segment), Size)
+    ∷ (is_torn (size_member segment) (sector_size_of segment), Size)
     ∷ []
 
 -- the first fault of the header's segment
 unfoldable pub fault2_of : Data → Bounds → Option SegmentFault
-fault2_of tree bounds = first_holding (
+fault2_of tree bounds = first_match (
     (has_requirement tree, Requirement)
     ∷ (is_none (the_segment tree), Segments)
     ∷ segment_faults bounds (segment_said tree))
@@ -148,7 +148,7 @@ fault2_of tree bounds = first_holding (
 unfoldable pub segment_parts2_of : Data → SegmentParts
 segment_parts2_of segment = record {
   offset = offset_of segment;
-  size = size_of segment;
+  size = size_member segment;
   iv_tweak = iv_tweak_of segment;
   sector_size = sector_size_of segment;
   mode = mode2_of segment;
@@ -158,7 +158,7 @@ segment_parts2_of segment = record {
 
 -- what a test lets through is made if it holds
 made_of_test : (test : Bool) (make : test ≡ true → Segment) → not test ≡ false
-    → option_map make (where_true test) ≢ None
+    → option_map make (evidence_if test) ≢ None
 made_of_test true make holds none = cc
 made_of_test false make holds none = cc
 
@@ -192,7 +192,7 @@ made2 tree bounds no_fault =
     let encryption = and_parts _ _ whole.0 in
     let iv_tweak = and_parts _ _ encryption.0 in
     let size = and_parts _ _ iv_tweak.0 in
-    made_of_parts (offset_of segment) (size_of segment) (iv_tweak_of segment) (sector_size_of segment)
+    made_of_parts (offset_of segment) (size_member segment) (iv_tweak_of segment) (sector_size_of segment)
     (mode2_of segment) size.0 size.1 iv_tweak.1 lines.1.1.1.1.0 lines.1.1.1.0 lines.1.1.1.1.1.1.0
 
 -- ---- the segment

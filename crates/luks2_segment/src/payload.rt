@@ -1,13 +1,13 @@
 //! Where the payload lies, or why it cannot be read.
 
 ghost use Rattle.std.specs.Prelude.{◌≡◌, option_map};
-ghost use Rattle.luks_verdict.specs.Table.{first_holding};
+ghost use Rattle.luks_verdict.specs.Table.{first_match};
 ghost use Rattle.luks2_segment.specs.Segment2.{has_none_of, has_requirement, has_segment_members};
 ghost use Rattle.luks2_segment.specs.Segment2.{is_empty_list, is_segment, is_torn, mode2_of};
 ghost use Rattle.luks2_segment.specs.Segment2.{payload2_of, payload_mode2_of, requires_nothing};
 ghost use Rattle.luks2_segment.specs.Segment2.{sector_size_of, sector_size_with, segment2_of};
-ghost use Rattle.luks2_segment.specs.Segment2.{segment_faults, segment_parts2_of, size_of};
-ghost use Rattle.luks2_segment.specs.Segment2.{starts_inside, starts_wrong, the_segment};
+ghost use Rattle.luks2_segment.specs.Segment2.{segment_faults, segment_parts2_of, size_member};
+ghost use Rattle.luks2_segment.specs.Segment2.{overlaps_headers2, starts_wrong, the_segment};
 ghost use Rattle.serde_json.specs.View.{view as data_of};
 
 use crate::bounds::Bounds;
@@ -78,9 +78,9 @@ fn the_segment(tree: &Value) -> Option<&Value>
 }
 
 // Its length in bytes, or `Some(None)` where it goes to the image's end.
-#[tactic(auto, unfolding(crate::specs::Segment2::size_of))]
+#[tactic(auto, unfolding(crate::specs::Segment2::size_member))]
 fn size(segment: &Value) -> Option<Option<u64>>
-    ensures { result ≡ size_of (data_of segment.now) }
+    ensures { result ≡ size_member (data_of segment.now) }
 {
     if is_named(segment, "size", "dynamic") {
         return Some(None);
@@ -138,9 +138,9 @@ fn is_segment(segment: &Value) -> bool
 }
 
 // It starts inside the header, where both stand in one image.
-#[tactic(auto, unfolding(crate::specs::Segment2::starts_inside))]
+#[tactic(auto, unfolding(crate::specs::Segment2::overlaps_headers2))]
 fn starts_inside(bounds: Bounds, offset: u64) -> bool
-    ensures { result ≡ starts_inside bounds offset }
+    ensures { result ≡ overlaps_headers2 bounds offset }
 {
     !bounds.detached && offset < bounds.end
 }
@@ -172,7 +172,7 @@ fn is_torn(size: Option<Option<u64>>, sector_size: Option<SectorSize>) -> bool
 
 // The first fault of a segment that is there.
 fn fault(segment: &Value, bounds: Bounds) -> Option<SegmentFault>
-    ensures { result ≡ first_holding (segment_faults bounds (data_of segment.now)) }
+    ensures { result ≡ first_match (segment_faults bounds (data_of segment.now)) }
 {
     if !is_segment(segment) {
         Some(SegmentFault::Member)

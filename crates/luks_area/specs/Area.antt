@@ -1,23 +1,23 @@
 -- The front of an image: how an area that holds it takes further bytes.
 use Rattle.std.specs.Prelude.{◌≡◌, ℕ, ◌<◌, ◌++◌, not, Bool, true, false, List, Option, Result, Ok, Err, take}
-use Rattle.luks_io.specs.Bytes.{Took}
+use Rattle.luks_io.specs.Bytes.{ConsumedExactly}
 use Rattle.luks_area.specs.declared.fault.HeaderFault.{HeaderFault}
 use Rattle.luks_area.specs.declared.fault.HeaderFault.TheVariants.{Read, Memory}
 
 -- the most bytes that an area holds: 32 MiB
-abbrev pub longest_area : ℕ
-longest_area = 33554432
+abbrev pub max_area_len : ℕ
+max_area_len = 33554432
 
 -- of the bytes that a source knew to come the first `count` were taken, and went behind those that were held
-abbrev pub TookBehind : List ℕ → List ℕ → List ℕ → Option (List ℕ) → ℕ → Type 0
-TookBehind held held' known left count = Took known left count × (held' ≡ held ++ take count known)
+abbrev pub ConsumedOnto : List ℕ → List ℕ → List ℕ → Option (List ℕ) → ℕ → Type 0
+ConsumedOnto held held' known left count = ConsumedExactly known left count × (held' ≡ held ++ take count known)
 
 -- taking up to `most` bytes was broken off: by a failed read before the last of them, or at the start for want of
 -- memory
-abbrev pub BreaksTaking : ℕ → List ℕ → List ℕ → List ℕ → Option (List ℕ) → HeaderFault → Type 0
-BreaksTaking most held held' known left Read = (count : ℕ) × (count < most) × TookBehind held held' known left count
-BreaksTaking most held held' known left Memory = TookBehind held held' known left 0
-BreaksTaking most held held' known left _ = ⊥
+abbrev pub AbortsConsuming : ℕ → List ℕ → List ℕ → List ℕ → Option (List ℕ) → HeaderFault → Type 0
+AbortsConsuming most held held' known left Read = (count : ℕ) × (count < most) × ConsumedOnto held held' known left count
+AbortsConsuming most held held' known left Memory = ConsumedOnto held held' known left 0
+AbortsConsuming most held held' known left _ = ⊥
 
 -- a failed read is told
 abbrev pub is_read : {T : Type 0} → Result T HeaderFault → Bool
@@ -25,6 +25,6 @@ is_read (Err Read) = true
 is_read _ = false
 
 -- an image is told to end before all that was asked of it was there
-abbrev pub is_short : Result Bool HeaderFault → Bool
-is_short (Ok whole) = not whole
-is_short (Err _) = false
+abbrev pub is_truncated : Result Bool HeaderFault → Bool
+is_truncated (Ok whole) = not whole
+is_truncated (Err _) = false

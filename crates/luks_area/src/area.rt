@@ -3,8 +3,8 @@
 ghost use Rattle.std.specs.Prelude.{◌≡◌, ◌-◌, ◌<◌, ◌≤◌, ◌↔◌, ◌++◌, ◌⊎◌, true, List, ℕ, [], Some};
 ghost use Rattle.std.specs.Prelude.{IsTrue, IfOk, IfErr, OnOk, OnErr, Ok, Err, length, max, min};
 ghost use Rattle.std.specs.Prelude.{replicate, take, vec_capacity, vec_len};
-ghost use Rattle.luks_io.specs.Bytes.{WhereKnown, counted};
-ghost use Rattle.luks_area.specs.Area.{BreaksTaking, TookBehind, is_read, is_short, longest_area};
+ghost use Rattle.luks_io.specs.Bytes.{IfKnown, counted};
+ghost use Rattle.luks_area.specs.Area.{AbortsConsuming, ConsumedOnto, is_read, is_truncated, max_area_len};
 
 use crate::fault::HeaderFault;
 use luks_io::source::{ReadFault, Source, fill};
@@ -23,7 +23,7 @@ impl Model for HeaderArea {
 
     ghost view = { λ area. area.bytes.items };
 
-    ghost invariant = { λ area. vec_len area.bytes ≤ longest_area };
+    ghost invariant = { λ area. vec_len area.bytes ≤ max_area_len };
 }
 
 impl HeaderArea {
@@ -42,7 +42,7 @@ impl HeaderArea {
     /// The bytes that are held.
     pub fn as_slice(&self) -> &[u8]
         ensures value { result.now ≡ self.now }
-        ensures within { length self.now ≤ longest_area }
+        ensures within { length self.now ≤ max_area_len }
     {
         self.bytes.as_slice()
     }
@@ -54,12 +54,12 @@ impl HeaderArea {
     /// After [`HeaderFault::Read`] the area holds what was taken before a read failed, after
     /// [`HeaderFault::Memory`] nothing was taken. There are no other faults.
     pub fn extend_to<S: Source>(&mut self, source: &mut S, end: usize) -> Result<bool, HeaderFault>
-        requires { end ≤ longest_area }
-        ensures taken { IfOk result (λ whole. WhereKnown (S.to_come source.old) (λ known.
-            TookBehind self.old self.new known (S.to_come source.new)
+        requires { end ≤ max_area_len }
+        ensures taken { IfOk result (λ whole. IfKnown (S.to_come source.old) (λ known.
+            ConsumedOnto self.old self.new known (S.to_come source.new)
             (min (end - length self.old) (length known)))) }
-        ensures broken { IfErr result (λ fault. WhereKnown (S.to_come source.old) (λ known.
-            BreaksTaking (end - length self.old) self.old self.new known (S.to_come source.new)
+        ensures broken { IfErr result (λ fault. IfKnown (S.to_come source.old) (λ known.
+            AbortsConsuming (end - length self.old) self.old self.new known (S.to_come source.new)
             fault)) }
 
         // Whether or not the source knows its bytes:
@@ -73,7 +73,7 @@ impl HeaderArea {
         ensures refusals { IfErr result (λ fault.
             (fault ≡ HeaderFault.Read) ⊎ (fault ≡ HeaderFault.Memory)) }
         ensures reads { S.failures source.new ≡ counted (is_read result) (S.failures source.old) }
-        ensures ends { S.ends source.new ≡ counted (is_short result) (S.ends source.old) }
+        ensures ends { S.ends source.new ≡ counted (is_truncated result) (S.ends source.old) }
     {
         if end <= self.bytes.len() {
             return Ok(true);
@@ -106,11 +106,11 @@ fn make_room(bytes: &mut Vec<u8>, end: usize) -> Result<(), AllocError>
 // Puts the next bytes of the source behind these, up to `end` in all.
 fn extend<S: Source>(bytes: &mut Vec<u8>, source: &mut S, end: usize) -> Result<bool, HeaderFault>
     requires { vec_len bytes.old < end }
-    ensures taken { IfOk result (λ whole. WhereKnown (S.to_come source.old) (λ known.
-        TookBehind bytes.old.items bytes.new.items known (S.to_come source.new)
+    ensures taken { IfOk result (λ whole. IfKnown (S.to_come source.old) (λ known.
+        ConsumedOnto bytes.old.items bytes.new.items known (S.to_come source.new)
         (min (end - vec_len bytes.old) (length known)))) }
-    ensures broken { IfErr result (λ fault. WhereKnown (S.to_come source.old) (λ known.
-        BreaksTaking (end - vec_len bytes.old) bytes.old.items bytes.new.items known
+    ensures broken { IfErr result (λ fault. IfKnown (S.to_come source.old) (λ known.
+        AbortsConsuming (end - vec_len bytes.old) bytes.old.items bytes.new.items known
         (S.to_come source.new) fault)) }
     ensures whole { IfOk result (λ whole. IsTrue whole ↔ (end ≤ vec_len bytes.new)) }
     ensures within { vec_len bytes.new ≤ end }
@@ -120,7 +120,7 @@ fn extend<S: Source>(bytes: &mut Vec<u8>, source: &mut S, end: usize) -> Result<
     ensures refusals { IfErr result (λ fault.
         (fault ≡ HeaderFault.Read) ⊎ (fault ≡ HeaderFault.Memory)) }
     ensures reads { S.failures source.new ≡ counted (is_read result) (S.failures source.old) }
-    ensures ends { S.ends source.new ≡ counted (is_short result) (S.ends source.old) }
+    ensures ends { S.ends source.new ≡ counted (is_truncated result) (S.ends source.old) }
 {
     let held = bytes.len();
     make_room(bytes, end)?;

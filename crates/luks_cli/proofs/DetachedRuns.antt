@@ -4,12 +4,12 @@ use Rattle.std.proofs.Common.{ap, sym, refl, subst, length, max, arith}
 use Rattle.std.proofs.Math.Nat.{mul-le-mul_right}
 use Rattle.luks_cli.proofs.OpenedRuns.{stands_within}
 use Rattle.std.specs.Prelude.{MatchBool, if◌then◌else◌, nat_lt}
-use Rattle.luks_io.specs.Bytes.{Adds, Took, counted, raised}
-use Rattle.luks_header.specs.Header.{cost_of}
+use Rattle.luks_io.specs.Bytes.{Appended, ConsumedExactly, counted, saturating_inc}
+use Rattle.luks_header.specs.Header.{header_read_len}
 use Rattle.luks_header.specs.declared.header.Header.{Header}
 use Rattle.luks_verdict.specs.declared.segment.Segment.{Segment}
 use Rattle.luks_open.specs.Opening.{opening_of}
-use Rattle.luks_open.specs.Order.{held_of}
+use Rattle.luks_open.specs.Order.{key_areas_end}
 use Rattle.luks_open.specs.declared.fault.OpenFault.{OpenFault}
 use Rattle.luks_open.specs.declared.opening.Opened.{Opened}
 use Rattle.luks_volume.specs.Plain.{ending_of, payload_end_of, sector_len, sector_start, sectors_of}
@@ -25,13 +25,13 @@ use Rattle.luks_report.specs.declared.message.Message.TheVariants.{Short, OutOfM
 use Rattle.luks_runs.proofs.PayloadLemmas.{plain_len}
 use Rattle.luks_cli.proofs.PromptLemmas.{no_sectors_before, same_segment_by}
 use Rattle.luks_cli.specs.Detached.{CountsDetached, EndsWithoutKey}
-use Rattle.luks_runs.specs.Ending.{Outcome, unwritten}
+use Rattle.luks_runs.specs.Ending.{Outcome, no_output}
 use Rattle.luks_runs.specs.Header.{is_luks_outcome, print_outcome_by}
 use Rattle.luks_cli.specs.MayEnd.{OpeningMessage}
 use Rattle.luks_runs.specs.MayEnd.{PayloadMessage}
 use Rattle.luks_runs.specs.Reading.{Reading, detached_header_of}
-use Rattle.luks_runs.specs.Run.{BreaksOff, Completes, Counts, Failures, Promptness, Runs, RunsApart, TookNone}
-use Rattle.luks_runs.specs.Run.{breaks_off, failures_of, is_failed_read, is_failed_write}
+use Rattle.luks_runs.specs.Run.{Aborted, Completed, Counts, Failures, Promptness, RunMatches, DetachedRunMatches, TookNone}
+use Rattle.luks_runs.specs.Run.{breaks_off, failures_of, is_run_read_failure, is_run_write_failure}
 use Rattle.luks_cli.specs.Unlocking.{Unlocks, opens_promptly}
 use Rattle.luks_cli.specs.Volume.{OnOpened, Volume, detached_payload_outcome, found_outcome, opened_outcome}
 use Rattle.luks_cli.specs.Volume.{outcome_after, slot_outcome, volume_by, volume_outcome_by}
@@ -44,7 +44,7 @@ use Rattle.luks_runs.specs.declared.standing.Standing.TheVariants.{Detached}
 
 -- what holds of each run that ends without a key, and of each with one, holds of all
 module _ (Q : Outcome → Type 0) (on_opened : OnOpened) (named : Option ℕ) (file pass : List ℕ)
-    (none : (message : Message) (a b : ℕ) → Q (unwritten message a b))
+    (none : (message : Message) (a b : ℕ) → Q (no_output message a b))
     (some : (segment : Segment) (opened : Opened) (held : ℕ) → Q (on_opened segment opened held)) where
   either : (b : Bool) (x y : Outcome) → Q x → Q y → Q (if b then x else y)
   either true x y this that = this
@@ -58,10 +58,10 @@ module _ (Q : Outcome → Type 0) (on_opened : OnOpened) (named : Option ℕ) (f
   unfolding found_outcome
   of_found v =
       let tried = opened_outcome on_opened named v file pass (opening_of v.tries file pass) in
-      let cut = unwritten Cut (length file) (length pass) in
-      let is_cut = nat_lt (length file) (held_of v.tries.slots) in
-      either (nat_lt longest_key_file (length pass)) (unwritten KeyFileLength (cost_of file) (longest_key_file + 1))
-      (if is_cut then cut else tried) (none KeyFileLength (cost_of file) (longest_key_file + 1))
+      let cut = no_output Cut (length file) (length pass) in
+      let is_cut = nat_lt (length file) (key_areas_end v.tries.slots) in
+      either (nat_lt longest_key_file (length pass)) (no_output KeyFileLength (header_read_len file) (longest_key_file + 1))
+      (if is_cut then cut else tried) (none KeyFileLength (header_read_len file) (longest_key_file + 1))
       (either is_cut cut tried (none Cut (length file) (length pass)) (of_opened v (opening_of v.tries file pass)))
 
   of_volume : (r : Result Volume Message) → Q (outcome_after on_opened named file pass r)
@@ -113,8 +113,8 @@ takes_detached_payload image pass =
 -- ---- runs that take nothing of it
 
 pub runs_apart : (is_prompt : Promptness) (out : Outcome) (message : Message) (TookHeader TookSecret : ℕ → Type 0)
-    (Wrote : List ℕ → Type 0) → out.payload_taken ≡ 0 → Runs is_prompt out message TookHeader TookSecret Wrote
-    → RunsApart (λ _. is_prompt) out message TookHeader TookNone TookSecret Wrote
+    (Wrote : List ℕ → Type 0) → out.payload_taken ≡ 0 → RunMatches is_prompt out message TookHeader TookSecret Wrote
+    → DetachedRunMatches (λ _. is_prompt) out message TookHeader TookNone TookSecret Wrote
 runs_apart is_prompt out message TookHeader TookSecret Wrote none run =
     record { payload_taken = 0; payload_within = by (breaks_off message); payload = refl; run = run }
   where
@@ -131,14 +131,14 @@ prompt_at_first file _ a b segment has = tt
 -- a run that ended without a key, of whose outcome nothing is taken of the payload's image
 unopened : (file : List ℕ) (out : Outcome) (message : Message) (TookHeader TookPayload TookSecret : ℕ → Type 0)
     (Wrote : List ℕ → Type 0) → (breaks_off message ≡ false → message ≡ out.message → out.payload_taken ≡ 0)
-    → TookPayload 0 → Runs (opens_promptly Detached file) out message TookHeader TookSecret Wrote
-    → RunsApart (detached_cat_promptly file) out message TookHeader TookPayload TookSecret Wrote
+    → TookPayload 0 → RunMatches (opens_promptly Detached file) out message TookHeader TookSecret Wrote
+    → DetachedRunMatches (detached_cat_promptly file) out message TookHeader TookPayload TookSecret Wrote
 unopened file out message TookHeader TookPayload TookSecret Wrote none took run = by (breaks_off message) refl
   where
     by : (b : Bool) → breaks_off message ≡ b
-        → RunsApart (detached_cat_promptly file) out message TookHeader TookPayload TookSecret Wrote
+        → DetachedRunMatches (detached_cat_promptly file) out message TookHeader TookPayload TookSecret Wrote
     by true is =
-        let broken : BreaksOff (opens_promptly Detached file) out message TookHeader TookSecret Wrote = rw is at run in
+        let broken : Aborted (opens_promptly Detached file) out message TookHeader TookSecret Wrote = rw is at run in
         record {
           payload_taken = 0;
           payload_within = rw is (omega arith);
@@ -159,7 +159,7 @@ unopened file out message TookHeader TookPayload TookSecret Wrote none took run 
           });
         }
     by false is =
-        let whole : Completes out message TookHeader TookSecret Wrote = rw is at run in
+        let whole : Completed out message TookHeader TookSecret Wrote = rw is at run in
         record {
           payload_taken = 0;
           payload_within = rw is (sym (none is whole.as_stated));
@@ -175,10 +175,10 @@ unopened file out message TookHeader TookPayload TookSecret Wrote none took run 
 -- opening ended the run
 pub runs_unopened_apart : (o : OpeningRequest) (file image pass : List ℕ) (message : Message)
     (TookHeader TookPayload TookSecret : ℕ → Type 0) (Wrote : List ℕ → Type 0) → OpeningMessage message → TookPayload 0
-    → Runs (opens_promptly Detached file)
+    → RunMatches (opens_promptly Detached file)
     (volume_outcome_by detached_header_of (detached_payload_outcome image pass) o file pass) message TookHeader
     TookSecret Wrote
-    → RunsApart (detached_cat_promptly file)
+    → DetachedRunMatches (detached_cat_promptly file)
     (volume_outcome_by detached_header_of (detached_payload_outcome image pass) o file pass) message TookHeader
     TookPayload TookSecret Wrote
 runs_unopened_apart o file image pass message TookHeader TookPayload TookSecret Wrote opening took run =
@@ -196,9 +196,9 @@ module _ (o : OpeningRequest) (file image pass : List ℕ) (segment : Segment) (
   -- the payload was passed on, to its end or not
   pub runs_passed_apart : (message : Message) → message ≢ OutOfMemory
       → PassesPayload segment (segment.mode, opened.key) image 0 i' w w' message
-      → RunsApart (detached_cat_promptly file)
-      (volume_outcome_by detached_header_of (detached_payload_outcome image pass) o file pass) message (Took file h)
-      (Took image i') (Took pass s) (Adds w w')
+      → DetachedRunMatches (detached_cat_promptly file)
+      (volume_outcome_by detached_header_of (detached_payload_outcome image pass) o file pass) message (ConsumedExactly file h)
+      (ConsumedExactly image i') (ConsumedExactly pass s) (Appended w w')
   runs_passed_apart OutOfMemory never passed = absurd (never refl)
   runs_passed_apart ReadFailed never passed =
       let place = passed.0 in
@@ -253,7 +253,7 @@ module _ (o : OpeningRequest) (file image pass : List ℕ) (segment : Segment) (
       rw stated (record {
         payload_taken = payload_end_of segment image;
         payload_within = refl;
-        payload = subst (Took image i') all passed.1;
+        payload = subst (ConsumedExactly image i') all passed.1;
         run = record {
           as_stated = passed.0;
           image = u.image_taken;
@@ -294,15 +294,15 @@ counts_apart _ header header' image secret secret' written written' same = (
 -- of a run that passed on a payload, where nothing had failed before
 pub counts_passed_apart : (message : Message) (header header' image image' secret secret' written written' : ℕ)
     → ((count : ℕ) → Counts Done (failures_of header secret count) (failures_of header' secret' count))
-    → image' ≡ counted (is_failed_read message) image → written' ≡ counted (is_failed_write message) written
+    → image' ≡ counted (is_run_read_failure message) image → written' ≡ counted (is_run_write_failure message) written
     → CountsDetached message header header' (failures_of image secret written) (failures_of image' secret' written')
 counts_passed_apart ReadFailed header header' image image' secret secret' written written' same reads writes = inr (
   ap (λ (f : Failures). f.image) (same 0),
-  inl (rw (reads, writes) (ap (λ (f : Failures). record f { image = raised image }) (same written))),
+  inl (rw (reads, writes) (ap (λ (f : Failures). record f { image = saturating_inc image }) (same written))),
 )
 counts_passed_apart WriteFailed header header' image image' secret secret' written written' same reads writes = (
   ap (λ (f : Failures). f.image) (same 0),
-  rw (reads, writes) (ap (λ (f : Failures). record f { image = image }) (same (raised written))),
+  rw (reads, writes) (ap (λ (f : Failures). record f { image = image }) (same (saturating_inc written))),
 )
 counts_passed_apart _ header header' image image' secret secret' written written' same reads writes = (
   ap (λ (f : Failures). f.image) (same 0),

@@ -9,7 +9,7 @@ use Rattle.luks_verdict.specs.declared.sector_size.SectorSize.{SectorSize}
 use Rattle.luks_verdict.specs.declared.sector_size.SectorSize.TheVariants.{B512, B1024, B2048, B4096}
 use Rattle.luks_verdict.specs.declared.segment.Segment.{Segment}
 use Rattle.luks_seal.specs.Sealed.{EndsWith, SealsPlain}
-use Rattle.luks_volume.specs.Plain.{ending_of, ending_within, plain_of, sector_len, sector_of, unit_number, unit_plain}
+use Rattle.luks_volume.specs.Plain.{ending_of, ending_within, plain_of, sector_len, sector_plaintext, unit_number, unit_plain}
 use Rattle.luks_volume.specs.Plain.{within_size}
 use Rattle.luks_volume.specs.declared.state.Step.TheVariants.{End}
 use Rattle.luks_cipher.specs.Xts.{joined}
@@ -45,10 +45,10 @@ module _ (segment : Segment) (image key plain : List ℕ) (seals : SealsPlain se
   pub plain_again : IsBytes key → plain_of segment (segment.mode, key) image ≡ plain
   unfolding unit_plain
   plain_again keys =
-      ap (λ n. joined (sector_of segment (segment.mode, key) image) (n / sector_len segment))
+      ap (λ n. joined (sector_plaintext segment (segment.mode, key) image) (n / sector_len segment))
       (all_plain segment.offset plain image seals.stands.there segment.size seals.ends)
       ∙ units_undone (segment.mode, key) (unit_number segment) (sector_len segment) segment.offset plain image
-      seals.stands keys (whole_blocks segment.sector_size) (sector_of segment (segment.mode, key) image) (λ i. refl)
+      seals.stands keys (whole_blocks segment.sector_size) (sector_plaintext segment (segment.mode, key) image) (λ i. refl)
 
   pub ending_again : ending_of segment image ≡ Ok End
   ending_again =

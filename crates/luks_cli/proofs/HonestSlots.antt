@@ -15,8 +15,8 @@ use Rattle.luks_verdict.specs.declared.slot.Slot.{Slot}
 use Rattle.luks_header.specs.Segment.{segment_of}
 use Rattle.luks_header.specs.declared.header.Header.{Header}
 use Rattle.luks_header.proofs.KnownLemmas.{known_usable, slot_of_usable}
-use Rattle.luks_open.specs.Candidate.{candidate_of, meets}
-use Rattle.luks_open.specs.Opening.{first_opening, key_of, opened_or}
+use Rattle.luks_open.specs.Candidate.{candidate_of, matches_digest}
+use Rattle.luks_open.specs.Opening.{first_opening, slot_key, opened_or}
 use Rattle.luks_open.specs.declared.entry.Entry.{Entry}
 use Rattle.luks_open.proofs.OrderLemmas.{IsOf}
 use Rattle.luks_seal.proofs.DerivedLemmas.{derived_bytes}
@@ -44,9 +44,9 @@ module _ (passphrase key image : List ℕ) where
       (derived_bytes gives.kdf passphrase parts.salt parts.iterations parts.area_key_bytes)
       gives.is_material gives.stands))
 
-  -- the key meets its digest
-  meets_again : (digest : KeyDigest) → IsDigestOf digest key → meets digest key ≡ true
-  unfolding meets
+  -- the key matches_digest its digest
+  meets_again : (digest : KeyDigest) → IsDigestOf digest key → matches_digest digest key ≡ true
+  unfolding matches_digest
   meets_again digest is =
       rw is.is_hash
       ((bytes_eq-Decides (derived_key is.hash key digest.salt digest.iterations (length digest.value))
@@ -55,8 +55,8 @@ module _ (passphrase key image : List ℕ) where
   -- what is tried of it gives the key
   pub key_again : (header : Header) (segment : Segment) (limit : Option ℕ) (entry : Entry)
       → segment_of header ≡ Ok segment → IsOf header limit entry
-      → SealsKey header image key entry.number passphrase → key_of entry image passphrase ≡ Some key
-  unfolding key_of
+      → SealsKey header image key entry.number passphrase → slot_key entry image passphrase ≡ Some key
+  unfolding slot_key
   key_again header segment limit entry is_segment is seals =
       let same_slot : seals.slot ≡ entry.slot =
       same_Some _ _ (sym (slot_of_usable header None entry.number seals.slot seals.usable)
@@ -76,18 +76,18 @@ module _ (passphrase key image : List ℕ) where
 
 -- where no key slot before one that gives the key gives another, the first that opens gives the key
 pub first_again : (before : List Entry) (entry : Entry) (after : List Entry) (image passphrase key : List ℕ)
-    → AllByRecursion (GivesNoOther image passphrase key) before → key_of entry image passphrase ≡ Some key
+    → AllByRecursion (GivesNoOther image passphrase key) before → slot_key entry image passphrase ≡ Some key
     → (number : ℕ) × (first_opening (before ++ entry ∷ after) image passphrase
     ≡ Some (record { slot = number; key = key }))
 unfolding first_opening
 first_again [] entry after image passphrase key no_other gives =
     (entry.number, ap (λ (k : Option (List ℕ)). opened_or entry.number k (first_opening after image passphrase)) gives)
 first_again (other ∷ before) entry after image passphrase key no_other gives =
-    of_first (first_again before entry after image passphrase key no_other.1 gives) (key_of other image passphrase) refl
+    of_first (first_again before entry after image passphrase key no_other.1 gives) (slot_key other image passphrase) refl
   where
     of_first : ((number : ℕ) × (first_opening (before ++ entry ∷ after) image passphrase
         ≡ Some (record { slot = number; key = key })))
-        → (found : Option (List ℕ)) → key_of other image passphrase ≡ found
+        → (found : Option (List ℕ)) → slot_key other image passphrase ≡ found
         → (number : ℕ) × (first_opening (other ∷ before ++ entry ∷ after) image passphrase
         ≡ Some (record { slot = number; key = key }))
     of_first rest None e = (rest.0, rw e rest.1)

@@ -4,14 +4,14 @@ use Rattle.std.proofs.Common.{subst, arith}
 use Rattle.std.specs.List.{AllByRecursion, Contains}
 use Rattle.std.proofs.lemmas.List.Elements.{All-nil, recursion_from_All}
 use Rattle.luks_header.proofs.KnownLemmas.{is_attached, slot_of_usable}
-use Rattle.luks_open.specs.Opening.{answer_of, first_opening, key_of, opening_of}
-use Rattle.luks_open.specs.Order.{entry_at, held_of, order_of}
+use Rattle.luks_open.specs.Opening.{answer_of, first_opening, slot_key, opening_of}
+use Rattle.luks_open.specs.Order.{entry_at, key_areas_end, order_of}
 use Rattle.luks_open.specs.declared.entry.Entry.{Entry}
 use Rattle.luks_open.specs.declared.opening.Opened.{Opened}
 use Rattle.luks_open.proofs.CallerLemmas.{held_before_payload}
 use Rattle.luks_open.proofs.OrderLemmas.{All-tries, IsOf}
 use Rattle.luks_seal.specs.Sealed.{Sealed, SealsKey}
-use Rattle.luks_io.specs.Bytes.{Adds}
+use Rattle.luks_io.specs.Bytes.{Appended}
 use Rattle.luks_request.specs.Request.{OpeningRequest, Request, luks_cat}
 use Rattle.luks_report.specs.Faults.{message_at_end}
 use Rattle.luks_report.specs.declared.message.Message.{Message}
@@ -46,7 +46,7 @@ module _ (o : OpeningRequest) (image passphrase plain : List ℕ) (honest : IsHo
   volume = record { header = honest.sealed.header; segment = honest.sealed.segment; tries = honest.tries }
 
   -- its key slot gives the key
-  gives_key : key_of honest.first.entry image passphrase ≡ Some honest.key
+  gives_key : slot_key honest.first.entry image passphrase ≡ Some honest.key
   gives_key =
       let sealed = honest.sealed in
       let first = honest.first in
@@ -72,7 +72,7 @@ module _ (o : OpeningRequest) (image passphrase plain : List ℕ) (honest : IsHo
       )
 
   -- the key material that is tried is all there
-  held_there : held_of honest.tries.slots ≤ length image
+  held_there : key_areas_end honest.tries.slots ≤ length image
   held_there =
       let sealed = honest.sealed in
       let before = held_before_payload sealed.header sealed.segment o.key_slot o.max_iterations honest.tries
@@ -115,7 +115,7 @@ writes_plain (luks_cat o) message image image' secret secret' written written' r
     λ known is passphrase is_secret plain counted honest whole.
     let run = rw whole at (runs known is passphrase is_secret counted) in
     let outcome = unsealed o known passphrase plain honest in
-    (run.as_stated ∙ outcome.1, subst (λ (bytes : List ℕ). Adds written written' bytes) outcome.0 run.output)
+    (run.as_stated ∙ outcome.1, subst (λ (bytes : List ℕ). Appended written written' bytes) outcome.0 run.output)
 writes_plain _ message image image' secret secret' written written' runs = tt
 
 -- a key slot that is named, and no limit, leave nothing to ask for of what is tried

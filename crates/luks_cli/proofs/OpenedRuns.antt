@@ -8,7 +8,7 @@ use Rattle.luks_cipher.specs.declared.mode.Mode.{Mode}
 use Rattle.luks_header.specs.Header.{header_of}
 use Rattle.luks_verdict.specs.declared.segment.Segment.{Segment}
 use Rattle.luks_io.proofs.Taking.{adds-none}
-use Rattle.luks_io.specs.Bytes.{Adds, Took, counted, raised}
+use Rattle.luks_io.specs.Bytes.{Appended, ConsumedExactly, counted, saturating_inc}
 use Rattle.luks_open.specs.declared.opening.Opened.{Opened}
 use Rattle.luks_volume.specs.Plain.{sector_len, sector_start, sectors_of}
 use Rattle.luks_runs.proofs.PayloadLemmas.{plain_len}
@@ -21,8 +21,8 @@ use Rattle.luks_runs.specs.declared.standing.Standing.TheVariants.{Attached}
 use Rattle.luks_runs.specs.Payload.{PassesPayload}
 use Rattle.luks_cli.specs.VolumeParts.{cat_promptly}
 use Rattle.luks_request.specs.Request.{OpeningRequest}
-use Rattle.luks_runs.specs.Run.{BreaksOff, Completes, Counts, Failures, Promptness, Runs, at_any_pace, breaks_off}
-use Rattle.luks_runs.specs.Run.{is_failed_read, is_failed_write, message_of}
+use Rattle.luks_runs.specs.Run.{Aborted, Completed, Counts, Failures, Promptness, RunMatches, at_any_pace, breaks_off}
+use Rattle.luks_runs.specs.Run.{is_run_read_failure, is_run_write_failure, result_message}
 use Rattle.luks_cli.specs.VolumeParts.{TakesHeld}
 use Rattle.luks_cli.specs.MayEnd.{OpeningMessage}
 use Rattle.luks_cli.specs.Unlocking.{TellsSlot, Unlocks}
@@ -39,14 +39,14 @@ takes_payload image secret = record { held = λ segment opened held. omega arith
 -- a run that is prompt has the outcome that is stated
 pub runs_at_any_pace : (is_prompt : Promptness) (out : Outcome) (message : Message) (TookImage TookSecret : ℕ → Type 0)
     (Wrote : List ℕ → Type 0)
-    → Runs is_prompt out message TookImage TookSecret Wrote → Runs at_any_pace out message TookImage TookSecret Wrote
+    → RunMatches is_prompt out message TookImage TookSecret Wrote → RunMatches at_any_pace out message TookImage TookSecret Wrote
 runs_at_any_pace is_prompt out message TookImage TookSecret Wrote = either (breaks_off message)
   where
     either : (b : Bool)
-        → MatchBool b (BreaksOff is_prompt out message TookImage TookSecret Wrote)
-        (Completes out message TookImage TookSecret Wrote)
-        → MatchBool b (BreaksOff at_any_pace out message TookImage TookSecret Wrote)
-        (Completes out message TookImage TookSecret Wrote)
+        → MatchBool b (Aborted is_prompt out message TookImage TookSecret Wrote)
+        (Completed out message TookImage TookSecret Wrote)
+        → MatchBool b (Aborted at_any_pace out message TookImage TookSecret Wrote)
+        (Completed out message TookImage TookSecret Wrote)
     either true run = record {
       image_taken = run.image_taken;
       secret_taken = run.secret_taken;
@@ -68,9 +68,9 @@ module _ (stand : Standing) (o : OpeningRequest) (image pass : List ℕ) (segmen
     (held : List ℕ) (i s : Option (List ℕ)) (u : Unlocks stand o image pass segment opened held i s) where
   -- memory was refused for the line
   runs_without_line : (w : Option (List ℕ))
-      → Runs at_any_pace (volume_outcome_by (reading_of stand) (slot_outcome pass) o image pass) OutOfMemory
-      (Took image i) (Took pass s)
-      (Adds w w)
+      → RunMatches at_any_pace (volume_outcome_by (reading_of stand) (slot_outcome pass) o image pass) OutOfMemory
+      (ConsumedExactly image i) (ConsumedExactly pass s)
+      (Appended w w)
   runs_without_line w = rw (u.outcome (slot_outcome pass)) (record {
     image_taken = length held;
     secret_taken = length pass;
@@ -87,10 +87,10 @@ module _ (stand : Standing) (o : OpeningRequest) (image pass : List ℕ) (segmen
 
   module _ (page : List ℕ) (is : page ≡ opened_line opened.slot) (w w' : Option (List ℕ)) where
     -- the line was written
-    runs_told : Adds w w' page
-        → Runs at_any_pace (volume_outcome_by (reading_of stand) (slot_outcome pass) o image pass) Done
-        (Took image i) (Took pass s)
-        (Adds w w')
+    runs_told : Appended w w' page
+        → RunMatches at_any_pace (volume_outcome_by (reading_of stand) (slot_outcome pass) o image pass) Done
+        (ConsumedExactly image i) (ConsumedExactly pass s)
+        (Appended w w')
     runs_told added =
         rw (
           u.outcome (slot_outcome pass),
@@ -98,10 +98,10 @@ module _ (stand : Standing) (o : OpeningRequest) (image pass : List ℕ) (segmen
         ) (record { as_stated = refl; image = u.image_taken; secret = u.secret_taken; output = added })
 
     -- a write failed within it
-    runs_without_rest : (n : ℕ) → n < length page → Adds w w' (take n page)
-        → Runs at_any_pace (volume_outcome_by (reading_of stand) (slot_outcome pass) o image pass) WriteFailed
-        (Took image i) (Took pass s)
-        (Adds w w')
+    runs_without_rest : (n : ℕ) → n < length page → Appended w w' (take n page)
+        → RunMatches at_any_pace (volume_outcome_by (reading_of stand) (slot_outcome pass) o image pass) WriteFailed
+        (ConsumedExactly image i) (ConsumedExactly pass s)
+        (Appended w w')
     runs_without_rest n within added = rw (u.outcome (slot_outcome pass), ← is) (record {
       image_taken = length held;
       secret_taken = length pass;
@@ -118,9 +118,9 @@ module _ (stand : Standing) (o : OpeningRequest) (image pass : List ℕ) (segmen
 
   -- the key slot was told, or not all of its line
   pub runs_slot : (w w' : Option (List ℕ)) (message : Message) → TellsSlot opened w w' message
-      → Runs at_any_pace (volume_outcome_by (reading_of stand) (slot_outcome pass) o image pass) message
-      (Took image i) (Took pass s)
-      (Adds w w')
+      → RunMatches at_any_pace (volume_outcome_by (reading_of stand) (slot_outcome pass) o image pass) message
+      (ConsumedExactly image i) (ConsumedExactly pass s)
+      (Appended w w')
   runs_slot w w' Done told = runs_told (opened_line opened.slot) refl w w' told
   runs_slot w w' WriteFailed told = runs_without_rest (opened_line opened.slot) refl w w' told.0 told.1 told.2
   runs_slot w w' OutOfMemory told = rw told (runs_without_line w)
@@ -128,7 +128,7 @@ module _ (stand : Standing) (o : OpeningRequest) (image pass : List ℕ) (segmen
 
 -- a write failed within the line
 pub told_in_part : (opened : Opened) (w w' : Option (List ℕ)) (page : List ℕ) → page ≡ opened_line opened.slot
-    → (n : ℕ) → n < length page → Adds w w' (take n page) → TellsSlot opened w w' WriteFailed
+    → (n : ℕ) → n < length page → Appended w w' (take n page) → TellsSlot opened w w' WriteFailed
 told_in_part opened w w' page is n within added = rw (← is) (n, within, added)
 
 -- telling the key slot ends with one of these messages
@@ -141,7 +141,7 @@ slot_message opened w w' _ told = absurd told
 
 -- and reads nothing
 pub slot_reads_nothing : (opened : Opened) (w w' : Option (List ℕ)) (message : Message)
-    → TellsSlot opened w w' message → is_failed_read message ≡ false
+    → TellsSlot opened w w' message → is_run_read_failure message ≡ false
 slot_reads_nothing opened w w' Done told = refl
 slot_reads_nothing opened w w' WriteFailed told = refl
 slot_reads_nothing opened w w' OutOfMemory told = refl
@@ -171,8 +171,8 @@ module _ (o : OpeningRequest) (image pass : List ℕ) (segment : Segment) (opene
     -- the payload was passed on, to its end or not
     pub runs_passed : (message : Message) → message ≢ OutOfMemory
         → PassesPayload segment (segment.mode, opened.key) image (length held) i' w w' message
-        → Runs (cat_promptly image) (volume_outcome (payload_outcome image pass) o image pass) message (Took image i')
-        (Took pass s) (Adds w w')
+        → RunMatches (cat_promptly image) (volume_outcome (payload_outcome image pass) o image pass) message (ConsumedExactly image i')
+        (ConsumedExactly pass s) (Appended w w')
     runs_passed OutOfMemory never passed = absurd (never refl)
     runs_passed ReadFailed never passed =
         let place = passed.0 in
@@ -227,18 +227,18 @@ cipher_is cipher mode key long is = let made : Some cipher ≡ Some (mode, key) 
 pub counts_passed : (message : Message) (image image' image'' secret secret' written written' : ℕ)
     → ((count : ℕ) → Counts Done (record { image = image; secret = secret; written = count })
     (record { image = image'; secret = secret'; written = count }))
-    → image'' ≡ counted (is_failed_read message) image' → written' ≡ counted (is_failed_write message) written
+    → image'' ≡ counted (is_run_read_failure message) image' → written' ≡ counted (is_run_write_failure message) written
     → Counts message (record { image = image; secret = secret; written = written })
     (record { image = image''; secret = secret'; written = written' })
 counts_passed ReadFailed image image' image'' secret secret' written written' same reads writes =
-    inl (rw (reads, writes) (ap (λ (f : Failures). record f { image = raised f.image }) (same written)))
+    inl (rw (reads, writes) (ap (λ (f : Failures). record f { image = saturating_inc f.image }) (same written)))
 counts_passed WriteFailed image image' image'' secret secret' written written' same reads writes =
-    rw (reads, writes) (same (raised written))
+    rw (reads, writes) (same (saturating_inc written))
 counts_passed _ image image' image'' secret secret' written written' same reads writes =
     rw (reads, writes) (same written)
 
 -- a part of a run that was not refused memory does not end so
 pub never_memory : {T : Type 0} (r : Result T Message) → IfErr r (λ message. message ≢ OutOfMemory)
-    → message_of r ≢ OutOfMemory
+    → result_message r ≢ OutOfMemory
 never_memory (Ok x) never = λ e. cc
 never_memory (Err message) never = never

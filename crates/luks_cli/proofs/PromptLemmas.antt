@@ -2,13 +2,13 @@
 use Rattle.std.proofs.Common.{◌≡◌, ℕ, ◌-◌, ◌*◌, ◌/◌, ◌≤◌, inl, inr, List, Option, Ok, refl, arith, max}
 use Rattle.std.proofs.lemmas.Bool.{cases_lt}
 use Rattle.std.proofs.Math.Nat.{zero-div}
-use Rattle.luks_header.specs.Header.{cost_of, header_of}
+use Rattle.luks_header.specs.Header.{header_read_len, header_of}
 use Rattle.luks_header.specs.Segment.{segment_of}
 use Rattle.luks_header.specs.declared.header.Header.{Header}
 use Rattle.luks_header.proofs.KnownLemmas.{is_attached}
 use Rattle.luks_verdict.specs.declared.segment.Segment.{Segment}
 use Rattle.luks_open.proofs.CallerLemmas.{held_before_payload}
-use Rattle.luks_open.specs.Order.{Tries, held_of, order_of}
+use Rattle.luks_open.specs.Order.{OrderModel, key_areas_end, order_of}
 use Rattle.luks_volume.specs.Plain.{sector_len}
 use Rattle.luks_report.specs.declared.message.Message.{Message}
 use Rattle.luks_report.specs.declared.message.Message.TheVariants.{Cut, ReadFailed, WriteFailed}
@@ -35,7 +35,7 @@ no_sectors_before segment a few =
     let none : a - segment.offset ≡ 0 = omega arith in rw (none, zero-div (sector_len segment)) (omega arith)
 
 -- nothing past the header was taken
-cat_in_header : (image : List ℕ) (message : Message) (a b : ℕ) → a ≤ cost_of image → cat_promptly image message a b 0
+cat_in_header : (image : List ℕ) (message : Message) (a b : ℕ) → a ≤ header_read_len image → cat_promptly image message a b 0
 cat_in_header image ReadFailed a b few segment has = λ passes.
     elim passes [
       | inl before ↦ no_sectors_before segment a (omega arith)
@@ -44,7 +44,7 @@ cat_in_header image ReadFailed a b few segment has = λ passes.
 cat_in_header image WriteFailed a b few segment has = omega arith
 cat_in_header image _ a b few segment has = tt
 
-pub prompt_in_header : (stand : Standing) (image : List ℕ) (message : Message) (a b : ℕ) → a ≤ cost_of image
+pub prompt_in_header : (stand : Standing) (image : List ℕ) (message : Message) (a b : ℕ) → a ≤ header_read_len image
     → opens_promptly stand image message a b 0
 prompt_in_header Attached image message a b few = cat_in_header image message a b few
 prompt_in_header Detached image message a b few = refl
@@ -69,10 +69,10 @@ prompt_to_payload image _ a b segment has few other is = tt
 -- nothing past the header and the payload's start was taken
 pub prompt_before_payload : (stand : Standing) (image : List ℕ) (message : Message) (a b : ℕ) (segment : Segment)
     → HasSegmentBy (reading_of stand) image segment
-    → (stand ≡ Attached → a ≤ max (cost_of image) segment.offset) → opens_promptly stand image message a b 0
+    → (stand ≡ Attached → a ≤ max (header_read_len image) segment.offset) → opens_promptly stand image message a b 0
 prompt_before_payload Attached image message a b segment has early =
     let few = early refl in
-    elim (cases_lt (cost_of image) a) [
+    elim (cases_lt (header_read_len image) a) [
       | inl past ↦ prompt_to_payload image message a b segment has (omega arith)
       | inr within ↦ cat_in_header image message a b (omega arith)
     ]
@@ -80,8 +80,8 @@ prompt_before_payload Detached image message a b segment has early = refl
 
 -- of a header in the payload's image no key material that is tried stands in the payload
 pub held_early : (stand : Standing) (image : List ℕ) (header : Header) (segment : Segment) (named limit : Option ℕ)
-    (tries : Tries) → reading_of stand image ≡ Ok header → segment_of header ≡ Ok segment
-    → order_of header named limit ≡ Ok tries → stand ≡ Attached → held_of tries.slots ≤ segment.offset
+    (tries : OrderModel) → reading_of stand image ≡ Ok header → segment_of header ≡ Ok segment
+    → order_of header named limit ≡ Ok tries → stand ≡ Attached → key_areas_end tries.slots ≤ segment.offset
 held_early Attached image header segment named limit tries found is_segment ordered attached =
     held_before_payload header segment named limit tries (is_attached image header found) is_segment ordered
 held_early Detached image header segment named limit tries found is_segment ordered attached = cc

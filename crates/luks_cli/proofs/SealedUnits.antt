@@ -15,8 +15,8 @@ use Rattle.luks_kdf.specs.declared.hash.Hash.{Hash}
 use Rattle.luks_stripes.proofs.StripesLemmas.{merged_split}
 use Rattle.luks_verdict.specs.Rule.{need_of}
 use Rattle.luks_cli.proofs.SectorsUndone.{sector_decrypted-sector_encrypted}
-use Rattle.luks_open.specs.Candidate.{material_of, material_sector, unlocked}
-use Rattle.luks_seal.specs.Sealed.{IsMaterial, StandEncrypted}
+use Rattle.luks_open.specs.Candidate.{decrypted_material, material_sector, unlocked}
+use Rattle.luks_seal.specs.Sealed.{IsMaterial, IsStoredEncrypted}
 use Rattle.luks_verdict.specs.declared.slot.SlotParts.{SlotParts}
 
 -- the first n units of a list, joined
@@ -39,7 +39,7 @@ unit_within len size i below =
     omega (arith, div-mul-le_self len size)
 
 module _ (cipher : Cipher) (number : ℕ → ℕ) (size place : ℕ) (plain image : List ℕ)
-    (stands : StandEncrypted cipher number size place plain image) where
+    (stands : IsStoredEncrypted cipher number size place plain image) where
   unit_len : (i : ℕ) → i < length plain / size → length (at (i * size) size plain) ≡ size
   unit_len i below =
       let inside = unit_within (length plain) size i below in
@@ -68,9 +68,9 @@ module _ (cipher : Cipher) (number : ℕ → ℕ) (size place : ℕ) (plain imag
 -- the key material of a key merges to it
 pub unlocked_again : (af : Hash) (cipher : Cipher) (parts : SlotParts) (key material image : List ℕ)
     → 0 < length key → IsBytes cipher.1 → IsMaterial af parts key material
-    → StandEncrypted cipher (λ i. i) 512 parts.area_offset material image
+    → IsStoredEncrypted cipher (λ i. i) 512 parts.area_offset material image
     → unlocked af cipher image parts.area_offset (length key) parts.stripes ≡ key
-unfolding unlocked material_of
+unfolding unlocked decrypted_material
 unlocked_again af cipher parts key material image some keys made stands =
     let offset = parts.area_offset in
     let stripes = parts.stripes in

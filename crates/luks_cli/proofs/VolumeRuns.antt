@@ -6,8 +6,8 @@ use Rattle.std.proofs.lemmas.Bool.Decides.{nat_tests}
 use Rattle.std.proofs.lemmas.List.{drop-drop}
 use Rattle.std.proofs.Math.Seq.{take-add}
 use Rattle.std.specs.Prelude.{◌≢◌, nat_lt}
-use Rattle.luks_header.specs.Area.{BreaksTaking, TookBehind}
-use Rattle.luks_header.specs.Header.{cost_of}
+use Rattle.luks_header.specs.Area.{AbortsConsuming, ConsumedOnto}
+use Rattle.luks_header.specs.Header.{header_read_len}
 use Rattle.luks_header.specs.Segment.{segment_of}
 use Rattle.luks_header.specs.declared.header.Header.{Header}
 use Rattle.luks_area.specs.declared.fault.HeaderFault.{HeaderFault}
@@ -15,7 +15,7 @@ use Rattle.luks_area.specs.declared.fault.HeaderFault.TheVariants.{Read as LostR
 use Rattle.luks_verdict.specs.declared.segment.Segment.{Segment}
 use Rattle.luks_open.proofs.CallerLemmas.{opening_beginning}
 use Rattle.luks_open.specs.Opening.{opening_of}
-use Rattle.luks_open.specs.Order.{Tries, held_of, order_of}
+use Rattle.luks_open.specs.Order.{OrderModel, key_areas_end, order_of}
 use Rattle.luks_open.specs.declared.fault.OpenFault.{OpenFault}
 use Rattle.luks_open.specs.declared.fault.OpenFault.TheVariants.{NoSuchSlot as NotThere, Disabled, NamedSkipped}
 use Rattle.luks_open.specs.declared.fault.OpenFault.TheVariants.{NothingTried as NoneTried, NoKey as NoneOpens, Memory}
@@ -24,17 +24,17 @@ use Rattle.luks_cli.proofs.PromptLemmas.{held_early, prompt_before_payload, prom
 use Rattle.luks_cli.proofs.VolumeLemmas.{cost_held, volume_is}
 use Rattle.luks_report.specs.Faults.{message_for_header}
 use Rattle.luks_cli.specs.Volume.{OnOpened, found_outcome, opened_outcome, outcome_after, volume_outcome_by}
-use Rattle.luks_runs.specs.Ending.{Outcome, unwritten}
+use Rattle.luks_runs.specs.Ending.{Outcome, no_output}
 use Rattle.luks_request.specs.Request.{OpeningRequest}
-use Rattle.luks_runs.specs.Run.{BreaksOff, IsBeginning, IsSilent, Runs}
+use Rattle.luks_runs.specs.Run.{Aborted, IsPrefixLen, IsSilent, RunMatches}
 use Rattle.luks_io.proofs.Taking.{adds-none, took-none}
-use Rattle.luks_io.specs.Bytes.{Adds, Took}
+use Rattle.luks_io.specs.Bytes.{Appended, ConsumedExactly}
 use Rattle.luks_runs.proofs.HeaderTaking.{cost_there, took_header}
 use Rattle.luks_runs.specs.Secret.{NoSecretRead}
 use Rattle.luks_runs.specs.Secret.{longest_key_file}
 use Rattle.luks_cli.specs.VolumeParts.{TakesHeld}
 use Rattle.luks_cli.specs.Unlocking.{OpensVolume, TriesSlots, Unlocks, opens_promptly}
-use Rattle.luks_cli.specs.VolumeParts.{StopsFinding}
+use Rattle.luks_cli.specs.VolumeParts.{AbortsFinding}
 use Rattle.luks_cli.specs.Volume.{Volume, held_for, volume_by}
 use Rattle.luks_runs.specs.Standing.{reading_of}
 use Rattle.luks_runs.specs.declared.standing.Standing.{Standing}
@@ -48,10 +48,10 @@ use Rattle.luks_report.specs.declared.message.Message.TheVariants.{WriteFailed}
 
 -- a run that was broken off before any output
 early : (stand : Standing) (out : Outcome) (image pass : List ℕ) (message : Message) (i s w : Option (List ℕ)) (a b : ℕ)
-    → IsSilent message 0 → IsBeginning message 0 (length out.output)
+    → IsSilent message 0 → IsPrefixLen message 0 (length out.output)
     → opens_promptly stand image message a b 0
-    → a ≤ out.image_taken → b ≤ out.secret_taken → Took image i a → Took pass s b
-    → BreaksOff (opens_promptly stand image) out message (Took image i) (Took pass s) (Adds w w)
+    → a ≤ out.image_taken → b ≤ out.secret_taken → ConsumedExactly image i a → ConsumedExactly pass s b
+    → Aborted (opens_promptly stand image) out message (ConsumedExactly image i) (ConsumedExactly pass s) (Appended w w)
 early stand out image pass message i s w a b silent begins prompt few little took_image took_pass = record {
   image_taken = a;
   secret_taken = b;
@@ -70,8 +70,8 @@ early stand out image pass message i s w a b silent begins prompt few little too
 ends_unwritten : (stand : Standing) (image pass : List ℕ) (message : Message) (i s w : Option (List ℕ)) (a b : ℕ)
     → message ≢ WriteFailed
     → opens_promptly stand image message a b 0
-    → Took image i a → Took pass s b
-    → Runs (opens_promptly stand image) (unwritten message a b) message (Took image i) (Took pass s) (Adds w w)
+    → ConsumedExactly image i a → ConsumedExactly pass s b
+    → RunMatches (opens_promptly stand image) (no_output message a b) message (ConsumedExactly image i) (ConsumedExactly pass s) (Appended w w)
 ends_unwritten stand image pass OutOfMemory i s w a b other prompt ti ts =
     early stand _ image pass OutOfMemory i s w a b refl (omega arith) prompt (omega arith) (omega arith) ti ts
 ends_unwritten stand image pass ReadFailed i s w a b other prompt ti ts =
@@ -93,25 +93,25 @@ no_write_told named Memory h = cc
 
 module _ (on_opened : OnOpened) (named : Option ℕ) (v : Volume) (image secret : List ℕ) where
   found_long : longest_key_file < length secret
-      → found_outcome on_opened named v image secret ≡ unwritten KeyFileLength (cost_of image) (longest_key_file + 1)
+      → found_outcome on_opened named v image secret ≡ no_output KeyFileLength (header_read_len image) (longest_key_file + 1)
   unfolding found_outcome
   found_long long = let yes : nat_lt longest_key_file (length secret) ≡ true = grind (arith, nat_tests) in rw yes refl
 
-  found_cut : length secret ≤ longest_key_file → length image < held_of v.tries.slots
-      → found_outcome on_opened named v image secret ≡ unwritten Cut (length image) (length secret)
+  found_cut : length secret ≤ longest_key_file → length image < key_areas_end v.tries.slots
+      → found_outcome on_opened named v image secret ≡ no_output Cut (length image) (length secret)
   unfolding found_outcome
   found_cut short few =
       let no : nat_lt longest_key_file (length secret) ≡ false = grind (arith, nat_tests) in
-      let yes : nat_lt (length image) (held_of v.tries.slots) ≡ true = grind (arith, nat_tests) in
+      let yes : nat_lt (length image) (key_areas_end v.tries.slots) ≡ true = grind (arith, nat_tests) in
       rw (no, yes) refl
 
-  pub found_whole : length secret ≤ longest_key_file → held_of v.tries.slots ≤ length image
+  pub found_whole : length secret ≤ longest_key_file → key_areas_end v.tries.slots ≤ length image
       → found_outcome on_opened named v image secret
       ≡ opened_outcome on_opened named v image secret (opening_of v.tries image secret)
   unfolding found_outcome
   found_whole short enough =
       let no : nat_lt longest_key_file (length secret) ≡ false = grind (arith, nat_tests) in
-      let none : nat_lt (length image) (held_of v.tries.slots) ≡ false = grind (arith, nat_tests) in
+      let none : nat_lt (length image) (key_areas_end v.tries.slots) ≡ false = grind (arith, nat_tests) in
       rw (no, none) refl
 
   module _ (takes : TakesHeld secret on_opened) where
@@ -126,7 +126,7 @@ module _ (on_opened : OnOpened) (named : Option ℕ) (v : Volume) (image secret 
     area_within : length secret ≤ longest_key_file
         → (min (length image) (held_for image v) ≤ (found_outcome on_opened named v image secret).image_taken)
         × (length secret ≤ (found_outcome on_opened named v image secret).secret_taken)
-    area_within short = elim (cases_lt (length image) (held_of v.tries.slots)) [
+    area_within short = elim (cases_lt (length image) (key_areas_end v.tries.slots)) [
       | inl few ↦ rw (found_cut short few) (omega arith, omega arith)
       | inr enough ↦
           let all = opened_within (opening_of v.tries image secret) in
@@ -134,7 +134,7 @@ module _ (on_opened : OnOpened) (named : Option ℕ) (v : Volume) (image secret 
     ]
 
     -- the header is taken, and of the key file as much as is read at most
-    found_within : (cost_of image ≤ (found_outcome on_opened named v image secret).image_taken)
+    found_within : (header_read_len image ≤ (found_outcome on_opened named v image secret).image_taken)
         × (min (length secret) (longest_key_file + 1) ≤ (found_outcome on_opened named v image secret).secret_taken)
     found_within = elim (cases_lt longest_key_file (length secret)) [
       | inl long ↦ rw (found_long long) (omega arith, omega arith)
@@ -145,37 +145,37 @@ module _ (on_opened : OnOpened) (named : Option ℕ) (v : Volume) (image secret 
 
 -- ---- the area that is held
 
-module _ (image area area' : List ℕ) (i : Option (List ℕ)) (held : ℕ) (front : area ≡ take (cost_of image) image) where
-  front_len : length area ≡ cost_of image
+module _ (image area area' : List ℕ) (i : Option (List ℕ)) (held : ℕ) (front : area ≡ take (header_read_len image) image) where
+  front_len : length area ≡ header_read_len image
   front_len = cost_held image area front
 
   -- so many bytes more are held
-  area_more : (n : ℕ) → TookBehind area area' (drop (cost_of image) image) i n
-      → (area' ≡ take (cost_of image + n) image) × Took image i (cost_of image + n)
+  area_more : (n : ℕ) → ConsumedOnto area area' (drop (header_read_len image) image) i n
+      → (area' ≡ take (header_read_len image + n) image) × ConsumedExactly image i (header_read_len image + n)
   area_more n grows = (
-    grows.1 ∙ ap (λ l. l ++ take n (drop (cost_of image) image)) front ∙ sym (take-add (cost_of image) n image),
+    grows.1 ∙ ap (λ l. l ++ take n (drop (header_read_len image) image)) front ∙ sym (take-add (header_read_len image) n image),
     record {
-      within = omega (arith, grows.0.within, length-drop (cost_of image) image, cost_there image);
-      left = grows.0.left ∙ ap Some (drop-drop n (cost_of image) image);
+      within = omega (arith, grows.0.within, length-drop (header_read_len image) image, cost_there image);
+      left = grows.0.left ∙ ap Some (drop-drop n (header_read_len image) image);
     },
   )
 
-  module _ (grows : TookBehind area area' (drop (cost_of image) image) i
-      (min (held - length area) (length (drop (cost_of image) image)))) where
+  module _ (grows : ConsumedOnto area area' (drop (header_read_len image) image) i
+      (min (held - length area) (length (drop (header_read_len image) image)))) where
     reached : ℕ
-    reached = cost_of image + min (held - length area) (length (drop (cost_of image) image))
+    reached = header_read_len image + min (held - length area) (length (drop (header_read_len image) image))
 
-    grown : (length area' ≡ reached) × (reached ≡ max (cost_of image) (min held (length image)))
+    grown : (length area' ≡ reached) × (reached ≡ max (header_read_len image) (min held (length image)))
     unfolding reached
     grown =
         let more = area_more _ grows in (
           ap length more.0
               ∙ length-take-le _ image more.1.within,
-          omega (arith, front_len, length-drop (cost_of image) image, cost_there image),
+          omega (arith, front_len, length-drop (header_read_len image) image, cost_there image),
         )
 
     -- the image ended before the area was held
-    pub area_cut : length area' < held → (length image < held) × Took image i (length image)
+    pub area_cut : length area' < held → (length image < held) × ConsumedExactly image i (length image)
     unfolding reached
     area_cut short =
         let more = area_more _ grows in
@@ -183,13 +183,13 @@ module _ (image area area' : List ℕ) (i : Option (List ℕ)) (held : ℕ) (fro
         (omega (arith, grown.0, grown.1, cost_there image), rw all at more.1)
 
     -- the area is held
-    pub area_held : held ≤ length area' → (held ≤ length image) × (length area' ≡ max (cost_of image) held)
-        × (area' ≡ take (max (cost_of image) held) image) × Took image i (max (cost_of image) held)
+    pub area_held : held ≤ length area' → (held ≤ length image) × (length area' ≡ max (header_read_len image) held)
+        × (area' ≡ take (max (header_read_len image) held) image) × ConsumedExactly image i (max (header_read_len image) held)
     unfolding reached
     area_held enough =
         let more = area_more _ grows in
         let there : held ≤ length image = omega (arith, grown.0, grown.1, cost_there image, more.1.within) in
-        let all : reached ≡ max (cost_of image) held = omega (arith, grown.1) in
+        let all : reached ≡ max (header_read_len image) held = omega (arith, grown.1) in
         (there, grown.0 ∙ all, rw all at more.0, rw all at more.1)
 
 -- ---- runs that open no volume
@@ -201,22 +201,22 @@ module _ (stand : Standing) (o : OpeningRequest) (image pass : List ℕ) (i s w 
   outcome_is on_opened r is = rw is refl
 
   module _ (on_opened : OnOpened) (takes : TakesHeld pass on_opened) where
-    cost_taken : cost_of image ≤ (volume_outcome_by (reading_of stand) on_opened o image pass).image_taken
+    cost_taken : header_read_len image ≤ (volume_outcome_by (reading_of stand) on_opened o image pass).image_taken
     unfolding volume_outcome_by
     cost_taken = after (volume_by (reading_of stand) o image)
       where
         after : (r : Result Volume Message)
-            → cost_of image ≤ (outcome_after on_opened o.key_slot image pass r).image_taken
+            → header_read_len image ≤ (outcome_after on_opened o.key_slot image pass r).image_taken
         after (Ok v) = (found_within on_opened o.key_slot v image pass takes).0
         after (Err message) = omega arith
 
     -- there was no volume, or its header was not read
     pub runs_without_volume : (message : Message) → message ≢ WriteFailed
-        → StopsFinding (reading_of stand) o image i message
+        → AbortsFinding (reading_of stand) o image i message
         → s ≡ Some pass
-        → Runs (opens_promptly stand image) (volume_outcome_by (reading_of stand) on_opened o image pass) message
-        (Took image i) (Took pass s)
-        (Adds w w)
+        → RunMatches (opens_promptly stand image) (volume_outcome_by (reading_of stand) on_opened o image pass) message
+        (ConsumedExactly image i) (ConsumedExactly pass s)
+        (Appended w w)
     runs_without_volume OutOfMemory other stop whole =
         early stand _ image pass OutOfMemory i s w stop.0 0 refl (omega arith)
         (prompt_in_header stand image OutOfMemory stop.0 0 stop.1) (omega (arith, stop.1, cost_taken)) (omega arith)
@@ -228,11 +228,11 @@ module _ (stand : Standing) (o : OpeningRequest) (image pass : List ℕ) (i s w 
     runs_without_volume WriteFailed other stop whole = absurd (other refl)
     runs_without_volume message other stop whole =
         rw (outcome_is on_opened (Err message) stop.0)
-        (ends_unwritten stand image pass message i s w (cost_of image) 0 other
-        (prompt_in_header stand image message (cost_of image) 0 (omega arith)) stop.1 (took-none pass s whole))
+        (ends_unwritten stand image pass message i s w (header_read_len image) 0 other
+        (prompt_in_header stand image message (header_read_len image) 0 (omega arith)) stop.1 (took-none pass s whole))
 
   -- the header names this segment and these key slots to be tried
-  module _ (header : Header) (segment : Segment) (tries : Tries) (found : reading_of stand image ≡ Ok header)
+  module _ (header : Header) (segment : Segment) (tries : OrderModel) (found : reading_of stand image ≡ Ok header)
       (is_segment : segment_of header ≡ Ok segment)
       (ordered : order_of header o.key_slot o.max_iterations ≡ Ok tries) where
     volume : Volume
@@ -245,7 +245,7 @@ module _ (stand : Standing) (o : OpeningRequest) (image pass : List ℕ) (i s w 
     outcome_found on_opened =
         outcome_is on_opened (Ok volume) (volume_is stand o image i header found segment is_segment tries ordered)
 
-    held_before : stand ≡ Attached → held_for image volume ≤ max (cost_of image) segment.offset
+    held_before : stand ≡ Attached → held_for image volume ≤ max (header_read_len image) segment.offset
     unfolding volume
     held_before attached = omega (
       arith,
@@ -255,97 +255,97 @@ module _ (stand : Standing) (o : OpeningRequest) (image pass : List ℕ) (i s w 
     -- the key file was not read
     runs_without_secret : (on_opened : OnOpened) (takes : TakesHeld pass on_opened) (message : Message)
         → NoSecretRead pass s message
-        → Took image i (cost_of image)
-        → Runs (opens_promptly stand image) (volume_outcome_by (reading_of stand) on_opened o image pass) message
-        (Took image i) (Took pass s)
-        (Adds w w)
+        → ConsumedExactly image i (header_read_len image)
+        → RunMatches (opens_promptly stand image) (volume_outcome_by (reading_of stand) on_opened o image pass) message
+        (ConsumedExactly image i) (ConsumedExactly pass s)
+        (Appended w w)
     runs_without_secret on_opened takes KeyFileLength stop rest =
         rw (outcome_found on_opened, found_long on_opened o.key_slot volume image pass stop.0)
-        (ends_unwritten stand image pass KeyFileLength i s w (cost_of image) (longest_key_file + 1) (λ h. cc)
-        (prompt_in_header stand image KeyFileLength (cost_of image) (longest_key_file + 1) (omega arith)) rest stop.1)
+        (ends_unwritten stand image pass KeyFileLength i s w (header_read_len image) (longest_key_file + 1) (λ h. cc)
+        (prompt_in_header stand image KeyFileLength (header_read_len image) (longest_key_file + 1) (omega arith)) rest stop.1)
     runs_without_secret on_opened takes OutOfMemory stop rest =
         let within = found_within on_opened o.key_slot volume image pass takes in
         rw (outcome_found on_opened)
-        (early stand _ image pass OutOfMemory i s w (cost_of image) stop.0 refl (omega arith)
-        (prompt_in_header stand image OutOfMemory (cost_of image) stop.0 (omega arith)) within.0
+        (early stand _ image pass OutOfMemory i s w (header_read_len image) stop.0 refl (omega arith)
+        (prompt_in_header stand image OutOfMemory (header_read_len image) stop.0 (omega arith)) within.0
         (omega (arith, stop.1, within.1)) rest stop.2)
     runs_without_secret on_opened takes ReadFailed stop rest =
         let within = found_within on_opened o.key_slot volume image pass takes in
         rw (outcome_found on_opened)
-        (early stand _ image pass ReadFailed i s w (cost_of image) stop.0 tt (omega arith)
-        (prompt_in_header stand image ReadFailed (cost_of image) stop.0 (omega arith)) within.0
+        (early stand _ image pass ReadFailed i s w (header_read_len image) stop.0 tt (omega arith)
+        (prompt_in_header stand image ReadFailed (header_read_len image) stop.0 (omega arith)) within.0
         (omega (arith, stop.1, within.1)) rest stop.2)
     runs_without_secret on_opened takes _ stop rest = absurd stop
 
     -- the key file was read
-    module _ (short : length pass ≤ longest_key_file) (gone : Took pass s (length pass)) (area area' : List ℕ)
-        (front : area ≡ take (cost_of image) image) where
+    module _ (short : length pass ≤ longest_key_file) (gone : ConsumedExactly pass s (length pass)) (area area' : List ℕ)
+        (front : area ≡ take (header_read_len image) image) where
       -- the key areas were not taken
       runs_without_area : (on_opened : OnOpened) (takes : TakesHeld pass on_opened) (fault : HeaderFault)
-          → BreaksTaking (held_of tries.slots - length area) area area' (drop (cost_of image) image) i fault
-          → Runs (opens_promptly stand image) (volume_outcome_by (reading_of stand) on_opened o image pass)
-          (message_for_header fault) (Took image i)
-          (Took pass s) (Adds w w)
+          → AbortsConsuming (key_areas_end tries.slots - length area) area area' (drop (header_read_len image) image) i fault
+          → RunMatches (opens_promptly stand image) (volume_outcome_by (reading_of stand) on_opened o image pass)
+          (message_for_header fault) (ConsumedExactly image i)
+          (ConsumedExactly pass s) (Appended w w)
       unfolding volume
       runs_without_area on_opened takes LostRead stop =
-          let more = area_more image area area' i (held_of tries.slots) front stop.0 stop.2 in
-          let few : cost_of image + stop.0
+          let more = area_more image area area' i (key_areas_end tries.slots) front stop.0 stop.2 in
+          let few : header_read_len image + stop.0
           ≤ held_for image volume =
-          omega (arith, stop.1, front_len image area area' i (held_of tries.slots) front) in
+          omega (arith, stop.1, front_len image area area' i (key_areas_end tries.slots) front) in
           let within = area_within on_opened o.key_slot volume image pass takes short in
           rw (outcome_found on_opened)
-          (early stand _ image pass ReadFailed i s w (cost_of image + stop.0) (length pass) tt (omega arith)
-          (prompt_before_payload stand image ReadFailed (cost_of image + stop.0) (length pass) segment
+          (early stand _ image pass ReadFailed i s w (header_read_len image + stop.0) (length pass) tt (omega arith)
+          (prompt_before_payload stand image ReadFailed (header_read_len image + stop.0) (length pass) segment
           (header, found, is_segment) (λ attached. omega (arith, few, held_before attached)))
           (omega (arith, within.0, more.1.within, few)) within.1 more.1 gone)
       runs_without_area on_opened takes NoMemory stop =
           let within = found_within on_opened o.key_slot volume image pass takes in
           let whole = area_within on_opened o.key_slot volume image pass takes short in
           rw (outcome_found on_opened)
-          (early stand _ image pass OutOfMemory i s w (cost_of image) (length pass) refl (omega arith)
-          (prompt_in_header stand image OutOfMemory (cost_of image) (length pass) (omega arith))
+          (early stand _ image pass OutOfMemory i s w (header_read_len image) (length pass) refl (omega arith)
+          (prompt_in_header stand image OutOfMemory (header_read_len image) (length pass) (omega arith))
           within.0 whole.1 (took_header image i stop.0.left) gone)
       runs_without_area on_opened takes _ stop = absurd stop
 
-      module _ (grows : TookBehind area area' (drop (cost_of image) image) i
-          (min (held_of tries.slots - length area) (length (drop (cost_of image) image)))) where
+      module _ (grows : ConsumedOnto area area' (drop (header_read_len image) image) i
+          (min (key_areas_end tries.slots - length area) (length (drop (header_read_len image) image)))) where
         -- the image ended within them
-        runs_cut : (on_opened : OnOpened) → length area' < held_of tries.slots
-            → Runs (opens_promptly stand image) (volume_outcome_by (reading_of stand) on_opened o image pass) Cut
-            (Took image i) (Took pass s)
-            (Adds w w)
+        runs_cut : (on_opened : OnOpened) → length area' < key_areas_end tries.slots
+            → RunMatches (opens_promptly stand image) (volume_outcome_by (reading_of stand) on_opened o image pass) Cut
+            (ConsumedExactly image i) (ConsumedExactly pass s)
+            (Appended w w)
         unfolding volume
         runs_cut on_opened few =
-            let cut = area_cut image area area' i (held_of tries.slots) front grows few in
+            let cut = area_cut image area area' i (key_areas_end tries.slots) front grows few in
             rw (outcome_found on_opened, found_cut on_opened o.key_slot volume image pass short cut.0)
             (ends_unwritten stand image pass Cut i s w (length image) (length pass) (λ h. cc)
             (prompt_refused stand image (length image) (length pass)) cut.1 gone)
 
-        module _ (enough : held_of tries.slots ≤ length area') (r : Result Opened OpenFault)
+        module _ (enough : key_areas_end tries.slots ≤ length area') (r : Result Opened OpenFault)
             (tried : opening_of tries area' pass ≡ r) where
           outcome_tried : (on_opened : OnOpened)
               → volume_outcome_by (reading_of stand) on_opened o image pass
               ≡ opened_outcome on_opened o.key_slot volume image pass r
           unfolding volume
           outcome_tried on_opened =
-              let held = area_held image area area' i (held_of tries.slots) front grows enough in
+              let held = area_held image area area' i (key_areas_end tries.slots) front grows enough in
               let whole : opening_of tries image pass ≡ r =
-              sym (opening_beginning tries (max (cost_of image) (held_of tries.slots)) image pass (omega arith))
+              sym (opening_beginning tries (max (header_read_len image) (key_areas_end tries.slots)) image pass (omega arith))
               ∙ ap (λ l. opening_of tries l pass) (sym held.2) ∙ tried in
               outcome_found on_opened ∙ found_whole on_opened o.key_slot volume image pass short held.0
               ∙ ap (opened_outcome on_opened o.key_slot volume image pass) whole
 
       -- no key slot opens
-      runs_unopened : (grows : TookBehind area area' (drop (cost_of image) image) i
-          (min (held_of tries.slots - length area) (length (drop (cost_of image) image))))
-          → (enough : held_of tries.slots ≤ length area') (fault : OpenFault)
+      runs_unopened : (grows : ConsumedOnto area area' (drop (header_read_len image) image) i
+          (min (key_areas_end tries.slots - length area) (length (drop (header_read_len image) image))))
+          → (enough : key_areas_end tries.slots ≤ length area') (fault : OpenFault)
           (tried : opening_of tries area' pass ≡ Err fault) (on_opened : OnOpened)
-          → Runs (opens_promptly stand image) (volume_outcome_by (reading_of stand) on_opened o image pass)
+          → RunMatches (opens_promptly stand image) (volume_outcome_by (reading_of stand) on_opened o image pass)
           (message_for_opening o.key_slot fault)
-          (Took image i) (Took pass s) (Adds w w)
+          (ConsumedExactly image i) (ConsumedExactly pass s) (Appended w w)
       unfolding volume
       runs_unopened grows enough fault tried on_opened =
-          let held = area_held image area area' i (held_of tries.slots) front grows enough in
+          let held = area_held image area area' i (key_areas_end tries.slots) front grows enough in
           rw (outcome_tried grows enough (Err fault) tried on_opened)
           (ends_unwritten stand image pass (message_for_opening o.key_slot fault) i s w (held_for image volume)
           (length pass)
@@ -356,14 +356,14 @@ module _ (stand : Standing) (o : OpeningRequest) (image pass : List ℕ) (i s w 
           held.3 gone)
 
       -- a key slot opens
-      unlocks : (grows : TookBehind area area' (drop (cost_of image) image) i
-          (min (held_of tries.slots - length area) (length (drop (cost_of image) image))))
-          → (enough : held_of tries.slots ≤ length area') (opened : Opened)
+      unlocks : (grows : ConsumedOnto area area' (drop (header_read_len image) image) i
+          (min (key_areas_end tries.slots - length area) (length (drop (header_read_len image) image))))
+          → (enough : key_areas_end tries.slots ≤ length area') (opened : Opened)
           (tried : opening_of tries area' pass ≡ Ok opened)
           → Unlocks stand o image pass segment opened area' i s
       unfolding volume
       unlocks grows enough opened tried =
-          let held = area_held image area area' i (held_of tries.slots) front grows enough in
+          let held = area_held image area area' i (key_areas_end tries.slots) front grows enough in
           record {
             outcome = λ on_opened. outcome_tried grows enough (Ok opened) tried on_opened
                 ∙ ap (on_opened segment opened) (sym held.1);
@@ -376,12 +376,12 @@ module _ (stand : Standing) (o : OpeningRequest) (image pass : List ℕ) (i s w 
           }
 
     -- the key slots were not tried, or none of them opens
-    runs_without_slot : (short : length pass ≤ longest_key_file) (gone : Took pass s (length pass))
-        (area area' : List ℕ) (front : area ≡ take (cost_of image) image) (on_opened : OnOpened)
+    runs_without_slot : (short : length pass ≤ longest_key_file) (gone : ConsumedExactly pass s (length pass))
+        (area area' : List ℕ) (front : area ≡ take (header_read_len image) image) (on_opened : OnOpened)
         (takes : TakesHeld pass on_opened) (message : Message)
-        → TriesSlots o.key_slot tries pass area area' (drop (cost_of image) image) i (Err message)
-        → Runs (opens_promptly stand image) (volume_outcome_by (reading_of stand) on_opened o image pass) message
-        (Took image i) (Took pass s) (Adds w w)
+        → TriesSlots o.key_slot tries pass area area' (drop (header_read_len image) image) i (Err message)
+        → RunMatches (opens_promptly stand image) (volume_outcome_by (reading_of stand) on_opened o image pass) message
+        (ConsumedExactly image i) (ConsumedExactly pass s) (Appended w w)
     runs_without_slot short gone area area' front on_opened takes message (inl lost) =
         rw lost.1 (runs_without_area short gone area area' front on_opened takes lost.0 lost.2)
     runs_without_slot short gone area area' front on_opened takes message (inr (grows, inl cut)) =
@@ -390,12 +390,12 @@ module _ (stand : Standing) (o : OpeningRequest) (image pass : List ℕ) (i s w 
         rw none.1 (runs_unopened short gone area area' front grows none.2 none.0 none.3 on_opened)
 
     -- the volume was not opened
-    pub runs_without_key : (area area' : List ℕ) (front : area ≡ take (cost_of image) image) (on_opened : OnOpened)
-        (takes : TakesHeld pass on_opened) (left : Took image (Some (drop (cost_of image) image)) (cost_of image))
+    pub runs_without_key : (area area' : List ℕ) (front : area ≡ take (header_read_len image) image) (on_opened : OnOpened)
+        (takes : TakesHeld pass on_opened) (left : ConsumedExactly image (Some (drop (header_read_len image) image)) (header_read_len image))
         (message : Message)
-        → OpensVolume o.key_slot tries pass area area' (drop (cost_of image) image) i s (Err message)
-        → Runs (opens_promptly stand image) (volume_outcome_by (reading_of stand) on_opened o image pass) message
-        (Took image i) (Took pass s) (Adds w w)
+        → OpensVolume o.key_slot tries pass area area' (drop (header_read_len image) image) i s (Err message)
+        → RunMatches (opens_promptly stand image) (volume_outcome_by (reading_of stand) on_opened o image pass) message
+        (ConsumedExactly image i) (ConsumedExactly pass s) (Appended w w)
     runs_without_key area area' front on_opened takes left message (inl (short, gone, tried)) =
         runs_without_slot short gone area area' front on_opened takes message tried
     runs_without_key area area' front on_opened takes left message (inr none) =
@@ -403,8 +403,8 @@ module _ (stand : Standing) (o : OpeningRequest) (image pass : List ℕ) (i s w 
         rw same (runs_without_secret on_opened takes none.0 none.2 (rw none.4 left))
 
     -- the volume was opened
-    pub unlocks_volume : (area area' : List ℕ) (front : area ≡ take (cost_of image) image) (opened : Opened)
-        → OpensVolume o.key_slot tries pass area area' (drop (cost_of image) image) i s (Ok opened)
+    pub unlocks_volume : (area area' : List ℕ) (front : area ≡ take (header_read_len image) image) (opened : Opened)
+        → OpensVolume o.key_slot tries pass area area' (drop (header_read_len image) image) i s (Ok opened)
         → Unlocks stand o image pass segment opened area' i s
     unlocks_volume area area' front opened (inl (short, gone, tried)) =
         unlocks short gone area area' front tried.0 tried.1 opened tried.2

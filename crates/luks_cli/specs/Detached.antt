@@ -1,7 +1,7 @@
 -- The headline for a header in a file of its own: header and key areas come from that file, and the payload from the
 -- image, at the segment's own place.
 use Rattle.std.specs.Prelude.{◌≡◌, ◌⊎◌, ℕ, List, Option, Some, is_err, true}
-use Rattle.luks_io.specs.Bytes.{Adds, Took, WhereKnown, raised}
+use Rattle.luks_io.specs.Bytes.{Appended, ConsumedExactly, IfKnown, saturating_inc}
 use Rattle.luks_request.specs.Request.{Request, is_luks, luks_uuid, luks_dump, luks_check, test_passphrase, luks_cat}
 use Rattle.luks_report.specs.Check.{check_of, message_for_check}
 use Rattle.luks_report.specs.Dump.{dump_of, uuid_of}
@@ -11,10 +11,10 @@ use Rattle.luks_report.specs.declared.message.Message.TheVariants.{SegmentRefuse
 use Rattle.luks_report.specs.declared.message.Message.TheVariants.{SlotSkipped, NothingTried}
 use Rattle.luks_report.specs.declared.message.Message.TheVariants.{KeyFileLength, NoKey}
 use Rattle.luks_runs.specs.Ending.{Outcome}
-use Rattle.luks_runs.specs.Header.{is_luks_outcome, print_outcome_by, well}
+use Rattle.luks_runs.specs.Header.{is_luks_outcome, print_outcome_by, always_done}
 use Rattle.luks_cli.specs.Outcome.{outcome_of}
 use Rattle.luks_runs.specs.Reading.{detached_header_of}
-use Rattle.luks_runs.specs.Run.{Counts, Failures, Promptness, RunsApart, TookNone, at_any_pace}
+use Rattle.luks_runs.specs.Run.{Counts, Failures, Promptness, DetachedRunMatches, TookNone, at_any_pace}
 use Rattle.luks_cli.specs.Run.{IsCounted, KnowsSecret, TookSecret}
 use Rattle.luks_cli.specs.Volume.{detached_payload_outcome, slot_outcome, volume_by, volume_outcome_by}
 use Rattle.luks_cli.specs.VolumeParts.{detached_cat_promptly}
@@ -22,8 +22,8 @@ use Rattle.luks_cli.specs.VolumeParts.{detached_cat_promptly}
 -- what a command does with the bytes of the file with the header, of the image and of the second input
 abbrev pub detached_outcome_of : Request → List ℕ → List ℕ → List ℕ → Outcome
 detached_outcome_of (is_luks _) file image secret = is_luks_outcome file
-detached_outcome_of (luks_uuid _) file image secret = print_outcome_by detached_header_of uuid_of well file
-detached_outcome_of (luks_dump _) file image secret = print_outcome_by detached_header_of dump_of well file
+detached_outcome_of (luks_uuid _) file image secret = print_outcome_by detached_header_of uuid_of always_done file
+detached_outcome_of (luks_dump _) file image secret = print_outcome_by detached_header_of dump_of always_done file
 detached_outcome_of (luks_check _) file image secret =
     print_outcome_by detached_header_of check_of message_for_check file
 detached_outcome_of (test_passphrase o) file image secret =
@@ -45,19 +45,19 @@ KnowsPayload request device image = Unit {0}
 
 -- what was taken of it
 abbrev pub TookPayload : Request → List ℕ → Option (List ℕ) → ℕ → Type 0
-TookPayload (luks_cat o) image left = Took image left
+TookPayload (luks_cat o) image left = ConsumedExactly image left
 TookPayload request image left = TookNone
 
 -- where the inputs of a command know their bytes, its run has the outcome that is stated for these
 abbrev pub RunsDetached : Request → Message → Option (List ℕ) → Option (List ℕ) → Option (List ℕ) → Option (List ℕ)
     → Option (List ℕ) → Option (List ℕ) → Option (List ℕ) → Option (List ℕ) → Type 0
 RunsDetached request message header header' image image' secret secret' written written' =
-    WhereKnown header
+    IfKnown header
     (λ file. (known : List ℕ) → KnowsPayload request image known → (known_secret : List ℕ)
     → KnowsSecret request secret known_secret → IsCounted request known
-    → RunsApart (detached_promptness_of request file) (detached_outcome_of request file known known_secret) message
-    (Took file header') (TookPayload request known image') (TookSecret request known_secret secret')
-    (Adds written written'))
+    → DetachedRunMatches (detached_promptness_of request file) (detached_outcome_of request file known known_secret) message
+    (ConsumedExactly file header') (TookPayload request known image') (TookSecret request known_secret secret')
+    (Appended written written'))
 
 -- the header, the segment or the order of the key slots ends the run: no second input is needed
 abbrev pub NeedsNoSecretDetached : Request → List ℕ → Type 0
@@ -89,5 +89,5 @@ EndsWithoutKey _ = ⊥
 -- them rose by one where a read or a write failed, and else none did
 abbrev pub CountsDetached : Message → ℕ → ℕ → Failures → Failures → Type 0
 CountsDetached ReadFailed header header' before after =
-    ((header' ≡ raised header) × (after ≡ before)) ⊎ ((header' ≡ header) × Counts ReadFailed before after)
+    ((header' ≡ saturating_inc header) × (after ≡ before)) ⊎ ((header' ≡ header) × Counts ReadFailed before after)
 CountsDetached message header header' before after = (header' ≡ header) × Counts message before after

@@ -1,8 +1,8 @@
 -- What `luksCat` owes of an honestly sealed volume: its plain text.
 use Rattle.std.specs.Prelude.{◌≡◌, ℕ, ◌^◌, ◌<◌, ◌≤◌, All, Contains, List, ◌∷◌, ◌++◌, length, Option, Some, Ok, false}
-use Rattle.luks_io.specs.Bytes.{Adds, WhereKnown}
-use Rattle.luks_open.specs.Opening.{key_of}
-use Rattle.luks_open.specs.Order.{Tries, order_of}
+use Rattle.luks_io.specs.Bytes.{Appended, IfKnown}
+use Rattle.luks_open.specs.Opening.{slot_key}
+use Rattle.luks_open.specs.Order.{OrderModel, order_of}
 use Rattle.luks_open.specs.declared.entry.Entry.{Entry}
 use Rattle.luks_seal.specs.Sealed.{Sealed}
 use Rattle.luks_request.specs.Request.{OpeningRequest, Request, luks_cat}
@@ -13,7 +13,7 @@ use Rattle.luks_runs.specs.Secret.{longest_key_file}
 
 -- if the key slot opens under this passphrase, it gives this key
 abbrev pub GivesNoOther : List ℕ → List ℕ → List ℕ → Entry → Type 0
-GivesNoOther image passphrase key entry = (other : List ℕ) → key_of entry image passphrase ≡ Some other → other ≡ key
+GivesNoOther image passphrase key entry = (other : List ℕ) → slot_key entry image passphrase ≡ Some other → other ≡ key
 
 -- the key slot of this number is one of these, and none before it gives another key under this passphrase
 pub record ComesFirst (number : ℕ) (entries : List Entry) (image passphrase key : List ℕ) : Type 0 where
@@ -33,7 +33,7 @@ pub record IsHonest (o : OpeningRequest) (image passphrase plain : List ℕ) : T
   pub number : ℕ
   pub is_passphrase : Contains passphrases (number, passphrase)
   pub short : length passphrase ≤ longest_key_file
-  pub tries : Tries
+  pub tries : OrderModel
   pub is_order : order_of sealed.header o.key_slot o.max_iterations ≡ Ok tries
   pub first : ComesFirst number tries.slots image passphrase key
 
@@ -41,7 +41,7 @@ pub record IsHonest (o : OpeningRequest) (image passphrase plain : List ℕ) : T
 abbrev pub WritesPlain : Request → Message → Option (List ℕ) → Option (List ℕ) → Option (List ℕ) → Option (List ℕ)
     → Type 0
 WritesPlain (luks_cat o) message image secret written written' =
-    WhereKnown image (λ known. WhereKnown secret (λ passphrase.
+    IfKnown image (λ known. IfKnown secret (λ passphrase.
     (plain : List ℕ) → length known < 2 ^ 64 → IsHonest o known passphrase plain → breaks_off message ≡ false
-    → (message ≡ Done) × Adds written written' plain))
+    → (message ≡ Done) × Appended written written' plain))
 WritesPlain _ message image secret written written' = Unit {0}

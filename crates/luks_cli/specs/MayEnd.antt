@@ -28,12 +28,12 @@ OpeningMessage ReadFailed = Unit {0}
 OpeningMessage _ = ⊥
 
 -- the messages that a command may end with, whatever its devices do
-abbrev pub MayTell : Request → Message → Type 0
-MayTell (is_luks _) message = IsLuksMessage message
-MayTell (luks_uuid _) message = PrintMessage message
-MayTell (luks_dump _) message = PrintMessage message
-MayTell (luks_check _) message = CheckMessage message
-MayTell (test_passphrase o) message = OpeningMessage message ⊎ (message ≡ Done ⊎ message ≡ WriteFailed)
-MayTell (luks_cat o) message = OpeningMessage message ⊎ PayloadMessage message
-MayTell (af_split s) message = SplitMessage message
-MayTell (af_merge m) message = MergeMessage message
+abbrev pub MayReport : Request → Message → Type 0
+MayReport (is_luks _) message = IsLuksMessage message
+MayReport (luks_uuid _) message = PrintMessage message
+MayReport (luks_dump _) message = PrintMessage message
+MayReport (luks_check _) message = CheckMessage message
+MayReport (test_passphrase o) message = OpeningMessage message ⊎ (message ≡ Done ⊎ message ≡ WriteFailed)
+MayReport (luks_cat o) message = OpeningMessage message ⊎ PayloadMessage message
+MayReport (af_split s) message = SplitMessage message
+MayReport (af_merge m) message = MergeMessage message

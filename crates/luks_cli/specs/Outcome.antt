@@ -5,15 +5,15 @@ use Rattle.luks_request.specs.Request.{af_split, af_merge}
 use Rattle.luks_report.specs.Check.{check_of, message_for_check}
 use Rattle.luks_report.specs.Dump.{dump_of, uuid_of}
 use Rattle.luks_runs.specs.Ending.{Outcome}
-use Rattle.luks_runs.specs.Header.{is_luks_outcome, print_outcome, well}
+use Rattle.luks_runs.specs.Header.{is_luks_outcome, print_outcome, always_done}
 use Rattle.luks_runs.specs.Stripe.{merge_outcome, split_outcome}
 use Rattle.luks_cli.specs.Volume.{payload_outcome, slot_outcome, volume_outcome}
 
 -- what a command does with the bytes that its inputs give
 abbrev pub outcome_of : Request → List ℕ → List ℕ → Outcome
 outcome_of (is_luks _) image secret = is_luks_outcome image
-outcome_of (luks_uuid _) image secret = print_outcome uuid_of well image
-outcome_of (luks_dump _) image secret = print_outcome dump_of well image
+outcome_of (luks_uuid _) image secret = print_outcome uuid_of always_done image
+outcome_of (luks_dump _) image secret = print_outcome dump_of always_done image
 outcome_of (luks_check _) image secret = print_outcome check_of message_for_check image
 outcome_of (test_passphrase o) image secret = volume_outcome (slot_outcome secret) o image secret
 outcome_of (luks_cat o) image secret = volume_outcome (payload_outcome image secret) o image secret

@@ -1,11 +1,11 @@
 -- How a run of a command is held to the outcome that is stated for it.
 use Rattle.std.specs.Prelude.{◌≡◌, ℕ, ◌<◌, ◌^◌, List, length, Option, Some, true, ◌⊎◌, is_err}
-use Rattle.luks_io.specs.Bytes.{Adds, Took, WhereKnown}
+use Rattle.luks_io.specs.Bytes.{Appended, ConsumedExactly, IfKnown}
 use Rattle.luks_cli.specs.VolumeParts.{cat_promptly}
 use Rattle.luks_request.specs.Request.{Request, is_luks, luks_uuid, luks_dump, luks_check, test_passphrase, luks_cat}
 use Rattle.luks_request.specs.Request.{af_split, af_merge}
 use Rattle.luks_cli.specs.Outcome.{outcome_of}
-use Rattle.luks_runs.specs.Run.{FindsEndOnce, FindsEndTwice, Promptness, Runs, TookNone, at_any_pace}
+use Rattle.luks_runs.specs.Run.{HitsEofOnce, HitsEofTwice, Promptness, RunMatches, TookNone, at_any_pace}
 use Rattle.luks_runs.specs.Stripe.{longest_key}
 use Rattle.luks_runs.specs.StripeParts.{split_promptly}
 use Rattle.luks_cli.specs.Volume.{volume_of}
@@ -34,9 +34,9 @@ TookSecret (is_luks _) secret left = TookNone
 TookSecret (luks_uuid _) secret left = TookNone
 TookSecret (luks_dump _) secret left = TookNone
 TookSecret (luks_check _) secret left = TookNone
-TookSecret (test_passphrase o) secret left = Took secret left
-TookSecret (luks_cat o) secret left = Took secret left
-TookSecret (af_split s) secret left = Took secret left
+TookSecret (test_passphrase o) secret left = ConsumedExactly secret left
+TookSecret (luks_cat o) secret left = ConsumedExactly secret left
+TookSecret (af_split s) secret left = ConsumedExactly secret left
 TookSecret (af_merge m) secret left = TookNone
 
 -- the image is not longer than the command can count: `luksCat` counts its bytes in 64 bits
@@ -48,10 +48,10 @@ IsCounted _ image = Unit {0}
 abbrev pub RunsAsStated : Request → Message → Option (List ℕ) → Option (List ℕ) → Option (List ℕ) → Option (List ℕ)
     → Option (List ℕ) → Option (List ℕ) → Type 0
 RunsAsStated request message image image' secret secret' written written' =
-    WhereKnown image
+    IfKnown image
     (λ known. (known_secret : List ℕ) → KnowsSecret request secret known_secret → IsCounted request known
-    → Runs (promptness_of request known) (outcome_of request known known_secret) message
-    (Took known image') (TookSecret request known_secret secret') (Adds written written'))
+    → RunMatches (promptness_of request known) (outcome_of request known known_secret) message
+    (ConsumedExactly known image') (TookSecret request known_secret secret') (Appended written written'))
 
 -- the command takes no memory
 abbrev pub TakesNoMemory : Request → Type 0
@@ -74,7 +74,7 @@ NeedsNoSecret _ image = Unit {0}
 
 -- the end of the first input is found at most once; that of a volume, which may end within its second header, is found
 -- there and once more behind it
-abbrev pub FindsFirstEnd : Request → ℕ → ℕ → Type 0
-FindsFirstEnd (test_passphrase o) before after = FindsEndTwice before after
-FindsFirstEnd (luks_cat o) before after = FindsEndTwice before after
-FindsFirstEnd _ before after = FindsEndOnce before after
+abbrev pub HitsFirstEof : Request → ℕ → ℕ → Type 0
+HitsFirstEof (test_passphrase o) before after = HitsEofTwice before after
+HitsFirstEof (luks_cat o) before after = HitsEofTwice before after
+HitsFirstEof _ before after = HitsEofOnce before after

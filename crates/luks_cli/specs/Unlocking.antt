@@ -1,13 +1,13 @@
 -- What opening a volume leaves in its devices, wherever its header stands.
 use Rattle.std.specs.Prelude.{◌≡◌, ℕ, ◌-◌, ◌<◌, ◌≤◌, ◌⊎◌, List, length, max, min, take, Option, Some}
 use Rattle.std.specs.Prelude.{Result, Ok, Err}
-use Rattle.luks_io.specs.Bytes.{Adds, Took}
-use Rattle.luks_header.specs.Area.{BreaksTaking, TookBehind}
-use Rattle.luks_header.specs.Header.{cost_of}
+use Rattle.luks_io.specs.Bytes.{Appended, ConsumedExactly}
+use Rattle.luks_header.specs.Area.{AbortsConsuming, ConsumedOnto}
+use Rattle.luks_header.specs.Header.{header_read_len}
 use Rattle.luks_area.specs.declared.fault.HeaderFault.{HeaderFault}
 use Rattle.luks_verdict.specs.declared.segment.Segment.{Segment}
 use Rattle.luks_open.specs.Opening.{opening_of}
-use Rattle.luks_open.specs.Order.{Tries, held_of}
+use Rattle.luks_open.specs.Order.{OrderModel, key_areas_end}
 use Rattle.luks_open.specs.declared.fault.OpenFault.{OpenFault}
 use Rattle.luks_open.specs.declared.opening.Opened.{Opened}
 use Rattle.luks_report.specs.Faults.{message_for_header, message_for_opening}
@@ -35,37 +35,37 @@ pub record Unlocks (standing : Standing) (o : OpeningRequest) (image secret : Li
   pub outcome : (on_opened : OnOpened)
       → volume_outcome_by (reading_of standing) on_opened o image secret ≡ on_opened segment opened (length held)
   pub has : HasSegmentBy (reading_of standing) image segment
-  pub cost : cost_of image ≤ length held
-  pub early : standing ≡ Attached → length held ≤ max (cost_of image) segment.offset
+  pub cost : header_read_len image ≤ length held
+  pub early : standing ≡ Attached → length held ≤ max (header_read_len image) segment.offset
   pub front : held ≡ take (length held) image
-  pub image_taken : Took image image' (length held)
-  pub secret_taken : Took secret secret' (length secret)
+  pub image_taken : ConsumedExactly image image' (length held)
+  pub secret_taken : ConsumedExactly secret secret' (length secret)
 
 -- the image was taken up to the end of the key areas, or up to its own end if that comes first
-abbrev pub TookAreas : Tries → List ℕ → List ℕ → List ℕ → Option (List ℕ) → Type 0
+abbrev pub TookAreas : OrderModel → List ℕ → List ℕ → List ℕ → Option (List ℕ) → Type 0
 TookAreas tries area area' rest left =
-    TookBehind area area' rest left (min (held_of tries.slots - length area) (length rest))
+    ConsumedOnto area area' rest left (min (key_areas_end tries.slots - length area) (length rest))
 
 -- the key slots of a volume that was found were tried, whose header is held: the key areas are taken, and those slots
 -- answer for this passphrase. Else a read of the key areas failed, or memory for them was refused, or the image ended
 -- within them
-abbrev pub TriesSlots : Option ℕ → Tries → List ℕ → List ℕ → List ℕ → List ℕ → Option (List ℕ) → Result Opened Message
+abbrev pub TriesSlots : Option ℕ → OrderModel → List ℕ → List ℕ → List ℕ → List ℕ → Option (List ℕ) → Result Opened Message
     → Type 0
 TriesSlots named tries pass area area' rest left (Ok opened) = TookAreas tries area area' rest left
-    × (held_of tries.slots ≤ length area') × (opening_of tries area' pass ≡ Ok opened)
+    × (key_areas_end tries.slots ≤ length area') × (opening_of tries area' pass ≡ Ok opened)
 TriesSlots named tries pass area area' rest left (Err message) =
     ((fault : HeaderFault) × (message ≡ message_for_header fault)
-    × BreaksTaking (held_of tries.slots - length area) area area' rest left fault)
-    ⊎ (TookAreas tries area area' rest left × ((message ≡ Cut × (length area' < held_of tries.slots))
-    ⊎ ((fault : OpenFault) × (message ≡ message_for_opening named fault) × (held_of tries.slots ≤ length area')
+    × AbortsConsuming (key_areas_end tries.slots - length area) area area' rest left fault)
+    ⊎ (TookAreas tries area area' rest left × ((message ≡ Cut × (length area' < key_areas_end tries.slots))
+    ⊎ ((fault : OpenFault) × (message ≡ message_for_opening named fault) × (key_areas_end tries.slots ≤ length area')
     × (opening_of tries area' pass ≡ Err fault))))
 
 -- a volume that was found was opened by the passphrase that the key file has, or was not: that is read whole before
 -- the key slots are tried. Else nothing more was taken of the image
-abbrev pub OpensVolume : Option ℕ → Tries → List ℕ → List ℕ → List ℕ → List ℕ → Option (List ℕ) → Option (List ℕ)
+abbrev pub OpensVolume : Option ℕ → OrderModel → List ℕ → List ℕ → List ℕ → List ℕ → Option (List ℕ) → Option (List ℕ)
     → Result Opened Message → Type 0
 OpensVolume named tries pass area area' rest left secret' result =
-    ((length pass ≤ longest_key_file) × Took pass secret' (length pass)
+    ((length pass ≤ longest_key_file) × ConsumedExactly pass secret' (length pass)
     × TriesSlots named tries pass area area' rest left result)
     ⊎ ((message : Message) × (result ≡ Err message) × NoSecretRead pass secret' message × (area' ≡ area)
     × (left ≡ Some rest))
@@ -73,8 +73,8 @@ OpensVolume named tries pass area area' rest left secret' result =
 -- the key slot that opened was told: in a line that was written, or of which a write failed, or for which memory was
 -- refused
 abbrev pub TellsSlot : Opened → Option (List ℕ) → Option (List ℕ) → Message → Type 0
-TellsSlot opened written written' Done = Adds written written' (opened_line opened.slot)
+TellsSlot opened written written' Done = Appended written written' (opened_line opened.slot)
 TellsSlot opened written written' WriteFailed = (count : ℕ) × (count < length (opened_line opened.slot))
-    × Adds written written' (take count (opened_line opened.slot))
+    × Appended written written' (take count (opened_line opened.slot))
 TellsSlot opened written written' OutOfMemory = written' ≡ written
 TellsSlot opened written written' _ = ⊥

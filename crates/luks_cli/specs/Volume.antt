@@ -1,13 +1,13 @@
 -- What the commands on volumes come to.
 -- First what an image's header says of its volume, before any key slot is tried; then what becomes of a run.
 use Rattle.std.specs.Prelude.{ℕ, ◌+◌, List, length, max, nat_lt, if◌then◌else◌, Option, Result, Ok, Err}
-use Rattle.luks_header.specs.Header.{cost_of, header_of}
+use Rattle.luks_header.specs.Header.{header_read_len, header_of}
 use Rattle.luks_header.specs.Segment.{segment_of}
 use Rattle.luks_header.specs.declared.header.Header.{Header}
 use Rattle.luks_area.specs.declared.fault.HeaderFault.{HeaderFault}
 use Rattle.luks_verdict.specs.declared.refusal.SegmentFault.{SegmentFault}
 use Rattle.luks_verdict.specs.declared.segment.Segment.{Segment}
-use Rattle.luks_open.specs.Order.{Tries, held_of, order_of}
+use Rattle.luks_open.specs.Order.{OrderModel, key_areas_end, order_of}
 use Rattle.luks_open.specs.declared.fault.OpenFault.{OpenFault}
 use Rattle.luks_report.specs.Faults.{message_for_header, message_for_opening}
 use Rattle.luks_request.specs.Request.{OpeningRequest}
@@ -18,7 +18,7 @@ use Rattle.luks_report.specs.Faults.{message_at_end}
 use Rattle.luks_report.specs.Texts.{opened_line}
 use Rattle.luks_report.specs.declared.message.Message.TheVariants.{Done, Cut, KeyFileLength}
 use Rattle.luks_runs.specs.Secret.{longest_key_file}
-use Rattle.luks_runs.specs.Ending.{Outcome, unwritten}
+use Rattle.luks_runs.specs.Ending.{Outcome, no_output}
 use Rattle.luks_runs.specs.Reading.{Reading}
 use Rattle.luks_report.specs.declared.message.Message.{Message}
 use Rattle.luks_report.specs.declared.message.Message.TheVariants.{SegmentRefused}
@@ -27,10 +27,10 @@ use Rattle.luks_report.specs.declared.message.Message.TheVariants.{SegmentRefuse
 pub record Volume : Type 0 where
   pub header : Header
   pub segment : Segment
-  pub tries : Tries
+  pub tries : OrderModel
 
 -- the volume with this order of key slots
-abbrev pub volume_in_order : Option ℕ → Header → Segment → Result Tries OpenFault → Result Volume Message
+abbrev pub volume_in_order : Option ℕ → Header → Segment → Result OrderModel OpenFault → Result Volume Message
 volume_in_order named header segment (Ok tries) = Ok (record { header = header; segment = segment; tries = tries })
 volume_in_order named header segment (Err fault) = Err (message_for_opening named fault)
 
@@ -56,7 +56,7 @@ volume_of = volume_by header_of
 
 -- how many bytes of the image are taken to open the volume: the header and the key areas of the slots that are tried
 abbrev pub held_for : List ℕ → Volume → ℕ
-held_for image volume = max (cost_of image) (held_of volume.tries.slots)
+held_for image volume = max (header_read_len image) (key_areas_end volume.tries.slots)
 
 -- what a command does with a volume that is opened: with its segment, its key, and the bytes of its image that were
 -- taken so far
@@ -97,20 +97,20 @@ detached_payload_outcome image secret segment opened held = record {
 abbrev pub opened_outcome : OnOpened → Option ℕ → Volume → List ℕ → List ℕ → Result Opened OpenFault → Outcome
 opened_outcome on_opened named volume image secret (Ok opened) = on_opened volume.segment opened (held_for image volume)
 opened_outcome on_opened named volume image secret (Err fault) =
-    unwritten (message_for_opening named fault) (held_for image volume) (length secret)
+    no_output (message_for_opening named fault) (held_for image volume) (length secret)
 
 -- a volume was found: the key file is read whole, then the image up to the end of the key areas, and the key slots are
 -- tried
 unfoldable pub found_outcome : OnOpened → Option ℕ → Volume → List ℕ → List ℕ → Outcome
 found_outcome on_opened named volume image secret =
-    if nat_lt longest_key_file (length secret) then unwritten KeyFileLength (cost_of image) (longest_key_file + 1)
-    else (if nat_lt (length image) (held_of volume.tries.slots) then unwritten Cut (length image) (length secret)
+    if nat_lt longest_key_file (length secret) then no_output KeyFileLength (header_read_len image) (longest_key_file + 1)
+    else (if nat_lt (length image) (key_areas_end volume.tries.slots) then no_output Cut (length image) (length secret)
     else opened_outcome on_opened named volume image secret (opening_of volume.tries image secret))
 
 -- there is a volume or not
 abbrev pub outcome_after : OnOpened → Option ℕ → List ℕ → List ℕ → Result Volume Message → Outcome
 outcome_after on_opened named image secret (Ok volume) = found_outcome on_opened named volume image secret
-outcome_after on_opened named image secret (Err message) = unwritten message (cost_of image) 0
+outcome_after on_opened named image secret (Err message) = no_output message (header_read_len image) 0
 
 -- a command that opens a volume whose header is read so
 unfoldable pub volume_outcome_by : Reading → OnOpened → OpeningRequest → List ℕ → List ℕ → Outcome

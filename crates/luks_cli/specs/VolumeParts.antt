@@ -1,7 +1,7 @@
 -- What the parts of the commands on volumes leave in their devices.
 use Rattle.std.specs.Prelude.{◌≡◌, ◌⊎◌, ℕ, ◌+◌, ◌-◌, ◌*◌, ◌/◌, ◌<◌, ◌≤◌, List, length, max, Option, Ok, Err}
-use Rattle.luks_io.specs.Bytes.{Took, TookUpTo}
-use Rattle.luks_header.specs.Header.{cost_of, header_of}
+use Rattle.luks_io.specs.Bytes.{ConsumedExactly, ConsumedAtMost}
+use Rattle.luks_header.specs.Header.{header_read_len, header_of}
 use Rattle.luks_header.specs.Segment.{segment_of}
 use Rattle.luks_header.specs.declared.header.Header.{Header}
 use Rattle.luks_verdict.specs.declared.segment.Segment.{Segment}
@@ -24,10 +24,10 @@ abbrev pub HasSegment : List ℕ → Segment → Type 0
 HasSegment = HasSegmentBy header_of
 
 -- finding the volume whose header is read so ended without one
-abbrev pub StopsFinding : Reading → OpeningRequest → List ℕ → Option (List ℕ) → Message → Type 0
-StopsFinding read o image left ReadFailed = TookUpTo image left (cost_of image)
-StopsFinding read o image left OutOfMemory = TookUpTo image left (cost_of image)
-StopsFinding read o image left message = (volume_by read o image ≡ Err message) × Took image left (cost_of image)
+abbrev pub AbortsFinding : Reading → OpeningRequest → List ℕ → Option (List ℕ) → Message → Type 0
+AbortsFinding read o image left ReadFailed = ConsumedAtMost image left (header_read_len image)
+AbortsFinding read o image left OutOfMemory = ConsumedAtMost image left (header_read_len image)
+AbortsFinding read o image left message = (volume_by read o image ≡ Err message) × ConsumedExactly image left (header_read_len image)
 
 -- ---- opening
 
@@ -55,7 +55,7 @@ passed_promptly s cost _ taken output = Unit {0}
 -- `luksCat` is broken off: it owes this of the image's payload
 abbrev pub cat_promptly : List ℕ → Message → ℕ → ℕ → ℕ → Type 0
 cat_promptly image message image_taken secret_taken output =
-    (segment : Segment) → HasSegment image segment → passed_promptly segment (cost_of image) message image_taken output
+    (segment : Segment) → HasSegment image segment → passed_promptly segment (header_read_len image) message image_taken output
 
 -- `luksCat` is broken off whose header stands in a file of its own: it owes the same of the payload's image, of which
 -- nothing is taken for a header

@@ -1,14 +1,14 @@
 //! What the commands do.
 
 ghost use Rattle.std.specs.Prelude.{◌≡◌, ◌≢◌, IfErr, None, false};
-ghost use Rattle.luks_io.specs.Bytes.{WhereKnown};
+ghost use Rattle.luks_io.specs.Bytes.{IfKnown};
 ghost use Rattle.luks_report.specs.Report.{report_of};
-ghost use Rattle.luks_request.specs.Request.{is_detached, request_of, secret_of};
-ghost use Rattle.luks_runs.specs.Run.{Counts, failures_of, FindsEndOnce, message_of};
-ghost use Rattle.luks_cli.specs.Run.{FindsFirstEnd, NeedsNoSecret, ReadsFirst, RunsAsStated};
+ghost use Rattle.luks_request.specs.Request.{has_header_file, request_of, secret_of};
+ghost use Rattle.luks_runs.specs.Run.{Counts, failures_of, HitsEofOnce, result_message};
+ghost use Rattle.luks_cli.specs.Run.{HitsFirstEof, NeedsNoSecret, ReadsFirst, RunsAsStated};
 ghost use Rattle.luks_cli.specs.Run.{TakesNoMemory};
 ghost use Rattle.luks_cli.specs.Honest.{WritesPlain};
-ghost use Rattle.luks_cli.specs.MayEnd.{MayTell};
+ghost use Rattle.luks_cli.specs.MayEnd.{MayReport};
 
 pub use detached::execute_detached;
 use luks_io::sink::Sink;
@@ -52,27 +52,27 @@ pub fn execute<I: Source, K: Source, O: Sink>(
     secret: &mut K,
     out: &mut O,
 ) -> Report
-    requires attached { is_detached (request_of command.now) ≡ false }
+    requires attached { has_header_file (request_of command.now) ≡ false }
     ensures run { RunsAsStated (request_of command.now) result.message
         (I.to_come image.old) (I.to_come image.new) (K.to_come secret.old) (K.to_come secret.new)
         (O.written out.old) (O.written out.new) }
     ensures honest { WritesPlain (request_of command.now) result.message
         (I.to_come image.old) (K.to_come secret.old)
         (O.written out.old) (O.written out.new) }
-    ensures only { MayTell (request_of command.now) result.message }
+    ensures only { MayReport (request_of command.now) result.message }
     ensures status { result ≡ report_of result.message }
     ensures memory { TakesNoMemory (request_of command.now) → result.message ≢ Message.OutOfMemory }
     ensures unread { secret_of (request_of command.now) ≡ None → secret.new ≡ secret.old }
-    ensures unneeded { WhereKnown (I.to_come image.old) (λ known.
+    ensures unneeded { IfKnown (I.to_come image.old) (λ known.
         NeedsNoSecret (request_of command.now) known → secret.new ≡ secret.old) }
     ensures reads_first { ReadsFirst (request_of command.now) → result.message ≡ Message.ReadFailed
         → out.new ≡ out.old }
     ensures counts { Counts result.message
         (failures_of (I.failures image.old) (K.failures secret.old) (O.failures out.old))
         (failures_of (I.failures image.new) (K.failures secret.new) (O.failures out.new)) }
-    ensures image_end { FindsFirstEnd (request_of command.now) (I.ends image.old)
+    ensures image_end { HitsFirstEof (request_of command.now) (I.ends image.old)
         (I.ends image.new) }
-    ensures secret_end { FindsEndOnce (K.ends secret.old) (K.ends secret.new) }
+    ensures secret_end { HitsEofOnce (K.ends secret.old) (K.ends secret.new) }
 {
     match perform(alloc, command, image, secret, out) {
         Ok(()) => Report::of(Message::Done),
@@ -88,23 +88,23 @@ fn perform<I: Source, K: Source, O: Sink>(
     secret: &mut K,
     out: &mut O,
 ) -> Result<(), Message>
-    ensures run { RunsAsStated (request_of command.now) (message_of result)
+    ensures run { RunsAsStated (request_of command.now) (result_message result)
         (I.to_come image.old) (I.to_come image.new) (K.to_come secret.old) (K.to_come secret.new)
         (O.written out.old) (O.written out.new) }
-    ensures only { MayTell (request_of command.now) (message_of result) }
+    ensures only { MayReport (request_of command.now) (result_message result) }
     ensures memory { TakesNoMemory (request_of command.now)
         → IfErr result (λ message. message ≢ Message.OutOfMemory) }
     ensures unread { secret_of (request_of command.now) ≡ None → secret.new ≡ secret.old }
-    ensures unneeded { WhereKnown (I.to_come image.old) (λ known.
+    ensures unneeded { IfKnown (I.to_come image.old) (λ known.
         NeedsNoSecret (request_of command.now) known → secret.new ≡ secret.old) }
     ensures reads_first { ReadsFirst (request_of command.now)
-        → message_of result ≡ Message.ReadFailed → out.new ≡ out.old }
-    ensures counts { Counts (message_of result)
+        → result_message result ≡ Message.ReadFailed → out.new ≡ out.old }
+    ensures counts { Counts (result_message result)
         (failures_of (I.failures image.old) (K.failures secret.old) (O.failures out.old))
         (failures_of (I.failures image.new) (K.failures secret.new) (O.failures out.new)) }
-    ensures image_end { FindsFirstEnd (request_of command.now) (I.ends image.old)
+    ensures image_end { HitsFirstEof (request_of command.now) (I.ends image.old)
         (I.ends image.new) }
-    ensures secret_end { FindsEndOnce (K.ends secret.old) (K.ends secret.new) }
+    ensures secret_end { HitsEofOnce (K.ends secret.old) (K.ends secret.new) }
 {
     let standing = Standing::Attached;
     match command {
@@ -129,21 +129,21 @@ fn perform_stripes<I: Source, K: Source, O: Sink>(
     out: &mut O,
 ) -> Result<(), Message>
     requires stripes { TakesNoMemory (request_of command.now) }
-    ensures run { RunsAsStated (request_of command.now) (message_of result)
+    ensures run { RunsAsStated (request_of command.now) (result_message result)
         (I.to_come image.old) (I.to_come image.new) (K.to_come secret.old) (K.to_come secret.new)
         (O.written out.old) (O.written out.new) }
-    ensures only { MayTell (request_of command.now) (message_of result) }
+    ensures only { MayReport (request_of command.now) (result_message result) }
     ensures memory { IfErr result (λ message. message ≢ Message.OutOfMemory) }
     ensures unread { secret_of (request_of command.now) ≡ None → secret.new ≡ secret.old }
-    ensures unneeded { WhereKnown (I.to_come image.old) (λ known.
+    ensures unneeded { IfKnown (I.to_come image.old) (λ known.
         NeedsNoSecret (request_of command.now) known → secret.new ≡ secret.old) }
     ensures reads_first { ReadsFirst (request_of command.now)
-        → message_of result ≡ Message.ReadFailed → out.new ≡ out.old }
-    ensures counts { Counts (message_of result)
+        → result_message result ≡ Message.ReadFailed → out.new ≡ out.old }
+    ensures counts { Counts (result_message result)
         (failures_of (I.failures image.old) (K.failures secret.old) (O.failures out.old))
         (failures_of (I.failures image.new) (K.failures secret.new) (O.failures out.new)) }
-    ensures image_end { FindsEndOnce (I.ends image.old) (I.ends image.new) }
-    ensures secret_end { FindsEndOnce (K.ends secret.old) (K.ends secret.new) }
+    ensures image_end { HitsEofOnce (I.ends image.old) (I.ends image.new) }
+    ensures secret_end { HitsEofOnce (K.ends secret.old) (K.ends secret.new) }
 {
     match command {
         Command::AfSplit(splitting) => stripes::split(splitting, image, secret, out),

@@ -9,7 +9,7 @@ use Rattle.luks_kdf.specs.declared.Hash.{Hash}
 use Rattle.luks_request.specs.Number.{number_within, optional_within}
 use Rattle.luks_request.specs.Request.{MergingRequest, OpeningRequest, ReadingRequest, Request, SplittingRequest}
 use Rattle.luks_request.specs.Request.{af_merge, af_split, is_luks, luks_cat, luks_check, luks_dump, luks_uuid}
-use Rattle.luks_request.specs.Request.{reads_standard_twice, test_passphrase}
+use Rattle.luks_request.specs.Request.{reuses_stdin, test_passphrase}
 use Rattle.luks_command.specs.Grammar.{luksrd}
 use Rattle.luks_command.specs.declared.planning.PlanFault.{PlanFault}
 use Rattle.luks_command.specs.declared.planning.PlanFault.TheVariants.{Memory, Usage}
@@ -27,12 +27,12 @@ abbrev pub input_in : List Row → Option Text
 input_in rows = text_in (codes "input") rows
 
 -- FILE of `--header`, where it is given
-abbrev pub header_in : List Row → Option Text
-header_in rows = text_in (codes "header") rows
+abbrev pub header_file_in : List Row → Option Text
+header_file_in rows = text_in (codes "header") rows
 
 -- the hash function that `--hash` names
-unfoldable pub hash_in : List Row → Option Hash
-hash_in rows = text_in (codes "hash") rows >>= hash_named
+unfoldable pub hash_option : List Row → Option Hash
+hash_option rows = text_in (codes "hash") rows >>= hash_named
 
 -- the number of `--stripes`
 unfoldable pub stripes_in : List Row → Option ℕ
@@ -53,7 +53,7 @@ max_iterations_in rows = optional_within 1 4294967295 (text_in (codes "max-itera
 abbrev pub reading_in : List Row → Option ReadingRequest
 reading_in rows = do
   image ← input_in rows
-  Some (record { image = image; header = header_in rows })
+  Some (record { image = image; header = header_file_in rows })
 
 abbrev pub opening_in : List Row → Option OpeningRequest
 opening_in rows = do
@@ -63,7 +63,7 @@ opening_in rows = do
   image ← input_in rows
   Some (record {
     image = image;
-    header = header_in rows;
+    header = header_file_in rows;
     key_file = key_file;
     key_slot = key_slot;
     max_iterations = max_iterations;
@@ -71,7 +71,7 @@ opening_in rows = do
 
 abbrev pub splitting_in : List Row → Option SplittingRequest
 splitting_in rows = do
-  hash ← hash_in rows
+  hash ← hash_option rows
   stripes ← stripes_in rows
   random ← text_in (codes "random") rows
   key ← input_in rows
@@ -79,7 +79,7 @@ splitting_in rows = do
 
 abbrev pub merging_in : List Row → Option MergingRequest
 merging_in rows = do
-  hash ← hash_in rows
+  hash ← hash_option rows
   stripes ← stripes_in rows
   key_bytes ← key_bytes_in rows
   stripes_file ← input_in rows
@@ -109,7 +109,7 @@ request_in (name, rows) =
     else header_request_in name rows)))
 
 abbrev pub with_distinct_inputs : Request → Option Request
-with_distinct_inputs request = if reads_standard_twice request then None else Some request
+with_distinct_inputs request = if reuses_stdin request then None else Some request
 
 -- nothing is found where there is a fault
 abbrev pub unless_faulty : {A : Type 0} → Kinds → Option A → Option A

@@ -88,14 +88,14 @@ abbrev pub alone : Shape → App
 alone shape = record { top = shape; subs = [] }
 
 -- what `clap` reads of the command, of whose arguments none goes on to another command
-pub record Reads (command : Command) (as_read : App) : Type 0 where
+pub record IsReadAs (command : Command) (as_read : App) : Type 0 where
   pub app : app_of command ≡ as_read
   pub local : (out-Command command).has_globals ≡ false
 
 -- a command in the making is read so, where memory did not run out
-abbrev pub Makes : {E : Type 0} → Result Command E → App → Type 0
-Makes making as_read = IfOk making (λ command. Reads command as_read)
+abbrev pub BuildsApp : {E : Type 0} → Result Command E → App → Type 0
+BuildsApp making as_read = IfOk making (λ command. IsReadAs command as_read)
 
 -- a program in the making holds these commands, where memory did not run out
-abbrev pub Holds : {E : Type 0} → Result Command E → App → Type 0
-Holds making as_read = IfOk making (λ command. app_of command ≡ as_read)
+abbrev pub HasSubcommands : {E : Type 0} → Result Command E → App → Type 0
+HasSubcommands making as_read = IfOk making (λ command. app_of command ≡ as_read)

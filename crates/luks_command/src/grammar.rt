@@ -2,7 +2,7 @@
 
 ghost use Rattle.std.specs.Prelude.{◌≡◌, codes, false};
 ghost use Rattle.clap.specs.Words.{App, Shape, rule_of, with_rule, with_subcommand};
-ghost use Rattle.luks_command.specs.Grammar.{Holds, Makes, Reads, af_merge, af_split, alone};
+ghost use Rattle.luks_command.specs.Grammar.{HasSubcommands, BuildsApp, IsReadAs, af_merge, af_split, alone};
 ghost use Rattle.luks_command.specs.Grammar.{header_command, header_option, input, is_luks};
 ghost use Rattle.luks_command.specs.Grammar.{luks_cat, luks_check, luks_dump, luks_uuid, luksrd};
 ghost use Rattle.luks_command.specs.Grammar.{option, program, required};
@@ -18,7 +18,7 @@ type Making<'a> = Result<Command<'a>, AllocError>;
 // luksrd with all its commands.
 #[tactic(auto, unfolding(crate::specs::Grammar::luksrd))]
 pub(super) fn grammar<'a>(alloc: Global) -> Result<Command<'a>, AllocError>
-    ensures { Holds result luksrd }
+    ensures { HasSubcommands result luksrd }
 {
     let program = with_header_commands(alloc, Ok(program(alloc)));
     let program = with_volume_commands(alloc, program);
@@ -27,7 +27,7 @@ pub(super) fn grammar<'a>(alloc: Global) -> Result<Command<'a>, AllocError>
 
 // luksrd with no command yet, and with no word that asks for help.
 fn program<'a>(alloc: Global) -> Command<'a>
-    ensures { Reads result (alone program) }
+    ensures { IsReadAs result (alone program) }
 {
     Command::new(alloc, "luksrd")
         .no_binary_name(true)
@@ -37,8 +37,8 @@ fn program<'a>(alloc: Global) -> Command<'a>
 
 // The program with the commands on headers as well.
 fn with_header_commands<'a>(alloc: Global, program: Making<'a>) -> Making<'a>
-    ensures { (as_read : App) → Holds program.entry as_read
-        → Holds result (with_subcommand (with_subcommand (with_subcommand
+    ensures { (as_read : App) → HasSubcommands program.entry as_read
+        → HasSubcommands result (with_subcommand (with_subcommand (with_subcommand
         (with_subcommand as_read is_luks) luks_uuid) luks_dump) luks_check) }
 {
     let program = with_command(program, header_command(alloc, "isLuks"));
@@ -49,8 +49,8 @@ fn with_header_commands<'a>(alloc: Global, program: Making<'a>) -> Making<'a>
 
 // The program with the commands on volumes as well.
 fn with_volume_commands<'a>(alloc: Global, program: Making<'a>) -> Making<'a>
-    ensures { (as_read : App) → Holds program.entry as_read
-        → Holds result (with_subcommand (with_subcommand as_read test_passphrase) luks_cat) }
+    ensures { (as_read : App) → HasSubcommands program.entry as_read
+        → HasSubcommands result (with_subcommand (with_subcommand as_read test_passphrase) luks_cat) }
 {
     let program = with_command(program, volume_command(alloc, "testPassphrase"));
     with_command(program, volume_command(alloc, "luksCat"))
@@ -58,8 +58,8 @@ fn with_volume_commands<'a>(alloc: Global, program: Making<'a>) -> Making<'a>
 
 // The program with the commands on stripes as well.
 fn with_stripe_commands<'a>(alloc: Global, program: Making<'a>) -> Making<'a>
-    ensures { (as_read : App) → Holds program.entry as_read
-        → Holds result (with_subcommand (with_subcommand as_read af_split) af_merge) }
+    ensures { (as_read : App) → HasSubcommands program.entry as_read
+        → HasSubcommands result (with_subcommand (with_subcommand as_read af_split) af_merge) }
 {
     let program = with_command(program, af_split(alloc));
     with_command(program, af_merge(alloc))
@@ -67,8 +67,8 @@ fn with_stripe_commands<'a>(alloc: Global, program: Making<'a>) -> Making<'a>
 
 // The program with the command as well.
 fn with_command<'a>(program: Making<'a>, command: Making<'a>) -> Making<'a>
-    ensures { (as_read : App) (shape : Shape) → Holds program.entry as_read
-        → Makes command.entry (alone shape) → Holds result (with_subcommand as_read shape) }
+    ensures { (as_read : App) (shape : Shape) → HasSubcommands program.entry as_read
+        → BuildsApp command.entry (alone shape) → HasSubcommands result (with_subcommand as_read shape) }
 {
     let command = command?;
     program?.subcommand(command)
@@ -76,14 +76,14 @@ fn with_command<'a>(program: Making<'a>, command: Making<'a>) -> Making<'a>
 
 // `NAME [--header FILE] IMAGE`
 fn header_command<'a>(alloc: Global, name: &'a str) -> Making<'a>
-    ensures { Makes result (alone (header_command name.entry.now)) }
+    ensures { BuildsApp result (alone (header_command name.entry.now)) }
 {
     with_image(alloc, Ok(Command::new(alloc, name)))
 }
 
 // `NAME --key-file FILE [--key-slot N] [--max-iterations N] [--header FILE] IMAGE`
 fn volume_command<'a>(alloc: Global, name: &'a str) -> Making<'a>
-    ensures { Makes result (alone (volume_command name.entry.now)) }
+    ensures { BuildsApp result (alone (volume_command name.entry.now)) }
 {
     let command = with_option(alloc, Ok(Command::new(alloc, name)), "key-file", true);
     let command = with_option(alloc, command, "key-slot", false);
@@ -93,8 +93,8 @@ fn volume_command<'a>(alloc: Global, name: &'a str) -> Making<'a>
 
 // The command with `[--header FILE] IMAGE` behind its options.
 fn with_image<'a>(alloc: Global, command: Making<'a>) -> Making<'a>
-    ensures { (as_read : App) → Makes command.entry as_read
-        → Makes result (with_rule (with_rule as_read header_option) input) }
+    ensures { (as_read : App) → BuildsApp command.entry as_read
+        → BuildsApp result (with_rule (with_rule as_read header_option) input) }
 {
     let command = with_option(alloc, command, "header", false);
     with_input(alloc, command)
@@ -102,7 +102,7 @@ fn with_image<'a>(alloc: Global, command: Making<'a>) -> Making<'a>
 
 // `afSplit --hash HASH --stripes N --random FILE KEY`
 fn af_split<'a>(alloc: Global) -> Making<'a>
-    ensures { Makes result (alone af_split) }
+    ensures { BuildsApp result (alone af_split) }
 {
     let command = with_stripes(alloc, Ok(Command::new(alloc, "afSplit")));
     let command = with_option(alloc, command, "random", true);
@@ -111,7 +111,7 @@ fn af_split<'a>(alloc: Global) -> Making<'a>
 
 // `afMerge --hash HASH --stripes N --key-bytes N STRIPES`
 fn af_merge<'a>(alloc: Global) -> Making<'a>
-    ensures { Makes result (alone af_merge) }
+    ensures { BuildsApp result (alone af_merge) }
 {
     let command = with_stripes(alloc, Ok(Command::new(alloc, "afMerge")));
     let command = with_option(alloc, command, "key-bytes", true);
@@ -120,7 +120,7 @@ fn af_merge<'a>(alloc: Global) -> Making<'a>
 
 // The command with `--hash HASH --stripes N` as well.
 fn with_stripes<'a>(alloc: Global, command: Making<'a>) -> Making<'a>
-    ensures { (as_read : App) → Makes command.entry as_read → Makes result (with_rule
+    ensures { (as_read : App) → BuildsApp command.entry as_read → BuildsApp result (with_rule
         (with_rule as_read (required (codes "hash"))) (required (codes "stripes"))) }
 {
     let command = with_option(alloc, command, "hash", true);
@@ -134,16 +134,16 @@ fn with_option<'a>(
     name: &'a str,
     is_required: bool,
 ) -> Making<'a>
-    ensures { (as_read : App) → Makes command.entry as_read
-        → Makes result (with_rule as_read (option name.entry.now is_required)) }
+    ensures { (as_read : App) → BuildsApp command.entry as_read
+        → BuildsApp result (with_rule as_read (option name.entry.now is_required)) }
 {
     command?.arg(option(alloc, name, is_required))
 }
 
 // The command with its input as well.
 fn with_input<'a>(alloc: Global, command: Making<'a>) -> Making<'a>
-    ensures { (as_read : App) → Makes command.entry as_read
-        → Makes result (with_rule as_read input) }
+    ensures { (as_read : App) → BuildsApp command.entry as_read
+        → BuildsApp result (with_rule as_read input) }
 {
     command?.arg(input(alloc))
 }

@@ -8,7 +8,7 @@ use Rattle.luks_header.specs.SkipReason.{reason_text}
 use Rattle.luks_header.specs.Slot.{has_name_out_of_range, verdicts_of}
 use Rattle.luks_header.specs.declared.header.Header.{Header}
 use Rattle.luks_header.specs.declared.header.Header.TheVariants.{V1, V2}
-use Rattle.luks_verdict.specs.Slot.{end_of}
+use Rattle.luks_verdict.specs.Slot.{material_end}
 use Rattle.luks_verdict.specs.declared.refusal.SegmentFault.{SegmentFault}
 use Rattle.luks_verdict.specs.declared.refusal.SkipReason.{SkipReason}
 use Rattle.luks_verdict.specs.declared.refusal.SkipReason.TheVariants.{State, Kind, Member, Argon2i, Argon2id, Kdf}
@@ -41,25 +41,25 @@ segment_finding (Ok segment) = []
 segment_finding (Err fault) = field (codes "segment") (fault_text fault)
 
 -- a skipped key slot is a finding. One whose key is derived by Argon2 is in order: it is only not opened here
-abbrev pub is_amiss : SkipReason → Bool
-is_amiss State = true
-is_amiss Kind = true
-is_amiss Member = true
-is_amiss Argon2i = false
-is_amiss Argon2id = false
-is_amiss Kdf = true
-is_amiss Hash = true
-is_amiss Encryption = true
-is_amiss KeySize = true
-is_amiss Stripes = true
-is_amiss Iterations = true
-is_amiss Area = true
-is_amiss Digest = true
+abbrev pub is_finding : SkipReason → Bool
+is_finding State = true
+is_finding Kind = true
+is_finding Member = true
+is_finding Argon2i = false
+is_finding Argon2id = false
+is_finding Kdf = true
+is_finding Hash = true
+is_finding Encryption = true
+is_finding KeySize = true
+is_finding Stripes = true
+is_finding Iterations = true
+is_finding Area = true
+is_finding Digest = true
 
 -- what is found in the key slot of a number
 abbrev pub skip_finding : ℕ → SkipReason → List ℕ
 skip_finding number reason =
-    if is_amiss reason then field (codes "slot " ++ decimal number) (reason_text reason) else []
+    if is_finding reason then field (codes "slot " ++ decimal number) (reason_text reason) else []
 
 abbrev pub slot_finding : ℕ × Verdict → List ℕ
 slot_finding (number, Usable slot) = []
@@ -72,7 +72,7 @@ slot_findings verdicts = flat_map slot_finding verdicts
 
 -- two areas of key material share a byte: the later of their starts is below the earlier of their ends
 unfoldable pub do_overlap : Slot → Slot → Bool
-do_overlap a b = nat_lt (max a.parts.area_offset b.parts.area_offset) (min (end_of a) (end_of b))
+do_overlap a b = nat_lt (max a.parts.area_offset b.parts.area_offset) (min (material_end a) (material_end b))
 
 -- what is found in two key slots
 abbrev pub overlap : ℕ × Verdict → ℕ × Verdict → List ℕ

@@ -2,7 +2,7 @@
 
 ghost use Rattle.std.specs.Prelude.{◌≡◌, ◌++◌, IfOk, OnOk, string_bytes};
 ghost use Rattle.luks_header.specs.Segment.{segment_of};
-ghost use Rattle.luks_findings.specs.Check.{do_overlap, findings_of, header_findings, is_amiss};
+ghost use Rattle.luks_findings.specs.Check.{do_overlap, findings_of, header_findings, is_finding};
 ghost use Rattle.luks_findings.specs.Check.{name_finding, overlap, overlaps, overlaps_with};
 ghost use Rattle.luks_findings.specs.Check.{place_finding, segment_finding, skip_finding};
 ghost use Rattle.luks_findings.specs.Check.{slot_finding, slot_findings};
@@ -119,7 +119,7 @@ fn push_skip(
 
 // A key slot that is skipped for this reason is a finding.
 fn is_amiss(reason: SkipReason) -> bool
-    ensures { result ≡ is_amiss reason }
+    ensures { result ≡ is_finding reason }
 {
     !matches!(reason, SkipReason::Argon2i | SkipReason::Argon2id)
 }

@@ -5,15 +5,15 @@ use Rattle.std.proofs.Common.{arith}
 use Rattle.std.specs.Prelude.{nat_lt, IsTrue, ◌↔◌}
 use Rattle.std.proofs.lemmas.Bool.{cases_lt, le-ltb, lt-ltb}
 use Rattle.std.proofs.lemmas.List.{length-take, take-append-drop, take-take, take_min}
-use Rattle.luks_io.specs.Bytes.{Took, TookFewer, TookUpTo, counted, raised}
+use Rattle.luks_io.specs.Bytes.{ConsumedExactly, ConsumedFewer, ConsumedAtMost, counted, saturating_inc}
 use Rattle.luks_io.proofs.Taking.{took_behind}
-use Rattle.luks_area.specs.Area.{BreaksTaking, TookBehind}
+use Rattle.luks_area.specs.Area.{AbortsConsuming, ConsumedOnto}
 use Rattle.luks_area.specs.declared.fault.HeaderFault.{HeaderFault}
 use Rattle.luks_area.specs.declared.fault.HeaderFault.TheVariants.{NotLuks, Cut, Json, Read, Memory}
 use Rattle.luks1_header.specs.Header1.{header1_of, is_luks1}
 use Rattle.luks1_header.specs.declared.header.Header1.{Header1}
 use Rattle.luks2_header.specs.Choice2.{header2_of}
-use Rattle.luks2_header.specs.Cost2.{cost2_of, reach2_of}
+use Rattle.luks2_header.specs.Cost2.{header2_read_len, reach2_of}
 use Rattle.luks2_header.specs.Front2.{TookBelow, TookCost, TookEarly}
 use Rattle.luks2_header.proofs.AbsentLemmas.{cost_least, cost_short, none_short}
 use Rattle.luks2_header.proofs.ChoiceLemmas.{reach_some}
@@ -21,31 +21,31 @@ use Rattle.luks2_header.specs.Text2.{json_text_of}
 use Rattle.luks2_header.specs.declared.header.Header2.{Header2}
 use Rattle.luks2_members.specs.Tree.{tree_of}
 use Rattle.serde_json.specs.Data.{Data}
-use Rattle.luks_header.specs.Header.{BreaksHeld, BreaksReading, TookCostly, cost_of, falls_short, header_of, reach_of}
+use Rattle.luks_header.specs.Header.{BreaksHeld, BreaksReading, TookCostly, header_read_len, falls_short, header_of, probe_len}
 use Rattle.luks_header.specs.Header.{with_metadata, with_text}
 use Rattle.luks_header.specs.declared.header.Header.{Header}
 use Rattle.luks_header.specs.declared.header.Header.TheVariants.{V1}
 use Rattle.luks_header.proofs.HeldLemmas.{cost_other, header_missing, reach_other}
 
 -- an image costs as many bytes as there are of 592, or more
-pub some_cost : (image : List ℕ) → min 592 (length image) ≤ cost_of image
-unfolding cost_of
+pub some_cost : (image : List ℕ) → min 592 (length image) ≤ header_read_len image
+unfolding header_read_len
 some_cost image = by (is_luks1 image) refl where
-  by : (b : Bool) → is_luks1 image ≡ b → min 592 (length image) ≤ cost_of image
+  by : (b : Bool) → is_luks1 image ≡ b → min 592 (length image) ≤ header_read_len image
   by true is = rw is (omega arith)
   by false is = rw is (omega (arith, cost_least image))
 
 -- and is looked at as far
-pub some_reach : (image : List ℕ) → 592 ≤ reach_of image
-unfolding reach_of
+pub some_reach : (image : List ℕ) → 592 ≤ probe_len image
+unfolding probe_len
 some_reach image = by (is_luks1 image) refl where
-  by : (b : Bool) → is_luks1 image ≡ b → 592 ≤ reach_of image
+  by : (b : Bool) → is_luks1 image ≡ b → 592 ≤ probe_len image
   by true is = rw is (omega arith)
   by false is = rw is (omega (arith, reach_some image))
 
 -- one that is shorter than that falls short
 pub short_falls : (image : List ℕ) → length image < 592 → falls_short image ≡ true
-short_falls image few = lt-ltb (length image) (reach_of image) (omega (arith, few, some_reach image))
+short_falls image few = lt-ltb (length image) (probe_len image) (omega (arith, few, some_reach image))
 
 -- the first 592 bytes tell whether an image begins as LUKS1
 pub begins_taken : (image : List ℕ) → is_luks1 (take 592 image) ≡ is_luks1 image
@@ -54,11 +54,11 @@ begins_taken image = rw (take-take 8 592 image (lit≤ tt)) refl
 
 -- the area that took what there was, up to 592 bytes, holds the first bytes of the image
 pub area_is : (area area' image : List ℕ) (left : Option (List ℕ)) → area ≡ []
-    → TookBehind area area' image left (min (592 - length area) (length image))
-    → (area' ≡ take 592 image) × Took image left (min 592 (length image))
+    → ConsumedOnto area area' image left (min (592 - length area) (length image))
+    → (area' ≡ take 592 image) × ConsumedExactly image left (min 592 (length image))
 area_is area area' image left none took =
-    let at_first : TookBehind [] area' image left (min 592 (length image)) =
-    subst (λ l. TookBehind l area' image left (min (592 - length l) (length image))) none took in
+    let at_first : ConsumedOnto [] area' image left (min 592 (length image)) =
+    subst (λ l. ConsumedOnto l area' image left (min (592 - length l) (length image))) none took in
     (at_first.1 ∙ take_min 592 image, at_first.0)
 
 -- an area that begins as one of LUKS1 and is whole has this header
@@ -79,7 +79,7 @@ header_of-cut area is short =
 
 -- what stops an empty area from taking bytes stops the reading of a header
 pub breaks_reading : (area area' image : List ℕ) (left : Option (List ℕ)) (ends ends' : ℕ) (fault : HeaderFault)
-    → area ≡ [] → BreaksTaking (592 - length area) area area' image left fault → ends' ≡ ends
+    → area ≡ [] → AbortsConsuming (592 - length area) area area' image left fault → ends' ≡ ends
     → BreaksReading image left ends ends' fault
 breaks_reading area area' image left ends ends' Read none (count, below, took) same =
     ((count, omega (arith, took.0.within, some_cost image), took.0), same)
@@ -96,8 +96,8 @@ short_from_not_whole whole end len iff is =
 
 -- an image whose first bytes are fewer than 592 ended there
 ended_within : (area image : List ℕ) (left : Option (List ℕ))
-    → (area ≡ take 592 image) × Took image left (min 592 (length image)) → length area < 592
-    → (ends ends' : ℕ) → ends' ≡ raised ends → ends' ≡ counted (falls_short image) ends
+    → (area ≡ take 592 image) × ConsumedExactly image left (min 592 (length image)) → length area < 592
+    → (ends ends' : ℕ) → ends' ≡ saturating_inc ends → ends' ≡ counted (falls_short image) ends
 ended_within area image left taken few ends ends' found =
     let short : length image < 592 = omega (arith, ap length taken.0, length-take 592 image, few) in
     found ∙ sym (ap (λ b. counted b ends) (short_falls image short))
@@ -105,22 +105,22 @@ ended_within area image left taken few ends ends' found =
 -- ---- LUKS1
 
 -- of an area that begins so and is no longer than the header, nothing costs more
-pub all_cost : (area : List ℕ) → is_luks1 area ≡ true → length area ≤ 592 → length area ≡ cost_of area
-unfolding cost_of
+pub all_cost : (area : List ℕ) → is_luks1 area ≡ true → length area ≤ 592 → length area ≡ header_read_len area
+unfolding header_read_len
 all_cost area is few = rw is (omega arith)
 
 -- one that is as long does not fall short
 pub whole_falls : (area : List ℕ) → is_luks1 area ≡ true → 592 ≤ length area → falls_short area ≡ false
-unfolding reach_of
+unfolding probe_len
 whole_falls area is all = rw is (le-ltb (length area) 592 all)
 
 module _ (area image : List ℕ) (left : Option (List ℕ))
-    (taken : (area ≡ take 592 image) × Took image left (min 592 (length image))) (begins : is_luks1 area ≡ true) where
+    (taken : (area ≡ take 592 image) × ConsumedExactly image left (min 592 (length image))) (begins : is_luks1 area ≡ true) where
   image_begins : is_luks1 image ≡ true
   image_begins = sym (begins_taken image) ∙ (ap is_luks1 (sym taken.0) ∙ begins)
 
-  cost_is : cost_of image ≡ min 592 (length image)
-  unfolding cost_of
+  cost_is : header_read_len image ≡ min 592 (length image)
+  unfolding header_read_len
   cost_is = rw image_begins refl
 
   header_is : header_of area ≡ header_of image
@@ -136,39 +136,39 @@ module _ (area image : List ℕ) (left : Option (List ℕ))
 
   -- an image whose first bytes have no header has none, and ended among them
   pub none_read : (fault : HeaderFault) → header_of area ≡ Err fault → length area < 592
-      → (ends ends' : ℕ) → ends' ≡ raised ends
+      → (ends ends' : ℕ) → ends' ≡ saturating_inc ends
       → (header_of image ≡ Err fault) × TookCostly image left ends ends'
   none_read fault none few ends ends' found = (
     sym header_is ∙ none,
-    (subst (Took image left) (sym cost_is) taken.1, ended_within area image left taken few ends ends' found),
+    (subst (ConsumedExactly image left) (sym cost_is) taken.1, ended_within area image left taken few ends ends' found),
   )
 
   -- an image whose first bytes have a header has it
   pub one_read : (header : Header) → header_of area ≡ Ok header
-      → (header_of image ≡ Ok header) × (area ≡ take (cost_of image) image) × Took image left (cost_of image)
+      → (header_of image ≡ Ok header) × (area ≡ take (header_read_len image) image) × ConsumedExactly image left (header_read_len image)
   one_read header one = (
     sym header_is ∙ one,
     taken.0 ∙ (sym (take_min 592 image) ∙ ap (λ n. take n image) (sym cost_is)),
-    subst (Took image left) (sym cost_is) taken.1,
+    subst (ConsumedExactly image left) (sym cost_is) taken.1,
   )
 
 -- ---- LUKS2
 
 module _ (area image : List ℕ) (left : Option (List ℕ))
-    (taken : (area ≡ take 592 image) × Took image left (min 592 (length image))) (other : is_luks1 area ≡ false) where
+    (taken : (area ≡ take 592 image) × ConsumedExactly image left (min 592 (length image))) (other : is_luks1 area ≡ false) where
   pub image_other : is_luks1 image ≡ false
   image_other = sym (begins_taken image) ∙ (ap is_luks1 (sym taken.0) ∙ other)
 
   -- an image that is too short has no header
-  pub short_read : length area < 592 → (ends ends' : ℕ) → ends' ≡ raised ends
+  pub short_read : length area < 592 → (ends ends' : ℕ) → ends' ≡ saturating_inc ends
       → (header_of image ≡ Err NotLuks) × TookCostly image left ends ends'
   short_read few ends ends' found =
       let short : length image < 4096 = omega (arith, ap length taken.0, length-take 592 image) in
-      let cost : cost_of image ≡ min 592 (length image) =
+      let cost : header_read_len image ≡ min 592 (length image) =
       cost_other image image_other
       ∙ (cost_short image short ∙ omega (arith, ap length taken.0, length-take 592 image)) in (
         header_missing image image_other (none_short image short),
-        (subst (Took image left) (sym cost) taken.1, ended_within area image left taken few ends ends' found),
+        (subst (ConsumedExactly image left) (sym cost) taken.1, ended_within area image left taken few ends ends' found),
       )
 
   -- what is left of it behind its first bytes
@@ -181,19 +181,19 @@ module _ (area image : List ℕ) (left : Option (List ℕ))
     whole : area ++ drop 592 image ≡ image
     whole = ap (λ l. l ++ drop 592 image) taken.0 ∙ take-append-drop 592 image
 
-    took_first : Took image left 592
+    took_first : ConsumedExactly image left 592
     took_first =
         let count : min 592 (length image) ≡ 592 = omega (arith, ap length taken.0, length-take 592 image, long) in
-        subst (Took image left) count taken.1
+        subst (ConsumedExactly image left) count taken.1
 
-    took_cost : Took (drop 592 image) left' (cost2_of image - length area) → Took image left' (cost_of image)
+    took_cost : ConsumedExactly (drop 592 image) left' (header2_read_len image - length area) → ConsumedExactly image left' (header_read_len image)
     took_cost took =
         let first = took_first in
-        let sum : 592 + (cost2_of image - length area) ≡ cost_of image =
+        let sum : 592 + (header2_read_len image - length area) ≡ header_read_len image =
         omega (arith, cost_other image image_other, cost_least image, first.within, long) in
-        subst (Took image left') sum (took_behind image left left' 592 (cost2_of image - length area) first took)
+        subst (ConsumedExactly image left') sum (took_behind image left left' 592 (header2_read_len image - length area) first took)
 
-    took_below : TookBelow image area area' (drop 592 image) left' → TookUpTo image left' (cost_of image)
+    took_below : TookBelow image area area' (drop 592 image) left' → ConsumedAtMost image left' (header_read_len image)
     took_below (count, few, took) =
         let first = took_first in (
           592 + count,
@@ -204,7 +204,7 @@ module _ (area image : List ℕ) (left : Option (List ℕ))
     -- what was read of it behind its first bytes
     pub rest_read : (header : Header) → (header_of (area ++ drop 592 image) ≡ Ok header)
         × TookCost (area ++ drop 592 image) area area' (drop 592 image) left'
-        → (header_of image ≡ Ok header) × (area' ≡ take (cost_of image) image) × Took image left' (cost_of image)
+        → (header_of image ≡ Ok header) × (area' ≡ take (header_read_len image) image) × ConsumedExactly image left' (header_read_len image)
     rest_read header read =
         let all : (header_of image ≡ Ok header) × TookCost image area area' (drop 592 image) left' =
         subst (λ l. (header_of l ≡ Ok header) × TookCost l area area' (drop 592 image) left') whole read in (
@@ -213,7 +213,7 @@ module _ (area image : List ℕ) (left : Option (List ℕ))
           took_cost all.1.1.0,
         )
 
-    took_early : TookEarly image area area' (drop 592 image) left' → TookFewer image left' (reach_of image)
+    took_early : TookEarly image area area' (drop 592 image) left' → ConsumedFewer image left' (probe_len image)
     took_early (count, few, took) = (
       592 + count,
       omega (arith, few, reach_other image image_other, long),
@@ -252,24 +252,24 @@ not_first image (Ok second) header is = by (tree_of (json_text_of image second))
     by (Some tree) wrong = cc
 
 -- one of LUKS1 costs no more than its length
-pub cost_first : (image : List ℕ) (header : Header1) → header_of image ≡ Ok (V1 header) → cost_of image ≤ 592
-unfolding cost_of header_of
+pub cost_first : (image : List ℕ) (header : Header1) → header_of image ≡ Ok (V1 header) → header_read_len image ≤ 592
+unfolding header_read_len header_of
 cost_first image header found = by (is_luks1 image) refl
   where
-    by : (b : Bool) → is_luks1 image ≡ b → cost_of image ≤ 592
+    by : (b : Bool) → is_luks1 image ≡ b → header_read_len image ≤ 592
     by true is = rw is (omega arith)
     by false is = absurd (not_first image (header2_of image) header (rw is at found))
 
-below_cost2 : (image : List ℕ) (count : ℕ) → count < reach2_of image → count ≤ length image → count ≤ cost2_of image
-unfolding cost2_of
+below_cost2 : (image : List ℕ) (count : ℕ) → count < reach2_of image → count ≤ length image → count ≤ header2_read_len image
+unfolding header2_read_len
 below_cost2 image count few within = omega (arith, few, within)
 
 -- no more than that is taken before memory is refused
 pub memory_below : (image : List ℕ) (left : Option (List ℕ)) (ends ends' : ℕ)
-    → BreaksReading image left ends ends' Memory → TookUpTo image left (cost_of image)
-unfolding cost_of reach_of
+    → BreaksReading image left ends ends' Memory → ConsumedAtMost image left (header_read_len image)
+unfolding header_read_len probe_len
 memory_below image left ends ends' (inl ((count, few, took), same, none)) = by (is_luks1 image) refl where
-  by : (b : Bool) → is_luks1 image ≡ b → TookUpTo image left (cost_of image)
+  by : (b : Bool) → is_luks1 image ≡ b → ConsumedAtMost image left (header_read_len image)
   by true is = (count, rw is (let below = (rw is at few) in omega (arith, below, took.within)), took)
   by false is = (count, rw is (let below = (rw is at few) in below_cost2 image count below took.within), took)
-memory_below image left ends ends' (inr (second, took)) = (cost_of image, omega arith, took.0)
+memory_below image left ends ends' (inr (second, took)) = (header_read_len image, omega arith, took.0)

@@ -8,7 +8,7 @@ use Rattle.luks_area.specs.declared.fault.HeaderFault.{HeaderFault}
 use Rattle.luks_area.specs.declared.fault.HeaderFault.TheVariants.{NotLuks, Cut, Json, Read, Memory}
 use Rattle.luks1_header.specs.Header1.{is_luks1}
 use Rattle.luks2_header.specs.Choice2.{header2_of}
-use Rattle.luks2_header.specs.Cost2.{cost2_of, reach2_of}
+use Rattle.luks2_header.specs.Cost2.{header2_read_len, reach2_of}
 use Rattle.luks2_header.specs.Front2.{BreaksSeeking, TookCost, finds_end}
 use Rattle.luks2_header.specs.Text2.{json_text_of}
 use Rattle.luks2_header.specs.declared.header.Header2.{Header2}
@@ -16,7 +16,7 @@ use Rattle.luks2_header.proofs.JsonLemmas.{json_beginning}
 use Rattle.luks2_header.proofs.StableLemmas.{falls_short-take}
 use Rattle.luks2_members.specs.Tree.{tree_of}
 use Rattle.serde_json.specs.Data.{Data}
-use Rattle.luks_header.specs.Header.{BreaksHeld, TookCosts, cost_of, falls_short, header_of, reach_of}
+use Rattle.luks_header.specs.Header.{BreaksHeld, TookCosts, header_read_len, falls_short, header_of, probe_len}
 use Rattle.luks_header.specs.declared.header.Header.TheVariants.{V2}
 
 -- the first bytes tell whether an image begins as LUKS1
@@ -32,13 +32,13 @@ begins_longer held held' long kept =
 
 module _ (image : List ℕ) (other : is_luks1 image ≡ false) where
   -- where it does not, it costs what a header of LUKS2 does
-  pub cost_other : cost_of image ≡ cost2_of image
-  unfolding cost_of
+  pub cost_other : header_read_len image ≡ header2_read_len image
+  unfolding header_read_len
   cost_other = rw other refl
 
   -- and is looked at as far as one
-  pub reach_other : reach_of image ≡ reach2_of image
-  unfolding reach_of
+  pub reach_other : probe_len image ≡ reach2_of image
+  unfolding probe_len
   reach_other = rw other refl
 
   -- it has the header of LUKS2 whose text can be read
@@ -60,11 +60,11 @@ module _ (image : List ℕ) (other : is_luks1 image ≡ false) where
 
 -- the text that was read is the image's
 pub text_held : (image held : List ℕ) (header : Header2) → header2_of image ≡ Ok header
-    → held ≡ take (cost2_of image) image → json_text_of held header ≡ json_text_of image header
+    → held ≡ take (header2_read_len image) image → json_text_of held header ≡ json_text_of image header
 text_held image held header found is = ap (λ bytes. json_text_of bytes header) is ∙ json_beginning image header found
 
 -- the bytes that were held in the end say whether the image fell short
-pub short_held : (image held : List ℕ) → is_luks1 image ≡ false → held ≡ take (cost2_of image) image
+pub short_held : (image held : List ℕ) → is_luks1 image ≡ false → held ≡ take (header2_read_len image) image
     → nat_lt (length held) (reach2_of held) ≡ falls_short image
 short_held image held other is =
     ap (λ l. nat_lt (length l) (reach2_of l)) is

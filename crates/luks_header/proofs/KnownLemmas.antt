@@ -6,7 +6,7 @@ use Rattle.std.specs.Prelude.{nat_lt, if◌then◌else◌}
 use Rattle.luks_cipher.specs.Sector.{is_mode_key_length}
 use Rattle.luks_cipher.specs.declared.mode.Mode.{Mode}
 use Rattle.luks_kdf.specs.declared.hash.Hash.{Hash}
-use Rattle.luks_verdict.specs.Slot.{end_of}
+use Rattle.luks_verdict.specs.Slot.{material_end}
 use Rattle.luks_verdict.specs.declared.digest.KeyDigest.{KeyDigest}
 use Rattle.luks_verdict.specs.declared.segment.Segment.{Segment}
 use Rattle.luks_verdict.specs.declared.slot.Slot.{Slot}
@@ -18,7 +18,7 @@ use Rattle.luks_area.specs.declared.fault.HeaderFault.{HeaderFault}
 use Rattle.luks_area.specs.declared.fault.HeaderFault.TheVariants.{Cut}
 use Rattle.luks1_header.specs.Header1.{header1_len, header1_of, is_luks1}
 use Rattle.luks1_header.specs.Segment1.{is_key_length1}
-use Rattle.luks1_header.specs.Slot1.{payload1_of}
+use Rattle.luks1_header.specs.Slot1.{payload1_start}
 use Rattle.luks2_header.specs.Choice2.{header2_of}
 use Rattle.luks2_header.specs.Header2.{end2_of}
 use Rattle.luks2_header.specs.Text2.{json_text_of}
@@ -153,16 +153,16 @@ is_attached image header is = by (is_luks1 image) refl
 pub before_payload : (header : Header) (segment : Segment) (limit : Option ℕ) (number : ℕ) (slot : Slot)
     → is_detached header ≡ false
     → segment_of header ≡ Ok segment
-    → verdict_at header limit number ≡ Some (Usable slot) → end_of slot ≤ segment.offset
-unfolding verdict_at segment_of is_detached payload1_of bounds2_of
+    → verdict_at header limit number ≡ Some (Usable slot) → material_end slot ≤ segment.offset
+unfolding verdict_at segment_of is_detached payload1_start bounds2_of
 before_payload (V1 header) segment limit number slot attached is_segment is =
     let start = (IsReadable-ok header segment is_segment).0.offset in
-    let known : payload1_of header ≡ Some segment.offset = rw (attached, start) refl in
-    ends_before (payload1_of header) segment.offset (end_of slot) known
+    let known : payload1_start header ≡ Some segment.offset = rw (attached, start) refl in
+    ends_before (payload1_start header) segment.offset (material_end slot) known
     (usable_at header limit number slot is).0.before_payload
 before_payload (V2 header tree) segment limit number slot attached is_segment is =
     let read = segment2-ok tree (bounds2_of header) segment is_segment in
-    ends_before (payload2_of tree (bounds2_of header)) segment.offset (end_of slot) (read.start attached)
+    ends_before (payload2_of tree (bounds2_of header)) segment.offset (material_end slot) (read.start attached)
     (usable2_at tree (bounds2_of header) limit number slot is).0.before_payload
 
 -- the first byte behind a header

@@ -1,11 +1,11 @@
 -- Which header an image has, and how many of its bytes are read for it.
 use Rattle.std.specs.Prelude.{◌≡◌, ◌⊎◌, ℕ, Bool, true, false, List, Option, Some, None, Result, Ok, Err, length, min}
 use Rattle.std.specs.Prelude.{nat_lt, if◌then◌else◌}
-use Rattle.luks_io.specs.Bytes.{Took, TookFewer, TookUpTo, counted}
+use Rattle.luks_io.specs.Bytes.{ConsumedExactly, ConsumedFewer, ConsumedAtMost, counted}
 use Rattle.luks_area.specs.Field.{at}
 use Rattle.luks1_header.specs.Header1.{header1_len, header1_of, is_luks1}
 use Rattle.luks2_header.specs.Choice2.{header2_of}
-use Rattle.luks2_header.specs.Cost2.{cost2_of, reach2_of}
+use Rattle.luks2_header.specs.Cost2.{header2_read_len, reach2_of}
 use Rattle.luks2_header.specs.Front2.{TookBelow, TookCost, TookEarly}
 use Rattle.luks2_header.specs.Header2.{end2_of}
 use Rattle.luks2_header.specs.Text2.{json_text_of}
@@ -50,25 +50,25 @@ header_of image =
     else with_text image (header2_of image)
 
 -- how many bytes of the image are read to learn which header it has
-unfoldable pub cost_of : List ℕ → ℕ
-cost_of image = if is_luks1 image then min header1_len (length image) else cost2_of image
+unfoldable pub header_read_len : List ℕ → ℕ
+header_read_len image = if is_luks1 image then min header1_len (length image) else header2_read_len image
 
 -- how far an image is looked at to learn which header it has
-unfoldable pub reach_of : List ℕ → ℕ
-reach_of image = if is_luks1 image then header1_len else reach2_of image
+unfoldable pub probe_len : List ℕ → ℕ
+probe_len image = if is_luks1 image then header1_len else reach2_of image
 
 -- the image ends before
 abbrev pub falls_short : List ℕ → Bool
-falls_short image = nat_lt (length image) (reach_of image)
+falls_short image = nat_lt (length image) (probe_len image)
 
 -- as many of its bytes were taken as the header costs, and its end was found where it falls short
 abbrev pub TookCostly : List ℕ → Option (List ℕ) → ℕ → ℕ → Type 0
-TookCostly image left ends ends' = Took image left (cost_of image) × (ends' ≡ counted (falls_short image) ends)
+TookCostly image left ends ends' = ConsumedExactly image left (header_read_len image) × (ends' ≡ counted (falls_short image) ends)
 
 -- some of its bytes were taken, of LUKS1 none, and its end was not found: more was still to be looked at
 abbrev pub TookEarlier : List ℕ → Option (List ℕ) → ℕ → ℕ → Type 0
-TookEarlier image left ends ends' = TookFewer image left (reach_of image) × (ends' ≡ ends)
-    × (is_luks1 image ≡ true → Took image left 0)
+TookEarlier image left ends ends' = ConsumedFewer image left (probe_len image) × (ends' ≡ ends)
+    × (is_luks1 image ≡ true → ConsumedExactly image left 0)
 
 -- it has a header of LUKS2
 abbrev pub HasSecond : List ℕ → Type 0
@@ -77,7 +77,7 @@ HasSecond image = (header : Header2) × (is_luks1 image ≡ false) × (header2_o
 -- reading the header ended without one. A failed read ended it somewhere; want of memory while more was still to be
 -- looked at, or behind a header of LUKS2, for the tree of its text; any other fault is the image's
 abbrev pub BreaksReading : List ℕ → Option (List ℕ) → ℕ → ℕ → HeaderFault → Type 0
-BreaksReading image left ends ends' Read = TookUpTo image left (cost_of image) × (ends' ≡ ends)
+BreaksReading image left ends ends' Read = ConsumedAtMost image left (header_read_len image) × (ends' ≡ ends)
 BreaksReading image left ends ends' Memory =
     TookEarlier image left ends ends' ⊎ (HasSecond image × TookCostly image left ends ends')
 BreaksReading image left ends ends' fault = (header_of image ≡ Err fault) × TookCostly image left ends ends'

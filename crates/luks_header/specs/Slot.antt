@@ -1,11 +1,11 @@
 -- What becomes of the key slots of a header: whether each can be tried, and if not, why.
 use Rattle.std.specs.Prelude.{ℕ, Bool, false, List, Option, option_map}
-use Rattle.luks_verdict.specs.Rule.{most_slots}
-use Rattle.luks_verdict.specs.Table.{rising}
+use Rattle.luks_verdict.specs.Rule.{max_slots}
+use Rattle.luks_verdict.specs.Table.{ascending}
 use Rattle.luks_verdict.specs.declared.slot.Slot.{Slot}
 use Rattle.luks_verdict.specs.declared.slot.Verdict.{Verdict}
 use Rattle.luks1_header.specs.Slot1.{slot1_at, verdict1_at}
-use Rattle.luks2_members.specs.Numbered.{passes_over}
+use Rattle.luks2_members.specs.Numbered.{has_name_out_of_range}
 use Rattle.luks2_metadata.specs.Slot2.{slot2_at, verdict2_at}
 use Rattle.luks_header.specs.Header.{bounds2_of}
 use Rattle.luks_header.specs.declared.header.Header.{Header}
@@ -23,14 +23,14 @@ slot_at (V1 header) number = slot1_at header number
 slot_at (V2 header tree) number = slot2_at tree (bounds2_of header) number
 
 -- a key slot beside its number
-abbrev pub numbered : Header → Option ℕ → ℕ → Option (ℕ × Verdict)
-numbered header limit number = option_map (λ verdict. (number, verdict)) (verdict_at header limit number)
+abbrev pub numbered_verdict : Header → Option ℕ → ℕ → Option (ℕ × Verdict)
+numbered_verdict header limit number = option_map (λ verdict. (number, verdict)) (verdict_at header limit number)
 
--- the key slots of a header and what becomes of them, by rising number
+-- the key slots of a header and what becomes of them, by ascending number
 unfoldable pub verdicts_of : Header → Option ℕ → List (ℕ × Verdict)
-verdicts_of header limit = rising (numbered header limit) most_slots
+verdicts_of header limit = ascending (numbered_verdict header limit) max_slots
 
 -- a member of the object of key slots is passed over. The key slots of LUKS1 have no names
 unfoldable pub has_name_out_of_range : Header → Bool
 has_name_out_of_range (V1 header) = false
-has_name_out_of_range (V2 header tree) = passes_over tree
+has_name_out_of_range (V2 header tree) = has_name_out_of_range tree

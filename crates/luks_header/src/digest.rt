@@ -1,7 +1,7 @@
 //! The digests of a header.
 
 ghost use Rattle.std.specs.Prelude.{◌≡◌, ◌≤◌, IfOk, vec_len};
-ghost use Rattle.luks_verdict.specs.Rule.{most_slots};
+ghost use Rattle.luks_verdict.specs.Rule.{max_slots};
 ghost use Rattle.luks_header.specs.Digest.{digest_for, digests_of};
 
 use crate::header::Header;
@@ -31,7 +31,7 @@ pub fn digest_for(
 #[tactic(auto, unfolding(crate::specs::Digest::digests_of))]
 pub fn digests(alloc: Global, header: &Header) -> Result<Vec<(u8, Option<Digest>)>, AllocError>
     ensures value { IfOk result (λ digests. digests.items ≡ digests_of header.now) }
-    ensures few { IfOk result (λ digests. vec_len digests ≤ most_slots) }
+    ensures few { IfOk result (λ digests. vec_len digests ≤ max_slots) }
 {
     match header {
         Header::V1(_) => Ok(Vec::new(alloc)),

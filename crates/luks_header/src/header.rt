@@ -2,11 +2,11 @@
 
 ghost use Rattle.std.specs.Prelude.{◌≡◌, ◌++◌, Bool, List, ℕ, Some, Ok, Err, IfOk, IfErr, drop};
 ghost use Rattle.std.specs.Prelude.{length, take, true, false};
-ghost use Rattle.luks_io.specs.Bytes.{Took, WhereKnown, counted};
+ghost use Rattle.luks_io.specs.Bytes.{ConsumedExactly, IfKnown, counted};
 ghost use Rattle.luks_area.specs.Area.{is_read};
 ghost use Rattle.luks1_header.specs.Header1.{is_luks1};
 ghost use Rattle.luks2_header.specs.Front2.{TookCost};
-ghost use Rattle.luks_header.specs.Header.{BreaksHeld, BreaksReading, bounds2_of, cost_of};
+ghost use Rattle.luks_header.specs.Header.{BreaksHeld, BreaksReading, bounds2_of, header_read_len};
 ghost use Rattle.luks_header.specs.Header.{detached_of, falls_short, header_of};
 
 use luks_area::area::HeaderArea;
@@ -67,17 +67,17 @@ pub fn read_header<S: Source>(
     alloc: Global,
     source: &mut S,
 ) -> Result<(Header, HeaderArea), HeaderFault>
-    ensures taken { IfOk result (λ read. WhereKnown (S.to_come source.old) (λ image.
-        (header_of image ≡ Ok read.0) × (read.1 ≡ take (cost_of image) image)
-        × Took image (S.to_come source.new) (cost_of image))) }
-    ensures broken { IfErr result (λ fault. WhereKnown (S.to_come source.old) (λ image.
+    ensures taken { IfOk result (λ read. IfKnown (S.to_come source.old) (λ image.
+        (header_of image ≡ Ok read.0) × (read.1 ≡ take (header_read_len image) image)
+        × ConsumedExactly image (S.to_come source.new) (header_read_len image))) }
+    ensures broken { IfErr result (λ fault. IfKnown (S.to_come source.old) (λ image.
         BreaksReading image (S.to_come source.new) (S.ends source.old) (S.ends source.new) fault)) }
-    ensures memory { WhereKnown (S.to_come source.old) (λ image. is_luks1 image ≡ true
+    ensures memory { IfKnown (S.to_come source.old) (λ image. is_luks1 image ≡ true
         → result ≡ Err HeaderFault.Memory → source.new ≡ source.old) }
 
     // Whether or not the source knows its bytes:
     ensures held { IfOk result (λ read. header_of read.1 ≡ Ok read.0) }
-    ensures only { IfOk result (λ read. length read.1 ≡ cost_of read.1) }
+    ensures only { IfOk result (λ read. length read.1 ≡ header_read_len read.1) }
     ensures reads { S.failures source.new ≡ counted (is_read result) (S.failures source.old) }
     ensures ends { IfOk result (λ read.
         S.ends source.new ≡ counted (falls_short read.1) (S.ends source.old)) }
@@ -107,14 +107,14 @@ fn read2<S: Source>(
 ) -> Result<Header, HeaderFault>
     requires held { length area.old ≡ 592 }
     requires other { is_luks1 area.old ≡ false }
-    ensures taken { IfOk result (λ header. WhereKnown (S.to_come source.old) (λ rest.
+    ensures taken { IfOk result (λ header. IfKnown (S.to_come source.old) (λ rest.
         (header_of (area.old ++ rest) ≡ Ok header)
         × TookCost (area.old ++ rest) area.old area.new rest (S.to_come source.new))) }
-    ensures broken { IfErr result (λ fault. WhereKnown (S.to_come source.old) (λ rest.
+    ensures broken { IfErr result (λ fault. IfKnown (S.to_come source.old) (λ rest.
         BreaksHeld (area.old ++ rest) area.old area.new rest (S.to_come source.new)
         (S.ends source.old) (S.ends source.new) fault)) }
     ensures held { IfOk result (λ header. header_of area.new ≡ Ok header) }
-    ensures only { IfOk result (λ header. length area.new ≡ cost_of area.new) }
+    ensures only { IfOk result (λ header. length area.new ≡ header_read_len area.new) }
     ensures kept { take (length area.old) area.new ≡ area.old }
     ensures reads { S.failures source.new ≡ counted (is_read result) (S.failures source.old) }
     ensures ends { IfOk result (λ header.

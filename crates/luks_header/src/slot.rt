@@ -1,7 +1,7 @@
 //! Key slots and what becomes of them.
 
 ghost use Rattle.std.specs.Prelude.{◌≡◌, ◌≤◌, IfOk, option_map, vec_len};
-ghost use Rattle.luks_verdict.specs.Rule.{most_slots};
+ghost use Rattle.luks_verdict.specs.Rule.{max_slots};
 ghost use Rattle.luks_verdict.specs.Slot.{judgement_of};
 ghost use Rattle.luks_header.specs.Slot.{has_name_out_of_range, slot_at, verdict_at, verdicts_of};
 
@@ -69,7 +69,7 @@ pub fn slots(
     limit: Option<u32>,
 ) -> Result<Vec<(u8, Verdict)>, AllocError>
     ensures value { IfOk result (λ verdicts. verdicts.items ≡ verdicts_of header.now limit) }
-    ensures few { IfOk result (λ verdicts. vec_len verdicts ≤ most_slots) }
+    ensures few { IfOk result (λ verdicts. vec_len verdicts ≤ max_slots) }
 {
     let mut verdicts = Vec::new(alloc);
     for number in 0..MOST_SLOTS {

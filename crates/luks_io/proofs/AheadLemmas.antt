@@ -5,8 +5,8 @@ use Rattle.std.proofs.lemmas.List.{drop-drop}
 use Rattle.std.proofs.Math.Seq.{drop-append_seam, take-add, take-append_seam}
 use Rattle.std.specs.Io.{ReadsAtMost}
 use Rattle.std.specs.Io.KnownBytes.{Consumes, Keeps, ReadConsumes, prepend_known}
-use Rattle.luks_io.specs.Bytes.{Adds, TookUpTo, WhereKnown}
-use Rattle.luks_io.specs.Passing.{PassesOn}
+use Rattle.luks_io.specs.Bytes.{Appended, ConsumedAtMost, IfKnown}
+use Rattle.luks_io.specs.Passing.{ForwardEffect}
 use Rattle.luks_io.specs.declared.sink.WriteFault.{WriteFault}
 use Rattle.luks_io.proofs.Moves.{took-front}
 use Rattle.luks_io.proofs.Taking.{took-none}
@@ -24,7 +24,7 @@ hands_on held buf piece start end count long few is =
     ∙ ap (λ l. take count (drop start held) ++ take (end - (start + count)) l) (drop-drop count start held)
     ∙ ap (λ l. l ++ take (end - (start + count)) (drop (start + count) held)) (sym front)
 
-kept_known : (a b : Option (List ℕ)) → Keeps a b → WhereKnown a (λ known. b ≡ Some known)
+kept_known : (a b : Option (List ℕ)) → Keeps a b → IfKnown a (λ known. b ≡ Some known)
 kept_known None b kept known is = absurd cc
 kept_known (Some xs) None kept known is = absurd kept
 kept_known (Some xs) (Some ys) kept known is = cc
@@ -32,7 +32,7 @@ kept_known (Some xs) (Some ys) kept known is = cc
 -- a read took no more than it had room for
 pub takes_at_most : {E : Type 0} (a b : Option (List ℕ)) (r : Result ℕ E) (buf : List ℕ) (most : ℕ) → length buf ≤ most
     → ReadsAtMost r buf → ReadConsumes a b r buf
-    → WhereKnown a (λ known. TookUpTo known b most)
+    → IfKnown a (λ known. ConsumedAtMost known b most)
 takes_at_most a b (Ok n) buf most fits bound took known is =
     (n, omega (arith, bound.0), (took-front a b buf n bound.0 took.0 known is).0)
 takes_at_most a b (Err e) buf most fits bound kept known is =
@@ -58,9 +58,9 @@ piece_first items after start end count few behind =
 -- a piece that was taken and changed is written, or the write is broken off
 passes : (piece : List ℕ) (count : ℕ) (left left' before after : Option (List ℕ)) (changed : List ℕ → List ℕ)
     (answer : Result (Unit {0}) WriteFault) (untouched : Type 0) → length piece ≡ count → Consumes left left' piece
-    → OnOk answer (Adds before after (changed piece))
-    → IfErr answer (λ fault. (fault.written < count) × Adds before after (take fault.written (changed piece)))
-    → PassesOn (Some answer) untouched count changed left left' before after
+    → OnOk answer (Appended before after (changed piece))
+    → IfErr answer (λ fault. (fault.written < count) × Appended before after (take fault.written (changed piece)))
+    → ForwardEffect (Some answer) untouched count changed left left' before after
 passes piece count left left' before after changed (Ok done) untouched sized taken ok err = (piece, sized, taken, ok)
 passes piece count left left' before after changed (Err fault) untouched sized taken ok err =
     (err.0, (piece, sized, taken, err.1))
@@ -95,10 +95,10 @@ pub passes_on : (items buf : List ℕ) (len start end count : ℕ) (below before
     (changed : List ℕ → List ℕ) (answer : Result (Unit {0}) WriteFault) (untouched : Type 0)
     → count ≤ end - start → end ≤ len → length items ≡ len → length buf ≡ len
     → drop (start + count) buf ≡ drop (start + count) items
-    → OnOk answer (Adds before after (changed (take count (drop start items))))
+    → OnOk answer (Appended before after (changed (take count (drop start items))))
     → IfErr answer (λ fault. (fault.written < count)
-    × Adds before after (take fault.written (changed (take count (drop start items)))))
-    → PassesOn (Some answer) untouched count changed (prepend_known (take (end - start) (drop start items)) below)
+    × Appended before after (take fault.written (changed (take count (drop start items)))))
+    → ForwardEffect (Some answer) untouched count changed (prepend_known (take (end - start) (drop start items)) below)
     (prepend_known (take (end - (start + count)) (drop (start + count) (take len (buf ++ drop (length buf) items)))) below)
     before after
 passes_on items buf len start end count below before after changed answer untouched few inside long long' behind ok err =

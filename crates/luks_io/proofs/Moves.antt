@@ -8,7 +8,7 @@ use Rattle.std.proofs.Transfers.{drop-appended}
 use Rattle.std.proofs.Math.Seq.{take-add, take-append-add}
 use Rattle.std.proofs.lemmas.List.{take-append-le}
 use Rattle.std.proofs.lemmas.Bool.{ne_eqb}
-use Rattle.luks_io.specs.Bytes.{Adds, TookInto, WhereKnown, counted}
+use Rattle.luks_io.specs.Bytes.{Appended, ConsumedInto, IfKnown, counted}
 use borrow.Rule.Slice.PartMut.{post_of, put_mid}
 
 -- the rest of a list, read as a range, is the rest
@@ -46,7 +46,7 @@ Consumes-next a b c xs ys at n within few p q =
 
 -- the first bytes of a buffer were consumed, so they are those that were known to come
 pub took-front : (a b : Option (List ℕ)) (buf : List ℕ) (at : ℕ) → at ≤ length buf → Consumes a b (take at buf)
-    → WhereKnown a (λ known. TookInto known b buf at)
+    → IfKnown a (λ known. ConsumedInto known b buf at)
 took-front None b buf at within p known is = absurd cc
 took-front (Some xs) None buf at within p known is = absurd p
 took-front (Some xs) (Some ys) buf at within p known is =
@@ -63,12 +63,12 @@ took-front (Some xs) (Some ys) buf at within p known is =
 -- a whole buffer of them
 pub took-whole : (a b : Option (List ℕ)) (buf : List ℕ) (at : ℕ) → at ≤ length buf → length buf ≤ at
     → Consumes a b (take at buf)
-    → WhereKnown a (λ known. at ≡ min (length buf) (length known))
+    → IfKnown a (λ known. at ≡ min (length buf) (length known))
 took-whole a b buf at within all p known is = omega (arith, (took-front a b buf at within p known is).0.within)
 
 module _ (a b c : Option (List ℕ)) (xs ys : List ℕ) (at : ℕ) where
   took_same : at ≤ length xs → Consumes a c (take at xs)
-      → WhereKnown a (λ known. TookInto known c (put_mid at (length xs - at) xs ys) at)
+      → IfKnown a (λ known. ConsumedInto known c (put_mid at (length xs - at) xs ys) at)
   took_same within p =
       let cut : length (take at xs) ≡ at = length-take-le at xs within in
       let rest = ys ++ post_of at (length xs - at) xs in
@@ -77,12 +77,12 @@ module _ (a b c : Option (List ℕ)) (xs ys : List ℕ) (at : ℕ) where
 
   -- the first bytes of a buffer were consumed, and then a read behind them failed
   pub took-kept : at ≤ length xs → Consumes a b (take at xs) → Keeps b c
-      → WhereKnown a (λ known. TookInto known c (put_mid at (length xs - at) xs ys) at)
+      → IfKnown a (λ known. ConsumedInto known c (put_mid at (length xs - at) xs ys) at)
   took-kept within p q = took_same within (Consumes-kept a b c (take at xs) p q)
 
   -- or it gave nothing
   pub took-nothing : (n : ℕ) → n ≡ 0 → at ≤ length xs → Consumes a b (take at xs) → Consumes b c (take n ys)
-      → WhereKnown a (λ known. TookInto known c (put_mid at (length xs - at) xs ys) at)
+      → IfKnown a (λ known. ConsumedInto known c (put_mid at (length xs - at) xs ys) at)
   took-nothing n none within p q =
       let nothing : Consumes b c [] = subst (λ k. Consumes b c (take k ys)) none q in
       took_same within
@@ -90,7 +90,7 @@ module _ (a b c : Option (List ℕ)) (xs ys : List ℕ) (at : ℕ) where
 
 -- all bytes of a list went out
 pub adds-all : (a b : Option (List ℕ)) (xs : List ℕ) (at : ℕ) → length xs ≤ at → Appends a b (take at xs)
-    → Adds a b xs
+    → Appended a b xs
 adds-all None b xs at all p known is = absurd cc
 adds-all (Some old) None xs at all p known is = absurd p
 adds-all (Some old) (Some new) xs at all p known is = let whole = take_all at xs all in cc

@@ -3,29 +3,29 @@ use Rattle.std.proofs.Common.{◌≡◌, ℕ, ◌+◌, ◌<◌, ◌≤◌, List,
 use Rattle.std.proofs.Common.{length, length-drop, append-nil, append_assoc, nat_lt, refl, arith}
 use Rattle.std.proofs.lemmas.Bool.{le-ltb, lt-ltb}
 use Rattle.std.proofs.lemmas.List.{drop-drop, drop_all}
-use Rattle.luks_io.specs.Bytes.{Adds, Took, WhereKnown, counted, raised}
+use Rattle.luks_io.specs.Bytes.{Appended, ConsumedExactly, IfKnown, counted, saturating_inc}
 
 module _ (known : List ℕ) (r r' : Option (List ℕ)) where
   -- m bytes were taken, and then n more of those behind them
-  pub took_behind : (m n : ℕ) → Took known r m → Took (drop m known) r' n → Took known r' (m + n)
+  pub took_behind : (m n : ℕ) → ConsumedExactly known r m → ConsumedExactly (drop m known) r' n → ConsumedExactly known r' (m + n)
   took_behind m n before then = record {
     within = omega (arith, length-drop m known, then.within, before.within);
     left = then.left ∙ ap Some (drop-drop n m known);
   }
 
   -- m bytes were taken, and then n more
-  pub took_more : (m n : ℕ) → Took known r m → WhereKnown r (λ rest. Took rest r' n) → Took known r' (m + n)
+  pub took_more : (m n : ℕ) → ConsumedExactly known r m → IfKnown r (λ rest. ConsumedExactly rest r' n) → ConsumedExactly known r' (m + n)
   took_more m n before next = took_behind m n before (next (drop m known) before.left)
 
   -- the same, of a sum that is told
-  pub took_sum : (m n sum : ℕ) → m + n ≡ sum → Took known r m → WhereKnown r (λ rest. Took rest r' n)
-      → Took known r' sum
-  took_sum m n sum is before next = subst (Took known r') is (took_more m n before next)
+  pub took_sum : (m n sum : ℕ) → m + n ≡ sum → ConsumedExactly known r m → IfKnown r (λ rest. ConsumedExactly rest r' n)
+      → ConsumedExactly known r' sum
+  took_sum m n sum is before next = subst (ConsumedExactly known r') is (took_more m n before next)
 
   -- m bytes were taken, and then fewer than were asked for
-  pub took_all : (m asked n : ℕ) → Took known r m → WhereKnown r (λ rest. Took rest r' n)
-      → WhereKnown r (λ rest. n ≡ min asked (length rest)) → n < asked
-      → (m + n ≡ length known) × Took known r' (length known)
+  pub took_all : (m asked n : ℕ) → ConsumedExactly known r m → IfKnown r (λ rest. ConsumedExactly rest r' n)
+      → IfKnown r (λ rest. n ≡ min asked (length rest)) → n < asked
+      → (m + n ≡ length known) × ConsumedExactly known r' (length known)
   took_all m asked n before next all few =
       let whole : m + n
       ≡ length known = omega (arith, all (drop m known) before.left, length-drop m known, before.within) in
@@ -36,16 +36,16 @@ pub counted-whole : (got asked count : ℕ) → asked ≤ got → counted (nat_l
 counted-whole got asked count all = rw (le-ltb got asked all) refl
 
 -- where less came, one was
-pub counted-short : (got asked count : ℕ) → got < asked → counted (nat_lt got asked) count ≡ raised count
+pub counted-short : (got asked count : ℕ) → got < asked → counted (nat_lt got asked) count ≡ saturating_inc count
 counted-short got asked count few = rw (lt-ltb got asked few) refl
 
 -- before any byte is taken
-pub took-none : (known : List ℕ) (left : Option (List ℕ)) → left ≡ Some known → Took known left 0
+pub took-none : (known : List ℕ) (left : Option (List ℕ)) → left ≡ Some known → ConsumedExactly known left 0
 took-none known left is = record { within = omega arith; left = is }
 
 -- all bytes were taken
 pub took-all : (known : List ℕ) (left : Option (List ℕ)) (count : ℕ) → length known ≤ count
-    → left ≡ Some (drop count known) → Took known left (length known)
+    → left ≡ Some (drop count known) → ConsumedExactly known left (length known)
 took-all known left count all is =
     record {
       within = omega arith;
@@ -54,11 +54,11 @@ took-all known left count all is =
     }
 
 -- where nothing is written, the sink is as before
-pub adds-none : (before : Option (List ℕ)) → Adds before before []
+pub adds-none : (before : Option (List ℕ)) → Appended before before []
 adds-none before known is = is ∙ ap Some (sym (append-nil known))
 
 -- some bytes were written, and then others
-pub adds-more : (before now after : Option (List ℕ)) (xs ys : List ℕ) → Adds before now xs → Adds now after ys
-    → Adds before after (xs ++ ys)
+pub adds-more : (before now after : Option (List ℕ)) (xs ys : List ℕ) → Appended before now xs → Appended now after ys
+    → Appended before after (xs ++ ys)
 adds-more before now after xs ys first second known is = second (known ++ xs) (first known is)
     ∙ ap Some (append_assoc known xs ys)

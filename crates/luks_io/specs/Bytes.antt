@@ -5,45 +5,45 @@ use Rattle.std.specs.Prelude.{◌≡◌, ℕ, ◌+◌, ◌-◌, ◌^◌, ◌<◌
 use Rattle.std.specs.Prelude.{drop, length, take, MatchResult, Result, Ok, Err, Option, Some}
 
 -- where a device knows its bytes, this holds of them
-abbrev pub WhereKnown : Option (List ℕ) → (List ℕ → Type 0) → Type 0
-WhereKnown device Holds = (known : List ℕ) → device ≡ Some known → Holds known
+abbrev pub IfKnown : Option (List ℕ) → (List ℕ → Type 0) → Type 0
+IfKnown device Holds = (known : List ℕ) → device ≡ Some known → Holds known
 
 -- of the bytes that a source knew to come, the first `count` were taken, and those behind them are left
-pub record Took (known : List ℕ) (left' : Option (List ℕ)) (count : ℕ) : Type 0 where
+pub record ConsumedExactly (known : List ℕ) (left' : Option (List ℕ)) (count : ℕ) : Type 0 where
   pub within : count ≤ length known
   pub left : left' ≡ Some (drop count known)
 
 -- of those bytes some first ones were taken: at most so many
-abbrev pub TookUpTo : List ℕ → Option (List ℕ) → ℕ → Type 0
-TookUpTo known left most = (count : ℕ) × (count ≤ most) × Took known left count
+abbrev pub ConsumedAtMost : List ℕ → Option (List ℕ) → ℕ → Type 0
+ConsumedAtMost known left most = (count : ℕ) × (count ≤ most) × ConsumedExactly known left count
 
 -- of those bytes some first ones were taken: fewer than so many
-abbrev pub TookFewer : List ℕ → Option (List ℕ) → ℕ → Type 0
-TookFewer known left all = (count : ℕ) × (count < all) × Took known left count
+abbrev pub ConsumedFewer : List ℕ → Option (List ℕ) → ℕ → Type 0
+ConsumedFewer known left all = (count : ℕ) × (count < all) × ConsumedExactly known left count
 
 -- of those bytes some first ones were taken: at least `least`, and fewer than `all`
-abbrev pub TookBetween : List ℕ → Option (List ℕ) → ℕ → ℕ → Type 0
-TookBetween known left least all = (count : ℕ) × (least ≤ count) × (count < all) × Took known left count
+abbrev pub ConsumedBetween : List ℕ → Option (List ℕ) → ℕ → ℕ → Type 0
+ConsumedBetween known left least all = (count : ℕ) × (least ≤ count) × (count < all) × ConsumedExactly known left count
 
 -- the first `count` bytes of a buffer are those that were taken
-abbrev pub TookInto : List ℕ → Option (List ℕ) → List ℕ → ℕ → Type 0
-TookInto known left buf count = Took known left count × (take count buf ≡ take count known)
+abbrev pub ConsumedInto : List ℕ → Option (List ℕ) → List ℕ → ℕ → Type 0
+ConsumedInto known left buf count = ConsumedExactly known left count × (take count buf ≡ take count known)
 
 -- the bytes stand behind those that a sink had taken, as far as it knows them
-abbrev pub Adds : Option (List ℕ) → Option (List ℕ) → List ℕ → Type 0
-Adds before after bytes = (known : List ℕ) → before ≡ Some known → after ≡ Some (known ++ bytes)
+abbrev pub Appended : Option (List ℕ) → Option (List ℕ) → List ℕ → Type 0
+Appended before after bytes = (known : List ℕ) → before ≡ Some known → after ≡ Some (known ++ bytes)
 
 -- the greatest count, at which a count stays
-abbrev pub greatest_count : ℕ
-greatest_count = 2 ^ 64 - 1
+abbrev pub max_count : ℕ
+max_count = 2 ^ 64 - 1
 
 -- a count after one more
-abbrev pub raised : ℕ → ℕ
-raised count = min (count + 1) greatest_count
+abbrev pub saturating_inc : ℕ → ℕ
+saturating_inc count = min (count + 1) max_count
 
 -- a count after a call that is one of those counted, or is not: one more exactly where it is
 abbrev pub counted : Bool → ℕ → ℕ
-counted true count = raised count
+counted true count = saturating_inc count
 counted false count = count
 
 -- a read found the end: it gave nothing to a buffer with room for so many bytes
@@ -52,9 +52,9 @@ is_end (Ok count) room = count == 0 && nat_lt 0 room
 is_end (Err _) room = false
 
 -- fewer bytes came than were asked for, and no read failed: the end came first
-abbrev pub is_short : {E : Type 0} → Result ℕ E → ℕ → Bool
-is_short (Ok count) asked = nat_lt count asked
-is_short (Err _) asked = false
+abbrev pub is_short_read : {E : Type 0} → Result ℕ E → ℕ → Bool
+is_short_read (Ok count) asked = nat_lt count asked
+is_short_read (Err _) asked = false
 
 -- a sink took between one byte and all of a buffer that has any, and of an empty one none
 abbrev pub TakesSome : {E : Type 0} → Result ℕ E → List ℕ → Type 0

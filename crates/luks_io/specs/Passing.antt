@@ -1,23 +1,23 @@
 -- What goes from a source to a sink without a buffer between them.
 use Rattle.std.specs.Prelude.{◌≡◌, ℕ, ◌<◌, Bool, true, false, List, drop, length, take, Option, None, Some, Result, Ok, Err}
 use Rattle.std.specs.Io.KnownBytes.{Consumes}
-use Rattle.luks_io.specs.Bytes.{Adds}
+use Rattle.luks_io.specs.Bytes.{Appended}
 use Rattle.luks_io.specs.declared.sink.WriteFault.{WriteFault}
 
 -- the next `count` bytes of a source were taken, and of what they become some part was written
-abbrev pub PassedOn : ℕ → (List ℕ → List ℕ) → Option (List ℕ) → Option (List ℕ) → Option (List ℕ) → Option (List ℕ)
+abbrev pub Forwarded : ℕ → (List ℕ → List ℕ) → Option (List ℕ) → Option (List ℕ) → Option (List ℕ) → Option (List ℕ)
     → Type 0
-PassedOn count written_of left left' before after =
-    (bytes : List ℕ) × (length bytes ≡ count) × Consumes left left' bytes × Adds before after (written_of bytes)
+Forwarded count written_of left left' before after =
+    (bytes : List ℕ) × (length bytes ≡ count) × Consumes left left' bytes × Appended before after (written_of bytes)
 
 -- what passing on `count` bytes of a source did: nothing, all of it, or it was broken off by a write that failed
-abbrev pub PassesOn : Option (Result (Unit {0}) WriteFault) → Type 0 → ℕ → (List ℕ → List ℕ) → Option (List ℕ)
+abbrev pub ForwardEffect : Option (Result (Unit {0}) WriteFault) → Type 0 → ℕ → (List ℕ → List ℕ) → Option (List ℕ)
     → Option (List ℕ) → Option (List ℕ) → Option (List ℕ) → Type 0
-PassesOn None untouched count changed left left' before after = untouched
-PassesOn (Some (Ok _)) untouched count changed left left' before after =
-    PassedOn count changed left left' before after
-PassesOn (Some (Err fault)) untouched count changed left left' before after =
-    (fault.written < count) × PassedOn count (λ bytes. take fault.written (changed bytes)) left left' before after
+ForwardEffect None untouched count changed left left' before after = untouched
+ForwardEffect (Some (Ok _)) untouched count changed left left' before after =
+    Forwarded count changed left left' before after
+ForwardEffect (Some (Err fault)) untouched count changed left left' before after =
+    (fault.written < count) × Forwarded count (λ bytes. take fault.written (changed bytes)) left left' before after
 
 -- whether passing on was broken off
 abbrev pub is_broken_off : Option (Result (Unit {0}) WriteFault) → Bool

@@ -4,9 +4,9 @@ ghost use Rattle.std.specs.Prelude.{◌≡◌, ◌≢◌, ◌+◌, ◌-◌, ◌<
 ghost use Rattle.std.specs.Prelude.{IsErr, MatchResult, is_err, is_some, length, min, nat_le, take};
 ghost use Rattle.std.specs.Io.{ReadsAtMost};
 ghost use Rattle.std.specs.Io.KnownBytes.{Consumes, IsAtEnd, Keeps, ReadConsumes, prepend_known};
-ghost use Rattle.luks_io.specs.Ahead.{most_taken};
-ghost use Rattle.luks_io.specs.Bytes.{TookUpTo, WhereKnown, counted, is_end};
-ghost use Rattle.luks_io.specs.Passing.{PassesOn, held_after, is_broken_off};
+ghost use Rattle.luks_io.specs.Ahead.{max_read};
+ghost use Rattle.luks_io.specs.Bytes.{ConsumedAtMost, IfKnown, counted, is_end};
+ghost use Rattle.luks_io.specs.Passing.{ForwardEffect, held_after, is_broken_off};
 
 use crate::DeviceFault;
 use crate::change::{Change, put_changed};
@@ -32,9 +32,9 @@ pub struct AheadSource<S> {
 
 impl<S> Model for AheadSource<S> {
     ghost use Rattle.std.specs.Prelude.{◌≤◌, slice_range, vec_len};
-    ghost use Rattle.luks_io.specs.Ahead.{Ahead};
+    ghost use Rattle.luks_io.specs.Ahead.{ReadAheadModel};
 
-    ghost Value = { Ahead S };
+    ghost Value = { ReadAheadModel S };
 
     ghost view = { λ a.
         record {
@@ -177,11 +177,11 @@ impl<S: Source> Source for AheadSource<S> {
             ≡ counted (is_end result (length buf.new)) (S.ends self.old.source) }
         ensures alone { (self.old.held ≢ []) ⊎ (length buf.old ≡ 0)
             → self.new.source ≡ self.old.source }
-        ensures within { WhereKnown (S.to_come self.old.source)
-            (λ known. TookUpTo known (S.to_come self.new.source)
-            (most_taken (length buf.old) self.old.announced self.old.room)) }
+        ensures within { IfKnown (S.to_come self.old.source)
+            (λ known. ConsumedAtMost known (S.to_come self.new.source)
+            (max_read (length buf.old) self.old.announced self.old.room)) }
         ensures most { IfOk result (λ n. n + length self.new.held ≤ length self.old.held
-            + most_taken (length buf.old) self.old.announced self.old.room) }
+            + max_read (length buf.old) self.old.announced self.old.room) }
         ensures announced { IfOk result (λ n. self.new.announced
             ≡ self.old.announced - (n + length self.new.held - length self.old.held)) }
         ensures kept { IsErr result → (self.new.held ≡ self.old.held)
@@ -215,7 +215,7 @@ impl<S: Source> Source for AheadSource<S> {
         sink: &mut O,
     ) -> Option<Result<(), WriteFault>>
         requires { C.takes change.now count }
-        ensures passes { PassesOn result ((self.new ≡ self.old) × (sink.new ≡ sink.old)) count
+        ensures passes { ForwardEffect result ((self.new ≡ self.old) × (sink.new ≡ sink.old)) count
             (C.changed change.now) (prepend_known self.old.held (S.to_come self.old.source))
             (prepend_known self.new.held (S.to_come self.new.source))
             (O.written sink.old) (O.written sink.new) }

@@ -1,7 +1,7 @@
 //! What bytes become on their way from a source to a sink.
 
 ghost use Rattle.std.specs.Prelude.{◌≡◌, ◌<◌, ◌≤◌, ◌+◌, ℕ, List, length, take, drop, is_err, OnOk, IfErr};
-ghost use Rattle.luks_io.specs.Bytes.{Adds, counted};
+ghost use Rattle.luks_io.specs.Bytes.{Appended, counted};
 
 use crate::sink::{Sink, WriteFault, put_all};
 
@@ -32,10 +32,10 @@ pub(crate) fn put_changed<C: Change, O: Sink>(
     requires takes { C.takes change.now count }
     ensures len { length buffer.new ≡ length buffer.old }
     ensures behind { drop (start + count) buffer.new ≡ drop (start + count) buffer.old }
-    ensures ok { OnOk result (Adds (O.written sink.old) (O.written sink.new)
+    ensures ok { OnOk result (Appended (O.written sink.old) (O.written sink.new)
         (C.changed change.now (take count (drop start buffer.old)))) }
     ensures err { IfErr result (λ fault. (fault.written < count)
-        × Adds (O.written sink.old) (O.written sink.new)
+        × Appended (O.written sink.old) (O.written sink.new)
         (take fault.written (C.changed change.now (take count (drop start buffer.old))))) }
     ensures counts { O.failures sink.new ≡ counted (is_err result) (O.failures sink.old) }
 {

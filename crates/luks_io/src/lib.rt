@@ -7,7 +7,7 @@
 #![tactic(auto)]
 
 ghost use Rattle.std.specs.Prelude.{◌≡◌};
-ghost use Rattle.luks_io.specs.Bytes.{raised};
+ghost use Rattle.luks_io.specs.Bytes.{saturating_inc};
 
 pub mod adapters;
 pub mod ahead;
@@ -24,7 +24,7 @@ pub struct DeviceFault;
 impl DeviceFault {
     /// The fault of a device that counts its failures there.
     fn counted(failures: &mut u64) -> DeviceFault
-        ensures { failures.new ≡ raised failures.old }
+        ensures { failures.new ≡ saturating_inc failures.old }
     {
         *failures = failures.saturating_add(1);
         DeviceFault

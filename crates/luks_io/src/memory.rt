@@ -21,9 +21,9 @@ pub struct MemSource<'a> {
 }
 
 impl<'a> Model for MemSource<'a> {
-    ghost use Rattle.luks_io.specs.Memory.{Given};
+    ghost use Rattle.luks_io.specs.Memory.{MemSourceModel};
 
-    ghost Value = { Given };
+    ghost Value = { MemSourceModel };
 
     ghost view = { λ s. record { left = s.left.now; ends = s.ends } };
 }
@@ -84,9 +84,9 @@ pub struct MemSink {
 
 impl Model for MemSink {
     ghost use Rattle.std.specs.Prelude.{◌-◌, ◌≤◌, take, vec_len};
-    ghost use Rattle.luks_io.specs.Memory.{Held};
+    ghost use Rattle.luks_io.specs.Memory.{MemSinkModel};
 
-    ghost Value = { Held };
+    ghost Value = { MemSinkModel };
 
     ghost view = { λ s.
         record {

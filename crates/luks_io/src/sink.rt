@@ -3,7 +3,7 @@
 ghost use Rattle.std.specs.Prelude.{◌≡◌, ◌<◌, ◌≤◌, ℕ, List, Option, length, take, is_err, OnOk};
 ghost use Rattle.std.specs.Prelude.{IfErr};
 ghost use Rattle.std.specs.Io.KnownBytes.{WriteAppends};
-ghost use Rattle.luks_io.specs.Bytes.{Adds, TakesSome, counted};
+ghost use Rattle.luks_io.specs.Bytes.{Appended, TakesSome, counted};
 
 use crate::DeviceFault;
 
@@ -34,9 +34,9 @@ pub struct WriteFault {
 /// A [`WriteFault`] says that a write failed, and that exactly the first `written` bytes went out
 /// before.
 pub fn put_all<S: Sink>(sink: &mut S, bytes: &[u8]) -> Result<(), WriteFault>
-    ensures ok { OnOk result (Adds (S.written sink.old) (S.written sink.new) bytes.now) }
+    ensures ok { OnOk result (Appended (S.written sink.old) (S.written sink.new) bytes.now) }
     ensures err { IfErr result (λ fault. (fault.written < length bytes.now)
-        × Adds (S.written sink.old) (S.written sink.new) (take fault.written bytes.now)) }
+        × Appended (S.written sink.old) (S.written sink.new) (take fault.written bytes.now)) }
     ensures counts { S.failures sink.new ≡ counted (is_err result) (S.failures sink.old) }
 {
     let mut at = 0;

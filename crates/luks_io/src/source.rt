@@ -4,8 +4,8 @@ ghost use Rattle.std.specs.Prelude.{◌≡◌, ◌<◌, ◌≤◌, ◌==◌, ◌
 ghost use Rattle.std.specs.Prelude.{nat_lt, is_err, IfOk, MatchResult};
 ghost use Rattle.std.specs.Io.{ReadsAtMost};
 ghost use Rattle.std.specs.Io.KnownBytes.{ReadConsumes};
-ghost use Rattle.luks_io.specs.Bytes.{TookInto, WhereKnown, counted, is_end, is_short};
-ghost use Rattle.luks_io.specs.Passing.{PassesOn, is_broken_off};
+ghost use Rattle.luks_io.specs.Bytes.{ConsumedInto, IfKnown, counted, is_end, is_short_read};
+ghost use Rattle.luks_io.specs.Passing.{ForwardEffect, is_broken_off};
 ghost use Rattle.luks_io.specs.Reads.{got_in};
 
 use crate::DeviceFault;
@@ -51,7 +51,7 @@ pub trait Source {
         sink: &mut O,
     ) -> Option<Result<(), WriteFault>>
         requires { C.takes change.now count }
-        ensures passes { PassesOn result ((self.new ≡ self.old) × (sink.new ≡ sink.old)) count
+        ensures passes { ForwardEffect result ((self.new ≡ self.old) × (sink.new ≡ sink.old)) count
             (C.changed change.now) (to_come self.old) (to_come self.new)
             (O.written sink.old) (O.written sink.new) }
         ensures failures { failures self.new ≡ failures self.old }
@@ -87,12 +87,12 @@ pub struct ReadFault {
 pub fn fill<S: Source>(source: &mut S, buf: &mut [u8]) -> Result<usize, ReadFault>
     ensures bound { MatchResult result (λ count. count ≤ length buf.new)
         (λ fault. fault.got < length buf.new) }
-    ensures bytes { WhereKnown (S.to_come source.old)
-        (λ known. TookInto known (S.to_come source.new) buf.new (got_in result)) }
-    ensures end { IfOk result (λ count. WhereKnown (S.to_come source.old)
+    ensures bytes { IfKnown (S.to_come source.old)
+        (λ known. ConsumedInto known (S.to_come source.new) buf.new (got_in result)) }
+    ensures end { IfOk result (λ count. IfKnown (S.to_come source.old)
         (λ known. count ≡ min (length buf.new) (length known))) }
     ensures counts { S.failures source.new ≡ counted (is_err result) (S.failures source.old) }
-    ensures ends { S.ends source.new ≡ counted (is_short result (length buf.new))
+    ensures ends { S.ends source.new ≡ counted (is_short_read result (length buf.new))
         (S.ends source.old) }
 {
     let mut at = 0;

@@ -7,7 +7,7 @@ ghost use Rattle.std.proofs.Common.{inl, inr};
 ghost use Rattle.luks_sha_lanes.specs.Chains.{chain_sum, digest_at};
 ghost use Rattle.luks_kdf.specs.declared.hash.Hash.TheVariants as Variants;
 ghost use Rattle.luks_kdf.specs.Bytes.{joined};
-ghost use Rattle.luks_kdf.specs.Hash.{block_of, hash_of, size_of};
+ghost use Rattle.luks_kdf.specs.Hash.{block_len, hash_of, digest_len};
 ghost use Rattle.luks_kdf.specs.Hmac.{inner_block, outer_block};
 ghost use Rattle.luks_kdf.specs.Pbkdf2.{capped, derived_key, t_of, u_of};
 
@@ -45,12 +45,12 @@ pub(crate) trait Lanes: Engine {
         requires inner { length inner.now ≡ 64 }
         requires outer { length outer.now ≡ 64 }
         requires used { used ≤ WIDTH }
-        requires last { length last.now ≡ WIDTH * size_of Self.function }
-        requires sums { length sums.old ≡ WIDTH * size_of Self.function }
-        ensures { (j : ℕ) → j < used → digest_at (size_of Self.function) j sums.new
+        requires last { length last.now ≡ WIDTH * digest_len Self.function }
+        requires sums { length sums.old ≡ WIDTH * digest_len Self.function }
+        ensures { (j : ℕ) → j < used → digest_at (digest_len Self.function) j sums.new
             ≡ chain_sum (hash_of Self.function) inner.now outer.now
-            (digest_at (size_of Self.function) j last.now)
-            (digest_at (size_of Self.function) j sums.old) count };
+            (digest_at (digest_len Self.function) j last.now)
+            (digest_at (digest_len Self.function) j sums.old) count };
 
     ghost known: { ((Self.function ≡ Variants.Sha1) × (WIDTH ≡ 4))
         ⊎ ((Self.function ≡ Variants.Sha256) × (WIDTH ≡ 2)) };
@@ -116,7 +116,7 @@ pub(crate) fn derive_in_lanes<E: Lanes>(
     requires room { length out.old ≤ 512 }
     ensures key { out.new ≡ derived_key E.function pass.now salt.now iterations (length out.old) }
     ensures work { work.new
-        ≡ capped (work.old + iterations * div_ceil (length out.old) (size_of E.function)) }
+        ≡ capped (work.old + iterations * div_ceil (length out.old) (digest_len E.function)) }
 {
     let keyed = Keyed::<E>::new(pass);
     let blocks = key_blocks::<E>(pass);
@@ -151,7 +151,7 @@ fn derive_group<E: Lanes>(
     requires turns { 1 ≤ iterations }
     requires number { number + E.WIDTH < 2 ^ 32 }
     requires some { 1 ≤ length out.old }
-    requires room { length out.old ≤ E.WIDTH * size_of E.function }
+    requires room { length out.old ≤ E.WIDTH * digest_len E.function }
     ensures key { (pass : List ℕ) → E.holds keyed.now.inner (inner_block E.function pass)
         → E.holds keyed.now.outer (outer_block E.function pass)
         → blocks.now.inner ≡ inner_block E.function pass
@@ -159,7 +159,7 @@ fn derive_group<E: Lanes>(
         → out.new ≡ take (length out.old)
         (joined (λ k. t_of E.function pass salt.now (number + k) iterations) E.WIDTH) }
     ensures work { work.new
-        ≡ capped (work.old + iterations * div_ceil (length out.old) (size_of E.function)) }
+        ≡ capped (work.old + iterations * div_ceil (length out.old) (digest_len E.function)) }
 {
     let size = E::hash().size();
     if out.len() <= size && !E::LONE {
@@ -187,12 +187,12 @@ fn sum_group<E: Lanes>(
     requires turns { 1 ≤ iterations }
     requires number { number + count < 2 ^ 32 }
     requires count { count ≤ E.WIDTH }
-    requires room { length t.old ≡ E.WIDTH * size_of E.function }
+    requires room { length t.old ≡ E.WIDTH * digest_len E.function }
     ensures { (pass : List ℕ) → E.holds keyed.now.inner (inner_block E.function pass)
         → E.holds keyed.now.outer (outer_block E.function pass)
         → blocks.now.inner ≡ inner_block E.function pass
         → blocks.now.outer ≡ outer_block E.function pass
-        → (k : ℕ) → k < count → digest_at (size_of E.function) k t.new
+        → (k : ℕ) → k < count → digest_at (digest_len E.function) k t.new
         ≡ t_of E.function pass salt.now (number + k) iterations }
 {
     let mut u = [0; MAX_GROUP];
@@ -213,10 +213,10 @@ fn sum_group<E: Lanes>(
 fn first_turns<E: Lanes>(keyed: &Keyed<E>, salt: &[u8], number: u32, count: usize, u: &mut [u8])
     requires number { number + count < 2 ^ 32 }
     requires count { count ≤ E.WIDTH }
-    requires room { length u.old ≡ E.WIDTH * size_of E.function }
+    requires room { length u.old ≡ E.WIDTH * digest_len E.function }
     ensures { (pass : List ℕ) → E.holds keyed.now.inner (inner_block E.function pass)
         → E.holds keyed.now.outer (outer_block E.function pass)
-        → (k : ℕ) → k < count → digest_at (size_of E.function) k u.new
+        → (k : ℕ) → k < count → digest_at (digest_len E.function) k u.new
         ≡ u_of E.function pass salt.now (number + k) 1 }
 {
     let size = E::hash().size();
@@ -228,7 +228,7 @@ fn first_turns<E: Lanes>(keyed: &Keyed<E>, salt: &[u8], number: u32, count: usiz
 
 // Writes the first U of the block of this number.
 fn first_turn<E: Engine>(keyed: &Keyed<E>, salt: &[u8], number: u32, u: &mut [u8])
-    requires { length u.old ≡ size_of E.function }
+    requires { length u.old ≡ digest_len E.function }
     ensures { (pass : List ℕ) → E.holds keyed.now.inner (inner_block E.function pass)
         → E.holds keyed.now.outer (outer_block E.function pass)
         → u.new ≡ u_of E.function pass salt.now number 1 }

@@ -13,28 +13,28 @@ use Rattle.luks_area.specs.Field.{at}
 use Rattle.luks_header.specs.Header.{is_detached}
 use Rattle.luks_header.specs.Segment.{segment_of}
 use Rattle.luks_verdict.specs.Rule.{need_of}
-use Rattle.luks_verdict.specs.Slot.{end_of}
+use Rattle.luks_verdict.specs.Slot.{material_end}
 use Rattle.luks_header.specs.declared.header.Header.{Header}
 use Rattle.luks_verdict.specs.declared.segment.Segment.{Segment}
 use Rattle.luks_header.proofs.KnownLemmas.{before_payload}
-use Rattle.luks_open.specs.Candidate.{candidate_by, candidate_of, material_of, material_sector, unlocked}
-use Rattle.luks_open.specs.Opening.{first_opening, if_meets, key_of, opened_or, opening_of, answer_of}
-use Rattle.luks_open.specs.Order.{Tries, held_of, order_of}
+use Rattle.luks_open.specs.Candidate.{candidate_by, candidate_of, decrypted_material, material_sector, unlocked}
+use Rattle.luks_open.specs.Opening.{first_opening, if_meets, slot_key, opened_or, opening_of, answer_of}
+use Rattle.luks_open.specs.Order.{OrderModel, key_areas_end, order_of}
 use Rattle.luks_open.specs.declared.entry.Entry.{Entry}
 use Rattle.luks_open.specs.declared.opening.Opened.{Opened}
 use Rattle.luks_open.proofs.OrderLemmas.{All-held_of, All-tries, IsOf, held_of-le}
 
 -- the key material of all key slots that are tried ends at or before the payload's start, if that is in the header's
 -- image
-pub held_before_payload : (header : Header) (segment : Segment) (named limit : Option ℕ) (tries : Tries)
+pub held_before_payload : (header : Header) (segment : Segment) (named limit : Option ℕ) (tries : OrderModel)
     → is_detached header ≡ false
     → segment_of header ≡ Ok segment
-    → order_of header named limit ≡ Ok tries → held_of tries.slots ≤ segment.offset
+    → order_of header named limit ≡ Ok tries → key_areas_end tries.slots ≤ segment.offset
 held_before_payload header segment named limit tries attached is_segment is_order =
     held_of-le segment.offset tries.slots (of_entries tries.slots (All-tries header named limit tries is_order))
   where
     of_entries : (entries : List Entry) → AllByRecursion (IsOf header limit) entries
-        → AllByRecursion (λ (entry : Entry). end_of entry.slot ≤ segment.offset) entries
+        → AllByRecursion (λ (entry : Entry). material_end entry.slot ≤ segment.offset) entries
     of_entries [] all = tt
     of_entries (entry ∷ entries) all = (
       before_payload header segment limit entry.number entry.slot attached is_segment all.0.usable,
@@ -61,7 +61,7 @@ unlocked_beginning : (af : Hash) (cipher : Cipher) (image : List ℕ) (offset ke
     → offset + need_of key_bytes stripes ≤ n
     → unlocked af cipher (take n image) offset key_bytes stripes
     ≡ unlocked af cipher image offset key_bytes stripes
-unfolding unlocked material_of
+unfolding unlocked decrypted_material
 unlocked_beginning af cipher image offset key_bytes stripes n before =
     let sectors : (i : ℕ) → i < need_of key_bytes stripes / 512
     → material_sector cipher (take n image) offset i ≡ material_sector cipher image offset i =
@@ -70,9 +70,9 @@ unlocked_beginning af cipher image offset key_bytes stripes n before =
     (joined_same _ _ (need_of key_bytes stripes / 512) sectors)
 
 -- and so do the candidate and the volume key that it gives
-key_beginning : (entry : Entry) (n : ℕ) (image pass : List ℕ) → end_of entry.slot ≤ n
-    → key_of entry (take n image) pass ≡ key_of entry image pass
-unfolding key_of candidate_of
+key_beginning : (entry : Entry) (n : ℕ) (image pass : List ℕ) → material_end entry.slot ≤ n
+    → slot_key entry (take n image) pass ≡ slot_key entry image pass
+unfolding slot_key candidate_of
 key_beginning entry n image pass before =
     let parts = entry.slot.parts in
     ap (if_meets entry.digest) (of_read parts.kdf_hash parts.af_hash parts.area_mode)
@@ -90,17 +90,17 @@ key_beginning entry n image pass before =
     of_read None af mode = refl
 
 -- what a passphrase opens depends on no byte of the image behind the key material
-pub opening_beginning : (tries : Tries) (n : ℕ) (image pass : List ℕ) → held_of tries.slots ≤ n
+pub opening_beginning : (tries : OrderModel) (n : ℕ) (image pass : List ℕ) → key_areas_end tries.slots ≤ n
     → opening_of tries (take n image) pass ≡ opening_of tries image pass
 unfolding opening_of first_opening
 opening_beginning tries n image pass held =
     ap (λ (first : Option Opened). answer_of first tries.skipped)
     (of_entries tries.slots (All-held_of n tries.slots held))
   where
-    of_entries : (entries : List Entry) → AllByRecursion (λ (entry : Entry). end_of entry.slot ≤ n) entries
+    of_entries : (entries : List Entry) → AllByRecursion (λ (entry : Entry). material_end entry.slot ≤ n) entries
         → first_opening entries (take n image) pass ≡ first_opening entries image pass
     of_entries [] ends = refl
     of_entries (entry ∷ entries) ends =
         ap (λ (key : Option (List ℕ)). opened_or entry.number key (first_opening entries (take n image) pass))
         (key_beginning entry n image pass ends.0)
-        ∙ ap (opened_or entry.number (key_of entry image pass)) (of_entries entries ends.1)
+        ∙ ap (opened_or entry.number (slot_key entry image pass)) (of_entries entries ends.1)

@@ -9,10 +9,10 @@ use Rattle.luks_cipher.specs.Sector.{Cipher, is_key_length}
 use Rattle.luks_cipher.specs.Xts.{joined}
 use Rattle.luks_kdf.specs.declared.hash.Hash.{Hash}
 use Rattle.luks_kdf.specs.Bytes.{xor}
-use Rattle.luks_stripes.specs.Stripes.{Chain, chain_after, extended, merged}
+use Rattle.luks_stripes.specs.Stripes.{AfSplitterModel, chain_after, extended, merged}
 use Rattle.luks_stripes.proofs.StripesLemmas.{chain_push, chain_start, merged_push}
 use Rattle.luks_verdict.specs.Rule.{need_of}
-use Rattle.luks_open.specs.Candidate.{material_of, material_sector, unlocked}
+use Rattle.luks_open.specs.Candidate.{decrypted_material, material_sector, unlocked}
 
 -- a length of keys is one of three
 one_of_three : (len : ℕ) → is_key_length len ≡ true → (len ≡ 16) ⊎ (len ≡ 32) ⊎ (len ≡ 64)
@@ -77,7 +77,7 @@ in_sectors len stripes whole rest is some is_whole is_rest = of_len (one_of_thre
     of_len (inr (inr h)) = same 64 h (of_64 (rw h at is_whole) (rw h at is_rest))
 
 -- the chain one stripe further
-pub taken_more : (h : Hash) (len : ℕ) (before stripes stripe : List ℕ) (number i : ℕ) (chain : Chain)
+pub taken_more : (h : Hash) (len : ℕ) (before stripes stripe : List ℕ) (number i : ℕ) (chain : AfSplitterModel)
     → (i + 1) * len ≤ length stripes
     → length before ≡ number * len → stripe ≡ take len (drop (i * len) stripes)
     → chain ≡ chain_after h len (before ++ take (i * len) stripes) (number + i)
@@ -144,7 +144,7 @@ pub whole_sectors : (number in_sector len : ℕ) → in_sector * len ≡ 512 →
 whole_sectors number in_sector len fits = ap (λ n. number * n) (sym fits) ∙ sym (mul_assoc number in_sector len)
 
 -- the chain before any sector
-pub sectors_none : (h : Hash) (len in_sector : ℕ) (f : ℕ → List ℕ) (chain : Chain)
+pub sectors_none : (h : Hash) (len in_sector : ℕ) (f : ℕ → List ℕ) (chain : AfSplitterModel)
     → chain ≡ record { hash = h; block = replicate len 0 }
     → chain ≡ chain_after h len (joined f 0) (0 * in_sector)
 sectors_none h len in_sector f chain start =
@@ -152,7 +152,7 @@ sectors_none h len in_sector f chain start =
     rw nothing (chain_start h len (joined f 0) chain start)
 
 -- the chain one sector further
-pub sector_more : (h : Hash) (len in_sector : ℕ) (f : ℕ → List ℕ) (i : ℕ) (sector : List ℕ) (chain : Chain)
+pub sector_more : (h : Hash) (len in_sector : ℕ) (f : ℕ → List ℕ) (i : ℕ) (sector : List ℕ) (chain : AfSplitterModel)
     → in_sector * len ≡ 512 → sector ≡ f i → length sector ≡ 512
     → chain ≡ chain_after h len (joined f i ++ take (in_sector * len) sector) (i * in_sector + in_sector)
     → chain ≡ chain_after h len (joined f (i + 1)) ((i + 1) * in_sector)
@@ -168,7 +168,7 @@ sector_more h len in_sector f i sector chain fits is whole h_is =
 -- the key that key material holds, by the chain before the last stripe
 pub unlocked_by_last : (h : Hash) (key : Cipher) (image : List ℕ) (offset len stripes whole rest : ℕ) (sector last :
     List ℕ)
-    (chain : Chain)
+    (chain : AfSplitterModel)
     → AreInSectors len stripes whole rest
     → length (joined (material_sector key image offset) whole) ≡ whole * 512
     → sector ≡ material_sector key image offset whole → length sector ≡ 512
@@ -176,7 +176,7 @@ pub unlocked_by_last : (h : Hash) (key : Cipher) (image : List ℕ) (offset len 
     → chain ≡ chain_after h len (joined (material_sector key image offset) whole ++ take (rest * len) sector)
     (whole * (512 / len) + rest)
     → xor chain.block last ≡ unlocked h key image offset len stripes
-unfolding unlocked material_of
+unfolding unlocked decrypted_material
 unlocked_by_last h key image offset len stripes whole rest sector last chain place before is_sector full is_last
     is_chain =
     let f = material_sector key image offset in
@@ -202,6 +202,6 @@ unlocked_by_last h key image offset len stripes whole rest sector last chain pla
       length-take-le (rest * len) sector (omega (arith, place.within)),
       place.before,
     ) in
-    ap (λ (c : Chain). xor c.block last) is_chain
+    ap (λ (c : AfSplitterModel). xor c.block last) is_chain
     ∙ (sym (merged_push h len front last (whole * (512 / len) + rest) place.some number one)
     ∙ ap (merged h len) (sym stripes_are))

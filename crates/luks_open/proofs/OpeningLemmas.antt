@@ -5,7 +5,7 @@ use Rattle.std.specs.Prelude.{if◌then◌else◌, is_some, sum_by}
 use Rattle.std.proofs.lemmas.List.{drop_all, drop_more}
 use Rattle.std.proofs.lemmas.List.Sums.{sum_by-cons}
 use Rattle.luks_kdf.specs.Pbkdf2.{capped}
-use Rattle.luks_open.specs.Opening.{evaluations_of, first_opening, key_of, opened_or, tried_of}
+use Rattle.luks_open.specs.Opening.{evaluations_of, first_opening, slot_key, opened_or, tried_of}
 use Rattle.luks_open.specs.declared.entry.Entry.{Entry}
 
 -- the evaluations that these key entries take, up to the first that opens
@@ -13,7 +13,7 @@ abbrev pub work_on : List Entry → List ℕ → List ℕ → ℕ
 work_on entries image pass = sum_by evaluations_of (tried_of entries image pass)
 
 -- the first of some key entries did not open
-tried_past : (entries : List Entry) (image pass : List ℕ) (entry : Entry) → key_of entry image pass ≡ None
+tried_past : (entries : List Entry) (image pass : List ℕ) (entry : Entry) → slot_key entry image pass ≡ None
     → (first_opening (entry ∷ entries) image pass ≡ first_opening entries image pass)
     × (work_on (entry ∷ entries) image pass ≡ evaluations_of entry + work_on entries image pass)
 unfolding first_opening tried_of
@@ -26,7 +26,7 @@ tried_past entries image pass entry none =
 
 -- or it did
 tried_last : (entries : List Entry) (image pass : List ℕ) (entry : Entry) (key : List ℕ)
-    → key_of entry image pass ≡ Some key
+    → slot_key entry image pass ≡ Some key
     → (first_opening (entry ∷ entries) image pass ≡ Some record { slot = entry.number; key = key })
     × (work_on (entry ∷ entries) image pass ≡ evaluations_of entry)
 unfolding first_opening tried_of
@@ -55,7 +55,7 @@ from_entry entries i entry there is = drop_more entries i entry there
 
 pub go_on : (entries : List Entry) (image pass : List ℕ) (i start now new : ℕ) (entry : Entry)
     → GoesOn entries image pass i start now
-    → i < length entries → entry ≡ get_or entries i entry → key_of entry image pass ≡ None
+    → i < length entries → entry ≡ get_or entries i entry → slot_key entry image pass ≡ None
     → new ≡ capped (now + evaluations_of entry)
     → GoesOn entries image pass (i + 1) start new
 go_on entries image pass i start now new entry before there is none is_new =
@@ -70,7 +70,7 @@ go_on entries image pass i start now new entry before there is none is_new =
 
 pub go_last : (entries : List Entry) (image pass : List ℕ) (i start now new : ℕ) (entry : Entry) (key : List ℕ)
     → GoesOn entries image pass i start now → i < length entries → entry ≡ get_or entries i entry
-    → key_of entry image pass ≡ Some key
+    → slot_key entry image pass ≡ Some key
     → new ≡ capped (now + evaluations_of entry)
     → (first_opening entries image pass ≡ Some record { slot = entry.number; key = key })
     × (new ≡ capped (start + work_on entries image pass))

@@ -6,10 +6,10 @@ use Rattle.std.specs.List.{AllByRecursion}
 use Rattle.std.proofs.lemmas.Bool.{eq-eqb}
 use Rattle.std.proofs.lemmas.List.{drop_more}
 use Rattle.std.proofs.lemmas.Option.{same_Some}
-use Rattle.luks_area.specs.Area.{longest_area}
-use Rattle.luks_verdict.specs.Rule.{most_slots}
-use Rattle.luks_verdict.specs.Slot.{end_of, judgement_of}
-use Rattle.luks_verdict.specs.Table.{rising}
+use Rattle.luks_area.specs.Area.{max_area_len}
+use Rattle.luks_verdict.specs.Rule.{max_slots}
+use Rattle.luks_verdict.specs.Slot.{material_end, judgement_of}
+use Rattle.luks_verdict.specs.Table.{ascending}
 use Rattle.luks_verdict.specs.declared.digest.KeyDigest.{KeyDigest}
 use Rattle.luks_verdict.specs.declared.refusal.SkipReason.{SkipReason}
 use Rattle.luks_verdict.specs.declared.slot.Slot.{Slot}
@@ -22,7 +22,7 @@ use Rattle.luks_header.specs.Digest.{digest_for}
 use Rattle.luks_header.specs.Slot.{slot_at, verdict_at}
 use Rattle.luks_header.specs.declared.header.Header.{Header}
 use Rattle.luks_header.proofs.KnownLemmas.{digest_of_usable, slot_of_usable}
-use Rattle.luks_open.specs.Order.{IsOrMemory, Tries, entry_at, entry_of, held_of, order_of, skipped_at, tried_alone}
+use Rattle.luks_open.specs.Order.{IsOrMemory, OrderModel, entry_at, entry_of, key_areas_end, order_of, skipped_at, tried_alone}
 use Rattle.luks_open.specs.Order.{tries_of_all, tries_of_named, unless_none, usable_at, where_usable}
 use Rattle.luks_open.specs.declared.entry.Entry.{Entry}
 use Rattle.luks_open.specs.declared.fault.OpenFault.{OpenFault}
@@ -87,22 +87,22 @@ usable_at-some header limit priority number entry is = of_verdict (verdict_at he
     of_verdict (Some (Usable slot)) v h = of_test slot v (slot.parts.priority == priority) h
 
 -- what is tried where no key slot is named
-tries-unless_none : (entries : List Entry) (skipped : List (ℕ × SkipReason)) (tries : Tries)
+tries-unless_none : (entries : List Entry) (skipped : List (ℕ × SkipReason)) (tries : OrderModel)
     → unless_none entries skipped ≡ Ok tries → entries ≡ tries.slots
 tries-unless_none [] skipped tries is = absurd cc
 tries-unless_none (entry ∷ entries) skipped tries is =
-    let same : record { slots = entry ∷ entries; skipped = skipped } ≡ tries = cc in ap (λ (t : Tries). t.slots) same
+    let same : record { slots = entry ∷ entries; skipped = skipped } ≡ tries = cc in ap (λ (t : OrderModel). t.slots) same
 
 -- all that is tried is of the header
-pub All-tries : (header : Header) (named limit : Option ℕ) (tries : Tries) → order_of header named limit ≡ Ok tries
+pub All-tries : (header : Header) (named limit : Option ℕ) (tries : OrderModel) → order_of header named limit ≡ Ok tries
     → AllByRecursion (IsOf header limit) tries.slots
 unfolding order_of tries_of_all
 All-tries header None limit tries is =
     subst (AllByRecursion (IsOf header limit))
-    (tries-unless_none _ (rising (skipped_at header limit) most_slots) tries is)
+    (tries-unless_none _ (ascending (skipped_at header limit) max_slots) tries is)
     (AllByRecursion-append (IsOf header limit) _ _
-    (All-rising (IsOf header limit) (usable_at header limit 2) most_slots (usable_at-some header limit 2))
-    (All-rising (IsOf header limit) (usable_at header limit 1) most_slots (usable_at-some header limit 1)))
+    (All-rising (IsOf header limit) (usable_at header limit 2) max_slots (usable_at-some header limit 2))
+    (All-rising (IsOf header limit) (usable_at header limit 1) max_slots (usable_at-some header limit 1)))
 All-tries header (Some number) limit tries is = of_verdict (verdict_at header limit number) refl is
   where
     of_entry : (slot : Slot) → verdict_at header limit number ≡ Some (Usable slot) → (entry : Option Entry)
@@ -111,7 +111,7 @@ All-tries header (Some number) limit tries is = of_verdict (verdict_at header li
     of_entry slot v None e h = absurd cc
     of_entry slot v (Some entry) e h =
         let same : record { slots = entry ∷ []; skipped = [] } ≡ tries = cc in
-        subst (λ (t : Tries). AllByRecursion (IsOf header limit) t.slots) same
+        subst (λ (t : OrderModel). AllByRecursion (IsOf header limit) t.slots) same
         (usable_entry header limit number slot entry v e, tt)
 
     of_verdict : (verdict : Option Verdict) → verdict_at header limit number ≡ verdict
@@ -156,7 +156,7 @@ named_open header limit priority number is =
     named_tried header limit number usable.0 usable.1
 
 -- and it alone is tried
-pub named_alone : (entry : Option Entry) (verdict : Option Verdict) (priority : ℕ) (answer : Result Tries OpenFault)
+pub named_alone : (entry : Option Entry) (verdict : Option Verdict) (priority : ℕ) (answer : Result OrderModel OpenFault)
     → option_map judgement_of verdict ≡ Some (Open priority)
     → IsOrMemory (tried_alone entry) answer → IsOrMemory (tries_of_named entry verdict) answer
 named_alone entry verdict priority answer is alone =
@@ -167,30 +167,30 @@ named_alone entry verdict priority answer is alone =
 
 -- what ends there one by one ends there together, and the other way round
 pub held_of-le : (most : ℕ) (entries : List Entry)
-    → AllByRecursion (λ (entry : Entry). end_of entry.slot ≤ most) entries → held_of entries ≤ most
-unfolding held_of
+    → AllByRecursion (λ (entry : Entry). material_end entry.slot ≤ most) entries → key_areas_end entries ≤ most
+unfolding key_areas_end
 held_of-le most [] all = omega arith
 held_of-le most (entry ∷ entries) all = omega (arith, held_of-le most entries all.1, all.0)
 
-pub All-held_of : (most : ℕ) (entries : List Entry) → held_of entries ≤ most
-    → AllByRecursion (λ (entry : Entry). end_of entry.slot ≤ most) entries
-unfolding held_of
+pub All-held_of : (most : ℕ) (entries : List Entry) → key_areas_end entries ≤ most
+    → AllByRecursion (λ (entry : Entry). material_end entry.slot ≤ most) entries
+unfolding key_areas_end
 All-held_of most [] all = tt
 All-held_of most (entry ∷ entries) all = (omega arith, All-held_of most entries (omega arith))
 
 -- key material that can be used ends within what can be held of an image
-pub held_of-within : (entries : List Entry) → held_of entries ≤ longest_area
-unfolding held_of
+pub held_of-within : (entries : List Entry) → key_areas_end entries ≤ max_area_len
+unfolding key_areas_end
 held_of-within [] = omega arith
 held_of-within (entry ∷ entries) = omega (arith, held_of-within entries, entry.slot.in_range.held)
 
 -- one key slot after the other
 pub held_of-drop : (entries : List Entry) (i : ℕ) (entry : Entry) → i < length entries → entry ≡ get_or entries i entry
-    → held_of (drop i entries) ≡ max (end_of entry.slot) (held_of (drop (i + 1) entries))
-unfolding held_of
+    → key_areas_end (drop i entries) ≡ max (material_end entry.slot) (key_areas_end (drop (i + 1) entries))
+unfolding key_areas_end
 held_of-drop entries i entry there is =
-    ap held_of (drop_more entries i entry there) ∙ ap (λ (e : Entry). held_of (e ∷ drop (i + 1) entries)) (sym is)
+    ap key_areas_end (drop_more entries i entry there) ∙ ap (λ (e : Entry). key_areas_end (e ∷ drop (i + 1) entries)) (sym is)
 
-pub held_of-nil : held_of [] ≡ 0
-unfolding held_of
+pub held_of-nil : key_areas_end [] ≡ 0
+unfolding key_areas_end
 held_of-nil = refl

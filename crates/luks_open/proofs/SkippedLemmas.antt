@@ -4,11 +4,11 @@ use Rattle.std.proofs.Common.{sym, append_assoc, arith, length-append}
 use Rattle.std.proofs.Math.Seq.{set-append_seam}
 use Rattle.std.proofs.lemmas.List.{length-replicate, take_more_set}
 use Rattle.luks_verdict.specs.declared.refusal.SkipReason.{SkipReason}
-use Rattle.luks_open.specs.Skipped.{IsFilled, nothing}
+use Rattle.luks_open.specs.Skipped.{IsPadded, nothing}
 
-pub filled_more : (places : List (ℕ × SkipReason)) (taken : ℕ) (entry : ℕ × SkipReason) → IsFilled places taken
+pub filled_more : (places : List (ℕ × SkipReason)) (taken : ℕ) (entry : ℕ × SkipReason) → IsPadded places taken
     → taken < 32
-    → IsFilled (set places taken entry) (taken + 1)
+    → IsPadded (set places taken entry) (taken + 1)
 filled_more places taken entry filled room =
     let front = take taken places in
     let rest = replicate (32 - (taken + 1)) nothing in

@@ -4,26 +4,26 @@ use Rattle.std.specs.List.{All, AllByRecursion}
 use Rattle.std.proofs.lemmas.List.Elements.{All-from_recursion}
 use Rattle.luks_cipher.proofs.ModeLemmas.{key_length_of_mode}
 use Rattle.luks_cipher.specs.Sector.{is_mode_key_length}
-use Rattle.luks_verdict.specs.Slot.{end_of}
+use Rattle.luks_verdict.specs.Slot.{material_end}
 use Rattle.luks_verdict.specs.declared.segment.Segment.{Segment}
 use Rattle.luks_header.specs.Segment.{segment_of}
 use Rattle.luks_header.specs.declared.header.Header.{Header}
 use Rattle.luks_header.proofs.KnownLemmas.{known_usable}
-use Rattle.luks_open.specs.Order.{Tries, held_of, order_of}
+use Rattle.luks_open.specs.Order.{OrderModel, key_areas_end, order_of}
 use Rattle.luks_open.specs.Trial.{IsTriable}
 use Rattle.luks_open.specs.declared.entry.Entry.{Entry}
 use Rattle.luks_open.proofs.OrderLemmas.{All-held_of, All-tries, IsOf}
 
 -- the key slots that are tried can be, where their key material is held
-pub All-IsTriable : (header : Header) (segment : Segment) (named limit : Option ℕ) (tries : Tries) (held : ℕ)
+pub All-IsTriable : (header : Header) (segment : Segment) (named limit : Option ℕ) (tries : OrderModel) (held : ℕ)
     → segment_of header ≡ Ok segment
-    → order_of header named limit ≡ Ok tries → held_of tries.slots ≤ held
+    → order_of header named limit ≡ Ok tries → key_areas_end tries.slots ≤ held
     → All (λ (entry : Entry). IsTriable held entry.slot) tries.slots
 All-IsTriable header segment named limit tries held is_segment is_order there =
     All-from_recursion (λ (entry : Entry). IsTriable held entry.slot) tries.slots
     (of_entries tries.slots (All-tries header named limit tries is_order) (All-held_of held tries.slots there))
   where
-    of_entry : (entry : Entry) → IsOf header limit entry → end_of entry.slot ≤ held → IsTriable held entry.slot
+    of_entry : (entry : Entry) → IsOf header limit entry → material_end entry.slot ≤ held → IsTriable held entry.slot
     of_entry entry is ends =
         let known = known_usable header segment limit entry.number entry.slot is_segment is.usable in
         record {
@@ -35,13 +35,13 @@ All-IsTriable header segment named limit tries held is_segment is_order there =
         }
 
     of_entries : (entries : List Entry) → AllByRecursion (IsOf header limit) entries
-        → AllByRecursion (λ (entry : Entry). end_of entry.slot ≤ held) entries
+        → AllByRecursion (λ (entry : Entry). material_end entry.slot ≤ held) entries
         → AllByRecursion (λ (entry : Entry). IsTriable held entry.slot) entries
     of_entries [] all ends = tt
     of_entries (entry ∷ entries) all ends = (of_entry entry all.0 ends.0, of_entries entries all.1 ends.1)
 
 -- and their volume keys have lengths of the segment's mode
-pub All-volume_key : (header : Header) (segment : Segment) (named limit : Option ℕ) (tries : Tries)
+pub All-volume_key : (header : Header) (segment : Segment) (named limit : Option ℕ) (tries : OrderModel)
     → segment_of header ≡ Ok segment → order_of header named limit ≡ Ok tries
     → All (λ (entry : Entry). is_mode_key_length segment.mode entry.slot.parts.key_bytes ≡ true) tries.slots
 All-volume_key header segment named limit tries is_segment is_order =

@@ -19,13 +19,13 @@ abbrev pub material_sector : Cipher → List ℕ → ℕ → ℕ → List ℕ
 material_sector cipher image offset i = sector_decrypted cipher.0 cipher.1 i (at (offset + 512 * i) 512 image)
 
 -- the first `need` bytes of key material from `offset` on, decrypted. They are whole sectors
-unfoldable pub material_of : Cipher → List ℕ → ℕ → ℕ → List ℕ
-material_of cipher image offset need = joined (material_sector cipher image offset) (need / 512)
+unfoldable pub decrypted_material : Cipher → List ℕ → ℕ → ℕ → List ℕ
+decrypted_material cipher image offset need = joined (material_sector cipher image offset) (need / 512)
 
 -- the key that key material holds: its first stripes, of `key_bytes` bytes each, merged
 unfoldable pub unlocked : Hash → Cipher → List ℕ → ℕ → ℕ → ℕ → List ℕ
 unlocked af cipher image offset key_bytes stripes =
-    merged af key_bytes (take (key_bytes * stripes) (material_of cipher image offset (need_of key_bytes stripes)))
+    merged af key_bytes (take (key_bytes * stripes) (decrypted_material cipher image offset (need_of key_bytes stripes)))
 
 -- the key that a key slot's material holds under a passphrase, by these hash functions and in this mode
 abbrev pub candidate_by : Option Hash → Option Hash → Option Mode → SlotParts → List ℕ → List ℕ → Option (List ℕ)
@@ -47,6 +47,6 @@ meets_by (Some hash) digest key =
     bytes_eq (derived_key hash key digest.salt digest.iterations (length digest.value)) digest.value
 meets_by None digest key = false
 
--- the key meets the digest
-unfoldable pub meets : KeyDigest → List ℕ → Bool
-meets digest key = meets_by digest.hash digest key
+-- the key matches_digest the digest
+unfoldable pub matches_digest : KeyDigest → List ℕ → Bool
+matches_digest digest key = meets_by digest.hash digest key

@@ -2,25 +2,25 @@
 use Rattle.std.specs.Prelude.{ℕ, ◌+◌, ◌*◌, sum_by, if◌then◌else◌, List, [], ◌∷◌, Option, Some, None, Result, Ok, Err}
 use Rattle.std.specs.Prelude.{length, is_some}
 use Rattle.std.specs.Int.{div_ceil}
-use Rattle.luks_kdf.specs.Hash.{size_of}
+use Rattle.luks_kdf.specs.Hash.{digest_len}
 use Rattle.luks_kdf.specs.declared.hash.Hash.{Hash}
 use Rattle.luks_verdict.specs.declared.digest.KeyDigest.{KeyDigest}
 use Rattle.luks_verdict.specs.declared.refusal.SkipReason.{SkipReason}
-use Rattle.luks_open.specs.Candidate.{candidate_of, meets}
-use Rattle.luks_open.specs.Order.{Tries}
+use Rattle.luks_open.specs.Candidate.{candidate_of, matches_digest}
+use Rattle.luks_open.specs.Order.{OrderModel}
 use Rattle.luks_open.specs.declared.entry.Entry.{Entry}
 use Rattle.luks_open.specs.declared.fault.OpenFault.{OpenFault}
 use Rattle.luks_open.specs.declared.fault.OpenFault.TheVariants.{NoKey}
 use Rattle.luks_open.specs.declared.opening.Opened.{Opened}
 
--- a candidate that meets the digest is the volume key
+-- a candidate that matches_digest the digest is the volume key
 abbrev pub if_meets : KeyDigest → Option (List ℕ) → Option (List ℕ)
 if_meets digest None = None
-if_meets digest (Some key) = if meets digest key then Some key else None
+if_meets digest (Some key) = if matches_digest digest key then Some key else None
 
 -- the volume key that a key slot gives under a passphrase, where it opens
-unfoldable pub key_of : Entry → List ℕ → List ℕ → Option (List ℕ)
-key_of entry image pass = if_meets entry.digest (candidate_of entry.slot image pass)
+unfoldable pub slot_key : Entry → List ℕ → List ℕ → Option (List ℕ)
+slot_key entry image pass = if_meets entry.digest (candidate_of entry.slot image pass)
 
 -- a key slot that opens, or else what is found further on
 abbrev pub opened_or : ℕ → Option (List ℕ) → Option Opened → Option Opened
@@ -31,7 +31,7 @@ opened_or number None further = further
 unfoldable pub first_opening : List Entry → List ℕ → List ℕ → Option Opened
 first_opening [] image pass = None
 first_opening (entry ∷ entries) image pass =
-    opened_or entry.number (key_of entry image pass) (first_opening entries image pass)
+    opened_or entry.number (slot_key entry image pass) (first_opening entries image pass)
 
 -- what is opened, where something is
 abbrev pub answer_of : Option Opened → List (ℕ × SkipReason) → Result Opened OpenFault
@@ -39,12 +39,12 @@ answer_of (Some opened) skipped = Ok opened
 answer_of None skipped = Err (NoKey skipped)
 
 -- what a passphrase opens: the first of the key slots that are tried
-unfoldable pub opening_of : Tries → List ℕ → List ℕ → Result Opened OpenFault
+unfoldable pub opening_of : OrderModel → List ℕ → List ℕ → Result Opened OpenFault
 opening_of tries image pass = answer_of (first_opening tries.slots image pass) tries.skipped
 
 -- the evaluations of HMAC by which PBKDF2 gives so many bytes
 abbrev pub evaluations : Option Hash → ℕ → ℕ → ℕ
-evaluations (Some hash) iterations bytes = iterations * div_ceil bytes (size_of hash)
+evaluations (Some hash) iterations bytes = iterations * div_ceil bytes (digest_len hash)
 evaluations None iterations bytes = 0
 
 -- those that a trial of a key slot takes: for the key of its key material, and for the digest of the candidate
@@ -57,8 +57,8 @@ evaluations_of entry =
 unfoldable pub tried_of : List Entry → List ℕ → List ℕ → List Entry
 tried_of [] image pass = []
 tried_of (entry ∷ entries) image pass = entry
-    ∷ (if is_some (key_of entry image pass) then [] else tried_of entries image pass)
+    ∷ (if is_some (slot_key entry image pass) then [] else tried_of entries image pass)
 
 -- the evaluations of HMAC that opening takes: those of all key slots that are tried
-unfoldable pub work_of : Tries → List ℕ → List ℕ → ℕ
+unfoldable pub work_of : OrderModel → List ℕ → List ℕ → ℕ
 work_of tries image pass = sum_by evaluations_of (tried_of tries.slots image pass)

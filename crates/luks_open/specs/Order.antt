@@ -1,9 +1,9 @@
 -- Which key slots are tried, and in which order.
 use Rattle.std.specs.Prelude.{◌≡◌, ℕ, ◌==◌, ◌⊎◌, max, MatchResult, if◌then◌else◌, List, [], ◌∷◌, ◌++◌, Option, Some}
 use Rattle.std.specs.Prelude.{None, Result, Ok, Err}
-use Rattle.luks_verdict.specs.Rule.{most_slots}
-use Rattle.luks_verdict.specs.Slot.{end_of}
-use Rattle.luks_verdict.specs.Table.{rising}
+use Rattle.luks_verdict.specs.Rule.{max_slots}
+use Rattle.luks_verdict.specs.Slot.{material_end}
+use Rattle.luks_verdict.specs.Table.{ascending}
 use Rattle.luks_verdict.specs.declared.digest.KeyDigest.{KeyDigest}
 use Rattle.luks_verdict.specs.declared.refusal.SkipReason.{SkipReason}
 use Rattle.luks_verdict.specs.declared.refusal.SkipReason.TheVariants.{Digest}
@@ -20,10 +20,10 @@ use Rattle.luks_open.specs.declared.fault.OpenFault.TheVariants.{NoSuchSlot, Dis
 use Rattle.luks_open.specs.declared.fault.OpenFault.TheVariants.{Memory}
 
 -- what is tried
-pub record Tries : Type 0 where
+pub record OrderModel : Type 0 where
   -- the key slots with their numbers and digests, in the order in which they are tried
   pub slots : List Entry
-  -- the key slots that were skipped, by rising number; empty where a key slot was named
+  -- the key slots that were skipped, by ascending number; empty where a key slot was named
   pub skipped : List (ℕ × SkipReason)
 
 -- what is tried of a key slot, where there is a digest
@@ -57,30 +57,30 @@ abbrev pub skipped_at : Header → Option ℕ → ℕ → Option (ℕ × SkipRea
 skipped_at header limit number = where_skipped number (verdict_at header limit number)
 
 -- these key slots are tried, where there are any
-abbrev pub unless_none : List Entry → List (ℕ × SkipReason) → Result Tries OpenFault
+abbrev pub unless_none : List Entry → List (ℕ × SkipReason) → Result OrderModel OpenFault
 unless_none [] skipped = Err (NothingTried skipped)
 unless_none (entry ∷ entries) skipped = Ok record { slots = entry ∷ entries; skipped = skipped }
 
--- no key slot is named: those of priority 2 are tried, then those of priority 1, each by rising number
-unfoldable pub tries_of_all : Header → Option ℕ → Result Tries OpenFault
+-- no key slot is named: those of priority 2 are tried, then those of priority 1, each by ascending number
+unfoldable pub tries_of_all : Header → Option ℕ → Result OrderModel OpenFault
 tries_of_all header limit =
-    unless_none (rising (usable_at header limit 2) most_slots ++ rising (usable_at header limit 1) most_slots)
-    (rising (skipped_at header limit) most_slots)
+    unless_none (ascending (usable_at header limit 2) max_slots ++ ascending (usable_at header limit 1) max_slots)
+    (ascending (skipped_at header limit) max_slots)
 
 -- it is tried alone. (Where it can be tried, there is what it takes, and a digest.)
-abbrev pub tried_alone : Option Entry → Result Tries OpenFault
+abbrev pub tried_alone : Option Entry → Result OrderModel OpenFault
 tried_alone (Some entry) = Ok record { slots = entry ∷ []; skipped = [] }
 tried_alone None = Err (NamedSkipped Digest)
 
 -- a key slot is named, of which this became: it alone is tried, whatever its priority
-abbrev pub tries_of_named : Option Entry → Option Verdict → Result Tries OpenFault
+abbrev pub tries_of_named : Option Entry → Option Verdict → Result OrderModel OpenFault
 tries_of_named entry None = Err NoSuchSlot
 tries_of_named entry (Some (Usable slot)) = tried_alone entry
 tries_of_named entry (Some Unused) = Err Disabled
 tries_of_named entry (Some (Skipped reason)) = Err (NamedSkipped reason)
 
 -- what is tried of a header's key slots, by the key slot that is named and the limit on iterations, or why nothing is
-unfoldable pub order_of : Header → Option ℕ → Option ℕ → Result Tries OpenFault
+unfoldable pub order_of : Header → Option ℕ → Option ℕ → Result OrderModel OpenFault
 order_of header None limit = tries_of_all header limit
 order_of header (Some named) limit = tries_of_named (entry_at header named) (verdict_at header limit named)
 
@@ -90,6 +90,6 @@ IsOrMemory stated answer =
     MatchResult answer (λ value. stated ≡ Ok value) (λ fault. (fault ≡ Memory) ⊎ (stated ≡ Err fault))
 
 -- where the key material ends of all these key slots
-unfoldable pub held_of : List Entry → ℕ
-held_of [] = 0
-held_of (entry ∷ entries) = max (end_of entry.slot) (held_of entries)
+unfoldable pub key_areas_end : List Entry → ℕ
+key_areas_end [] = 0
+key_areas_end (entry ∷ entries) = max (material_end entry.slot) (key_areas_end entries)

@@ -9,19 +9,19 @@ abbrev pub nothing : ℕ × SkipReason
 nothing = (0, State)
 
 -- the places that hold a list
-abbrev pub filled_up : List (ℕ × SkipReason) → List (ℕ × SkipReason)
-filled_up slots = slots ++ replicate (32 - length slots) nothing
+abbrev pub padded_to_32 : List (ℕ × SkipReason) → List (ℕ × SkipReason)
+padded_to_32 slots = slots ++ replicate (32 - length slots) nothing
 
 -- so many of the 32 places are taken, and nothing stands in the others
-pub record IsFilled (places : List (ℕ × SkipReason)) (taken : ℕ) : Type 0 where
+pub record IsPadded (places : List (ℕ × SkipReason)) (taken : ℕ) : Type 0 where
   pub room : taken ≤ 32
   pub there : length (take taken places) ≡ taken
   pub others : places ≡ take taken places ++ replicate (32 - taken) nothing
 
 -- the places that hold the list of those that are taken are the same
 pub filled_up_again : {T : Type 0} (make : List (ℕ × SkipReason) → ℕ → T) (places : List (ℕ × SkipReason)) (taken : ℕ)
-    → IsFilled places taken
-    → make (filled_up (take taken places)) (length (take taken places)) ≡ make places taken
+    → IsPadded places taken
+    → make (padded_to_32 (take taken places)) (length (take taken places)) ≡ make places taken
 filled_up_again make places taken filled =
     ap (λ n. make (take taken places ++ replicate (32 - n) nothing) n) filled.there
     ∙ ap (λ all. make all taken) (sym filled.others)

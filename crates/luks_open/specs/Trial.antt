@@ -3,7 +3,7 @@ use Rattle.std.specs.Prelude.{◌≡◌, ℕ, ◌≤◌, true, Some}
 use Rattle.luks_cipher.specs.Sector.{is_key_length, is_mode_key_length}
 use Rattle.luks_cipher.specs.declared.mode.Mode.{Mode}
 use Rattle.luks_kdf.specs.declared.hash.Hash.{Hash}
-use Rattle.luks_verdict.specs.Slot.{end_of}
+use Rattle.luks_verdict.specs.Slot.{material_end}
 use Rattle.luks_verdict.specs.declared.slot.Slot.{Slot}
 
 -- the hash functions and the mode of a key slot are known ones, its keys have lengths that there are, that of the key
@@ -14,4 +14,4 @@ pub record IsTriable (held : ℕ) (slot : Slot) : Type 0 where
   pub volume_key : is_key_length slot.parts.key_bytes ≡ true
   pub area : (mode : Mode) × (slot.parts.area_mode ≡ Some mode)
       × (is_mode_key_length mode slot.parts.area_key_bytes ≡ true)
-  pub there : end_of slot ≤ held
+  pub there : material_end slot ≤ held

@@ -2,7 +2,7 @@
 
 ghost use Rattle.std.specs.Prelude.{◌≡◌, ◌+◌, length};
 ghost use Rattle.luks_kdf.specs.Pbkdf2.{capped};
-ghost use Rattle.luks_open.specs.Candidate.{meets};
+ghost use Rattle.luks_open.specs.Candidate.{matches_digest};
 ghost use Rattle.luks_open.specs.Opening.{evaluations};
 
 use crate::key::Key;
@@ -10,9 +10,9 @@ use luks_header::digest::KeyDigest;
 use luks_kdf::Work;
 
 /// Whether PBKDF2 of the key gives the digest's whole value.
-#[tactic(auto, unfolding(crate::specs::Candidate::meets))]
+#[tactic(auto, unfolding(crate::specs::Candidate::matches_digest))]
 pub(crate) fn is_met(digest: &KeyDigest, key: &[u8], work: &mut Work) -> bool
-    ensures value { result ≡ meets digest.now key.now }
+    ensures value { result ≡ matches_digest digest.now key.now }
     ensures work { work.new ≡ capped (work.old
         + evaluations digest.now.hash digest.now.iterations (length digest.now.value)) }
 {

@@ -3,7 +3,7 @@
 ghost use Rattle.std.specs.Prelude.{◌≡◌, ◌+◌, ◌*◌, ◌≤◌, List, ℕ, true, length, take};
 ghost use Rattle.std.specs.Int.{div_ceil};
 ghost use Rattle.luks_cipher.specs.Sector.{is_key_length};
-ghost use Rattle.luks_kdf.specs.Hash.{size_of};
+ghost use Rattle.luks_kdf.specs.Hash.{digest_len};
 ghost use Rattle.luks_kdf.specs.Pbkdf2.{capped, derived_key};
 ghost use Rattle.luks_verdict.specs.Rule.{most_stripes, need_of};
 ghost use Rattle.luks_open.specs.Candidate.{unlocked};
@@ -49,7 +49,7 @@ impl Key {
         requires some { 1 ≤ length self.old }
         ensures key { self.new ≡ derived_key hash secret.now salt.now iterations (length self.old) }
         ensures work { work.new ≡ capped (work.old
-            + iterations * div_ceil (length self.old) (size_of hash)) }
+            + iterations * div_ceil (length self.old) (digest_len hash)) }
     {
         let len = self.len;
         let bytes = &mut self.bytes[..len];
@@ -83,7 +83,7 @@ impl Key {
         requires some { 1 ≤ len }
         requires room { len ≤ 64 }
         ensures key { result ≡ derived_key hash secret.now salt.now iterations len }
-        ensures work { work.new ≡ capped (work.old + iterations * div_ceil len (size_of hash)) }
+        ensures work { work.new ≡ capped (work.old + iterations * div_ceil len (digest_len hash)) }
     {
         let mut key = Key::blank(len);
         key.derive(hash, secret, salt, iterations, work);

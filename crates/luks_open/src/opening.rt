@@ -8,9 +8,9 @@ ghost use Rattle.luks_kdf.specs.Pbkdf2.{capped};
 ghost use Rattle.luks_header.specs.Segment.{segment_of};
 ghost use Rattle.luks_verdict.specs.declared.segment.Segment.{Segment};
 ghost use Rattle.luks_open.specs.Candidate.{candidate_of};
-ghost use Rattle.luks_open.specs.Opening.{evaluations, evaluations_of, first_opening, key_of};
+ghost use Rattle.luks_open.specs.Opening.{evaluations, evaluations_of, first_opening, slot_key};
 ghost use Rattle.luks_open.specs.Opening.{opening_of, tried_of, work_of};
-ghost use Rattle.luks_open.specs.Order.{held_of, order_of};
+ghost use Rattle.luks_open.specs.Order.{key_areas_end, order_of};
 ghost use Rattle.luks_open.specs.Trial.{IsTriable};
 
 use crate::digest::is_met;
@@ -66,10 +66,10 @@ fn candidate(slot: &Slot, image: &[u8], pass: &[u8], work: &mut Work) -> Option<
 }
 
 // The volume key that a key slot gives under a passphrase.
-#[tactic(auto, unfolding(crate::specs::Opening::key_of, crate::specs::Opening::evaluations_of))]
+#[tactic(auto, unfolding(crate::specs::Opening::slot_key, crate::specs::Opening::evaluations_of))]
 fn key(entry: &Entry, image: &[u8], pass: &[u8], work: &mut Work) -> Option<Key>
     requires { IsTriable (length image.now) entry.now.slot }
-    ensures value { result ≡ key_of entry.now image.now pass.now }
+    ensures value { result ≡ slot_key entry.now image.now pass.now }
     ensures work { work.new ≡ capped (work.old + evaluations_of entry.now) }
     ensures len { IfSome result (λ key. length key ≡ entry.now.slot.parts.key_bytes) }
 {
@@ -123,7 +123,7 @@ pub fn open(
     // material.
     requires order { (named limit : Option ℕ) × (order_of header.now named limit ≡ Ok order.now) }
     requires segment { (segment : Segment) × (segment_of header.now ≡ Ok segment) }
-    requires held { held_of order.now.slots ≤ length area.now }
+    requires held { key_areas_end order.now.slots ≤ length area.now }
     ensures value { result ≡ opening_of order.now area.now pass.now }
     ensures work { work.new ≡ capped (work.old + work_of order.now area.now pass.now) }
     ensures key_length { (segment : Segment) → segment_of header.now ≡ Ok segment

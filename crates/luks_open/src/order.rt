@@ -2,8 +2,8 @@
 
 ghost use Rattle.std.specs.Prelude.{◌≡◌, ◌++◌, Err, IfOk, IsOk, IsSome, OnOk, OnErr, option_map};
 ghost use Rattle.std.specs.Prelude.{[], ◌∷◌, ◌≤◌, length};
-ghost use Rattle.luks_verdict.specs.Rule.{most_slots};
-ghost use Rattle.luks_verdict.specs.Table.{rising};
+ghost use Rattle.luks_verdict.specs.Rule.{max_slots};
+ghost use Rattle.luks_verdict.specs.Table.{ascending};
 ghost use Rattle.luks_open.specs.Order.{IsOrMemory, order_of, skipped_at, entry_at, tried_alone};
 ghost use Rattle.luks_open.specs.Order.{tries_of_all, tries_of_named, usable_at};
 ghost use Rattle.luks_header.specs.Slot.{verdict_at};
@@ -44,9 +44,9 @@ fn push_usable(
     priority: u8,
 ) -> Result<(), AllocError>
     ensures ok { OnOk result (entries.new.items
-        ≡ entries.old.items ++ rising (usable_at header.now limit priority) most_slots) }
+        ≡ entries.old.items ++ ascending (usable_at header.now limit priority) max_slots) }
     ensures err { OnErr result (1
-        ≤ length (rising (usable_at header.now limit priority) most_slots)) }
+        ≤ length (ascending (usable_at header.now limit priority) max_slots)) }
 {
     for number in 0..MOST_SLOTS {
         if let Some(entry) = usable(alloc, header, limit, priority, number)? {
@@ -68,7 +68,7 @@ fn skip_reason(header: &Header, limit: Option<u32>, number: u8) -> Option<SkipRe
 
 // The key slots that are skipped.
 fn skipped(header: &Header, limit: Option<u32>) -> SkippedSlots
-    ensures { result ≡ rising (skipped_at header.now limit) most_slots }
+    ensures { result ≡ ascending (skipped_at header.now limit) max_slots }
 {
     let mut skipped = SkippedSlots::new();
     for number in 0..MOST_SLOTS {

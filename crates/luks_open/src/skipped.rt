@@ -22,15 +22,15 @@ pub struct SkippedSlots {
 impl Model for SkippedSlots {
     ghost use Rattle.std.specs.Prelude.{List, ℕ, take, length};
     ghost use Rattle.luks_verdict.specs.declared.refusal.SkipReason.{SkipReason};
-    ghost use Rattle.luks_open.specs.Skipped.{IsFilled, filled_up, filled_up_again};
+    ghost use Rattle.luks_open.specs.Skipped.{IsPadded, padded_to_32, filled_up_again};
 
     ghost Value = { List (ℕ × SkipReason) };
 
     ghost view = { λ s. take s.taken s.places };
 
-    ghost invariant = { λ s. IsFilled s.places s.taken };
+    ghost invariant = { λ s. IsPadded s.places s.taken };
 
-    ghost inverse = { λ slots. record { places = filled_up slots; taken = length slots } };
+    ghost inverse = { λ slots. record { places = padded_to_32 slots; taken = length slots } };
 
     ghost inverse_ok = { λ s filled.
         filled_up_again (λ places taken. record { places = places; taken = taken })

@@ -1,8 +1,8 @@
 //! What is tried.
 
 ghost use Rattle.std.specs.Prelude.{◌≡◌, ◌≤◌};
-ghost use Rattle.luks_area.specs.Area.{longest_area};
-ghost use Rattle.luks_open.specs.Order.{held_of};
+ghost use Rattle.luks_area.specs.Area.{max_area_len};
+ghost use Rattle.luks_open.specs.Order.{key_areas_end};
 
 pub use crate::entry::Entry;
 use crate::skipped::SkippedSlots;
@@ -18,9 +18,9 @@ pub struct Order {
 }
 
 impl Model for Order {
-    ghost use Rattle.luks_open.specs.Order.{Tries};
+    ghost use Rattle.luks_open.specs.Order.{OrderModel};
 
-    ghost Value = { Tries };
+    ghost Value = { OrderModel };
 
     ghost view = { λ order. record { slots = order.entries.items; skipped = order.skipped } };
 }
@@ -51,8 +51,8 @@ impl Order {
 /// How many of the image's first bytes have to be held to try these key slots: up to the end of the
 /// key material that ends last.
 pub fn held_end(order: &Order) -> usize
-    ensures value { result ≡ held_of order.now.slots }
-    ensures within { result ≤ longest_area }
+    ensures value { result ≡ key_areas_end order.now.slots }
+    ensures within { result ≤ max_area_len }
 {
     let mut end = 0;
     for entry in order.entries() {

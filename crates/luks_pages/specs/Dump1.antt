@@ -28,13 +28,13 @@ abbrev pub slot_text : KeySlot → List ℕ
 slot_text slot = state_text slot slot.state
 
 -- the line of the key slot of this number
-unfoldable pub slot_line : ℕ → KeySlot → List ℕ
-slot_line number slot = field (codes "Slot " ++ decimal number) (slot_text slot)
+unfoldable pub slot1_line : ℕ → KeySlot → List ℕ
+slot1_line number slot = field (codes "Slot " ++ decimal number) (slot_text slot)
 
 -- the lines of key slots, the first of which has this number
-unfoldable pub slot_lines : ℕ → List KeySlot → List ℕ
-slot_lines number [] = []
-slot_lines number (slot ∷ slots) = slot_line number slot ++ slot_lines (suc number) slots
+unfoldable pub slot1_lines : ℕ → List KeySlot → List ℕ
+slot1_lines number [] = []
+slot1_lines number (slot ∷ slots) = slot1_line number slot ++ slot1_lines (suc number) slots
 
 -- the lines from the version to the hash
 unfoldable pub text_lines : Header1 → List ℕ
@@ -55,7 +55,7 @@ number_lines h =
 
 -- the dump of a header
 unfoldable pub dump1_of : Header1 → List ℕ
-dump1_of h = text_lines h ++ number_lines h ++ slot_lines 0 h.slots
+dump1_of h = text_lines h ++ number_lines h ++ slot1_lines 0 h.slots
 
 -- the line with the UUID alone
 unfoldable pub uuid_line : Header1 → List ℕ

@@ -3,9 +3,9 @@ use Rattle.std.specs.Prelude.{ℕ, ◌∷◌, ◌++◌, [], zero, suc, List, Opt
 use Rattle.std.specs.Prelude.{length}
 use Rattle.std.specs.Fmt.{decimal}
 use Rattle.luks_cipher.specs.Sector.{mode_name}
-use Rattle.luks_kdf.specs.Hash.{name_of}
+use Rattle.luks_kdf.specs.Hash.{hash_name}
 use Rattle.luks_kdf.specs.declared.hash.Hash.{Hash}
-use Rattle.luks_verdict.specs.Rule.{most_slots}
+use Rattle.luks_verdict.specs.Rule.{max_slots}
 use Rattle.luks_verdict.specs.SectorSize.{bytes_of}
 use Rattle.luks_verdict.specs.SegmentFault.{fault_text}
 use Rattle.luks_verdict.specs.SkipReason.{reason_text}
@@ -48,14 +48,14 @@ text_lines h =
     field (codes "UUID") (escaped h.uuid)
     ++ field (codes "Label") (escaped h.label)
     ++ field (codes "Subsystem") (escaped h.subsystem)
-    ++ field (codes "Checksum") (name_of h.hash)
+    ++ field (codes "Checksum") (hash_name h.hash)
 
 -- ---- key slots
 
 -- the name of a hash function. (That of a LUKS2 key slot or digest that can be used is always known.)
 abbrev pub hash_text : Option Hash → List ℕ
 hash_text None = []
-hash_text (Some hash) = name_of hash
+hash_text (Some hash) = hash_name hash
 
 -- what is said of a key slot that can be tried: the hash function and the iterations of its key, and where its area
 -- lies in bytes
@@ -72,9 +72,9 @@ verdict_text Disabled = codes "DISABLED"
 verdict_text (Skipped reason) = codes "SKIPPED " ++ reason_text reason
 
 -- the line of the key slot of a number, where there is one
-abbrev pub slot_line : ℕ → Option Verdict → List ℕ
-slot_line number None = []
-slot_line number (Some verdict) = field (codes "Slot " ++ decimal number) (verdict_text verdict)
+abbrev pub slot2_line : ℕ → Option Verdict → List ℕ
+slot2_line number None = []
+slot2_line number (Some verdict) = field (codes "Slot " ++ decimal number) (verdict_text verdict)
 
 -- what is said of the numbers below n, by rising number
 unfoldable pub lines_below : (ℕ → List ℕ) → ℕ → List ℕ
@@ -83,11 +83,11 @@ lines_below line (suc n) = lines_below line n ++ line n
 
 -- the line of the key slot of a number, in a header with these bounds. Iterations have no limit here
 abbrev pub slot_line_at : Data → Bounds → ℕ → List ℕ
-slot_line_at tree bounds number = slot_line number (verdict2_at tree bounds None number)
+slot_line_at tree bounds number = slot2_line number (verdict2_at tree bounds None number)
 
 -- the lines of the key slots
-unfoldable pub slot_lines : Data → Bounds → List ℕ
-slot_lines tree bounds = lines_below (slot_line_at tree bounds) most_slots
+unfoldable pub slot2_lines : Data → Bounds → List ℕ
+slot2_lines tree bounds = lines_below (slot_line_at tree bounds) max_slots
 
 -- ---- the segment
 
@@ -146,7 +146,7 @@ unfoldable pub dump2_of : Header2 → Data → List ℕ
 dump2_of h tree =
     place_lines h
     ++ text_lines h
-    ++ slot_lines tree (bounds2_of h)
+    ++ slot2_lines tree (bounds2_of h)
     ++ segment_line (segment2_of tree (bounds2_of h))
     ++ digest_lines (digests2_of tree)
 

@@ -10,8 +10,8 @@ abbrev pub page_of : List ℕ → List ℕ
 page_of findings = if length findings == 0 then codes "clean" ++ 10 ∷ [] else findings
 
 -- and how it ends
-abbrev pub message_of : List ℕ → Message
-message_of findings = if length findings == 0 then Done else Findings
+abbrev pub check_message : List ℕ → Message
+check_message findings = if length findings == 0 then Done else Findings
 
 -- what `luksCheck` prints of a header
 unfoldable pub check_of : Header → List ℕ
@@ -19,4 +19,4 @@ check_of header = page_of (findings_of header)
 
 -- how `luksCheck` of a header ends
 unfoldable pub message_for_check : Header → Message
-message_for_check header = message_of (findings_of header)
+message_for_check header = check_message (findings_of header)

@@ -13,9 +13,9 @@ use Rattle.luks_report.specs.declared.message.Message.TheVariants.{SlotSkipped, 
 use Rattle.luks_report.specs.declared.message.Message.TheVariants.{CutBeforePayload, Tail, Short, Findings}
 use Rattle.luks_command.specs.Usage.{usage_text}
 
--- a message on a line of its own
-abbrev pub line : List ℕ → List ℕ
-line text = codes "luksrd: " ++ text ++ 10 ∷ []
+-- a message on a message_line of its own
+abbrev pub message_line : List ℕ → List ℕ
+message_line text = codes "luksrd: " ++ text ++ 10 ∷ []
 
 -- a key slot that was skipped, and the reason
 abbrev pub skip_text : ℕ × SkipReason → List ℕ
@@ -25,7 +25,7 @@ skip_text (number, reason) = decimal number ++ codes " (" ++ reason_text reason 
 abbrev pub more_skips_text : List (ℕ × SkipReason) → List ℕ
 more_skips_text skips = flat_map (λ skip. codes ", " ++ skip_text skip) skips
 
--- what is said of the key slots that were skipped, at the end of a line
+-- what is said of the key slots that were skipped, at the end of a message_line
 abbrev pub skips_text : List (ℕ × SkipReason) → List ℕ
 skips_text [] = []
 skips_text (skip ∷ skips) = codes "; skipped: " ++ skip_text skip ++ more_skips_text skips
@@ -36,34 +36,34 @@ opened_line number = codes "Key slot " ++ decimal number ++ codes " opens the vo
 
 -- what is told of an input that does not open, by its name as it was given
 unfoldable pub not_opened_line : List ℕ → List ℕ
-not_opened_line name = line (codes "cannot open " ++ name)
+not_opened_line name = message_line (codes "cannot open " ++ name)
 
 -- what is printed
 abbrev pub line_of : Message → List ℕ
 line_of Done = []
 line_of No = []
 line_of Usage = usage_text
-line_of (SegmentRefused fault) = line (codes "segment refused: " ++ fault_text fault)
-line_of (NoSuchSlot slot) = line (codes "key slot " ++ decimal slot ++ codes " is not there")
-line_of (SlotDisabled slot) = line (codes "key slot " ++ decimal slot ++ codes " is disabled")
+line_of (SegmentRefused fault) = message_line (codes "segment refused: " ++ fault_text fault)
+line_of (NoSuchSlot slot) = message_line (codes "key slot " ++ decimal slot ++ codes " is not there")
+line_of (SlotDisabled slot) = message_line (codes "key slot " ++ decimal slot ++ codes " is disabled")
 line_of (SlotSkipped slot reason) =
-    line (codes "key slot " ++ decimal slot ++ codes " is skipped: " ++ reason_text reason)
-line_of (NothingTried skips) = line (codes "no key slot can be tried" ++ skips_text skips)
-line_of KeyFileLength = line (codes "key file is longer than 8388608 bytes")
-line_of (NoKey skips) = line (codes "no key opens the volume" ++ skips_text skips)
-line_of Findings = line (codes "the header has findings")
-line_of NotLuks = line (codes "not a LUKS image")
-line_of Cut = line (codes "image ends inside the header or a key area")
-line_of Json = line (codes "LUKS2 JSON area is not readable")
-line_of CutBeforePayload = line (codes "image ends before the payload")
-line_of (Tail bytes) = line (codes "image ends inside a sector: " ++ decimal bytes ++ codes " bytes left over")
-line_of (Short bytes) = line (codes "image ends " ++ decimal bytes ++ codes " bytes before the segment does")
-line_of KeyLength = line (codes "key must be 1 to 512 bytes")
-line_of FewRandomBytes = line (codes "random bytes are too few")
-line_of FewStripes = line (codes "stripes are too few")
-line_of OutOfMemory = line (codes "out of memory")
-line_of ReadFailed = line (codes "read failed")
-line_of WriteFailed = line (codes "write failed")
+    message_line (codes "key slot " ++ decimal slot ++ codes " is skipped: " ++ reason_text reason)
+line_of (NothingTried skips) = message_line (codes "no key slot can be tried" ++ skips_text skips)
+line_of KeyFileLength = message_line (codes "key file is longer than 8388608 bytes")
+line_of (NoKey skips) = message_line (codes "no key opens the volume" ++ skips_text skips)
+line_of Findings = message_line (codes "the header has findings")
+line_of NotLuks = message_line (codes "not a LUKS image")
+line_of Cut = message_line (codes "image ends inside the header or a key area")
+line_of Json = message_line (codes "LUKS2 JSON area is not readable")
+line_of CutBeforePayload = message_line (codes "image ends before the payload")
+line_of (Tail bytes) = message_line (codes "image ends inside a sector: " ++ decimal bytes ++ codes " bytes left over")
+line_of (Short bytes) = message_line (codes "image ends " ++ decimal bytes ++ codes " bytes before the segment does")
+line_of KeyLength = message_line (codes "key must be 1 to 512 bytes")
+line_of FewRandomBytes = message_line (codes "random bytes are too few")
+line_of FewStripes = message_line (codes "stripes are too few")
+line_of OutOfMemory = message_line (codes "out of memory")
+line_of ReadFailed = message_line (codes "read failed")
+line_of WriteFailed = message_line (codes "write failed")
 
 -- the exit status
 abbrev pub status_of : Message → ℕ

@@ -2,8 +2,8 @@
 
 ghost use Rattle.std.specs.Prelude.{◌≡◌, ◌+◌, ◌<◌, ◌≤◌, ◌++◌, OnOk, IfErr, codes, decimal, is_err};
 ghost use Rattle.std.specs.Prelude.{length, take};
-ghost use Rattle.luks_io.specs.Bytes.{Adds, counted};
-ghost use Rattle.luks_report.specs.Texts.{line, line_of, more_skips_text, skip_text, skips_text};
+ghost use Rattle.luks_io.specs.Bytes.{Appended, counted};
+ghost use Rattle.luks_report.specs.Texts.{message_line, line_of, more_skips_text, skip_text, skips_text};
 
 use crate::line::Line;
 use crate::message::Message;
@@ -17,9 +17,9 @@ impl Message {
     ///
     /// A [`WriteFault`] says how many of its bytes went out before a write failed.
     pub fn print<O: Sink>(&self, out: &mut O) -> Result<(), WriteFault>
-        ensures ok { OnOk result (Adds (O.written out.old) (O.written out.new) (line_of self.now)) }
+        ensures ok { OnOk result (Appended (O.written out.old) (O.written out.new) (line_of self.now)) }
         ensures err { IfErr result (λ fault. (fault.written < length (line_of self.now))
-            × Adds (O.written out.old) (O.written out.new)
+            × Appended (O.written out.old) (O.written out.new)
             (take fault.written (line_of self.now))) }
         ensures counts { O.failures out.new ≡ counted (is_err result) (O.failures out.old) }
     {
@@ -75,7 +75,7 @@ fn text(text: &str) -> Line
 // A line of two texts.
 fn sentence(text: &str, rest: &str) -> Line
     requires { length text.now + length rest.now ≤ 200 }
-    ensures { result ≡ line (text.now ++ rest.now) }
+    ensures { result ≡ message_line (text.now ++ rest.now) }
 {
     let mut whole = Line::new();
     whole.push("luksrd: ");
@@ -88,7 +88,7 @@ fn sentence(text: &str, rest: &str) -> Line
 // A line with a number of bytes.
 fn of_bytes(text: &str, bytes: u64, rest: &str) -> Line
     requires { length text.now + length rest.now ≤ 200 }
-    ensures { result ≡ line (text.now ++ decimal bytes ++ rest.now) }
+    ensures { result ≡ message_line (text.now ++ decimal bytes ++ rest.now) }
 {
     let mut whole = Line::new();
     whole.push("luksrd: ");
@@ -102,7 +102,7 @@ fn of_bytes(text: &str, bytes: u64, rest: &str) -> Line
 // A line on a key slot.
 fn on_slot(slot: u8, text: &str, rest: &str) -> Line
     requires { length text.now + length rest.now ≤ 200 }
-    ensures { result ≡ line (codes "key slot " ++ decimal slot ++ text.now ++ rest.now) }
+    ensures { result ≡ message_line (codes "key slot " ++ decimal slot ++ text.now ++ rest.now) }
 {
     let mut whole = Line::new();
     whole.push("luksrd: key slot ");
@@ -116,7 +116,7 @@ fn on_slot(slot: u8, text: &str, rest: &str) -> Line
 // A line that ends with the key slots that were skipped.
 fn with_skipped(text: &str, skipped: &SkippedSlots) -> Line
     requires { length text.now ≤ 100 }
-    ensures { result ≡ line (text.now ++ skips_text skipped.now) }
+    ensures { result ≡ message_line (text.now ++ skips_text skipped.now) }
 {
     let mut whole = Line::new();
     whole.push("luksrd: ");

@@ -14,12 +14,12 @@ abbrev pub number_of : List ℕ → Option ℕ
 number_of text = if is_number text then Some (digits_value 10 text) else None
 
 -- the number, where it is in the range
-abbrev pub within : ℕ → ℕ → ℕ → Option ℕ
-within least most n = if nat_le least n && nat_le n most then Some n else None
+abbrev pub if_within : ℕ → ℕ → ℕ → Option ℕ
+if_within least most n = if nat_le least n && nat_le n most then Some n else None
 
 -- the number of the range that the text writes
 abbrev pub number_within : ℕ → ℕ → List ℕ → Option ℕ
-number_within least most text = option_and_then (within least most) (number_of text)
+number_within least most text = option_and_then (if_within least most) (number_of text)
 
 -- the same of a text that may be left out, where the number may be left out too
 abbrev pub optional_within : ℕ → ℕ → Option (List ℕ) → Option (Option ℕ)

@@ -70,8 +70,8 @@ header_file_of (luks_cat o) = o.header
 header_file_of _ = None
 
 -- the header stands apart from the image
-abbrev pub is_detached : Request → Bool
-is_detached request = is_some (header_file_of request)
+abbrev pub has_header_file : Request → Bool
+has_header_file request = is_some (header_file_of request)
 
 -- the second input, where there is one: FILE of `--key-file` or `--random`
 abbrev pub secret_of : Request → Option Text
@@ -90,8 +90,8 @@ two_of a b c = (a && b) || ((a && c) || (b && c))
 
 -- at least two of IMAGE, FILE of `--header` and the second input, of those that there are, are standard input, which
 -- can be read once
-abbrev pub reads_standard_twice : Request → Bool
-reads_standard_twice request = two_of
+abbrev pub reuses_stdin : Request → Bool
+reuses_stdin request = two_of
     (is_standard (Some (image_of request)))
     (is_standard (header_file_of request))
     (is_standard (secret_of request))

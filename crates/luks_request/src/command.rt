@@ -1,8 +1,8 @@
 //! What luksrd can be asked for.
 
 ghost use Rattle.std.specs.Prelude.{◌≡◌, option_map};
-ghost use Rattle.luks_request.specs.Request.{header_file_of, image_of, is_detached, is_standard};
-ghost use Rattle.luks_request.specs.Request.{reads_standard_twice, request_of, secret_of};
+ghost use Rattle.luks_request.specs.Request.{header_file_of, image_of, has_header_file, is_standard};
+ghost use Rattle.luks_request.specs.Request.{reuses_stdin, request_of, secret_of};
 
 use crate::number::{IterationLimit, KeyBytes, SlotNumber, StripeCount};
 use luks_kdf::Hash;
@@ -114,7 +114,7 @@ impl<'a> Command<'a> {
 
     /// Whether the header stands apart from the image, in a file of its own.
     pub fn is_detached(&self) -> bool
-        ensures { result ≡ is_detached (request_of self.now) }
+        ensures { result ≡ has_header_file (request_of self.now) }
     {
         self.header().is_some()
     }
@@ -133,7 +133,7 @@ impl<'a> Command<'a> {
 
     /// Whether two of the inputs that there are would be standard input, which can be read once.
     pub fn reads_standard_twice(&self) -> bool
-        ensures { result ≡ reads_standard_twice (request_of self.now) }
+        ensures { result ≡ reuses_stdin (request_of self.now) }
     {
         let image = is_standard(Some(self.image()));
         let header = is_standard(self.header());

@@ -3,7 +3,7 @@
 ghost use Rattle.std.specs.Prelude.{◌≡◌, ◌≤◌, option_map};
 ghost use Rattle.std.specs.Char.{is_ascii_digit};
 ghost use Rattle.std.specs.List.{list_all};
-ghost use Rattle.luks_request.specs.Number.{is_number, number_of, number_within, within};
+ghost use Rattle.luks_request.specs.Number.{is_number, number_of, number_within, if_within};
 
 /// A number of stripes: 1 to 4000.
 #[derive(Clone, Copy, PartialEq, Eq, Debug)]
@@ -16,7 +16,7 @@ pub struct StripeCount {
 impl StripeCount {
     /// This number of stripes, or `None` where it is out of range.
     pub fn new(number: u64) -> Option<StripeCount>
-        ensures { option_map (λ stripes. stripes.count) result ≡ within 1 4000 number }
+        ensures { option_map (λ stripes. stripes.count) result ≡ if_within 1 4000 number }
     {
         if 1 <= number && number <= 4000 {
             Some(StripeCount {
@@ -53,7 +53,7 @@ pub struct KeyBytes {
 impl KeyBytes {
     /// This number of bytes, or `None` where it is out of range.
     pub fn new(number: u64) -> Option<KeyBytes>
-        ensures { option_map (λ key. key.bytes) result ≡ within 1 512 number }
+        ensures { option_map (λ key. key.bytes) result ≡ if_within 1 512 number }
     {
         if 1 <= number && number <= 512 {
             Some(KeyBytes {
@@ -90,7 +90,7 @@ pub struct SlotNumber {
 impl SlotNumber {
     /// The slot of this number, or `None` where it is out of range.
     pub fn new(number: u64) -> Option<SlotNumber>
-        ensures { option_map (λ slot. slot.number) result ≡ within 0 31 number }
+        ensures { option_map (λ slot. slot.number) result ≡ if_within 0 31 number }
     {
         if number <= 31 {
             Some(SlotNumber {
@@ -127,7 +127,7 @@ pub struct IterationLimit {
 impl IterationLimit {
     /// This limit, or `None` where it is out of range.
     pub fn new(number: u64) -> Option<IterationLimit>
-        ensures { option_map (λ limit. limit.iterations) result ≡ within 1 4294967295 number }
+        ensures { option_map (λ limit. limit.iterations) result ≡ if_within 1 4294967295 number }
     {
         if 1 <= number && number <= 4294967295 {
             Some(IterationLimit {

@@ -2,9 +2,9 @@
 use Rattle.std.specs.Prelude.{◌==◌}
 use Rattle.std.proofs.Common.{◌≡◌, ℕ, ◌≤◌, Bool, true, false, List, Option, Result, Ok, Err, refl}
 use Rattle.std.proofs.Common.{length, arith}
-use Rattle.luks_io.specs.Bytes.{Adds, Took, counted}
+use Rattle.luks_io.specs.Bytes.{Appended, ConsumedExactly, counted}
 use Rattle.luks_io.proofs.Taking.{adds-none}
-use Rattle.luks_header.specs.Header.{BreaksReading, cost_of, header_of}
+use Rattle.luks_header.specs.Header.{BreaksReading, header_read_len, header_of}
 use Rattle.luks_header.proofs.HeaderLemmas.{memory_below}
 use Rattle.luks_header.specs.declared.header.Header.{Header}
 use Rattle.luks_area.specs.declared.fault.HeaderFault.{HeaderFault}
@@ -14,9 +14,9 @@ use Rattle.luks_report.specs.declared.message.Message.{Message}
 use Rattle.luks_report.specs.declared.message.Message.TheVariants.{Done, OutOfMemory, ReadFailed, WriteFailed}
 use Rattle.luks_runs.specs.Header.{answer_to_is_luks}
 use Rattle.luks_report.specs.Faults.{message_for_header}
-use Rattle.luks_runs.specs.Ending.{Outcome, unwritten}
+use Rattle.luks_runs.specs.Ending.{Outcome, no_output}
 use Rattle.luks_runs.specs.MayEnd.{CheckMessage, PageMessage}
-use Rattle.luks_runs.specs.Header.{is_luks_outcome, print_outcome_by, text_of, told_of}
+use Rattle.luks_runs.specs.Header.{is_luks_outcome, print_outcome_by, printout_text, printout_message}
 use Rattle.luks_runs.specs.Printing.{Prints}
 use Rattle.luks_runs.specs.Standing.{reading_of}
 use Rattle.luks_runs.specs.declared.standing.Standing.{Standing}
@@ -24,13 +24,13 @@ use Rattle.luks_runs.proofs.HeaderTaking.{reading_fault}
 use Rattle.luks_runs.specs.declared.headers.Page.{Page}
 use Rattle.luks_runs.specs.declared.headers.Page.TheVariants.{Uuid, Dump, Check}
 use Rattle.luks_report.specs.Check.{check_of, findings_of, message_for_check}
-use Rattle.luks_runs.specs.Run.{Counts, IsBeginning, IsSilent, Runs, BreaksOff, TookNone, at_any_pace, failures_of}
-use Rattle.luks_runs.specs.Run.{is_failed_write}
+use Rattle.luks_runs.specs.Run.{Counts, IsPrefixLen, IsSilent, RunMatches, Aborted, TookNone, at_any_pace, failures_of}
+use Rattle.luks_runs.specs.Run.{is_run_write_failure}
 
 -- a run that ended before any output
 early : (o : Outcome) (image : List ℕ) (message : Message) (i w : Option (List ℕ)) (count : ℕ) → IsSilent message 0
-    → IsBeginning message 0 (length o.output) → count ≤ o.image_taken
-    → Took image i count → BreaksOff at_any_pace o message (Took image i) TookNone (Adds w w)
+    → IsPrefixLen message 0 (length o.output) → count ≤ o.image_taken
+    → ConsumedExactly image i count → Aborted at_any_pace o message (ConsumedExactly image i) TookNone (Appended w w)
 early o image message i w count silent begins few took = record {
   image_taken = count;
   secret_taken = 0;
@@ -46,7 +46,7 @@ early o image message i w count silent begins few took = record {
 }
 
 -- what is told once a page is printed is one of its messages
-pub told_may_end : (page : Page) (header : Header) → PageMessage page (told_of page header)
+pub told_may_end : (page : Page) (header : Header) → PageMessage page (printout_message page header)
 unfolding message_for_check
 told_may_end Uuid header = tt
 told_may_end Dump header = tt
@@ -56,19 +56,19 @@ told_may_end Check header = by (length (findings_of header) == 0) refl where
   by false is = rw is tt
 
 -- no write failed
-pub told_unfailed : (page : Page) (header : Header) → is_failed_write (told_of page header) ≡ false
+pub told_unfailed : (page : Page) (header : Header) → is_run_write_failure (printout_message page header) ≡ false
 unfolding message_for_check
 told_unfailed Uuid header = refl
 told_unfailed Dump header = refl
 told_unfailed Check header = by (length (findings_of header) == 0) refl where
-  by : (b : Bool) → (length (findings_of header) == 0) ≡ b → is_failed_write (message_for_check header) ≡ false
+  by : (b : Bool) → (length (findings_of header) == 0) ≡ b → is_run_write_failure (message_for_check header) ≡ false
   by true is = rw is refl
   by false is = rw is refl
 
 -- and its text was written
 pub told_prints : (page : Page) (header : Header) (text : List ℕ) (before after : Option (List ℕ))
-    → text ≡ text_of page header → Adds before after text
-    → Prints (text_of page header) (told_of page header) before after (told_of page header)
+    → text ≡ printout_text page header → Appended before after text
+    → Prints (printout_text page header) (printout_message page header) before after (printout_message page header)
 unfolding message_for_check
 told_prints Uuid header text before after is a = (refl, rw is at a)
 told_prints Dump header text before after is a = (refl, rw is at a)
@@ -81,7 +81,7 @@ told_prints Check header text before after is a = by (length (findings_of header
 -- the counts of a run that printed a text: only writes are counted
 pub printing_counts : (text : List ℕ) (told : Message) (before after : Option (List ℕ)) (message : Message)
     (image secret written written' : ℕ) → Prints text told before after message
-    → written' ≡ counted (is_failed_write message) written
+    → written' ≡ counted (is_run_write_failure message) written
     → Counts message (failures_of image secret written) (failures_of image secret written')
 printing_counts text told before after ReadFailed image secret written written' lost is = absurd lost
 printing_counts text told before after _ image secret written written' prints is = rw is refl
@@ -89,12 +89,12 @@ printing_counts text told before after _ image secret written written' prints is
 module _ (stand : Standing) (text : Header → List ℕ) (told : Header → Message) (image : List ℕ)
     (i w : Option (List ℕ)) where
   -- the header was read
-  module _ (header : Header) (found : reading_of stand image ≡ Ok header) (left : Took image i (cost_of image)) where
+  module _ (header : Header) (found : reading_of stand image ≡ Ok header) (left : ConsumedExactly image i (header_read_len image)) where
     print_found : print_outcome_by (reading_of stand) text told image
         ≡ record {
           output = text header;
           message = told header;
-          image_taken = cost_of image;
+          image_taken = header_read_len image;
           secret_taken = 0;
           payload_taken = 0;
         }
@@ -102,20 +102,20 @@ module _ (stand : Standing) (text : Header → List ℕ) (told : Header → Mess
     print_found = rw found refl
 
     -- memory was refused for its text
-    runs_without_text : Runs at_any_pace (print_outcome_by (reading_of stand) text told image) OutOfMemory
-        (Took image i) TookNone
-        (Adds w w)
+    runs_without_text : RunMatches at_any_pace (print_outcome_by (reading_of stand) text told image) OutOfMemory
+        (ConsumedExactly image i) TookNone
+        (Appended w w)
     runs_without_text =
-        rw print_found (early _ image OutOfMemory i w (cost_of image) refl (omega arith) (omega arith)
+        rw print_found (early _ image OutOfMemory i w (header_read_len image) refl (omega arith) (omega arith)
         (left))
 
     -- the page was printed, as far as it came
     pub runs_with_page : (message : Message) (w' : Option (List ℕ)) → Prints (text header) (told header) w w' message
-        → Runs at_any_pace (print_outcome_by (reading_of stand) text told image) message (Took image i) TookNone
-        (Adds w w')
+        → RunMatches at_any_pace (print_outcome_by (reading_of stand) text told image) message (ConsumedExactly image i) TookNone
+        (Appended w w')
     runs_with_page OutOfMemory w' same = rw same runs_without_text
     runs_with_page WriteFailed w' part = rw print_found (record {
-      image_taken = cost_of image;
+      image_taken = header_read_len image;
       secret_taken = 0;
       output_len = part.0;
       image_within = omega arith;
@@ -131,19 +131,19 @@ module _ (stand : Standing) (text : Header → List ℕ) (told : Header → Mess
     runs_with_page _ w' all =
         rw print_found (record { as_stated = all.0; image = left; secret = refl; output = all.1 })
 
-  print_cost : (print_outcome_by (reading_of stand) text told image).image_taken ≡ cost_of image
+  print_cost : (print_outcome_by (reading_of stand) text told image).image_taken ≡ header_read_len image
   unfolding print_outcome_by
   print_cost = refl
 
   print_none : (fault : HeaderFault) → header_of image ≡ Err fault
-      → print_outcome_by (reading_of stand) text told image ≡ unwritten (message_for_header fault) (cost_of image) 0
+      → print_outcome_by (reading_of stand) text told image ≡ no_output (message_for_header fault) (header_read_len image) 0
   unfolding print_outcome_by
   print_none fault found = rw (reading_fault stand image fault found) refl
 
   -- there was no header, or reading it failed
   pub runs_without_header : (ends ends' : ℕ) (fault : HeaderFault) → BreaksReading image i ends ends' fault
-      → Runs at_any_pace (print_outcome_by (reading_of stand) text told image) (message_for_header fault)
-      (Took image i) TookNone (Adds w w)
+      → RunMatches at_any_pace (print_outcome_by (reading_of stand) text told image) (message_for_header fault)
+      (ConsumedExactly image i) TookNone (Appended w w)
   runs_without_header ends ends' NoLuks stop =
       rw (print_none NoLuks stop.0) (record
       { as_stated = refl; image = stop.1.0; secret = refl; output = adds-none w })
@@ -161,26 +161,26 @@ module _ (stand : Standing) (text : Header → List ℕ) (told : Header → Mess
       early _ image OutOfMemory i w some.0 refl (omega arith) (omega (arith, some.1, print_cost)) some.2
 
 module _ (image : List ℕ) (i w : Option (List ℕ)) where
-  asked_cost : (is_luks_outcome image).image_taken ≡ cost_of image
+  asked_cost : (is_luks_outcome image).image_taken ≡ header_read_len image
   unfolding is_luks_outcome
   asked_cost = refl
 
   asked : (answer : Result Header HeaderFault) → header_of image ≡ answer
       → is_luks_outcome image
-      ≡ unwritten (answer_to_is_luks answer) (cost_of image) 0
+      ≡ no_output (answer_to_is_luks answer) (header_read_len image) 0
   unfolding is_luks_outcome
   asked answer found = rw found refl
 
   -- `isLuks` of an image with a header
-  pub is_luks_found : (header : Header) → header_of image ≡ Ok header → Took image i (cost_of image)
-      → Runs at_any_pace (is_luks_outcome image) Done (Took image i) TookNone (Adds w w)
+  pub is_luks_found : (header : Header) → header_of image ≡ Ok header → ConsumedExactly image i (header_read_len image)
+      → RunMatches at_any_pace (is_luks_outcome image) Done (ConsumedExactly image i) TookNone (Appended w w)
   is_luks_found header found left =
       rw (asked (Ok header) found) (record
       { as_stated = refl; image = left; secret = refl; output = adds-none w })
 
   -- `isLuks` of one without a header that can be read
   pub is_luks_refused : (ends ends' : ℕ) (fault : HeaderFault) → BreaksReading image i ends ends' fault
-      → Runs at_any_pace (is_luks_outcome image) (answer_to_is_luks (Err fault)) (Took image i) TookNone (Adds w w)
+      → RunMatches at_any_pace (is_luks_outcome image) (answer_to_is_luks (Err fault)) (ConsumedExactly image i) TookNone (Appended w w)
   is_luks_refused ends ends' NoLuks stop =
       rw (asked (Err NoLuks) stop.0) (record
       { as_stated = refl; image = stop.1.0; secret = refl; output = adds-none w })

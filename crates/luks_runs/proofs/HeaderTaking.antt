@@ -1,25 +1,25 @@
 -- What reading a header takes of an image.
 use Rattle.std.proofs.Common.{◌≡◌, ℕ, ◌≤◌, List, Option, Some, Err, Bool, true, false, refl, drop, length, arith}
-use Rattle.luks_io.specs.Bytes.{Took}
+use Rattle.luks_io.specs.Bytes.{ConsumedExactly}
 use Rattle.luks1_header.specs.Header1.{is_luks1}
 use Rattle.luks2_header.proofs.AbsentLemmas.{cost2_there}
-use Rattle.luks_header.specs.Header.{cost_of, header_of}
+use Rattle.luks_header.specs.Header.{header_read_len, header_of}
 use Rattle.luks_area.specs.declared.fault.HeaderFault.{HeaderFault}
 use Rattle.luks_runs.specs.Standing.{reading_of}
 use Rattle.luks_runs.specs.declared.standing.Standing.{Standing}
 use Rattle.luks_runs.specs.declared.standing.Standing.TheVariants.{Attached, Detached}
 
-pub cost_there : (image : List ℕ) → cost_of image ≤ length image
-unfolding cost_of
+pub cost_there : (image : List ℕ) → header_read_len image ≤ length image
+unfolding header_read_len
 cost_there image = by (is_luks1 image) refl
   where
-    by : (b : Bool) → is_luks1 image ≡ b → cost_of image ≤ length image
+    by : (b : Bool) → is_luks1 image ≡ b → header_read_len image ≤ length image
     by true is = rw is (omega arith)
     by false is = rw is (cost2_there image)
 
 -- the header was read
-pub took_header : (image : List ℕ) (left : Option (List ℕ)) → left ≡ Some (drop (cost_of image) image)
-    → Took image left (cost_of image)
+pub took_header : (image : List ℕ) (left : Option (List ℕ)) → left ≡ Some (drop (header_read_len image) image)
+    → ConsumedExactly image left (header_read_len image)
 took_header image left is = record { within = cost_there image; left = is }
 
 -- where no header is read, none is wherever it stands

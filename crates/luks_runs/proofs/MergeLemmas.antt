@@ -3,30 +3,30 @@ use Rattle.std.proofs.Common.{◌≡◌, ℕ, ◌+◌, ◌-◌, ◌*◌, ◌<◌
 use Rattle.std.proofs.Common.{Some, ◌∙◌, ap, sym, refl, take, drop, length, length-drop, arith, zero-mul}
 use Rattle.std.proofs.lemmas.List.{take-append-drop}
 use Rattle.luks_io.proofs.Taking.{adds-none, took-none, took_behind}
-use Rattle.luks_io.specs.Bytes.{Adds, Took, WhereKnown}
+use Rattle.luks_io.specs.Bytes.{Appended, ConsumedExactly, IfKnown}
 use Rattle.std.proofs.lemmas.Bool.Decides.{nat_tests}
 use Rattle.std.proofs.Math.Nat.{mul-le-mul_right}
 use Rattle.std.specs.Prelude.{nat_le}
 use Rattle.luks_kdf.specs.declared.hash.Hash.{Hash}
 use Rattle.luks_kdf.specs.Bytes.{xor}
-use Rattle.luks_stripes.specs.Stripes.{Chain, chain_after, chain_of, merged, stripe_at}
+use Rattle.luks_stripes.specs.Stripes.{AfSplitterModel, chain_after, chain_of, merged, stripe_at}
 use Rattle.luks_stripes.proofs.StripesLemmas.{chain_of-append, merged_by_number, stripe_at-append}
 use Rattle.luks_report.specs.declared.message.Message.{Message}
 use Rattle.luks_report.specs.declared.message.Message.TheVariants.{Done, FewStripes, ReadFailed, WriteFailed}
 use Rattle.luks_runs.specs.Stripe.{merge_outcome}
-use Rattle.luks_runs.specs.Run.{Runs, BreaksOff, Completes, TookNone, at_any_pace}
+use Rattle.luks_runs.specs.Run.{RunMatches, Aborted, Completed, TookNone, at_any_pace}
 use Rattle.luks_runs.specs.StripeParts.{StopsTaking}
 use Rattle.luks_runs.proofs.StripeLemmas.{is_stripe}
 
 -- before any byte is taken
-pub taken_none : (bytes : List ℕ) (s : Option (List ℕ)) (len : ℕ) → s ≡ Some bytes → Took bytes s (0 * len)
+pub taken_none : (bytes : List ℕ) (s : Option (List ℕ)) (len : ℕ) → s ≡ Some bytes → ConsumedExactly bytes s (0 * len)
 taken_none bytes s len is = rw zero-mul (took-none bytes s is)
 
-module _ (bytes : List ℕ) (i len : ℕ) (s : Option (List ℕ)) (p : Took bytes s (i * len)) where
+module _ (bytes : List ℕ) (i len : ℕ) (s : Option (List ℕ)) (p : ConsumedExactly bytes s (i * len)) where
   -- one whole stripe more
   pub stripe_more : (s' : Option (List ℕ)) (stripe : List ℕ)
-      → WhereKnown s (λ rest. (stripe ≡ take len rest) × Took rest s' len)
-      → Took bytes s' ((i + 1) * len) × (stripe ≡ stripe_at len bytes i)
+      → IfKnown s (λ rest. (stripe ≡ take len rest) × ConsumedExactly rest s' len)
+      → ConsumedExactly bytes s' ((i + 1) * len) × (stripe ≡ stripe_at len bytes i)
   stripe_more s' stripe t =
       let here = t (drop (i * len) bytes) p.left in
       let more : i * len + len ≡ (i + 1) * len = omega arith in
@@ -34,7 +34,7 @@ module _ (bytes : List ℕ) (i len : ℕ) (s : Option (List ℕ)) (p : Took byte
 
   -- the next one could not be taken
   pub stops_at : (count : ℕ) (message : Message) (s' : Option (List ℕ)) → (i + 1) * len ≤ count * len
-      → WhereKnown s (λ rest. StopsTaking 1 len rest s' message)
+      → IfKnown s (λ rest. StopsTaking 1 len rest s' message)
       → StopsTaking count len bytes s' message
   stops_at count FewStripes s' below stop =
       let rest = drop (i * len) bytes in
@@ -85,7 +85,7 @@ module _ (h : Hash) (count len : ℕ) (bytes : List ℕ) where
 -- the stripes were not all there, or a read of them failed
 pub runs_without_stripes : (h : Hash) (count len : ℕ) (bytes : List ℕ) (message : Message) (s w : Option (List ℕ))
     → StopsTaking count len bytes s message
-    → Runs at_any_pace (merge_outcome h count len bytes) message (Took bytes s) TookNone (Adds w w)
+    → RunMatches at_any_pace (merge_outcome h count len bytes) message (ConsumedExactly bytes s) TookNone (Appended w w)
 runs_without_stripes h count len bytes FewStripes s w stop =
     rw (stripes_few h count len bytes stop.0) (record
     { as_stated = refl; image = stop.1; secret = refl; output = adds-none w })
@@ -105,16 +105,16 @@ runs_without_stripes h count len bytes ReadFailed s w stop = record {
 runs_without_stripes h count len bytes _ s w stop = absurd stop
 
 module _ (h : Hash) (count len : ℕ) (bytes : List ℕ) (s w w' : Option (List ℕ)) (key : List ℕ)
-    (p : Took bytes s (count * len))
+    (p : ConsumedExactly bytes s (count * len))
     (key_is : key ≡ merged h len (take (count * len) bytes)) where
   -- the key was written
-  pub runs_to_end : Adds w w' key → Completes (merge_outcome h count len bytes) Done (Took bytes s) TookNone (Adds w w')
+  pub runs_to_end : Appended w w' key → Completed (merge_outcome h count len bytes) Done (ConsumedExactly bytes s) TookNone (Appended w w')
   runs_to_end a = rw (stripes_enough h count len bytes p.within, ← key_is)
       (record { as_stated = refl; image = p; secret = refl; output = a })
 
   -- a write failed within it
-  pub runs_without_key : (n : ℕ) → n < length key → Adds w w' (take n key)
-      → BreaksOff at_any_pace (merge_outcome h count len bytes) WriteFailed (Took bytes s) TookNone (Adds w w')
+  pub runs_without_key : (n : ℕ) → n < length key → Appended w w' (take n key)
+      → Aborted at_any_pace (merge_outcome h count len bytes) WriteFailed (ConsumedExactly bytes s) TookNone (Appended w w')
   runs_without_key n within a = rw (stripes_enough h count len bytes p.within, ← key_is) (record {
     image_taken = count * len;
     secret_taken = 0;
@@ -130,7 +130,7 @@ module _ (h : Hash) (count len : ℕ) (bytes : List ℕ) (s w w' : Option (List 
   })
 
 -- the key of stripes that were taken one at a time
-pub key_merged : (h : Hash) (count len : ℕ) (bytes : List ℕ) (splitter : Chain) (stripe key : List ℕ) → 1 ≤ len
+pub key_merged : (h : Hash) (count len : ℕ) (bytes : List ℕ) (splitter : AfSplitterModel) (stripe key : List ℕ) → 1 ≤ len
     → 1 ≤ count → count * len ≤ length bytes
     → splitter ≡ chain_after h len bytes (count - 1) → stripe ≡ stripe_at len bytes (count - 1)
     → key ≡ xor splitter.block stripe
@@ -149,6 +149,6 @@ key_merged h count len bytes splitter stripe key some one there chained next mad
     let same_stripe : stripe_at len bytes before ≡ stripe_at len front before =
     ap (λ l. stripe_at len l before) (sym joined)
     ∙ stripe_at-append len front (drop (count * len) bytes) before (omega arith) in
-    made ∙ ap (λ (s : Chain). xor s.block stripe) chained ∙ ap (λ d. xor d stripe) same_chain
+    made ∙ ap (λ (s : AfSplitterModel). xor s.block stripe) chained ∙ ap (λ d. xor d stripe) same_chain
     ∙ ap (xor (chain_of h len front before)) (next ∙ same_stripe)
     ∙ sym (merged_by_number h len front count some whole)

@@ -15,12 +15,12 @@ use Rattle.luks_verdict.specs.declared.sector_size.SectorSize.{SectorSize}
 use Rattle.luks_verdict.specs.declared.sector_size.SectorSize.TheVariants.{B512, B1024, B2048, B4096}
 use Rattle.luks_verdict.specs.declared.segment.Segment.{Segment}
 use Rattle.luks_io.proofs.Taking.{adds-more, adds-none}
-use Rattle.luks_io.specs.Bytes.{Adds, Took, counted}
-use Rattle.luks_volume.specs.Passing.{is_failed_read as is_lost, is_failed_write as is_unwritten}
-use Rattle.luks_volume.specs.Plain.{end_within, ending_of, payload_end_of, plain_of, sector_len, sector_of}
+use Rattle.luks_io.specs.Bytes.{Appended, ConsumedExactly, counted}
+use Rattle.luks_volume.specs.Passing.{is_pump_read_failure as is_lost, is_pump_write_failure as is_unwritten}
+use Rattle.luks_volume.specs.Plain.{end_within, ending_of, payload_end_of, plain_of, sector_len, sector_plaintext}
 use Rattle.luks_volume.specs.Plain.{sector_start, sectors_of, unit_plain, within_size}
-use Rattle.luks_volume.specs.Pumped.{Ends, Pumped, StandsIn, Steps, WritesSectors, after_step, place_in, position}
-use Rattle.luks_volume.specs.Pumped.{is_found_end, reach_of}
+use Rattle.luks_volume.specs.Pumped.{EndEffect, PumpModel, StandsIn, StepEffect, WritesSectors, after_step, next_offset, position}
+use Rattle.luks_volume.specs.Pumped.{hits_eof_at, consumed_by}
 use Rattle.luks_volume.specs.declared.fault.VolumeFault.{VolumeFault}
 use Rattle.luks_volume.specs.declared.fault.VolumeFault.TheVariants.{CutBeforePayload as IsCutBefore, Tail as HasTail}
 use Rattle.luks_volume.specs.declared.fault.VolumeFault.TheVariants.{Short as IsShort, Read, Write}
@@ -30,7 +30,7 @@ use Rattle.luks_volume.specs.declared.state.Step.{Step}
 use Rattle.luks_volume.specs.declared.state.Step.TheVariants.{Sector, End}
 use Rattle.luks_runs.specs.Payload.{FindsPayloadEnd, PassesPayload}
 use Rattle.luks_report.specs.Faults.{message_at_end, message_for_payload}
-use Rattle.luks_runs.specs.Run.{FindsEndOnce, is_failed_read, is_failed_write}
+use Rattle.luks_runs.specs.Run.{HitsEofOnce, is_run_read_failure, is_run_write_failure}
 use Rattle.luks_report.specs.declared.message.Message.{Message}
 use Rattle.luks_report.specs.declared.message.Message.TheVariants.{Done, OutOfMemory, ReadFailed, WriteFailed}
 
@@ -132,7 +132,7 @@ module _ (s : Segment) (image : List ℕ) where
       ≤ sectors_of s image * sector_len s = mul-le-mul_left (sectors_of s image) z.long in
       omega arith
 
-  sector_size : (cipher : Cipher) (i : ℕ) → i < sectors_of s image → length (sector_of s cipher image i) ≡ sector_len s
+  sector_size : (cipher : Cipher) (i : ℕ) → i < sectors_of s image → length (sector_plaintext s cipher image i) ≡ sector_len s
   sector_size cipher i below =
       let z = sector_blocks s.sector_size in
       let there = sector_there i below in
@@ -142,7 +142,7 @@ module _ (s : Segment) (image : List ℕ) where
       unit_len cipher _ _ (ap (λ n. n % 16) unit ∙ z.blocks) ∙ unit
 
   pub plain_len : (cipher : Cipher) → length (plain_of s cipher image) ≡ sectors_of s image * sector_len s
-  plain_len cipher = joined_length (sector_of s cipher image) (sector_len s) (sectors_of s image) (sector_size cipher)
+  plain_len cipher = joined_length (sector_plaintext s cipher image) (sector_len s) (sectors_of s image) (sector_size cipher)
 
 -- ---- a pump on its way
 
@@ -161,23 +161,23 @@ front_behind front image start z next = elim (cases_lt z (length front)) [
 ]
 
 -- a place up to a sector's start is not behind it, wherever a pump stands
-place_le : (state : State) (consumed start : ℕ) → consumed ≤ start → place_in state consumed start ≤ start
+place_le : (state : State) (consumed start : ℕ) → consumed ≤ start → next_offset state consumed start ≤ start
 place_le BeforePayload consumed start few = few
 place_le InPayload consumed start few = omega arith
 place_le Ended consumed start few = omega arith
 place_le (Faulted _) consumed start few = omega arith
 
 -- a pump stands in an image of which so many bytes were taken before, and the sectors that it has passed on are written
-pub record Passing (p : Pumped) (image : List ℕ) (held : ℕ) (left before after : Option (List ℕ)) : Type 0 where
+pub record Passing (p : PumpModel) (image : List ℕ) (held : ℕ) (left before after : Option (List ℕ)) : Type 0 where
   pub stands : StandsIn image p left
   pub early : p.consumed ≤ p.segment.offset
   pub bare : ((p.count ≡ 0) × (p.front ≡ [])) ⊎ (p.state ≡ InPayload)
-  pub reach : reach_of p ≡ max held (position p)
+  pub reach : consumed_by p ≡ max held (position p)
   pub few : p.count ≤ sectors_of p.segment image
-  pub wrote : Adds before after (joined (sector_of p.segment p.cipher image) p.count)
+  pub wrote : Appended before after (joined (sector_plaintext p.segment p.cipher image) p.count)
 
-pub passing_start : (p : Pumped) (image : List ℕ) (held : ℕ) (left w : Option (List ℕ)) → p.count ≡ 0
-    → p.consumed ≤ p.segment.offset → (p.front ≡ []) ⊎ (p.state ≡ InPayload) → reach_of p ≡ held
+pub passing_start : (p : PumpModel) (image : List ℕ) (held : ℕ) (left w : Option (List ℕ)) → p.count ≡ 0
+    → p.consumed ≤ p.segment.offset → (p.front ≡ []) ⊎ (p.state ≡ InPayload) → consumed_by p ≡ held
     → StandsIn image p left
     → Passing p image held left w w
 unfolding joined
@@ -190,7 +190,7 @@ passing_start p image held left w none early bare reach stands = record {
   wrote = rw none (adds-none w);
 }
 
-module _ (p : Pumped) (image : List ℕ) (held : ℕ) (l b w l' w' : Option (List ℕ)) (so_far : Passing p image held l b w)
+module _ (p : PumpModel) (image : List ℕ) (held : ℕ) (l b w l' w' : Option (List ℕ)) (so_far : Passing p image held l b w)
   where
     -- a pump does not stand behind its next sector
     place : position p ≤ sector_start p.segment p.count
@@ -202,7 +202,7 @@ module _ (p : Pumped) (image : List ℕ) (held : ℕ) (l b w l' w' : Option (Lis
     next_start = omega arith
 
     -- as many bytes were taken as before, or more: up to the end of the next sector
-    reached : max (reach_of p) (sector_start p.segment (p.count + 1)) ≡ max held (sector_start p.segment (p.count + 1))
+    reached : max (consumed_by p) (sector_start p.segment (p.count + 1)) ≡ max held (sector_start p.segment (p.count + 1))
     reached = omega (arith, so_far.reach, place, next_start)
 
     next_front : drop (sector_len p.segment) p.front
@@ -229,7 +229,7 @@ module _ (p : Pumped) (image : List ℕ) (held : ℕ) (l b w l' w' : Option (Lis
               omega (arith, next_start, less)
         ]
 
-    pub passing_more : Steps p.segment p.cipher p.count (reach_of p) image (Ok Sector) l' w w'
+    pub passing_more : StepEffect p.segment p.cipher p.count (consumed_by p) image (Ok Sector) l' w w'
         → Passing (after_step p (Ok Sector)) image held l' b w'
     unfolding joined
     passing_more step =
@@ -244,8 +244,8 @@ module _ (p : Pumped) (image : List ℕ) (held : ℕ) (l b w l' w' : Option (Lis
           reach = next_reach;
           few = omega (arith, taken.is_one);
           wrote = rw add-one
-              (adds-more b w w' (joined (sector_of p.segment p.cipher image) p.count)
-              (sector_of p.segment p.cipher image p.count) so_far.wrote step.1);
+              (adds-more b w w' (joined (sector_plaintext p.segment p.cipher image) p.count)
+              (sector_plaintext p.segment p.cipher image p.count) so_far.wrote step.1);
         }
 
     -- nor behind the payload's end
@@ -259,20 +259,20 @@ module _ (p : Pumped) (image : List ℕ) (held : ℕ) (l b w l' w' : Option (Lis
         (omega (arith, place)) (omega arith) (omega arith)
 
     -- the payload came to its stated end
-    ended : (answer : Result Step VolumeFault) → Ends image p.segment p.count (reach_of p) answer l' → w' ≡ w
+    ended : (answer : Result Step VolumeFault) → EndEffect image p.segment p.count (consumed_by p) answer l' → w' ≡ w
         → (message_at_end answer ≡ message_at_end (ending_of p.segment image))
-        × Took image l' (max held (payload_end_of p.segment image)) × Adds b w' (plain_of p.segment p.cipher image)
+        × ConsumedExactly image l' (max held (payload_end_of p.segment image)) × Appended b w' (plain_of p.segment p.cipher image)
     ended answer end same =
-        let all : max (reach_of p) (payload_end_of p.segment image) ≡ max held (payload_end_of p.segment image) =
+        let all : max (consumed_by p) (payload_end_of p.segment image) ≡ max held (payload_end_of p.segment image) =
         omega (arith, so_far.reach, place_in_end) in
         (ap message_at_end end.as_stated, rw all at end.took, rw (same, ← end.all) so_far.wrote)
 
-    pub passing_ends : Steps p.segment p.cipher p.count (reach_of p) image (Ok End) l' w w' → w' ≡ w
+    pub passing_ends : StepEffect p.segment p.cipher p.count (consumed_by p) image (Ok End) l' w w' → w' ≡ w
         → PassesPayload p.segment p.cipher image held l' b w' Done
     passing_ends step same = ended (Ok End) step same
 
     -- a read failed within the next sector
-    lost : Steps p.segment p.cipher p.count (reach_of p) image (Err Read) l' w w' → w' ≡ w
+    lost : StepEffect p.segment p.cipher p.count (consumed_by p) image (Err Read) l' w w' → w' ≡ w
         → PassesPayload p.segment p.cipher image held l' b w' (message_for_payload Read)
     lost step same =
         let z = sector_blocks p.segment.sector_size in
@@ -285,7 +285,7 @@ module _ (p : Pumped) (image : List ℕ) (held : ℕ) (l b w l' w' : Option (Lis
         ] in
         let row : (end - p.segment.offset) / sector_len p.segment
         ≡ p.count = div-eq_of_lt-le (sector_len p.segment) (omega arith) (omega (arith, step.2, z.long)) in
-        let whole = take_whole (sector_of p.segment p.cipher image) (sector_len p.segment) (sectors_of p.segment image)
+        let whole = take_whole (sector_plaintext p.segment p.cipher image) (sector_len p.segment) (sectors_of p.segment image)
         p.count (sector_size p.segment image p.cipher) so_far.few in (
           end,
           p.count,
@@ -297,13 +297,13 @@ module _ (p : Pumped) (image : List ℕ) (held : ℕ) (l b w l' w' : Option (Lis
         )
 
     -- a write failed within it
-    unwritten : Steps p.segment p.cipher p.count (reach_of p) image (Err Write) l' w w'
+    unwritten : StepEffect p.segment p.cipher p.count (consumed_by p) image (Err Write) l' w w'
         → PassesPayload p.segment p.cipher image held l' b w' (message_for_payload Write)
     unwritten step =
         let taken = step.0 in
         let written = step.1 in
         let few = written.1 in
-        let part = take_joined (sector_of p.segment p.cipher image) (sector_len p.segment) (sectors_of p.segment image)
+        let part = take_joined (sector_plaintext p.segment p.cipher image) (sector_len p.segment) (sectors_of p.segment image)
         p.count written.0 (sector_size p.segment image p.cipher) taken.is_one (omega arith) in (
           p.count,
           written.0,
@@ -311,13 +311,13 @@ module _ (p : Pumped) (image : List ℕ) (held : ℕ) (l b w l' w' : Option (Lis
           few,
           sector_before_end p.segment image p.count taken.is_one,
           rw reached at taken.took,
-          rw part (adds-more b w w' (joined (sector_of p.segment p.cipher image) p.count)
-              (take written.0 (sector_of p.segment p.cipher image p.count)) so_far.wrote written.2),
+          rw part (adds-more b w w' (joined (sector_plaintext p.segment p.cipher image) p.count)
+              (take written.0 (sector_plaintext p.segment p.cipher image p.count)) so_far.wrote written.2),
         )
 
     -- a step was not made
     pub passing_breaks : (fault : VolumeFault) (Same : Type 0) → (Same → w' ≡ w) → WritesSectors (Err fault) Same
-        → Steps p.segment p.cipher p.count (reach_of p) image (Err fault) l' w w'
+        → StepEffect p.segment p.cipher p.count (consumed_by p) image (Err fault) l' w w'
         → PassesPayload p.segment p.cipher image held l' b w' (message_for_payload fault)
     passing_breaks IsCutBefore Same same is step = ended (Err IsCutBefore) step (same is)
     passing_breaks (HasTail bytes) Same same is step = ended (Err (HasTail bytes)) step (same is)
@@ -348,21 +348,21 @@ module _ (held image : List ℕ) (offset : ℕ) (within : offset ≤ length held
 -- ---- counts of ends and of failures
 
 pub ends_are : (s : Segment) (count : ℕ) (fault : VolumeFault) (n n' : ℕ)
-    → n' ≡ counted (is_found_end s count (Err fault)) n → FindsPayloadEnd (message_for_payload fault) n n'
+    → n' ≡ counted (hits_eof_at s count (Err fault)) n → FindsPayloadEnd (message_for_payload fault) n n'
 ends_are s count IsCutBefore n n' is = is
 ends_are s count (HasTail bytes) n n' is = is
 ends_are s count (IsShort bytes) n n' is = is
 ends_are s count Read n n' is = is
 ends_are s count Write n n' is = is
 
-pub payload_ends_once : (message : Message) (n n' : ℕ) → FindsPayloadEnd message n n' → FindsEndOnce n n'
+pub payload_ends_once : (message : Message) (n n' : ℕ) → FindsPayloadEnd message n n' → HitsEofOnce n n'
 payload_ends_once Done n n' is = is
 payload_ends_once ReadFailed n n' is = (false, is)
 payload_ends_once WriteFailed n n' is = (false, is)
 payload_ends_once _ n n' is = (true, is)
 
 pub reads_are : (fault : VolumeFault) (n : ℕ)
-    → counted (is_lost {T = Step} (Err fault)) n ≡ counted (is_failed_read (message_for_payload fault)) n
+    → counted (is_lost {T = Step} (Err fault)) n ≡ counted (is_run_read_failure (message_for_payload fault)) n
 reads_are IsCutBefore n = refl
 reads_are (HasTail bytes) n = refl
 reads_are (IsShort bytes) n = refl
@@ -370,7 +370,7 @@ reads_are Read n = refl
 reads_are Write n = refl
 
 pub writes_are : (fault : VolumeFault) (n : ℕ)
-    → counted (is_unwritten {T = Step} (Err fault)) n ≡ counted (is_failed_write (message_for_payload fault)) n
+    → counted (is_unwritten {T = Step} (Err fault)) n ≡ counted (is_run_write_failure (message_for_payload fault)) n
 writes_are IsCutBefore n = refl
 writes_are (HasTail bytes) n = refl
 writes_are (IsShort bytes) n = refl

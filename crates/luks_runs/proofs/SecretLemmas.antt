@@ -3,16 +3,16 @@ use Rattle.std.proofs.Common.{◌≡◌, ℕ, ◌+◌, ◌<◌, ◌≤◌, ◌�
 use Rattle.std.proofs.Common.{length, take_all, length-drop, min, arith, true, false}
 use Rattle.std.proofs.Math.Seq.{take-add}
 use Rattle.luks_io.proofs.Taking.{took-all, took_behind, took_more}
-use Rattle.luks_io.specs.Bytes.{Took, TookUpTo, WhereKnown}
-use Rattle.luks_runs.specs.Run.{FindsEndOnce}
+use Rattle.luks_io.specs.Bytes.{ConsumedExactly, ConsumedAtMost, IfKnown}
+use Rattle.luks_runs.specs.Run.{HitsEofOnce}
 use Rattle.luks_runs.specs.Secret.{FindsSecretEnd, NoSecretRead, longest_key_file}
 use Rattle.luks_report.specs.declared.message.Message.{Message}
 use Rattle.luks_report.specs.declared.message.Message.TheVariants.{Done, OutOfMemory, ReadFailed}
 
-module _ (known : List ℕ) (n : ℕ) (s s' : Option (List ℕ)) (took : Took known s n) where
+module _ (known : List ℕ) (n : ℕ) (s s' : Option (List ℕ)) (took : ConsumedExactly known s n) where
   -- the next bytes stand behind those so far
-  pub piece_more : (items items' : List ℕ) (got : ℕ) → items ≡ take n known → WhereKnown s (λ rest. Took rest s' got)
-      → items' ≡ items ++ take got (drop n known) → (items' ≡ take (n + got) known) × Took known s' (n + got)
+  pub piece_more : (items items' : List ℕ) (got : ℕ) → items ≡ take n known → IfKnown s (λ rest. ConsumedExactly rest s' got)
+      → items' ≡ items ++ take got (drop n known) → (items' ≡ take (n + got) known) × ConsumedExactly known s' (n + got)
   piece_more items items' got so_far next is = (
     is ∙ ap (λ l. l ++ take got (drop n known)) so_far ∙ sym (take-add n got known),
     took_more known s s' n got took next,
@@ -20,9 +20,9 @@ module _ (known : List ℕ) (n : ℕ) (s s' : Option (List ℕ)) (took : Took kn
 
   -- they were fewer than there was room for, so they are the last
   pub piece_last : (items items' : List ℕ) (got size : ℕ) → items ≡ take n known
-      → WhereKnown s (λ rest. Took rest s' got)
+      → IfKnown s (λ rest. ConsumedExactly rest s' got)
       → items' ≡ items ++ take got (drop n known) → got ≡ min size (length (drop n known)) → got < size
-      → (items' ≡ known) × Took known s' (length known)
+      → (items' ≡ known) × ConsumedExactly known s' (length known)
   piece_last items items' got size so_far next is all short =
       let more = piece_more items items' got so_far next is in
       let whole : length known ≤ n + got = omega (arith, length-drop n known, all) in
@@ -30,17 +30,17 @@ module _ (known : List ℕ) (n : ℕ) (s s' : Option (List ℕ)) (took : Took kn
 
   -- a read failed within them, or memory was refused for them
   pub piece_lost : (size : ℕ) (message : Message) → n + size ≤ longest_key_file + 1
-      → WhereKnown s (λ rest. TookUpTo rest s' size) → (message ≡ OutOfMemory) ⊎ (message ≡ ReadFailed)
+      → IfKnown s (λ rest. ConsumedAtMost rest s' size) → (message ≡ OutOfMemory) ⊎ (message ≡ ReadFailed)
       → NoSecretRead known s' message
   piece_lost size message room lost why =
       let some = lost (drop n known) took.left in
       let all = took_behind known s s' n some.0 took some.2 in
-      let up : TookUpTo known s' (min (length known) (longest_key_file + 1)) =
+      let up : ConsumedAtMost known s' (min (length known) (longest_key_file + 1)) =
       (n + some.0, omega (arith, some.1, all.within), all) in
       elim why [ inl is ↦ rw is up | inr is ↦ rw is up ]
 
 -- however reading a key file ended
-pub secret_ends_once : (message : Message) (n n' : ℕ) → FindsSecretEnd message n n' → FindsEndOnce n n'
+pub secret_ends_once : (message : Message) (n n' : ℕ) → FindsSecretEnd message n n' → HitsEofOnce n n'
 secret_ends_once Done n n' is = (true, is)
 secret_ends_once OutOfMemory n n' is = is
 secret_ends_once _ n n' is = (false, is)

@@ -11,16 +11,16 @@ use Rattle.std.proofs.lemmas.Nat.{le-div}
 use Rattle.std.specs.Prelude.{◌&&◌, nat_lt, nat_le}
 use Rattle.luks_kdf.specs.declared.hash.Hash.{Hash}
 use Rattle.luks_kdf.specs.Bytes.{xor}
-use Rattle.luks_stripes.specs.Stripes.{Chain, chain_after, chain_of}
+use Rattle.luks_stripes.specs.Stripes.{AfSplitterModel, chain_after, chain_of}
 use Rattle.luks_stripes.proofs.StripesLemmas.{chain_of-append}
 use Rattle.luks_io.proofs.Taking.{adds-more, adds-none, took-none}
-use Rattle.luks_io.specs.Bytes.{Adds, Took}
+use Rattle.luks_io.specs.Bytes.{Appended, ConsumedExactly}
 use Rattle.luks_report.specs.declared.message.Message.{Message}
 use Rattle.luks_report.specs.declared.message.Message.TheVariants.{Done, KeyLength, FewRandomBytes, ReadFailed}
 use Rattle.luks_report.specs.declared.message.Message.TheVariants.{WriteFailed}
 use Rattle.luks_runs.specs.Ending.{Outcome}
 use Rattle.luks_runs.specs.Stripe.{split_key_outcome, split_outcome, stripes_of}
-use Rattle.luks_runs.specs.Run.{IsBeginning, IsSilent, Runs, BreaksOff, Completes}
+use Rattle.luks_runs.specs.Run.{IsPrefixLen, IsSilent, RunMatches, Aborted, Completed}
 use Rattle.luks_runs.specs.StripeParts.{NoKeyRead, Passed, StopsAtStripe, split_promptly}
 
 module _ (h : Hash) (count : ℕ) (key random : List ℕ) where
@@ -79,8 +79,8 @@ module _ (h : Hash) (count : ℕ) (key random : List ℕ) where
 -- the key was refused, or a read of it failed
 pub runs_without_key : (h : Hash) (count : ℕ) (key random : List ℕ) (message : Message) (k r w : Option (List ℕ))
     → NoKeyRead key k message → r ≡ Some random
-    → Runs (split_promptly (length key)) (split_outcome h count key random) message (Took key k) (Took random r)
-    (Adds w w)
+    → RunMatches (split_promptly (length key)) (split_outcome h count key random) message (ConsumedExactly key k) (ConsumedExactly random r)
+    (Appended w w)
 runs_without_key h count key random KeyLength k r w refused is =
     rw (key_refused h count key random refused.0) (record
     { as_stated = refl; image = refused.1; secret = took-none random r is; output = adds-none w })
@@ -140,7 +140,7 @@ may_pass h count key random j taken written some within there below fits few =
     ]
 
 module _ (h : Hash) (count : ℕ) (key random : List ℕ) (k r b w : Option (List ℕ)) (some : 1 ≤ length key)
-    (room : length key ≤ 512) (took : Took key k (length key)) where
+    (room : length key ≤ 512) (took : ConsumedExactly key k (length key)) where
   key_whole : length key ≤ (split_key_outcome h count key random).image_taken
   unfolding split_key_outcome
   key_whole = grind (arith, nat_tests)
@@ -148,10 +148,10 @@ module _ (h : Hash) (count : ℕ) (key random : List ℕ) (k r b w : Option (Lis
   -- the random bytes were taken and written so far
   broken : (message : Message) (taken written : ℕ) → IsSilent message written
       → MayPass (split_key_outcome h count key random) random taken written
-      → IsBeginning message written (length (split_key_outcome h count key random).output)
+      → IsPrefixLen message written (length (split_key_outcome h count key random).output)
       → split_promptly (length key) message (length key) taken written → Passed random r b w taken written
-      → BreaksOff (split_promptly (length key)) (split_outcome h count key random) message (Took key k) (Took random r)
-      (Adds b w)
+      → Aborted (split_promptly (length key)) (split_outcome h count key random) message (ConsumedExactly key k) (ConsumedExactly random r)
+      (Appended b w)
   broken message taken written silent may begins prompt p = rw (key_allowed h count key random some room) (record {
     image_taken = length key;
     secret_taken = taken;
@@ -168,8 +168,8 @@ module _ (h : Hash) (count : ℕ) (key random : List ℕ) (k r b w : Option (Lis
 
   -- the random stripes could not be passed on
   pub runs_without_stripes : (message : Message) → StopsAtStripe (count - 1) (length key) random r b w message
-      → Runs (split_promptly (length key)) (split_outcome h count key random) message (Took key k) (Took random r)
-      (Adds b w)
+      → RunMatches (split_promptly (length key)) (split_outcome h count key random) message (ConsumedExactly key k) (ConsumedExactly random r)
+      (Appended b w)
   runs_without_stripes FewRandomBytes stop =
       let below : stop.0 + 1 ≤ count - 1 = omega (arith, stop.1) in
       let span : (stop.0 + 1) * length key ≤ (count - 1) * length key = mul-le-mul_right (length key) below in
@@ -203,8 +203,8 @@ module _ (h : Hash) (count : ℕ) (key random : List ℕ) (k r b w : Option (Lis
       (last_is : last ≡ xor (chain_of h (length key) (take ((count - 1) * length key) random) (count - 1)) key)
       (w' : Option (List ℕ)) where
     -- the last stripe was written
-    pub runs_to_end : Adds w w' last
-        → Completes (split_outcome h count key random) Done (Took key k) (Took random r) (Adds b w')
+    pub runs_to_end : Appended w w' last
+        → Completed (split_outcome h count key random) Done (ConsumedExactly key k) (ConsumedExactly random r) (Appended b w')
     runs_to_end a =
         rw (key_allowed h count key random some room, random_enough h count key random p.took.within, ← last_is)
         (record {
@@ -215,9 +215,9 @@ module _ (h : Hash) (count : ℕ) (key random : List ℕ) (k r b w : Option (Lis
         })
 
     -- a write failed within it
-    pub runs_without_last : (n : ℕ) → n < length last → length last ≡ length key → Adds w w' (take n last)
-        → BreaksOff (split_promptly (length key)) (split_outcome h count key random) WriteFailed (Took key k)
-        (Took random r) (Adds b w')
+    pub runs_without_last : (n : ℕ) → n < length last → length last ≡ length key → Appended w w' (take n last)
+        → Aborted (split_promptly (length key)) (split_outcome h count key random) WriteFailed (ConsumedExactly key k)
+        (ConsumedExactly random r) (Appended b w')
     runs_without_last n within long a =
         let needed = (count - 1) * length key in
         let front = take needed random in
@@ -242,7 +242,7 @@ module _ (h : Hash) (count : ℕ) (key random : List ℕ) (k r b w : Option (Lis
         })
 
 -- the last stripe is made over the random stripes alone
-pub last_stripe : (h : Hash) (n : ℕ) (key random : List ℕ) (splitter : Chain)
+pub last_stripe : (h : Hash) (n : ℕ) (key random : List ℕ) (splitter : AfSplitterModel)
     → splitter ≡ chain_after h (length key) random n → n * length key ≤ length random
     → (last : List ℕ) → last ≡ xor splitter.block key
     → last ≡ xor (chain_of h (length key) (take (n * length key) random) n) key
@@ -252,4 +252,4 @@ last_stripe h n key random splitter is there last made =
     let same : chain_of h (length key) random n ≡ chain_of h (length key) front n =
     ap (λ l. chain_of h (length key) l n) (sym (take-append-drop (n * length key) random))
     ∙ chain_of-append h (length key) front (drop (n * length key) random) n (omega arith) in
-    made ∙ ap (λ (s : Chain). xor s.block key) is ∙ ap (λ d. xor d key) same
+    made ∙ ap (λ (s : AfSplitterModel). xor s.block key) is ∙ ap (λ d. xor d key) same

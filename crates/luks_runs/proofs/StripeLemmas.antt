@@ -3,7 +3,7 @@ use Rattle.std.proofs.Common.{◌≡◌, ℕ, ◌+◌, ◌*◌, ◌<◌, List, O
 use Rattle.std.proofs.Common.{length-drop, take-take, take_all, arith, zero-mul}
 use Rattle.std.proofs.Math.Seq.{take-add}
 use Rattle.luks_io.proofs.Taking.{adds-more, adds-none, took-none, took_behind}
-use Rattle.luks_io.specs.Bytes.{Adds, TookInto, WhereKnown}
+use Rattle.luks_io.specs.Bytes.{Appended, ConsumedInto, IfKnown}
 use Rattle.luks_stripes.specs.Stripes.{stripe_at}
 use Rattle.luks_runs.specs.StripeParts.{Passed, StopsAtStripe, StopsInStripe}
 use Rattle.luks_report.specs.declared.message.Message.{Message}
@@ -21,21 +21,21 @@ unfolding stripe_at
 is_stripe random i len stripe is = is
 
 -- a whole stripe was taken
-module _ (random : List ℕ) (r : Option (List ℕ)) (stripe : List ℕ) (t : TookInto random r stripe (length stripe)) where
+module _ (random : List ℕ) (r : Option (List ℕ)) (stripe : List ℕ) (t : ConsumedInto random r stripe (length stripe)) where
   pub is_next : stripe ≡ take (length stripe) random
   is_next = sym (take_all (length stripe) stripe (omega arith)) ∙ t.1
 
   -- and written
-  pub stripe_passed : (w w' : Option (List ℕ)) → Adds w w' stripe
+  pub stripe_passed : (w w' : Option (List ℕ)) → Appended w w' stripe
       → Passed random r w w' (length stripe) (length stripe)
-  stripe_passed w w' a = record { took = t.0; added = subst (Adds w w') is_next a }
+  stripe_passed w w' a = record { took = t.0; added = subst (Appended w w') is_next a }
 
   -- or a write failed within it
-  pub stripe_torn : (w w' : Option (List ℕ)) (n : ℕ) → n < length stripe → Adds w w' (take n stripe)
+  pub stripe_torn : (w w' : Option (List ℕ)) (n : ℕ) → n < length stripe → Appended w w' (take n stripe)
       → Passed random r w w' (length stripe) n
   stripe_torn w w' n few a = record {
     took = t.0;
-    added = subst (Adds w w') (ap (take n) is_next ∙ take-take n (length stripe) random (omega arith)) a;
+    added = subst (Appended w w') (ap (take n) is_next ∙ take-take n (length stripe) random (omega arith)) a;
   }
 
 module _ (random : List ℕ) (i len : ℕ) (r b w : Option (List ℕ)) (p : Passed random r b w (i * len) (i * len)) where
@@ -44,7 +44,7 @@ module _ (random : List ℕ) (i len : ℕ) (r b w : Option (List ℕ)) (p : Pass
       → Passed random r' b w' (i * len + n) (i * len + k)
   more_passed n k r' w' next = record {
     took = took_behind random r r' (i * len) n p.took next.took;
-    added = subst (Adds b w') (sym (take-add (i * len) k random))
+    added = subst (Appended b w') (sym (take-add (i * len) k random))
         (adds-more b w w' (take (i * len) random) (take k (drop (i * len) random)) p.added next.added);
   }
 
@@ -56,7 +56,7 @@ module _ (random : List ℕ) (i len : ℕ) (r b w : Option (List ℕ)) (p : Pass
 
   -- the next one could not be passed on
   pub stops_at : (count : ℕ) (message : Message) (r' w' : Option (List ℕ)) → i < count
-      → WhereKnown r (λ rest. StopsInStripe len rest r' w w' message)
+      → IfKnown r (λ rest. StopsInStripe len rest r' w w' message)
       → StopsAtStripe count len random r' b w' message
   stops_at count FewRandomBytes r' w' below stop =
       let rest = drop (i * len) random in

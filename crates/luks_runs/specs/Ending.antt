@@ -12,8 +12,8 @@ pub record Outcome : Type 0 where
   pub payload_taken : ℕ
 
 -- nothing is written
-abbrev pub unwritten : Message → ℕ → ℕ → Outcome
-unwritten message image_taken secret_taken = record {
+abbrev pub no_output : Message → ℕ → ℕ → Outcome
+no_output message image_taken secret_taken = record {
   output = [];
   message = message;
   image_taken = image_taken;

@@ -1,6 +1,6 @@
 -- What the commands on headers come to.
 use Rattle.std.specs.Prelude.{ℕ, List, [], Result, Ok, Err}
-use Rattle.luks_header.specs.Header.{cost_of, header_of}
+use Rattle.luks_header.specs.Header.{header_read_len, header_of}
 use Rattle.luks_header.specs.declared.header.Header.{Header}
 use Rattle.luks_area.specs.declared.fault.HeaderFault.{HeaderFault}
 use Rattle.luks_area.specs.declared.fault.HeaderFault.TheVariants.{NotLuks}
@@ -9,7 +9,7 @@ use Rattle.luks_report.specs.Dump.{dump_of, uuid_of}
 use Rattle.luks_report.specs.Faults.{message_for_header}
 use Rattle.luks_report.specs.declared.message.Message.{Message}
 use Rattle.luks_report.specs.declared.message.Message.TheVariants.{Done, No}
-use Rattle.luks_runs.specs.Ending.{Outcome, unwritten}
+use Rattle.luks_runs.specs.Ending.{Outcome, no_output}
 use Rattle.luks_runs.specs.Reading.{Reading}
 use Rattle.luks_runs.specs.declared.headers.Page.{Page}
 use Rattle.luks_runs.specs.declared.headers.Page.TheVariants.{Uuid, Dump, Check}
@@ -21,20 +21,20 @@ answer_to_is_luks (Err NotLuks) = No
 answer_to_is_luks (Err fault) = message_for_header fault
 
 -- the text of a page
-abbrev pub text_of : Page → Header → List ℕ
-text_of Uuid = uuid_of
-text_of Dump = dump_of
-text_of Check = check_of
+abbrev pub printout_text : Page → Header → List ℕ
+printout_text Uuid = uuid_of
+printout_text Dump = dump_of
+printout_text Check = check_of
 
 -- that it was printed is all that is told
-abbrev pub well : Header → Message
-well header = Done
+abbrev pub always_done : Header → Message
+always_done header = Done
 
 -- what is told once a page is printed
-abbrev pub told_of : Page → Header → Message
-told_of Uuid = well
-told_of Dump = well
-told_of Check = message_for_check
+abbrev pub printout_message : Page → Header → Message
+printout_message Uuid = always_done
+printout_message Dump = always_done
+printout_message Check = message_for_check
 
 -- what is printed of the header, if there is one
 abbrev pub printed : (Header → List ℕ) → Result Header HeaderFault → List ℕ
@@ -48,14 +48,14 @@ message_printing told (Err fault) = message_for_header fault
 
 -- `isLuks`: nothing is written
 unfoldable pub is_luks_outcome : List ℕ → Outcome
-is_luks_outcome image = unwritten (answer_to_is_luks (header_of image)) (cost_of image) 0
+is_luks_outcome image = no_output (answer_to_is_luks (header_of image)) (header_read_len image) 0
 
 -- a command that prints a text of a header that is read so
 unfoldable pub print_outcome_by : Reading → (Header → List ℕ) → (Header → Message) → List ℕ → Outcome
 print_outcome_by read text told image = record {
   output = printed text (read image);
   message = message_printing told (read image);
-  image_taken = cost_of image;
+  image_taken = header_read_len image;
   secret_taken = 0;
   payload_taken = 0;
 }

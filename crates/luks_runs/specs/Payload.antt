@@ -1,19 +1,19 @@
 -- What passing on a payload leaves in its devices.
 use Rattle.std.specs.Prelude.{◌≡◌, ℕ, ◌+◌, ◌-◌, ◌*◌, ◌/◌, ◌^◌, ◌<◌, ◌≤◌, List, length, max, take, Option}
 use Rattle.luks_cipher.specs.Sector.{Cipher}
-use Rattle.luks_io.specs.Bytes.{Adds, Took, greatest_count, raised}
+use Rattle.luks_io.specs.Bytes.{Appended, ConsumedExactly, max_count, saturating_inc}
 use Rattle.luks_verdict.specs.declared.segment.Segment.{Segment}
 use Rattle.luks_volume.specs.Plain.{end_within, ending_of, payload_end_of, plain_of, sector_len, sector_start}
 use Rattle.luks_volume.specs.Plain.{sectors_of}
 use Rattle.luks_report.specs.Faults.{message_at_end}
 use Rattle.luks_report.specs.declared.message.Message.{Message}
 use Rattle.luks_report.specs.declared.message.Message.TheVariants.{Done, ReadFailed, WriteFailed}
-use Rattle.luks_runs.specs.Run.{FindsEndOnce}
+use Rattle.luks_runs.specs.Run.{HitsEofOnce}
 
 -- how many bytes of an image, however long it is, are asked for at most to pass on a payload of this size from this
 -- offset on, where so many of the first ones are held: those behind them, up to the payload's end
 abbrev pub most_needed : Option ℕ → ℕ → ℕ → ℕ
-most_needed size offset held = end_within size offset greatest_count - held
+most_needed size offset held = end_within size offset max_count - held
 
 -- passing on the payload of an image, of which so many bytes were taken before, ended with this message: all of it was
 -- written and taken, or it was broken off within a sector
@@ -22,27 +22,27 @@ abbrev pub PassesPayload : Segment → Cipher → List ℕ → ℕ → Option (L
 PassesPayload s cipher image held left before after ReadFailed =
     (place : ℕ) × (count : ℕ) × (count ≡ (place - s.offset) / sector_len s) × (count ≤ sectors_of s image)
     × (place ≤ payload_end_of s image)
-    × Took image left place × Adds before after (take (count * sector_len s) (plain_of s cipher image))
+    × ConsumedExactly image left place × Appended before after (take (count * sector_len s) (plain_of s cipher image))
 PassesPayload s cipher image held left before after WriteFailed =
     (count : ℕ) × (written : ℕ) × (count < sectors_of s image) × (written < sector_len s)
     × (sector_start s (count + 1) ≤ payload_end_of s image)
-    × Took image left (max held (sector_start s (count + 1)))
-    × Adds before after (take (count * sector_len s + written) (plain_of s cipher image))
+    × ConsumedExactly image left (max held (sector_start s (count + 1)))
+    × Appended before after (take (count * sector_len s + written) (plain_of s cipher image))
 PassesPayload s cipher image held left before after message =
-    (message ≡ message_at_end (ending_of s image)) × Took image left (max held (payload_end_of s image))
-    × Adds before after (plain_of s cipher image)
+    (message ≡ message_at_end (ending_of s image)) × ConsumedExactly image left (max held (payload_end_of s image))
+    × Appended before after (plain_of s cipher image)
 
 -- the same of every image whose first bytes are these, which are held, and of which the source has the rest
 abbrev pub PassesHeld : Segment → Cipher → List ℕ → Option (List ℕ) → Option (List ℕ) → Option (List ℕ)
     → Option (List ℕ) → Message → Type 0
 PassesHeld s cipher held rest left before after message =
-    (image : List ℕ) → length image < 2 ^ 64 → held ≡ take (length held) image → Took image rest (length held)
+    (image : List ℕ) → length image < 2 ^ 64 → held ≡ take (length held) image → ConsumedExactly image rest (length held)
     → PassesPayload s cipher image (length held) left before after message
 
 -- how often passing on a payload found the end of the image: once where it is told that the image ended, not where a
 -- read or a write failed, and where all was well at most once, since a payload of fixed size may end before its image
 abbrev pub FindsPayloadEnd : Message → ℕ → ℕ → Type 0
-FindsPayloadEnd Done before after = FindsEndOnce before after
+FindsPayloadEnd Done before after = HitsEofOnce before after
 FindsPayloadEnd ReadFailed before after = after ≡ before
 FindsPayloadEnd WriteFailed before after = after ≡ before
-FindsPayloadEnd _ before after = after ≡ raised before
+FindsPayloadEnd _ before after = after ≡ saturating_inc before

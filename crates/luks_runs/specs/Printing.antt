@@ -1,6 +1,6 @@
 -- What printing a page leaves in the output.
 use Rattle.std.specs.Prelude.{◌≡◌, ℕ, ◌<◌, List, length, take, Option}
-use Rattle.luks_io.specs.Bytes.{Adds}
+use Rattle.luks_io.specs.Bytes.{Appended}
 use Rattle.luks_report.specs.declared.message.Message.{Message}
 use Rattle.luks_report.specs.declared.message.Message.TheVariants.{OutOfMemory, ReadFailed, WriteFailed}
 
@@ -8,6 +8,6 @@ use Rattle.luks_report.specs.declared.message.Message.TheVariants.{OutOfMemory, 
 -- within it, or all of it was written
 abbrev pub Prints : List ℕ → Message → Option (List ℕ) → Option (List ℕ) → Message → Type 0
 Prints text told before after OutOfMemory = after ≡ before
-Prints text told before after WriteFailed = (n : ℕ) × (n < length text) × Adds before after (take n text)
+Prints text told before after WriteFailed = (n : ℕ) × (n < length text) × Appended before after (take n text)
 Prints text told before after ReadFailed = ⊥
-Prints text told before after message = (message ≡ told) × Adds before after text
+Prints text told before after message = (message ≡ told) × Appended before after text

@@ -2,7 +2,7 @@
 -- run takes so many bytes of the image and of the second input, and writes these; what that means for a device is a
 -- fact of its own.
 use Rattle.std.specs.Prelude.{◌≡◌, ℕ, ◌<◌, ◌≤◌, List, length, take, Bool, true, false, MatchBool, ◌⊎◌, Result, Ok, Err}
-use Rattle.luks_io.specs.Bytes.{counted, raised}
+use Rattle.luks_io.specs.Bytes.{counted, saturating_inc}
 use Rattle.luks_runs.specs.Ending.{Outcome}
 use Rattle.luks_report.specs.declared.message.Message.{Message}
 use Rattle.luks_report.specs.declared.message.Message.TheVariants.{Done, OutOfMemory, ReadFailed, WriteFailed}
@@ -29,20 +29,20 @@ IsSilent OutOfMemory output = output ≡ 0
 IsSilent _ output = Unit {0}
 
 -- so many of the bytes of the stated output were written: all of them at most, and fewer where a write failed
-abbrev pub IsBeginning : Message → ℕ → ℕ → Type 0
-IsBeginning WriteFailed output stated = output < stated
-IsBeginning _ output stated = output ≤ stated
+abbrev pub IsPrefixLen : Message → ℕ → ℕ → Type 0
+IsPrefixLen WriteFailed output stated = output < stated
+IsPrefixLen _ output stated = output ≤ stated
 
 -- a run that was broken off: what it wrote is a beginning of the stated output, and no input was taken further than
 -- stated
-pub record BreaksOff (is_prompt' : Promptness) (o : Outcome) (message : Message) (TookImage TookSecret : ℕ → Type 0)
+pub record Aborted (is_prompt' : Promptness) (o : Outcome) (message : Message) (TookImage TookSecret : ℕ → Type 0)
     (Wrote : List ℕ → Type 0) : Type 0 where
   pub image_taken : ℕ
   pub secret_taken : ℕ
   pub output_len : ℕ
   pub image_within : image_taken ≤ o.image_taken
   pub secret_within : secret_taken ≤ o.secret_taken
-  pub output_within : IsBeginning message output_len (length o.output)
+  pub output_within : IsPrefixLen message output_len (length o.output)
   pub is_silent : IsSilent message output_len
   pub is_prompt : is_prompt' message image_taken secret_taken output_len
   pub image : TookImage image_taken
@@ -50,7 +50,7 @@ pub record BreaksOff (is_prompt' : Promptness) (o : Outcome) (message : Message)
   pub output : Wrote (take output_len o.output)
 
 -- a run that was not: the stated message, output and bytes taken
-pub record Completes (o : Outcome) (message : Message) (TookImage TookSecret : ℕ → Type 0)
+pub record Completed (o : Outcome) (message : Message) (TookImage TookSecret : ℕ → Type 0)
     (Wrote : List ℕ → Type 0) : Type 0 where
   pub as_stated : message ≡ o.message
   pub image : TookImage o.image_taken
@@ -58,47 +58,47 @@ pub record Completes (o : Outcome) (message : Message) (TookImage TookSecret : �
   pub output : Wrote o.output
 
 -- a run with the stated outcome, as far as it came
-abbrev pub Runs : Promptness → Outcome → Message → (ℕ → Type 0) → (ℕ → Type 0) → (List ℕ → Type 0) → Type 0
-Runs is_prompt o message TookImage TookSecret Wrote =
-    MatchBool (breaks_off message) (BreaksOff is_prompt o message TookImage TookSecret Wrote)
-    (Completes o message TookImage TookSecret Wrote)
+abbrev pub RunMatches : Promptness → Outcome → Message → (ℕ → Type 0) → (ℕ → Type 0) → (List ℕ → Type 0) → Type 0
+RunMatches is_prompt o message TookImage TookSecret Wrote =
+    MatchBool (breaks_off message) (Aborted is_prompt o message TookImage TookSecret Wrote)
+    (Completed o message TookImage TookSecret Wrote)
 
 -- a run whose payload's image is another than the header's: as one over the header, and as many bytes are taken of the
 -- payload's image as is stated, or no more where it is broken off
-pub record RunsApart (is_prompt' : ℕ → Promptness) (o : Outcome) (message : Message)
+pub record DetachedRunMatches (is_prompt' : ℕ → Promptness) (o : Outcome) (message : Message)
     (TookImage TookPayload TookSecret : ℕ → Type 0) (Wrote : List ℕ → Type 0) : Type 0 where
   pub payload_taken : ℕ
   pub payload_within : MatchBool (breaks_off message) (payload_taken ≤ o.payload_taken)
       (payload_taken ≡ o.payload_taken)
   pub payload : TookPayload payload_taken
-  pub run : Runs (is_prompt' payload_taken) o message TookImage TookSecret Wrote
+  pub run : RunMatches (is_prompt' payload_taken) o message TookImage TookSecret Wrote
 
 -- of an input that a command does not have, nothing is taken
 abbrev pub TookNone : ℕ → Type 0
 TookNone count = count ≡ 0
 
 -- the message of a part of a run
-abbrev pub message_of : {T : Type 0} → Result T Message → Message
-message_of (Ok _) = Done
-message_of (Err message) = message
+abbrev pub result_message : {T : Type 0} → Result T Message → Message
+result_message (Ok _) = Done
+result_message (Err message) = message
 
 -- a failed read is told
-abbrev pub is_failed_read : Message → Bool
-is_failed_read ReadFailed = true
-is_failed_read _ = false
+abbrev pub is_run_read_failure : Message → Bool
+is_run_read_failure ReadFailed = true
+is_run_read_failure _ = false
 
 -- a failed write is told
-abbrev pub is_failed_write : Message → Bool
-is_failed_write WriteFailed = true
-is_failed_write _ = false
+abbrev pub is_run_write_failure : Message → Bool
+is_run_write_failure WriteFailed = true
+is_run_write_failure _ = false
 
 -- the end of a source was found at most once
-abbrev pub FindsEndOnce : ℕ → ℕ → Type 0
-FindsEndOnce before after = (found : Bool) × (after ≡ counted found before)
+abbrev pub HitsEofOnce : ℕ → ℕ → Type 0
+HitsEofOnce before after = (found : Bool) × (after ≡ counted found before)
 
 -- at most twice
-abbrev pub FindsEndTwice : ℕ → ℕ → Type 0
-FindsEndTwice before after = (first : Bool) × (second : Bool) × (after ≡ counted second (counted first before))
+abbrev pub HitsEofTwice : ℕ → ℕ → Type 0
+HitsEofTwice before after = (first : Bool) × (second : Bool) × (after ≡ counted second (counted first before))
 
 -- how many reads of the image and of the secret and how many writes have failed
 pub record Failures : Type 0 where
@@ -112,6 +112,6 @@ failures_of image secret written = record { image = image; secret = secret; writ
 -- the counts after a run with this message: one of them rose by one where a read or a write failed, and else none did
 abbrev pub Counts : Message → Failures → Failures → Type 0
 Counts ReadFailed before after =
-    (after ≡ record before { image = raised before.image }) ⊎ (after ≡ record before { secret = raised before.secret })
-Counts WriteFailed before after = after ≡ record before { written = raised before.written }
+    (after ≡ record before { image = saturating_inc before.image }) ⊎ (after ≡ record before { secret = saturating_inc before.secret })
+Counts WriteFailed before after = after ≡ record before { written = saturating_inc before.written }
 Counts _ before after = after ≡ before

@@ -1,7 +1,7 @@
 -- The key file.
 use Rattle.std.specs.Prelude.{◌≡◌, ℕ, ◌+◌, ◌<◌, List, length, min, Option}
-use Rattle.luks_io.specs.Bytes.{Took, TookUpTo, raised}
-use Rattle.luks_runs.specs.Run.{FindsEndOnce}
+use Rattle.luks_io.specs.Bytes.{ConsumedExactly, ConsumedAtMost, saturating_inc}
+use Rattle.luks_runs.specs.Run.{HitsEofOnce}
 use Rattle.luks_report.specs.declared.message.Message.{Message}
 use Rattle.luks_report.specs.declared.message.Message.TheVariants.{Done, KeyFileLength, OutOfMemory, ReadFailed}
 
@@ -11,14 +11,14 @@ longest_key_file = 8388608
 
 -- how reading a key file failed: of one that is too long one byte more is taken than the longest has
 abbrev pub NoSecretRead : List ℕ → Option (List ℕ) → Message → Type 0
-NoSecretRead secret left KeyFileLength = (longest_key_file < length secret) × Took secret left (longest_key_file + 1)
-NoSecretRead secret left OutOfMemory = TookUpTo secret left (min (length secret) (longest_key_file + 1))
-NoSecretRead secret left ReadFailed = TookUpTo secret left (min (length secret) (longest_key_file + 1))
+NoSecretRead secret left KeyFileLength = (longest_key_file < length secret) × ConsumedExactly secret left (longest_key_file + 1)
+NoSecretRead secret left OutOfMemory = ConsumedAtMost secret left (min (length secret) (longest_key_file + 1))
+NoSecretRead secret left ReadFailed = ConsumedAtMost secret left (min (length secret) (longest_key_file + 1))
 NoSecretRead secret left _ = ⊥
 
 -- how often reading a key file found its end: once where all of it was read, and not where it was too long or a read
 -- failed; where memory was refused, the end may be that of the last piece
 abbrev pub FindsSecretEnd : Message → ℕ → ℕ → Type 0
-FindsSecretEnd Done before after = after ≡ raised before
-FindsSecretEnd OutOfMemory before after = FindsEndOnce before after
+FindsSecretEnd Done before after = after ≡ saturating_inc before
+FindsSecretEnd OutOfMemory before after = HitsEofOnce before after
 FindsSecretEnd _ before after = after ≡ before

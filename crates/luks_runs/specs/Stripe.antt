@@ -4,7 +4,7 @@ use Rattle.luks_kdf.specs.Bytes.{xor}
 use Rattle.luks_stripes.specs.Stripes.{chain_of, merged}
 use Rattle.luks_kdf.specs.declared.hash.Hash.{Hash}
 use Rattle.luks_report.specs.declared.message.Message.TheVariants.{Done, KeyLength, FewRandomBytes, FewStripes}
-use Rattle.luks_runs.specs.Ending.{Outcome, unwritten}
+use Rattle.luks_runs.specs.Ending.{Outcome, no_output}
 
 -- the longest key
 abbrev pub longest_key : ℕ
@@ -39,7 +39,7 @@ unfoldable pub split_outcome : Hash → ℕ → List ℕ → List ℕ → Outcom
 split_outcome hash count key random =
     if nat_lt 0 (length key) && nat_le (length key) longest_key
     then split_key_outcome hash count key random
-    else unwritten KeyLength (min (length key) (longest_key + 1)) 0
+    else no_output KeyLength (min (length key) (longest_key + 1)) 0
 
 -- `afMerge`: the stripes are the beginning of the image
 unfoldable pub merge_outcome : Hash → ℕ → ℕ → List ℕ → Outcome
@@ -53,4 +53,4 @@ merge_outcome hash count key_bytes image =
       secret_taken = 0;
       payload_taken = 0;
     }
-    else unwritten FewStripes (length image) 0
+    else no_output FewStripes (length image) 0

@@ -1,7 +1,7 @@
 -- What the parts of the stripe commands leave in their devices.
 use Rattle.std.specs.Prelude.{◌≡◌, ℕ, ◌+◌, ◌*◌, ◌/◌, ◌<◌, ◌≤◌, ◌⊎◌, Bool, true, false, List, length, take, min}
 use Rattle.std.specs.Prelude.{Option}
-use Rattle.luks_io.specs.Bytes.{Adds, Took, TookUpTo}
+use Rattle.luks_io.specs.Bytes.{Appended, ConsumedExactly, ConsumedAtMost}
 use Rattle.luks_report.specs.declared.message.Message.{Message}
 use Rattle.luks_report.specs.declared.message.Message.TheVariants.{KeyLength, FewRandomBytes, FewStripes, ReadFailed}
 use Rattle.luks_report.specs.declared.message.Message.TheVariants.{WriteFailed}
@@ -11,14 +11,14 @@ use Rattle.luks_runs.specs.Stripe.{longest_key}
 abbrev pub NoKeyRead : List ℕ → Option (List ℕ) → Message → Type 0
 NoKeyRead key left KeyLength =
     (min (length key) (longest_key + 1) ≡ 0 ⊎ longest_key < length key)
-    × Took key left (min (length key) (longest_key + 1))
-NoKeyRead key left ReadFailed = TookUpTo key left (min (length key) (longest_key + 1))
+    × ConsumedExactly key left (min (length key) (longest_key + 1))
+NoKeyRead key left ReadFailed = ConsumedAtMost key left (min (length key) (longest_key + 1))
 NoKeyRead key left _ = ⊥
 
 -- so many random bytes were taken, and so many of them written
 pub record Passed (random : List ℕ) (left before after : Option (List ℕ)) (taken written : ℕ) : Type 0 where
-  pub took : Took random left taken
-  pub added : Adds before after (take written random)
+  pub took : ConsumedExactly random left taken
+  pub added : Appended before after (take written random)
 
 -- passing on one random stripe of `len` bytes was broken off: by the end of the random bytes, or by a failed read,
 -- before any byte was written, or by a failed write
@@ -47,8 +47,8 @@ StopsAtStripe count len random left before after _ = ⊥
 
 -- taking `count` stripes of `len` bytes was broken off: by the end of the bytes, or by a failed read
 abbrev pub StopsTaking : ℕ → ℕ → List ℕ → Option (List ℕ) → Message → Type 0
-StopsTaking count len known left FewStripes = (length known < count * len) × Took known left (length known)
-StopsTaking count len known left ReadFailed = TookUpTo known left (count * len)
+StopsTaking count len known left FewStripes = (length known < count * len) × ConsumedExactly known left (length known)
+StopsTaking count len known left ReadFailed = ConsumedAtMost known left (count * len)
 StopsTaking count len known left _ = ⊥
 
 -- a split that is broken off: where a write fails, nothing past the stripe of the last byte written was taken; where a

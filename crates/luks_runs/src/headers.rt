@@ -1,13 +1,13 @@
 //! `isLuks`, `luksUUID`, `luksDump` and `luksCheck`: what an image's header says.
 
 ghost use Rattle.std.specs.Prelude.{◌≡◌, List, ℕ, IfOk, Option, string_bytes};
-ghost use Rattle.luks_io.specs.Bytes.{Adds, Took, WhereKnown, counted};
+ghost use Rattle.luks_io.specs.Bytes.{Appended, ConsumedExactly, IfKnown, counted};
 ghost use Rattle.luks_runs.specs.Header.{answer_to_is_luks, is_luks_outcome, print_outcome_by};
-ghost use Rattle.luks_runs.specs.Header.{text_of, told_of};
+ghost use Rattle.luks_runs.specs.Header.{printout_text, printout_message};
 ghost use Rattle.luks_runs.specs.Printing.{Prints};
-ghost use Rattle.luks_runs.specs.Run.{Counts, failures_of, FindsEndOnce, Runs, TookNone};
+ghost use Rattle.luks_runs.specs.Run.{Counts, failures_of, HitsEofOnce, RunMatches, TookNone};
 ghost use Rattle.luks_runs.specs.Run.{at_any_pace};
-ghost use Rattle.luks_runs.specs.Run.{is_failed_write, message_of};
+ghost use Rattle.luks_runs.specs.Run.{is_run_write_failure, result_message};
 ghost use Rattle.luks_runs.specs.MayEnd.{IsLuksMessage, PageMessage};
 ghost use Rattle.luks_runs.specs.Standing.{reading_of};
 
@@ -23,14 +23,14 @@ use std::alloc::{AllocError, Global};
 
 /// `isLuks`: nothing is written; what is no LUKS is told by the status alone.
 pub fn is_luks<S: Source>(alloc: Global, image: &mut S) -> Result<(), Message>
-    ensures run { (written : Option (List ℕ)) → WhereKnown (S.to_come image.old) (λ known.
-        Runs at_any_pace (is_luks_outcome known) (message_of result)
-        (Took known (S.to_come image.new)) TookNone (Adds written written)) }
-    ensures only { IsLuksMessage (message_of result) }
-    ensures counts { (secret written : ℕ) → Counts (message_of result)
+    ensures run { (written : Option (List ℕ)) → IfKnown (S.to_come image.old) (λ known.
+        RunMatches at_any_pace (is_luks_outcome known) (result_message result)
+        (ConsumedExactly known (S.to_come image.new)) TookNone (Appended written written)) }
+    ensures only { IsLuksMessage (result_message result) }
+    ensures counts { (secret written : ℕ) → Counts (result_message result)
         (failures_of (S.failures image.old) secret written)
         (failures_of (S.failures image.new) secret written) }
-    ensures ends { FindsEndOnce (S.ends image.old) (S.ends image.new) }
+    ensures ends { HitsEofOnce (S.ends image.old) (S.ends image.new) }
 {
     match read_header(alloc, image) {
         Ok(_) => Ok(()),
@@ -61,8 +61,8 @@ pub enum Page {
 
 /// The text of a page, and what is told once it is printed.
 fn page_text(alloc: Global, page: Page, header: &Header) -> Result<(String, Message), AllocError>
-    ensures text { IfOk result (λ printed. string_bytes printed.0 ≡ text_of page header.now) }
-    ensures told { IfOk result (λ printed. printed.1 ≡ told_of page header.now) }
+    ensures text { IfOk result (λ printed. string_bytes printed.0 ≡ printout_text page header.now) }
+    ensures told { IfOk result (λ printed. printed.1 ≡ printout_message page header.now) }
 {
     match page {
         Page::Uuid => Ok((uuid_page(alloc, header)?, Message::Done)),
@@ -73,7 +73,7 @@ fn page_text(alloc: Global, page: Page, header: &Header) -> Result<(String, Mess
 
 /// A run that ends with this message.
 fn ended(message: Message) -> Result<(), Message>
-    ensures { message_of result ≡ message }
+    ensures { result_message result ≡ message }
 {
     match message {
         Message::Done => Ok(()),
@@ -89,17 +89,17 @@ pub fn print<S: Source, O: Sink>(
     image: &mut S,
     out: &mut O,
 ) -> Result<(), Message>
-    ensures run { WhereKnown (S.to_come image.old) (λ known.
-        Runs at_any_pace
-        (print_outcome_by (reading_of standing) (text_of page) (told_of page) known)
-        (message_of result) (Took known (S.to_come image.new)) TookNone
-        (Adds (O.written out.old) (O.written out.new))) }
-    ensures only { PageMessage page (message_of result) }
-    ensures reads_first { message_of result ≡ Message.ReadFailed → out.new ≡ out.old }
-    ensures counts { (secret : ℕ) → Counts (message_of result)
+    ensures run { IfKnown (S.to_come image.old) (λ known.
+        RunMatches at_any_pace
+        (print_outcome_by (reading_of standing) (printout_text page) (printout_message page) known)
+        (result_message result) (ConsumedExactly known (S.to_come image.new)) TookNone
+        (Appended (O.written out.old) (O.written out.new))) }
+    ensures only { PageMessage page (result_message result) }
+    ensures reads_first { result_message result ≡ Message.ReadFailed → out.new ≡ out.old }
+    ensures counts { (secret : ℕ) → Counts (result_message result)
         (failures_of (S.failures image.old) secret (O.failures out.old))
         (failures_of (S.failures image.new) secret (O.failures out.new)) }
-    ensures ends { FindsEndOnce (S.ends image.old) (S.ends image.new) }
+    ensures ends { HitsEofOnce (S.ends image.old) (S.ends image.new) }
 {
     let (header, _held) = find_header(alloc, standing, image)?;
     print_page(alloc, page, &header, out)
@@ -112,11 +112,11 @@ fn print_page<O: Sink>(
     header: &Header,
     out: &mut O,
 ) -> Result<(), Message>
-    ensures run { Prints (text_of page header.now) (told_of page header.now)
-        (O.written out.old) (O.written out.new) (message_of result) }
-    ensures only { PageMessage page (message_of result) }
+    ensures run { Prints (printout_text page header.now) (printout_message page header.now)
+        (O.written out.old) (O.written out.new) (result_message result) }
+    ensures only { PageMessage page (result_message result) }
     ensures writes { O.failures out.new
-        ≡ counted (is_failed_write (message_of result)) (O.failures out.old) }
+        ≡ counted (is_run_write_failure (result_message result)) (O.failures out.old) }
 {
     let (text, message) = page_text(alloc, page, header)?;
     put_all(out, text.as_bytes())?;

@@ -4,9 +4,9 @@ ghost use Rattle.std.specs.Prelude.{◌≡◌, ◌≢◌, ◌<◌, ◌≤◌, �
 ghost use Rattle.std.specs.Prelude.{length, take};
 ghost use Rattle.luks_runs.specs.Payload.{FindsPayloadEnd, PassesHeld, most_needed};
 ghost use Rattle.luks_runs.specs.MayEnd.{PayloadMessage};
-ghost use Rattle.luks_runs.specs.Run.{is_failed_read, is_failed_write, message_of};
-ghost use Rattle.luks_io.specs.Bytes.{Took, counted};
-ghost use Rattle.luks_volume.specs.Pumped.{StandsIn, is_running, reach_of};
+ghost use Rattle.luks_runs.specs.Run.{is_run_read_failure, is_run_write_failure, result_message};
+ghost use Rattle.luks_io.specs.Bytes.{ConsumedExactly, counted};
+ghost use Rattle.luks_volume.specs.Pumped.{StandsIn, is_running, consumed_by};
 
 use luks_cipher::SectorCipher;
 use luks_header::segment::Segment;
@@ -25,9 +25,9 @@ fn pump_behind<'a>(segment: Segment, cipher: SectorCipher, held: &'a [u8]) -> Pu
     ensures early { result.consumed ≤ segment.offset }
     ensures running { is_running result.state ≡ true }
     ensures bare { (result.front ≡ []) ⊎ (result.state ≡ State.InPayload) }
-    ensures reach { reach_of result ≡ length held.now }
+    ensures reach { consumed_by result ≡ length held.now }
     ensures stands { (whole : List ℕ) (left : Option (List ℕ))
-        → held.now ≡ take (length held.now) whole → Took whole left (length held.now)
+        → held.now ≡ take (length held.now) whole → ConsumedExactly whole left (length held.now)
         → StandsIn whole result left }
 {
     let consumed = held.len() as u64;
@@ -59,14 +59,14 @@ pub fn write_payload<I: Source, O: Sink>(
     out: &mut O,
 ) -> Result<(), Message>
     ensures run { PassesHeld segment cipher held.now (I.to_come image.old) (I.to_come image.new)
-        (O.written out.old) (O.written out.new) (message_of result) }
-    ensures only { PayloadMessage (message_of result) }
+        (O.written out.old) (O.written out.new) (result_message result) }
+    ensures only { PayloadMessage (result_message result) }
     ensures memory { IfErr result (λ message. message ≢ Message.OutOfMemory) }
     ensures reads { I.failures image.new
-        ≡ counted (is_failed_read (message_of result)) (I.failures image.old) }
+        ≡ counted (is_run_read_failure (result_message result)) (I.failures image.old) }
     ensures writes { O.failures out.new
-        ≡ counted (is_failed_write (message_of result)) (O.failures out.old) }
-    ensures ends { FindsPayloadEnd (message_of result) (I.ends image.old) (I.ends image.new) }
+        ≡ counted (is_run_write_failure (result_message result)) (O.failures out.old) }
+    ensures ends { FindsPayloadEnd (result_message result) (I.ends image.old) (I.ends image.new) }
 {
     image.announce(bytes_needed(&segment, held.len()));
     let mut pump = pump_behind(segment, cipher, held);

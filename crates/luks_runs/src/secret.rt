@@ -2,8 +2,8 @@
 
 ghost use Rattle.std.specs.Prelude.{◌≡◌, ◌+◌, ◌<◌, ◌≤◌, ◌⊎◌, ◌++◌, List, ℕ, IfOk, IfErr, length};
 ghost use Rattle.std.specs.Prelude.{min, nat_lt, take, vec_len};
-ghost use Rattle.luks_io.specs.Bytes.{Took, TookUpTo, WhereKnown, counted};
-ghost use Rattle.luks_runs.specs.Run.{is_failed_read, message_of};
+ghost use Rattle.luks_io.specs.Bytes.{ConsumedExactly, ConsumedAtMost, IfKnown, counted};
+ghost use Rattle.luks_runs.specs.Run.{is_run_read_failure, result_message};
 ghost use Rattle.luks_runs.specs.Secret.{FindsSecretEnd, NoSecretRead, longest_key_file};
 
 use luks_io::source::{Source, fill};
@@ -20,15 +20,15 @@ const PIECE: usize = 4096;
 /// long, one byte more is taken than the longest has.
 pub fn read_secret<S: Source>(alloc: Global, source: &mut S) -> Result<Vec<u8>, Message>
     ensures few { IfOk result (λ secret. vec_len secret ≤ longest_key_file) }
-    ensures ok { IfOk result (λ secret. WhereKnown (S.to_come source.old)
-        (λ known. (secret.items ≡ known) × Took known (S.to_come source.new) (length known))) }
-    ensures err { IfErr result (λ message. WhereKnown (S.to_come source.old)
+    ensures ok { IfOk result (λ secret. IfKnown (S.to_come source.old)
+        (λ known. (secret.items ≡ known) × ConsumedExactly known (S.to_come source.new) (length known))) }
+    ensures err { IfErr result (λ message. IfKnown (S.to_come source.old)
         (λ known. NoSecretRead known (S.to_come source.new) message)) }
     ensures only { IfErr result (λ message. (message ≡ Message.KeyFileLength)
         ⊎ ((message ≡ Message.OutOfMemory) ⊎ (message ≡ Message.ReadFailed))) }
     ensures reads { S.failures source.new
-        ≡ counted (is_failed_read (message_of result)) (S.failures source.old) }
-    ensures ends { FindsSecretEnd (message_of result) (S.ends source.old) (S.ends source.new) }
+        ≡ counted (is_run_read_failure (result_message result)) (S.failures source.old) }
+    ensures ends { FindsSecretEnd (result_message result) (S.ends source.old) (S.ends source.new) }
 {
     let mut buffer = [0; PIECE];
     let mut secret = Vec::new(alloc);
@@ -51,16 +51,16 @@ fn take_piece<S: Source>(
     requires { vec_len secret.old + length piece.old ≤ longest_key_file + 1 }
     ensures size { IfOk result (λ got. got ≤ length piece.old) }
     ensures len { IfOk result (λ got. vec_len secret.new ≡ vec_len secret.old + got) }
-    ensures ok { IfOk result (λ got. WhereKnown (S.to_come source.old)
+    ensures ok { IfOk result (λ got. IfKnown (S.to_come source.old)
         (λ known. (got ≡ min (length piece.old) (length known))
-        × Took known (S.to_come source.new) got
+        × ConsumedExactly known (S.to_come source.new) got
         × (secret.new.items ≡ secret.old.items ++ take got known))) }
-    ensures err { IfErr result (λ message. WhereKnown (S.to_come source.old)
-        (λ known. TookUpTo known (S.to_come source.new) (length piece.old))) }
+    ensures err { IfErr result (λ message. IfKnown (S.to_come source.old)
+        (λ known. ConsumedAtMost known (S.to_come source.new) (length piece.old))) }
     ensures only { IfErr result
         (λ message. (message ≡ Message.OutOfMemory) ⊎ (message ≡ Message.ReadFailed)) }
     ensures reads { S.failures source.new
-        ≡ counted (is_failed_read (message_of result)) (S.failures source.old) }
+        ≡ counted (is_run_read_failure (result_message result)) (S.failures source.old) }
     ensures ends { IfOk result (λ got. S.ends source.new
         ≡ counted (nat_lt got (length piece.old)) (S.ends source.old)) }
     ensures ends_lost { IfErr result

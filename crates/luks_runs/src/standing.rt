@@ -1,10 +1,10 @@
 //! Where a header stands, and reading it there.
 
 ghost use Rattle.std.specs.Prelude.{◌≡◌, Ok, IfOk, IfErr, length, take};
-ghost use Rattle.luks_io.specs.Bytes.{Took, WhereKnown, counted};
+ghost use Rattle.luks_io.specs.Bytes.{ConsumedExactly, IfKnown, counted};
 ghost use Rattle.luks_area.specs.Area.{is_read};
-ghost use Rattle.luks_header.specs.Header.{BreaksReading, cost_of};
-ghost use Rattle.luks_runs.specs.Run.{FindsEndOnce};
+ghost use Rattle.luks_header.specs.Header.{BreaksReading, header_read_len};
+ghost use Rattle.luks_runs.specs.Run.{HitsEofOnce};
 ghost use Rattle.luks_runs.specs.Standing.{reading_of};
 
 use luks_header::area::HeaderArea;
@@ -29,15 +29,15 @@ pub fn find_header<S: Source>(
     standing: Standing,
     source: &mut S,
 ) -> Result<(Header, HeaderArea), HeaderFault>
-    ensures taken { IfOk result (λ read. WhereKnown (S.to_come source.old) (λ known.
-        (reading_of standing known ≡ Ok read.0) × (read.1 ≡ take (cost_of known) known)
-        × Took known (S.to_come source.new) (cost_of known))) }
-    ensures broken { IfErr result (λ fault. WhereKnown (S.to_come source.old) (λ known.
+    ensures taken { IfOk result (λ read. IfKnown (S.to_come source.old) (λ known.
+        (reading_of standing known ≡ Ok read.0) × (read.1 ≡ take (header_read_len known) known)
+        × ConsumedExactly known (S.to_come source.new) (header_read_len known))) }
+    ensures broken { IfErr result (λ fault. IfKnown (S.to_come source.old) (λ known.
         BreaksReading known (S.to_come source.new) (S.ends source.old) (S.ends source.new) fault)) }
     ensures held { IfOk result (λ read. reading_of standing read.1 ≡ Ok read.0) }
-    ensures only { IfOk result (λ read. length read.1 ≡ cost_of read.1) }
+    ensures only { IfOk result (λ read. length read.1 ≡ header_read_len read.1) }
     ensures reads { S.failures source.new ≡ counted (is_read result) (S.failures source.old) }
-    ensures ends { FindsEndOnce (S.ends source.old) (S.ends source.new) }
+    ensures ends { HitsEofOnce (S.ends source.old) (S.ends source.new) }
 {
     let (header, area) = read_header(alloc, source)?;
     match standing {

@@ -8,7 +8,7 @@ use Rattle.sha2.specs.Sha512.{digest_bytes as digest512_bytes, sha384, sha512}
 use Rattle.luks_aes.specs.Bytes.{IsBytes}
 use Rattle.luks_aes.proofs.ByteLists.{bytes_append, bytes_cons, bytes_nil, bytes_take}
 use Rattle.luks_kdf.specs.Bytes.{joined, xor}
-use Rattle.luks_kdf.specs.Hash.{hash_of, size_of}
+use Rattle.luks_kdf.specs.Hash.{hash_of, digest_len}
 use Rattle.luks_stripes.specs.Stripes.{chain_of, diffused, diffused_piece, piece_of, stripe_at}
 use Rattle.luks_kdf.specs.declared.hash.Hash.{Hash}
 use Rattle.luks_kdf.specs.declared.hash.Hash.TheVariants.{Sha1, Sha224, Sha256, Sha384, Sha512}
@@ -63,7 +63,7 @@ joined_bytes piece (suc n) each = bytes_append _ _ (joined_bytes piece n each) (
 diffused_bytes : (h : Hash) (block : List ℕ) → IsBytes (diffused h block)
 unfolding diffused diffused_piece
 diffused_bytes h block =
-    joined_bytes (diffused_piece h block) (div_ceil (length block) (size_of h))
+    joined_bytes (diffused_piece h block) (div_ceil (length block) (digest_len h))
     (λ j. bytes_take (length (piece_of h block j)) _ (hash_bytes h (to_be_bytes w32 j ++ piece_of h block j)))
 
 chain_bytes : (h : Hash) (len : ℕ) (stripes : List ℕ) (i : ℕ) → IsBytes (chain_of h len stripes i)

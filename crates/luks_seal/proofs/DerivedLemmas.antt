@@ -3,7 +3,7 @@ use Rattle.std.proofs.Common.{ℕ, zero, suc, List}
 use Rattle.std.specs.Int.{div_ceil}
 use Rattle.luks_aes.specs.Bytes.{IsBytes}
 use Rattle.luks_aes.proofs.ByteLists.{bytes_take}
-use Rattle.luks_kdf.specs.Hash.{size_of}
+use Rattle.luks_kdf.specs.Hash.{digest_len}
 use Rattle.luks_kdf.specs.Hmac.{hmac_of}
 use Rattle.luks_kdf.specs.Pbkdf2.{derived_key, t_of, u_of}
 use Rattle.luks_kdf.specs.declared.hash.Hash.{Hash}
@@ -15,7 +15,7 @@ u_bytes h password salt i j = hash_bytes h _
 
 t_bytes : (h : Hash) (password salt : List ℕ) (i c : ℕ) → IsBytes (t_of h password salt i c)
 unfolding t_of
-t_bytes h password salt i zero = zeros_bytes (size_of h)
+t_bytes h password salt i zero = zeros_bytes (digest_len h)
 t_bytes h password salt i (suc c) =
     xor_bytes (t_of h password salt i c) (u_of h password salt i (suc c)) (t_bytes h password salt i c)
     (u_bytes h password salt i c)
@@ -24,5 +24,5 @@ pub derived_bytes : (h : Hash) (password salt : List ℕ) (c n : ℕ) → IsByte
 unfolding derived_key
 derived_bytes h password salt c n =
     bytes_take n _
-    (joined_bytes (λ i. t_of h password salt (suc i) c) (div_ceil n (size_of h))
+    (joined_bytes (λ i. t_of h password salt (suc i) c) (div_ceil n (digest_len h))
     (λ i. t_bytes h password salt (suc i) c))

@@ -15,8 +15,8 @@ use Rattle.luks_kdf.proofs.BytesLemmas.{length-xor}
 use Rattle.luks_stripes.proofs.StripesLemmas.{length-chain_of}
 use Rattle.luks_verdict.specs.Rule.{need_of}
 use Rattle.luks_verdict.specs.declared.slot.SlotParts.{SlotParts}
-use Rattle.luks_seal.specs.Pieces.{material_of, stripes_of, unit_number, whole_sectors}
-use Rattle.luks_seal.specs.Sealed.{GivesKey, IsMaterial, StandEncrypted}
+use Rattle.luks_seal.specs.Pieces.{encrypted_material, stripes_of, wrapping_number, sector_padded}
+use Rattle.luks_seal.specs.Sealed.{GivesKey, IsMaterial, IsStoredEncrypted}
 use Rattle.luks_seal.proofs.ByteLemmas.{padded_bytes, stripes_bytes}
 use Rattle.luks_seal.proofs.SectorLemmas.{length-sectors_encrypted, sectors_stand, stand_under}
 use Rattle.luks_seal.proofs.SlicingLemmas.{at_padded, length-padded}
@@ -24,28 +24,28 @@ use Rattle.luks_seal.proofs.SlicingLemmas.{at_padded, length-padded}
 -- ---- whole sectors
 
 -- whole sectors of some bytes are as many as they need
-pub length-whole_sectors : (bytes : List ℕ) → length (whole_sectors bytes) ≡ (length bytes + 511) / 512 * 512
-unfolding whole_sectors
+pub length-whole_sectors : (bytes : List ℕ) → length (sector_padded bytes) ≡ (length bytes + 511) / 512 * 512
+unfolding sector_padded
 length-whole_sectors bytes =
     length-padded (div_ceil (length bytes) 512 * 512) bytes (omega arith) ∙ omega arith
 
 -- and begin with them
-whole_sectors_begin : (n : ℕ) (bytes : List ℕ) → n ≡ length bytes → take n (whole_sectors bytes) ≡ bytes
-unfolding whole_sectors
+whole_sectors_begin : (n : ℕ) (bytes : List ℕ) → n ≡ length bytes → take n (sector_padded bytes) ≡ bytes
+unfolding sector_padded
 whole_sectors_begin n bytes is =
     at_padded 0 n (div_ceil (length bytes) 512 * 512) bytes (omega arith) ∙ take_all n bytes (omega arith)
 
-whole_sectors_bytes : (bytes : List ℕ) → IsBytes bytes → IsBytes (whole_sectors bytes)
-unfolding whole_sectors
+whole_sectors_bytes : (bytes : List ℕ) → IsBytes bytes → IsBytes (sector_padded bytes)
+unfolding sector_padded
 whole_sectors_bytes bytes all = padded_bytes (div_ceil (length bytes) 512 * 512) bytes all
 
 -- as long as the key material is that is encrypted
 pub length-material_of : (mode : Mode) (area_key stripes : List ℕ)
-    → length (material_of (mode, area_key) stripes) ≡ (length stripes + 511) / 512 * 512
-unfolding material_of
+    → length (encrypted_material (mode, area_key) stripes) ≡ (length stripes + 511) / 512 * 512
+unfolding encrypted_material
 length-material_of mode area_key stripes =
     let len = length-whole_sectors stripes in
-    length-sectors_encrypted (mode, area_key) 0 1 512 (whole_sectors stripes) refl (omega arith) ∙ len
+    length-sectors_encrypted (mode, area_key) 0 1 512 (sector_padded stripes) refl (omega arith) ∙ len
 
 -- ---- stripes
 
@@ -76,7 +76,7 @@ module _ (af : Hash) (key : List ℕ) (count : ℕ) (random : List ℕ) (drawn :
 
   -- in whole sectors they are key material of the key
   made_material : (parts : SlotParts) → parts.stripes ≡ count
-      → IsMaterial af parts key (whole_sectors (stripes_of af key count random))
+      → IsMaterial af parts key (sector_padded (stripes_of af key count random))
   unfolding stripes_of need_of
   made_material parts is = record {
     random = random;
@@ -95,16 +95,16 @@ module _ (af : Hash) (key : List ℕ) (count : ℕ) (random : List ℕ) (drawn :
 -- key material that an image has from this place on stands in it
 material_stands : (mode : Mode) (area_key stripes : List ℕ) (place : ℕ) (image : List ℕ) → IsBytes stripes
     → length stripes ≤ 256000
-    → place + length (whole_sectors stripes) ≤ length image
-    → at place (length (whole_sectors stripes)) image ≡ material_of (mode, area_key) stripes
-    → StandEncrypted (mode, area_key) (λ i. i) 512 place (whole_sectors stripes) image
-unfolding material_of
+    → place + length (sector_padded stripes) ≤ length image
+    → at place (length (sector_padded stripes)) image ≡ encrypted_material (mode, area_key) stripes
+    → IsStoredEncrypted (mode, area_key) (λ i. i) 512 place (sector_padded stripes) image
+unfolding encrypted_material
 material_stands mode area_key stripes place image bytes few there is =
     let len = length-whole_sectors stripes in
-    let same : (i : ℕ) → i < length (whole_sectors stripes) / 512 → unit_number 0 1 i ≡ i =
+    let same : (i : ℕ) → i < length (sector_padded stripes) / 512 → wrapping_number 0 1 i ≡ i =
     λ i low. omega (arith, len) in
-    stand_under (mode, area_key) (unit_number 0 1) (λ i. i) 512 place (whole_sectors stripes) image same
-    (sectors_stand (mode, area_key) 0 1 512 (whole_sectors stripes) refl (omega (arith, len)) place image
+    stand_under (mode, area_key) (wrapping_number 0 1) (λ i. i) 512 place (sector_padded stripes) image same
+    (sectors_stand (mode, area_key) 0 1 512 (sector_padded stripes) refl (omega (arith, len)) place image
     (whole_sectors_bytes stripes bytes) there is)
 
 -- what a key slot with these parts is made of
@@ -122,7 +122,7 @@ pub gives_key : (parts : SlotParts) (kdf af : Hash) (mode : Mode) (passphrase ke
     → IsMade parts kdf af mode key random
     → parts.area_offset + need_of (length key) parts.stripes ≤ length image
     → at parts.area_offset (need_of (length key) parts.stripes) image
-    ≡ material_of (mode, derived_key kdf passphrase parts.salt parts.iterations parts.area_key_bytes)
+    ≡ encrypted_material (mode, derived_key kdf passphrase parts.salt parts.iterations parts.area_key_bytes)
     (stripes_of af key parts.stripes random)
     → GivesKey parts passphrase key image
 gives_key parts kdf af mode passphrase key random image made there is =
@@ -138,7 +138,7 @@ gives_key parts kdf af mode passphrase key random image made there is =
       is_af = made.is_af;
       is_mode = made.is_mode;
       key_bytes = made.key_bytes;
-      material = whole_sectors stripes;
+      material = sector_padded stripes;
       is_material = material;
       stands = material_stands mode area_key stripes parts.area_offset image
           (stripes_bytes af key parts.stripes random made.bytes made.random_bytes)

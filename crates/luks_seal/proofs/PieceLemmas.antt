@@ -8,7 +8,7 @@ use Rattle.luks_cipher.specs.Xts.{joined}
 use Rattle.luks_kdf.specs.Bytes.{xor}
 use Rattle.luks_stripes.specs.Stripes.{IsSplit, chain_of}
 use Rattle.luks_kdf.specs.declared.hash.Hash.{Hash}
-use Rattle.luks_seal.specs.Pieces.{encrypted_sector, stripes_of, unit_number}
+use Rattle.luks_seal.specs.Pieces.{encrypted_sector, stripes_of, wrapping_number}
 
 -- a vector of so many bytes that were all written anew has what was written
 pub written : (len : ℕ) (new rest : List ℕ) → length new ≡ len → take len (new ++ rest) ≡ new
@@ -32,7 +32,7 @@ module _ (cipher : Cipher) (first step size : ℕ) (bytes : List ℕ) where
   -- one sector more
   pub sectors_more : (i number : ℕ) (before after : List ℕ)
       → before ≡ joined (encrypted_sector cipher first step size bytes) i
-      → number ≡ unit_number first step i
+      → number ≡ wrapping_number first step i
       → after ≡ before
       ++ sector_encrypted cipher.0 cipher.1 number (take (i * size + size - i * size) (drop (i * size) bytes))
       → after ≡ joined (encrypted_sector cipher first step size bytes) (i + 1)

@@ -11,8 +11,8 @@ use Rattle.luks_cipher.specs.Sector.{Cipher, sector_encrypted}
 use Rattle.luks_cipher.specs.Xts.{block_encrypted, block_xor, joined, xts_encrypted}
 use Rattle.luks_cipher.specs.declared.mode.Mode.TheVariants.{XtsPlain64, XtsPlain, CbcEssivSha256, CbcPlain64}
 use Rattle.luks_cipher.proofs.UnitsUndone.{joined_length}
-use Rattle.luks_seal.specs.Pieces.{encrypted_sector, sector_at, sectors_encrypted, unit_number}
-use Rattle.luks_seal.specs.Sealed.{StandEncrypted}
+use Rattle.luks_seal.specs.Pieces.{encrypted_sector, sector_at, sectors_encrypted, wrapping_number}
+use Rattle.luks_seal.specs.Sealed.{IsStoredEncrypted}
 use Rattle.luks_seal.proofs.SlicingLemmas.{at_at, at_first, at_second, length-at}
 
 -- a unit of whole blocks is as long as before
@@ -68,7 +68,7 @@ module _ (cipher : Cipher) (first step size : ℕ) (plain : List ℕ) (blocks : 
   sector_length i low =
       let is : length (sector_at size plain i) ≡ size =
       length-at (i * size) size plain (sector_within (length plain) size i whole low) in
-      length-sector_encrypted cipher (unit_number first step i) (sector_at size plain i) (rw is blocks) ∙ is
+      length-sector_encrypted cipher (wrapping_number first step i) (sector_at size plain i) (rw is blocks) ∙ is
 
   -- whole sectors are as long encrypted as they were
   pub length-sectors_encrypted : length (sectors_encrypted cipher first step size plain) ≡ length plain
@@ -79,7 +79,7 @@ module _ (cipher : Cipher) (first step size : ℕ) (plain : List ℕ) (blocks : 
 
   sector_is : (i : ℕ) → i < length plain / size
       → at (i * size) size (sectors_encrypted cipher first step size plain)
-      ≡ sector_encrypted cipher.0 cipher.1 (unit_number first step i) (at (i * size) size plain)
+      ≡ sector_encrypted cipher.0 cipher.1 (wrapping_number first step i) (at (i * size) size plain)
   unfolding sectors_encrypted encrypted_sector
   sector_is i low =
       piece_at (encrypted_sector cipher first step size plain) size (length plain / size) i sector_length low
@@ -87,7 +87,7 @@ module _ (cipher : Cipher) (first step size : ℕ) (plain : List ℕ) (blocks : 
   -- where an image has them, they stand in it
   pub sectors_stand : (place : ℕ) (image : List ℕ) → IsBytes plain → place + length plain ≤ length image
       → at place (length plain) image ≡ sectors_encrypted cipher first step size plain
-      → StandEncrypted cipher (unit_number first step) size place plain image
+      → IsStoredEncrypted cipher (wrapping_number first step) size place plain image
   sectors_stand place image bytes there is = record {
     bytes = bytes;
     whole = whole;
@@ -100,7 +100,7 @@ module _ (cipher : Cipher) (first step size : ℕ) (plain : List ℕ) (blocks : 
 -- they stand there under numbers that are the same
 pub stand_under : (cipher : Cipher) (number other : ℕ → ℕ) (size place : ℕ) (plain image : List ℕ)
     → ((i : ℕ) → i < length plain / size → number i ≡ other i)
-    → StandEncrypted cipher number size place plain image → StandEncrypted cipher other size place plain image
+    → IsStoredEncrypted cipher number size place plain image → IsStoredEncrypted cipher other size place plain image
 stand_under cipher number other size place plain image same stand = record {
   bytes = stand.bytes;
   whole = stand.whole;

@@ -13,8 +13,8 @@ padded room bytes = bytes ++ replicate (room - length bytes) 0
 
 -- the unit number of sector i, where the first sector has the number `first` and each has `step` more than the one
 -- before. The numbers wrap at 2^64
-abbrev pub unit_number : ℕ → ℕ → ℕ → ℕ
-unit_number first step i = (first + i * step) % 2 ^ 64
+abbrev pub wrapping_number : ℕ → ℕ → ℕ → ℕ
+wrapping_number first step i = (first + i * step) % 2 ^ 64
 
 -- sector i of some bytes
 abbrev pub sector_at : ℕ → List ℕ → ℕ → List ℕ
@@ -23,7 +23,7 @@ sector_at size bytes i = take size (drop (i * size) bytes)
 -- the sector i of some bytes, encrypted under its number
 unfoldable pub encrypted_sector : Cipher → ℕ → ℕ → ℕ → List ℕ → ℕ → List ℕ
 encrypted_sector cipher first step size bytes i =
-    sector_encrypted cipher.0 cipher.1 (unit_number first step i) (sector_at size bytes i)
+    sector_encrypted cipher.0 cipher.1 (wrapping_number first step i) (sector_at size bytes i)
 
 -- whole sectors of this size, each encrypted by itself
 unfoldable pub sectors_encrypted : Cipher → ℕ → ℕ → ℕ → List ℕ → List ℕ
@@ -36,9 +36,9 @@ unfoldable pub stripes_of : Hash → List ℕ → ℕ → List ℕ → List ℕ
 stripes_of hash key count random = random ++ xor (chain_of hash (length key) random (count - 1)) key
 
 -- some bytes and zeros up to whole sectors of 512 bytes
-unfoldable pub whole_sectors : List ℕ → List ℕ
-whole_sectors bytes = padded (div_ceil (length bytes) 512 * 512) bytes
+unfoldable pub sector_padded : List ℕ → List ℕ
+sector_padded bytes = padded (div_ceil (length bytes) 512 * 512) bytes
 
 -- key material: stripes in whole sectors of 512 bytes, which are encrypted and numbered from 0
-unfoldable pub material_of : Cipher → List ℕ → List ℕ
-material_of cipher stripes = sectors_encrypted cipher 0 1 512 (whole_sectors stripes)
+unfoldable pub encrypted_material : Cipher → List ℕ → List ℕ
+encrypted_material cipher stripes = sectors_encrypted cipher 0 1 512 (sector_padded stripes)

@@ -18,10 +18,10 @@ abbrev pub longest_plain : ℕ
 longest_plain = 8388608
 
 -- a volume, or why there is none: wrong parameters exactly where they are wrong, and else nothing but refused memory
-abbrev pub SealsOrSays : {T : Type 0} → Type 0 → Result T SealFault → Type 0
-SealsOrSays fits (Ok _) = fits
-SealsOrSays fits (Err Parameters) = ¬ fits
-SealsOrSays fits (Err Memory) = fits
+abbrev pub SealAnswer : {T : Type 0} → Type 0 → Result T SealFault → Type 0
+SealAnswer fits (Ok _) = fits
+SealAnswer fits (Err Parameters) = ¬ fits
+SealAnswer fits (Err Memory) = fits
 
 -- the same where one of the ranges is known late: memory can run out before it is
 abbrev pub SealsOrSaysLate : {T : Type 0} → Type 0 → Type 0 → Result T SealFault → Type 0

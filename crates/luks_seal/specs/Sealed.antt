@@ -25,7 +25,7 @@ use Rattle.luks_header.specs.declared.header.Header.{Header}
 
 -- these plain bytes, whole units of `size` bytes, stand in the image from `place` on: unit i as its encryption under
 -- the number `number i`
-pub record StandEncrypted (cipher : Cipher) (number : ℕ → ℕ) (size place : ℕ) (plain image : List ℕ) : Type 0 where
+pub record IsStoredEncrypted (cipher : Cipher) (number : ℕ → ℕ) (size place : ℕ) (plain image : List ℕ) : Type 0 where
   pub bytes : IsBytes plain
   pub whole : length plain % size ≡ 0
   pub there : place + length plain ≤ length image
@@ -52,7 +52,7 @@ pub record GivesKey (parts : SlotParts) (passphrase key image : List ℕ) : Type
   pub key_bytes : parts.key_bytes ≡ length key
   pub material : List ℕ
   pub is_material : IsMaterial af parts key material
-  pub stands : StandEncrypted
+  pub stands : IsStoredEncrypted
       (mode, derived_key kdf passphrase parts.salt parts.iterations parts.area_key_bytes)
       (λ i. i) 512 parts.area_offset material image
 
@@ -84,7 +84,7 @@ EndsWith (Some size) plain end image = size ≡ length plain
 
 -- in the payload stands the plain text, encrypted under the key
 pub record SealsPlain (segment : Segment) (image key plain : List ℕ) : Type 0 where
-  pub stands : StandEncrypted (segment.mode, key) (unit_number segment) (bytes_of segment.sector_size) segment.offset
+  pub stands : IsStoredEncrypted (segment.mode, key) (unit_number segment) (bytes_of segment.sector_size) segment.offset
       plain image
   pub ends : EndsWith segment.size plain (segment.offset + length plain) image
 

@@ -3,8 +3,8 @@
 
 ghost use Rattle.std.specs.Prelude.{◌≡◌, ◌-◌, ◌*◌, ◌%◌, ◌≤◌, ◌++◌, IfOk, OnOk, length};
 ghost use Rattle.luks_cipher.specs.Sector.{sector_encrypted};
-ghost use Rattle.luks_seal.specs.Pieces.{material_of, padded, sectors_encrypted, stripes_of};
-ghost use Rattle.luks_seal.specs.Pieces.{unit_number, whole_sectors};
+ghost use Rattle.luks_seal.specs.Pieces.{encrypted_material, padded, sectors_encrypted, stripes_of};
+ghost use Rattle.luks_seal.specs.Pieces.{wrapping_number, sector_padded};
 ghost use Rattle.luks_seal.specs.Ranges.{FitsKey};
 ghost use Rattle.luks_verdict.specs.SectorSize.{bytes_of};
 
@@ -50,7 +50,7 @@ pub fn cipher_of(mode: Mode, key: &[u8]) -> SectorCipher
 
 /// The unit number of a sector.
 fn unit_number(first: u64, step: u64, sector: u64) -> u64
-    ensures { result ≡ unit_number first step sector }
+    ensures { result ≡ wrapping_number first step sector }
 {
     first.wrapping_add(sector.wrapping_mul(step))
 }
@@ -125,7 +125,7 @@ pub fn stripes_of(
 }
 
 /// Key material: these stripes in whole sectors of 512 bytes, encrypted and numbered from 0.
-#[tactic(auto, unfolding(crate::specs::Pieces::material_of, crate::specs::Pieces::whole_sectors))]
+#[tactic(auto, unfolding(crate::specs::Pieces::encrypted_material, crate::specs::Pieces::sector_padded))]
 pub fn material_of(
     alloc: Global,
     mode: Mode,
@@ -135,7 +135,7 @@ pub fn material_of(
     requires key { FitsKey mode (length key.now) }
     requires stripes { length stripes.now ≤ 256000 }
     ensures { IfOk result (λ material. material.items
-        ≡ material_of (mode, key.now) stripes.now) }
+        ≡ encrypted_material (mode, key.now) stripes.now) }
 {
     let cipher = cipher_of(mode, key);
     let sectors = padded(alloc, stripes, stripes.len().div_ceil(512) * 512)?;

@@ -7,9 +7,9 @@ use Rattle.std.proofs.Math.Nat.{ℕ_set}
 use Rattle.std.proofs.lemmas.Option.{none-some, same_Some}
 use Rattle.luks_cipher.specs.declared.mode.Mode.{Mode}
 use Rattle.luks_verdict.specs.Digest.{digest_from, digest_of, is_undigested, is_usable}
-use Rattle.luks_verdict.specs.Evidence.{where_true}
+use Rattle.luks_verdict.specs.Evidence.{evidence_if}
 use Rattle.luks_verdict.specs.Rule.{InRange, IsDigest, in_range, is_beyond, usable_digest}
-use Rattle.luks_verdict.specs.SectorSize.{AreWhole, are_sectors, whole_sectors}
+use Rattle.luks_verdict.specs.SectorSize.{AreWhole, are_sectors, are_whole}
 use Rattle.luks_verdict.specs.Segment.{refused_or, segment_by, segment_of_all, segment_with}
 use Rattle.luks_verdict.specs.Slot.{are_in_range, parts_end, slot_from, slot_of, slot_with}
 use Rattle.luks_verdict.specs.declared.digest.DigestParts.{DigestParts}
@@ -20,11 +20,11 @@ use Rattle.luks_verdict.specs.declared.segment.Segment.{Segment}
 use Rattle.luks_verdict.specs.declared.slot.SlotParts.{SlotParts}
 
 -- where a test holds there is evidence, and there is but one
-pub where_true-yes : (test : Bool) (is : test ≡ true) → where_true test ≡ Some is
+pub where_true-yes : (test : Bool) (is : test ≡ true) → evidence_if test ≡ Some is
 where_true-yes true is = let all : IsProp (true ≡ true) = hlevel (Bool-set) in ap Some (all refl is)
 where_true-yes false is = absurd cc
 
-pub where_true-no : (test : Bool) → test ≡ false → where_true test ≡ None
+pub where_true-no : (test : Bool) → test ≡ false → evidence_if test ≡ None
 where_true-no true is = absurd cc
 where_true-no false is = refl
 
@@ -99,7 +99,7 @@ unfolding segment_by
 segment_made offset size iv_tweak sector_size mode whole is =
     let all : IsProp (AreWhole size sector_size) = hlevel (ℕ_set) in
     ap (λ (w : AreWhole size sector_size). Some (segment_with offset size iv_tweak sector_size mode w))
-    (all whole (whole_sectors size sector_size is))
+    (all whole (are_whole size sector_size is))
     ∙ sym (segment_of_all-yes offset size iv_tweak sector_size mode is)
 
 -- a segment with a fault is refused for it

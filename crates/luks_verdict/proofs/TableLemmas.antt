@@ -1,4 +1,4 @@
--- Tables of which the first line that holds counts, and lists by rising number.
+-- Tables of which the first line that holds counts, and lists by ascending number.
 use Rattle.std.proofs.Common.{◌≡◌, ◌∙◌, ℕ, zero, suc, ◌+◌, ◌<◌, ◌≤◌, ap, sym, refl, Bool, true, false, List, [], ◌∷◌}
 use Rattle.std.proofs.Common.{◌++◌, Option, Some, None, IsSome, ◌⊎◌, inl, inr, subst, length, length-append, add-one}
 use Rattle.std.proofs.Common.{arith}
@@ -6,16 +6,16 @@ use Rattle.std.specs.List.{AllByRecursion, cons_option}
 use Rattle.std.proofs.lemmas.Bool.{cases_lt}
 use Rattle.std.proofs.lemmas.List.{append-nil}
 use Rattle.std.proofs.lemmas.Option.{none-some}
-use Rattle.luks_verdict.specs.Table.{first_holding, rising}
+use Rattle.luks_verdict.specs.Table.{first_match, ascending}
 
 -- the first line does not hold where none does
-pub first_not : {T : Type 0} (b : Bool) (name : T) (lines : List (Bool × T)) → first_holding ((b, name) ∷ lines) ≡ None
-    → (b ≡ false) × (first_holding lines ≡ None)
+pub first_not : {T : Type 0} (b : Bool) (name : T) (lines : List (Bool × T)) → first_match ((b, name) ∷ lines) ≡ None
+    → (b ≡ false) × (first_match lines ≡ None)
 first_not true name lines h = absurd (none-some name (sym h))
 first_not false name lines h = (refl, h)
 
 -- of a table of which no line holds, none does
-pub none_holds : {T : Type 0} (lines : List (Bool × T)) → first_holding lines ≡ None
+pub none_holds : {T : Type 0} (lines : List (Bool × T)) → first_match lines ≡ None
     → AllByRecursion (λ (line : Bool × T). line.0 ≡ false) lines
 none_holds [] none = tt
 none_holds ((holds, name) ∷ lines) none =
@@ -23,33 +23,33 @@ none_holds ((holds, name) ∷ lines) none =
     (first.0, none_holds lines first.1)
 
 -- nothing is made of no number
-pub rising_none : {T : Type 0} (f : ℕ → Option T) → rising f 0 ≡ []
-unfolding rising
+pub rising_none : {T : Type 0} (f : ℕ → Option T) → ascending f 0 ≡ []
+unfolding ascending
 rising_none f = refl
 
 -- one number more
-pub rising_more : {T : Type 0} (f : ℕ → Option T) (n : ℕ) → rising f (n + 1) ≡ rising f n ++ cons_option (f n) []
-unfolding rising
+pub rising_more : {T : Type 0} (f : ℕ → Option T) (n : ℕ) → ascending f (n + 1) ≡ ascending f n ++ cons_option (f n) []
+unfolding ascending
 rising_more f n = rw add-one refl
 
 -- of which nothing is made
-pub rising_not : {T : Type 0} (f : ℕ → Option T) (n : ℕ) → f n ≡ None → rising f (n + 1) ≡ rising f n
-rising_not f n none = rising_more f n ∙ (ap (λ o. rising f n ++ cons_option o []) none ∙ append-nil (rising f n))
+pub rising_not : {T : Type 0} (f : ℕ → Option T) (n : ℕ) → f n ≡ None → ascending f (n + 1) ≡ ascending f n
+rising_not f n none = rising_more f n ∙ (ap (λ o. ascending f n ++ cons_option o []) none ∙ append-nil (ascending f n))
 
 -- of which something is made
 pub rising_one : {T : Type 0} (f : ℕ → Option T) (n : ℕ) (x : T) → f n ≡ Some x
-    → rising f (n + 1) ≡ rising f n ++ x ∷ []
-rising_one f n x one = rising_more f n ∙ ap (λ o. rising f n ++ cons_option o []) one
+    → ascending f (n + 1) ≡ ascending f n ++ x ∷ []
+rising_one f n x one = rising_more f n ∙ ap (λ o. ascending f n ++ cons_option o []) one
 
 -- no more than there are numbers
-pub length-rising : {T : Type 0} (f : ℕ → Option T) (n : ℕ) → length (rising f n) ≤ n
-unfolding rising
+pub length-rising : {T : Type 0} (f : ℕ → Option T) (n : ℕ) → length (ascending f n) ≤ n
+unfolding ascending
 length-rising f zero = omega arith
 length-rising {T = T} f (suc n) = of_one (f n) (length-rising f n)
   where
-    of_one : (o : Option T) → length (rising f n) ≤ n → length (rising f n ++ cons_option o []) ≤ suc n
-    of_one None few = omega (arith, length-append (rising f n) [])
-    of_one (Some x) few = omega (arith, length-append (rising f n) (x ∷ []))
+    of_one : (o : Option T) → length (ascending f n) ≤ n → length (ascending f n ++ cons_option o []) ≤ suc n
+    of_one None few = omega (arith, length-append (ascending f n) [])
+    of_one (Some x) few = omega (arith, length-append (ascending f n) (x ∷ []))
 
 -- what holds of each of two lists holds of both together
 pub AllByRecursion-append : {X : Type 0} (P : X → Type 0) (xs ys : List X) → AllByRecursion P xs → AllByRecursion P ys
@@ -59,26 +59,26 @@ AllByRecursion-append P (x ∷ xs) ys all others = (all.0, AllByRecursion-append
 
 -- what holds of whatever is made holds of all that is made
 pub All-rising : {X : Type 0} (P : X → Type 0) (f : ℕ → Option X) (n : ℕ) → ((i : ℕ) (x : X) → f i ≡ Some x → P x)
-    → AllByRecursion P (rising f n)
-unfolding rising
+    → AllByRecursion P (ascending f n)
+unfolding ascending
 All-rising P f zero each = tt
 All-rising {X = X} P f (suc n) each =
-    AllByRecursion-append P (rising f n) (cons_option (f n) []) (All-rising P f n each) (of_one (f n) refl)
+    AllByRecursion-append P (ascending f n) (cons_option (f n) []) (All-rising P f n each) (of_one (f n) refl)
   where
     of_one : (o : Option X) → f n ≡ o → AllByRecursion P (cons_option o [])
     of_one None is = tt
     of_one (Some x) is = (each n x is, tt)
 
 -- where something is made of a number, something is made
-pub some_rising : {X : Type 0} (f : ℕ → Option X) (i n : ℕ) → IsSome (f i) → i < n → 1 ≤ length (rising f n)
-unfolding rising
+pub some_rising : {X : Type 0} (f : ℕ → Option X) (i n : ℕ) → IsSome (f i) → i < n → 1 ≤ length (ascending f n)
+unfolding ascending
 some_rising f i zero some below = absurd (omega arith)
 some_rising {X = X} f i (suc n) some below = of_place (cases_lt i n) (some_rising f i n some)
   where
-    of_last : (o : Option X) → IsSome o → 1 ≤ length (rising f n ++ cons_option o [])
+    of_last : (o : Option X) → IsSome o → 1 ≤ length (ascending f n ++ cons_option o [])
     of_last None is = absurd cc
-    of_last (Some x) is = omega (arith, length-append (rising f n) (x ∷ []))
+    of_last (Some x) is = omega (arith, length-append (ascending f n) (x ∷ []))
 
-    of_place : (i < n) ⊎ (n ≤ i) → (i < n → 1 ≤ length (rising f n)) → 1 ≤ length (rising f n ++ cons_option (f n) [])
-    of_place (inl earlier) before = omega (arith, length-append (rising f n) (cons_option (f n) []), before earlier)
+    of_place : (i < n) ⊎ (n ≤ i) → (i < n → 1 ≤ length (ascending f n)) → 1 ≤ length (ascending f n ++ cons_option (f n) [])
+    of_place (inl earlier) before = omega (arith, length-append (ascending f n) (cons_option (f n) []), before earlier)
     of_place (inr last) before = let same : i ≡ n = omega arith in of_last (f n) (subst (λ k. IsSome (f k)) same some)

@@ -1,6 +1,6 @@
 -- Digests, made of what was read of them.
 use Rattle.std.specs.Prelude.{◌≡◌, ℕ, Bool, true, Option, Some, None, length, option_map}
-use Rattle.luks_verdict.specs.Evidence.{where_true}
+use Rattle.luks_verdict.specs.Evidence.{evidence_if}
 use Rattle.luks_verdict.specs.Rule.{is_beyond, is_digest, usable_digest}
 use Rattle.luks_verdict.specs.declared.digest.DigestParts.{DigestParts}
 use Rattle.luks_verdict.specs.declared.digest.KeyDigest.{KeyDigest}
@@ -21,7 +21,7 @@ digest_of parts is = record {
 
 -- the digest of which this was read, where its numbers are in range
 unfoldable pub digest_from : DigestParts → Option KeyDigest
-digest_from parts = option_map (digest_of parts) (where_true (is_usable parts))
+digest_from parts = option_map (digest_of parts) (evidence_if (is_usable parts))
 
 -- there is no digest to try a key slot against, or its iterations are not made
 unfoldable pub is_undigested : Option ℕ → Option KeyDigest → Bool

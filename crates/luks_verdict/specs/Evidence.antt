@@ -2,6 +2,6 @@
 use Rattle.std.specs.Prelude.{◌≡◌, Bool, true, false, Option, Some, None, refl}
 
 -- the evidence, where the test holds
-abbrev pub where_true : (test : Bool) → Option (test ≡ true)
-where_true true = Some refl
-where_true false = None
+abbrev pub evidence_if : (test : Bool) → Option (test ≡ true)
+evidence_if true = Some refl
+evidence_if false = None

@@ -4,11 +4,11 @@ use Rattle.std.specs.Prelude.{◌≡◌, ℕ, ◌+◌, ◌*◌, ◌/◌, ◌≤�
 use Rattle.std.specs.Prelude.{Some, None}
 use Rattle.std.proofs.Common.{arith}
 use Rattle.std.proofs.lemmas.Bool.Decides.{nat_tests}
-use Rattle.luks_area.specs.Area.{longest_area}
+use Rattle.luks_area.specs.Area.{max_area_len}
 
 -- the most slots that a header has, numbered from 0
-abbrev pub most_slots : ℕ
-most_slots = 32
+abbrev pub max_slots : ℕ
+max_slots = 32
 
 -- the most stripes of a slot's key material
 abbrev pub most_stripes : ℕ
@@ -23,8 +23,8 @@ abbrev pub most_key_bytes : ℕ
 most_key_bytes = 4294967295
 
 -- the lengths in bytes of a digest
-abbrev pub least_digest : ℕ
-least_digest = 20
+abbrev pub min_digest_len : ℕ
+min_digest_len = 20
 
 abbrev pub most_digest : ℕ
 most_digest = 64
@@ -50,16 +50,16 @@ need_of key_bytes stripes = (key_bytes * stripes + 511) / 512 * 512
 -- ends past the payload's start, where that is known, or past what is held of an image
 unfoldable pub is_misplaced : ℕ → Option ℕ → ℕ → ℕ → ℕ → Bool
 is_misplaced start payload offset size need =
-    nat_lt offset start || nat_lt size need || exceeds payload (offset + need) || nat_lt longest_area (offset + need)
+    nat_lt offset start || nat_lt size need || exceeds payload (offset + need) || nat_lt max_area_len (offset + need)
 
 -- the numbers of a slot are in range: its iterations, its stripes and where its key material ends
 unfoldable pub is_in_range : ℕ → ℕ → ℕ → Bool
 is_in_range iterations stripes end = not (is_beyond None iterations) && not (is_unstriped stripes)
-    && not (nat_lt longest_area end)
+    && not (nat_lt max_area_len end)
 
 -- a digest of so many iterations and bytes can be used
 unfoldable pub is_digest : ℕ → ℕ → Bool
-is_digest iterations len = not (is_beyond None iterations) && not (nat_lt len least_digest)
+is_digest iterations len = not (is_beyond None iterations) && not (nat_lt len min_digest_len)
     && not (nat_lt most_digest len)
 
 -- what it says that the numbers of a slot are in range
@@ -68,7 +68,7 @@ pub record InRange (iterations stripes end : ℕ) : Type 0 where
   pub few_iterations : iterations ≤ most_iterations
   pub some_stripes : 1 ≤ stripes
   pub few_stripes : stripes ≤ most_stripes
-  pub held : end ≤ longest_area
+  pub held : end ≤ max_area_len
 
 pub in_range : (iterations stripes end : ℕ) → is_in_range iterations stripes end ≡ true → InRange iterations stripes end
 unfolding is_in_range is_beyond is_unstriped
@@ -84,7 +84,7 @@ in_range iterations stripes end is = record {
 pub record IsDigest (iterations len : ℕ) : Type 0 where
   pub some_iterations : 1 ≤ iterations
   pub few_iterations : iterations ≤ most_iterations
-  pub enough : least_digest ≤ len
+  pub enough : min_digest_len ≤ len
   pub few : len ≤ most_digest
 
 pub usable_digest : (iterations len : ℕ) → is_digest iterations len ≡ true → IsDigest iterations len

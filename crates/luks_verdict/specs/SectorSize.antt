@@ -23,8 +23,8 @@ are_sectors (Some bytes) sector_size = bytes % bytes_of sector_size == 0
 abbrev pub AreWhole : Option ℕ → SectorSize → Type 0
 AreWhole size sector_size = ForSome size (λ bytes. bytes % bytes_of sector_size ≡ 0)
 
-pub whole_sectors : (size : Option ℕ) (sector_size : SectorSize) → are_sectors size sector_size ≡ true
+pub are_whole : (size : Option ℕ) (sector_size : SectorSize) → are_sectors size sector_size ≡ true
     → AreWhole size sector_size
-whole_sectors None sector_size is = λ bytes some. absurd (none-some bytes some)
-whole_sectors (Some fixed) sector_size is = λ bytes some.
+are_whole None sector_size is = λ bytes some. absurd (none-some bytes some)
+are_whole (Some fixed) sector_size is = λ bytes some.
     ap (λ n. n % bytes_of sector_size) (sym (same_Some fixed bytes some)) ∙ eqb-true (fixed % bytes_of sector_size) 0 is

@@ -1,8 +1,8 @@
 -- Segments, made of what was read of them.
 use Rattle.std.specs.Prelude.{◌≡◌, ◌≢◌, ℕ, true, Option, Some, None, Result, Ok, Err, option_map, refl}
 use Rattle.luks_cipher.specs.declared.mode.Mode.{Mode}
-use Rattle.luks_verdict.specs.Evidence.{where_true}
-use Rattle.luks_verdict.specs.SectorSize.{AreWhole, are_sectors, whole_sectors}
+use Rattle.luks_verdict.specs.Evidence.{evidence_if}
+use Rattle.luks_verdict.specs.SectorSize.{AreWhole, are_sectors, are_whole}
 use Rattle.luks_verdict.specs.declared.refusal.SegmentFault.{SegmentFault}
 use Rattle.luks_verdict.specs.declared.sector_size.SectorSize.{SectorSize}
 use Rattle.luks_verdict.specs.declared.segment.Segment.{Segment}
@@ -17,19 +17,19 @@ segment_with offset size iv_tweak sector_size mode whole = record {
   iv_tweak = iv_tweak;
   sector_size = sector_size;
   mode = mode;
-  whole_sectors = whole;
+  are_whole = whole;
 }
 
 -- the same, where a test found that the length is one of whole sectors
 unfoldable pub segment_by : (offset : ℕ) (size : Option ℕ) (iv_tweak : ℕ) (sector_size : SectorSize) (mode : Mode)
     → are_sectors size sector_size ≡ true → Segment
 segment_by offset size iv_tweak sector_size mode is =
-    segment_with offset size iv_tweak sector_size mode (whole_sectors size sector_size is)
+    segment_with offset size iv_tweak sector_size mode (are_whole size sector_size is)
 
 -- the segment of these parts, where each is there and in range
 abbrev pub segment_of_all : Option ℕ → Option (Option ℕ) → Option ℕ → Option SectorSize → Option Mode → Option Segment
 segment_of_all (Some offset) (Some size) (Some iv_tweak) (Some sector_size) (Some mode) =
-    option_map (segment_by offset size iv_tweak sector_size mode) (where_true (are_sectors size sector_size))
+    option_map (segment_by offset size iv_tweak sector_size mode) (evidence_if (are_sectors size sector_size))
 segment_of_all _ _ _ _ _ = None
 
 -- the segment of which this was read, where each part is there and in range

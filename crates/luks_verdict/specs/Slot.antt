@@ -1,6 +1,6 @@
 -- Key slots, made of what was read of them, and what becomes of them.
 use Rattle.std.specs.Prelude.{◌≡◌, ℕ, ◌+◌, Bool, true, Option, Some, None, option_map}
-use Rattle.luks_verdict.specs.Evidence.{where_true}
+use Rattle.luks_verdict.specs.Evidence.{evidence_if}
 use Rattle.luks_verdict.specs.Rule.{InRange, in_range, is_in_range, need_of}
 use Rattle.luks_verdict.specs.declared.refusal.SkipReason.{SkipReason}
 use Rattle.luks_verdict.specs.declared.refusal.SkipReason.TheVariants.{Member}
@@ -16,8 +16,8 @@ abbrev pub parts_end : SlotParts → ℕ
 parts_end parts = parts.area_offset + need_of parts.key_bytes parts.stripes
 
 -- where the key material of a key slot ends in the image
-abbrev pub end_of : Slot → ℕ
-end_of slot = parts_end slot.parts
+abbrev pub material_end : Slot → ℕ
+material_end slot = parts_end slot.parts
 
 -- what was read of a key slot is in range
 abbrev pub are_in_range : SlotParts → Bool
@@ -33,7 +33,7 @@ slot_of parts is = slot_with parts (in_range parts.iterations parts.stripes (par
 
 -- the key slot of which this was read, where its numbers are in range
 unfoldable pub slot_from : SlotParts → Option Slot
-slot_from parts = option_map (slot_of parts) (where_true (are_in_range parts))
+slot_from parts = option_map (slot_of parts) (evidence_if (are_in_range parts))
 
 -- a key slot that there is no reason to skip can be tried. (Where there is none, the parts are there and in range.)
 abbrev pub judged : Option SkipReason → Option Slot → Verdict

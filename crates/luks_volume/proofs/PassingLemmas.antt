@@ -7,10 +7,10 @@ use Rattle.std.proofs.lemmas.List.{drop_all, take-append-le}
 use Rattle.std.proofs.Math.Seq.{take-append-add, take-append_seam}
 use Rattle.luks_cipher.specs.Sector.{Cipher, sector_decrypted}
 use Rattle.std.specs.Io.KnownBytes.{Consumes}
-use Rattle.luks_io.specs.Bytes.{Took}
-use Rattle.luks_io.specs.Passing.{PassedOn}
+use Rattle.luks_io.specs.Bytes.{ConsumedExactly}
+use Rattle.luks_io.specs.Passing.{Forwarded}
 use Rattle.luks_io.proofs.Moves.{took-front}
-use Rattle.luks_volume.specs.Passing.{BeginsWith, Gathers, StopsInSector}
+use Rattle.luks_volume.specs.Passing.{BeginsWith, FilledSector, StopsInSector}
 use Rattle.luks_volume.specs.Plain.{unit_plain}
 use Rattle.luks_volume.specs.declared.fault.VolumeFault.TheVariants.{Write}
 use borrow.Rule.Slice.PartMut.{put_mid}
@@ -89,8 +89,8 @@ module _ (len : ℕ) (front piece sector : List ℕ) (is : sector ≡ take (min 
   begins = elim (cases_lt len (length front)) [ inl many ↦ begins_many many | inr few ↦ begins_few few ]
 
   module _ (known : List ℕ) (left' : Option (List ℕ)) (n : ℕ) (all : n ≡ min (length piece) (length known))
-      (same : take n piece ≡ take n known) (took : Took known left' n) where
-    gathered_few : length front ≤ len → Gathers len front known left' sector (min (length front) len + n)
+      (same : take n piece ≡ take n known) (took : ConsumedExactly known left' n) where
+    gathered_few : length front ≤ len → FilledSector len front known left' sector (min (length front) len + n)
     gathered_few few =
         let held : min (length front) len ≡ length front = omega arith in
         let whole : sector ≡ front ++ piece = is ∙ ap (λ l. l ++ piece)
@@ -100,10 +100,10 @@ module _ (len : ℕ) (front piece sector : List ℕ) (is : sector ≡ take (min 
           all = omega (arith, length-append front known);
           bytes = ap (take (length front + n)) whole ∙ take-append-add front piece n
               ∙ ap (λ l. front ++ l) same ∙ sym (take-append-add front known n);
-          took = subst (Took known left') count took;
+          took = subst (ConsumedExactly known left') count took;
         })
 
-    gathered_many : len < length front → Gathers len front known left' sector (min (length front) len + n)
+    gathered_many : len < length front → FilledSector len front known left' sector (min (length front) len + n)
     gathered_many many =
         let got : min (length front) len + n ≡ len = omega arith in
         let none : n ≡ len - length front = omega arith in
@@ -113,18 +113,18 @@ module _ (len : ℕ) (front piece sector : List ℕ) (is : sector ≡ take (min 
               ∙ take-append-le len (take (min (length front) len) front) piece (omega (arith, first_len))
               ∙ take_all len (take (min (length front) len) front) (omega (arith, first_len))
               ∙ ap (λ n. take n front) (omega arith) ∙ sym (take-append-le len front known (omega arith));
-          took = subst (Took known left') none took;
+          took = subst (ConsumedExactly known left') none took;
         })
 
     -- and what is gathered goes on with the bytes of the source
-    pub gathered : (held : ℕ) → held ≡ min (length front) len → Gathers len front known left' sector (held + n)
+    pub gathered : (held : ℕ) → held ≡ min (length front) len → FilledSector len front known left' sector (held + n)
     gathered held first =
-        subst (λ m. Gathers len front known left' sector (m + n)) (sym first)
+        subst (λ m. FilledSector len front known left' sector (m + n)) (sym first)
         (elim (cases_lt len (length front)) [ inl many ↦ gathered_many many | inr few ↦ gathered_few few ])
 
 -- the next bytes of a source, where it knew them, are those that were passed on
 passed_bytes : (known bytes : List ℕ) (left left' : Option (List ℕ)) (len : ℕ) → length bytes ≡ len
-    → Consumes left left' bytes → left ≡ Some known → Took known left' len × (take len known ≡ bytes)
+    → Consumes left left' bytes → left ≡ Some known → ConsumedExactly known left' len × (take len known ≡ bytes)
 passed_bytes known bytes left left' len sized taken is =
     let whole : take len bytes ≡ bytes = take_all len bytes (omega arith) in
     let took = took-front left left' bytes len (omega arith) (rw whole taken) known is in
@@ -134,7 +134,7 @@ passed_bytes known bytes left left' len sized taken is =
 module _ (cipher : Cipher) (number len : ℕ) (known : List ℕ) (left left' before after : Option (List ℕ)) where
   -- the write was broken off
   pub stops_passed : (front : List ℕ) (written : ℕ) → length front ≡ 0 → written < len
-      → PassedOn len (λ bytes. take written (unit_plain cipher number bytes)) left left' before after
+      → Forwarded len (λ bytes. take written (unit_plain cipher number bytes)) left left' before after
       → left ≡ Some known → StopsInSector cipher number len front known left' before after Write
   stops_passed [] written none few passed is =
       let p = passed_bytes known passed.0 left left' len passed.1 passed.2 is in

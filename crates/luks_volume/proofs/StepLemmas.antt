@@ -7,14 +7,14 @@ use Rattle.std.proofs.lemmas.Bool.{le-ltb, lt-ltb}
 use Rattle.std.proofs.lemmas.List.{drop-drop, take-append-drop}
 use Rattle.luks_verdict.specs.declared.segment.Segment.{Segment}
 use Rattle.luks_cipher.specs.Sector.{Cipher}
-use Rattle.luks_io.specs.Bytes.{Adds, Took, WhereKnown, counted, raised}
+use Rattle.luks_io.specs.Bytes.{Appended, ConsumedExactly, IfKnown, counted, saturating_inc}
 use Rattle.luks_io.proofs.Taking.{took_behind, took_sum}
-use Rattle.luks_volume.specs.Passing.{StandsAt, StopsDiscarding, StopsInSector, is_failed_read, is_failed_write}
-use Rattle.luks_volume.specs.Passing.{limit_of}
-use Rattle.luks_volume.specs.Plain.{end_within, ending_within, payload_end_of, payload_len, sector_len, sector_of}
+use Rattle.luks_volume.specs.Passing.{PositionedAt, StopsDiscarding, StopsInSector, is_pump_read_failure, is_pump_write_failure}
+use Rattle.luks_volume.specs.Passing.{max_sectors}
+use Rattle.luks_volume.specs.Plain.{end_within, ending_within, payload_end_of, payload_len, sector_len, sector_plaintext}
 use Rattle.luks_volume.specs.Plain.{sector_start, unit_number, unit_plain}
-use Rattle.luks_volume.specs.Pumped.{Ends, EndsAt, MayAnswer, Pumped, Skips, SkipsAgain, StandsIn, Steps, TakesSector}
-use Rattle.luks_volume.specs.Pumped.{StepsAgain, is_found_end, is_running, reach_of, state_after_skip}
+use Rattle.luks_volume.specs.Pumped.{EndEffect, EndsAt, MayAnswer, PumpModel, SkipEffect, SkipsAgain, StandsIn, StepEffect, TakesSector}
+use Rattle.luks_volume.specs.Pumped.{StepsAgain, hits_eof_at, is_running, consumed_by, state_after_skip}
 use Rattle.luks_volume.specs.declared.state.State.{State}
 use Rattle.luks_volume.specs.declared.state.State.TheVariants.{BeforePayload, InPayload, Ended, Faulted}
 use Rattle.luks_volume.specs.declared.fault.VolumeFault.{VolumeFault}
@@ -29,7 +29,7 @@ module _ (s : Segment) (image : List ℕ) (count : ℕ) where
   -- a stated end is what a step did
   pub steps_from_end : (cipher : Cipher) (reach : ℕ) (left' before after : Option (List ℕ))
       (answer : Result Step VolumeFault) → is_ending answer ≡ true
-      → Ends image s count reach answer left' → Steps s cipher count reach image answer left' before after
+      → EndEffect image s count reach answer left' → StepEffect s cipher count reach image answer left' before after
   steps_from_end cipher reach l b a (Ok Sector) not e = cc
   steps_from_end cipher reach l b a (Ok End) is e = e
   steps_from_end cipher reach l b a (Err CutBeforePayload) not e = cc
@@ -38,7 +38,7 @@ module _ (s : Segment) (image : List ℕ) (count : ℕ) where
   steps_from_end cipher reach l b a (Err Read) not e = cc
   steps_from_end cipher reach l b a (Err Write) not e = cc
 
-  module _ (front : List ℕ) (left : Option (List ℕ)) (stands : StandsAt image front (sector_start s count) left) where
+  module _ (front : List ℕ) (left : Option (List ℕ)) (stands : PositionedAt image front (sector_start s count) left) where
     there : sector_start s count + length front ≤ length image
     there = stands.took.within
 
@@ -54,8 +54,8 @@ module _ (s : Segment) (image : List ℕ) (count : ℕ) where
         ∙ take-append-drop (length front) (drop (sector_start s count) image)
 
     -- the sector was taken
-    pub takes_sector : (left' : Option (List ℕ)) → count < limit_of s
-        → WhereKnown left (λ rest. Took rest left' (sector_len s - length front))
+    pub takes_sector : (left' : Option (List ℕ)) → count < max_sectors s
+        → IfKnown left (λ rest. ConsumedExactly rest left' (sector_len s - length front))
         → TakesSector image s count (sector_start s count + length front) left'
     takes_sector left' below next =
         let least = at_least_512 s.sector_size in
@@ -69,10 +69,10 @@ module _ (s : Segment) (image : List ℕ) (count : ℕ) where
 
     -- a read or a write failed
     pub steps_broken : (cipher : Cipher) (left' before after : Option (List ℕ)) (fault : VolumeFault)
-        → count < limit_of s
-        → WhereKnown left (λ rest. StopsInSector cipher (unit_number s count) (sector_len s) front rest left' before
+        → count < max_sectors s
+        → IfKnown left (λ rest. StopsInSector cipher (unit_number s count) (sector_len s) front rest left' before
         after fault)
-        → Steps s cipher count (sector_start s count + length front) image (Err fault) left' before after
+        → StepEffect s cipher count (sector_start s count + length front) image (Err fault) left' before after
     steps_broken cipher left' b a Read below stops =
         let least = at_least_512 s.sector_size in
         let (count', few, next) = stops (drop (sector_start s count + length front) image) stands.took.left in
@@ -98,20 +98,20 @@ module _ (s : Segment) (image : List ℕ) (count : ℕ) where
 
     -- the sector's plain bytes were written
     pub adds_sector : (cipher : Cipher) (before after : Option (List ℕ))
-        → WhereKnown left (λ rest. Adds before after (unit_plain cipher (unit_number s count)
+        → IfKnown left (λ rest. Appended before after (unit_plain cipher (unit_number s count)
         (take (sector_len s) (front ++ rest))))
-        → Adds before after (sector_of s cipher image count)
+        → Appended before after (sector_plaintext s cipher image count)
     adds_sector cipher b a adds =
         rw joined at (adds (drop (sector_start s count + length front) image) stands.took.left)
 
     -- the image ended before the sector did
     pub steps_torn : (cipher : Cipher) (left' before after : Option (List ℕ)) (answer : Result Step VolumeFault)
         (got : ℕ)
-        → count < limit_of s
-        → WhereKnown left (λ rest. (got ≡ min (sector_len s) (length (front ++ rest)))
-        × Took rest left' (got - length front)) → got < sector_len s
+        → count < max_sectors s
+        → IfKnown left (λ rest. (got ≡ min (sector_len s) (length (front ++ rest)))
+        × ConsumedExactly rest left' (got - length front)) → got < sector_len s
         → answer ≡ ending_within s.size (sector_len s) (count * sector_len s + got)
-        → Steps s cipher count (sector_start s count + length front) image answer left' before after
+        → StepEffect s cipher count (sector_start s count + length front) image answer left' before after
     steps_torn cipher left' b a answer got below next torn is =
         let least = at_least_512 s.sector_size in
         let some : 0 < sector_len s = omega arith in
@@ -135,8 +135,8 @@ module _ (s : Segment) (image : List ℕ) (count : ℕ) where
         })
 
     -- the limit is reached
-    pub steps_at_limit : (cipher : Cipher) (before after : Option (List ℕ)) → count ≡ limit_of s → length image < 2 ^ 64
-        → Steps s cipher count (sector_start s count + length front) image (Ok End) left before after
+    pub steps_at_limit : (cipher : Cipher) (before after : Option (List ℕ)) → count ≡ max_sectors s → length image < 2 ^ 64
+        → StepEffect s cipher count (sector_start s count + length front) image (Ok End) left before after
     steps_at_limit cipher b a is few =
         let least = at_least_512 s.sector_size in
         let some : 0 < sector_len s = omega arith in
@@ -166,10 +166,10 @@ module _ (s : Segment) (count : ℕ) where
   may_end state (Err Read) not ends = cc
   may_end state (Err Write) not ends = cc
 
-  found_end : (answer : Result Step VolumeFault) → is_ending answer ≡ true → count < limit_of s
-      → is_found_end s count answer ≡ true
+  found_end : (answer : Result Step VolumeFault) → is_ending answer ≡ true → count < max_sectors s
+      → hits_eof_at s count answer ≡ true
   found_end (Ok Sector) not below = cc
-  found_end (Ok End) is below = lt-ltb count (limit_of s) below
+  found_end (Ok End) is below = lt-ltb count (max_sectors s) below
   found_end (Err CutBeforePayload) not below = cc
   found_end (Err (Tail _)) is below = refl
   found_end (Err (Short _)) is below = refl
@@ -178,7 +178,7 @@ module _ (s : Segment) (count : ℕ) where
 
   -- with it no read and no write has failed
   no_failure : (answer : Result Step VolumeFault) → is_ending answer ≡ true
-      → (is_failed_read answer ≡ false) × (is_failed_write answer ≡ false)
+      → (is_pump_read_failure answer ≡ false) × (is_pump_write_failure answer ≡ false)
   no_failure (Ok Sector) not = cc
   no_failure (Ok End) is = (refl, refl)
   no_failure (Err CutBeforePayload) not = cc
@@ -187,7 +187,7 @@ module _ (s : Segment) (count : ℕ) where
   no_failure (Err Read) not = cc
   no_failure (Err Write) not = cc
 
-  module _ (more : ℕ) (answer : Result Step VolumeFault) (below : count < limit_of s)
+  module _ (more : ℕ) (answer : Result Step VolumeFault) (below : count < max_sectors s)
       (is : answer ≡ ending_within s.size (sector_len s) (count * sector_len s + more)) where
     ending : is_ending answer ≡ true
     ending = rw is (ending_is_ending s.size (sector_len s) (count * sector_len s + more))
@@ -196,7 +196,7 @@ module _ (s : Segment) (count : ℕ) where
     may_be_torn state torn = may_end state answer ending (inr (below, (more, torn, is)))
 
     pub torn_fails_nothing : (n : ℕ)
-        → (n ≡ counted (is_failed_read answer) n) × (n ≡ counted (is_failed_write answer) n)
+        → (n ≡ counted (is_pump_read_failure answer) n) × (n ≡ counted (is_pump_write_failure answer) n)
     torn_fails_nothing n =
         let none = no_failure answer ending in
         (rw none.0 refl, rw none.1 refl)
@@ -204,22 +204,22 @@ module _ (s : Segment) (count : ℕ) where
     pub torn_is_no_sector : answer ≡ Ok Sector → ⊥
     torn_is_no_sector is = let no : is_ending (Ok Sector) ≡ true = rw is at ending in cc
 
-    pub found_torn : (ends : ℕ) → raised ends ≡ counted (is_found_end s count answer) ends
+    pub found_torn : (ends : ℕ) → saturating_inc ends ≡ counted (hits_eof_at s count answer) ends
     found_torn ends = rw (found_end answer ending below) refl
 
 -- what a skip did, from how its bytes were let go
-module _ (p : Pumped) (image : List ℕ) (r r' : Option (List ℕ)) (early : p.consumed ≤ p.segment.offset)
+module _ (p : PumpModel) (image : List ℕ) (r r' : Option (List ℕ)) (early : p.consumed ≤ p.segment.offset)
     (first : p.state ≡ BeforePayload) (bare : p.front ≡ []) (stands : StandsIn image p r) where
-  from : reach_of p ≡ p.consumed
+  from : consumed_by p ≡ p.consumed
   from = rw (first, bare) (omega arith)
 
-  took : Took image r p.consumed
-  took = subst (Took image r) from stands.stands.took
+  took : ConsumedExactly image r p.consumed
+  took = subst (ConsumedExactly image r) from stands.stands.took
 
   pub skips : (answer : Result (Unit {0}) VolumeFault)
-      → OnOk answer (WhereKnown r (λ rest. Took rest r' (p.segment.offset - p.consumed)))
-      → IfErr answer (λ fault. WhereKnown r (λ rest. StopsDiscarding (p.segment.offset - p.consumed) rest r' fault))
-      → Skips p image answer r'
+      → OnOk answer (IfKnown r (λ rest. ConsumedExactly rest r' (p.segment.offset - p.consumed)))
+      → IfErr answer (λ fault. IfKnown r (λ rest. StopsDiscarding (p.segment.offset - p.consumed) rest r' fault))
+      → SkipEffect p image answer r'
   skips (Ok _) ok err =
       took_sum image r r' p.consumed (p.segment.offset - p.consumed) p.segment.offset (omega arith) took ok
   skips (Err CutBeforePayload) ok err =
@@ -243,7 +243,7 @@ module _ (p : Pumped) (image : List ℕ) (r r' : Option (List ℕ)) (early : p.c
   skips (Err Write) ok err = absurd (err (drop p.consumed image) took.left)
 
 -- a pump of these parts
-abbrev pub pumped : Segment → Cipher → ℕ → ℕ → State → List ℕ → Pumped
+abbrev pub pumped : Segment → Cipher → ℕ → ℕ → State → List ℕ → PumpModel
 pumped s cipher consumed count state front =
     record { segment = s; cipher = cipher; consumed = consumed; count = count; state = state; front = front }
 
@@ -251,8 +251,8 @@ pumped s cipher consumed count state front =
 module _ (s : Segment) (cipher : Cipher) (consumed count : ℕ) (front image : List ℕ)
     (r r' before after : Option (List ℕ)) where
   skip_broken : (fault : VolumeFault) → count ≡ 0 → consumed ≤ length image
-      → Skips (pumped s cipher consumed count BeforePayload front) image (Err fault) r'
-      → Steps s cipher count consumed image (Err fault) r' before after
+      → SkipEffect (pumped s cipher consumed count BeforePayload front) image (Err fault) r'
+      → StepEffect s cipher count consumed image (Err fault) r' before after
   skip_broken CutBeforePayload none there (cut, took) =
       let len : payload_len s image ≡ 0 = omega arith in
       let yes : nat_lt (length image) s.offset ≡ true = lt-ltb (length image) s.offset cut in
@@ -272,12 +272,12 @@ module _ (s : Segment) (cipher : Cipher) (consumed count : ℕ) (front image : L
   pub steps_unskipped : (state : State) (fault : VolumeFault) (T : Type 0)
       → StandsIn image (pumped s cipher consumed count state front) r → SkipsAgain state (Err fault) T
       → (state ≡ BeforePayload → (count ≡ 0) × (front ≡ []))
-      → (state ≡ BeforePayload → Skips (pumped s cipher consumed count state front) image (Err fault) r')
-      → Steps s cipher count (reach_of (pumped s cipher consumed count state front)) image (Err fault) r' before after
+      → (state ≡ BeforePayload → SkipEffect (pumped s cipher consumed count state front) image (Err fault) r')
+      → StepEffect s cipher count (consumed_by (pumped s cipher consumed count state front)) image (Err fault) r' before after
   steps_unskipped BeforePayload fault T stands again none stops =
       let from : consumed + length front ≡ consumed = rw (none refl).1 (omega arith) in
       let within = stands.stands.took.within in
-      subst (λ n. Steps s cipher count n image (Err fault) r' before after) (sym from)
+      subst (λ n. StepEffect s cipher count n image (Err fault) r' before after) (sym from)
       (skip_broken fault (none refl).0 (omega arith) (stops refl))
   steps_unskipped InPayload fault T stands again none stops =
       let same = again.0 in
@@ -292,7 +292,7 @@ module _ (s : Segment) (cipher : Cipher) (consumed count : ℕ) (front image : L
 -- and no write was tried then
 pub unwritten : (state : State) (fault : VolumeFault) (T : Type 0) (n : ℕ) → SkipsAgain state (Err fault) T
     → (state ≡ BeforePayload → (fault ≡ CutBeforePayload) ⊎ (fault ≡ Read)) → is_running state ≡ true
-    → n ≡ counted (is_failed_write {T = Step} (Err fault)) n
+    → n ≡ counted (is_pump_write_failure {T = Step} (Err fault)) n
 unwritten BeforePayload fault T n again only running =
     elim (only refl) [ inl is ↦ rw is refl | inr is ↦ rw is refl ]
 unwritten InPayload fault T n again only running =
@@ -309,8 +309,8 @@ start_in_end (Some size) offset len whole = omega arith
 -- a step from a payload's start on is one from an earlier place
 module _ (s : Segment) (cipher : Cipher) (count reach : ℕ) (image : List ℕ) (l b a : Option (List ℕ))
     (early : reach ≤ s.offset) (there : s.offset ≤ length image) where
-  ends_earlier : (answer : Result Step VolumeFault) → Ends image s count s.offset answer l
-      → Ends image s count reach answer l
+  ends_earlier : (answer : Result Step VolumeFault) → EndEffect image s count s.offset answer l
+      → EndEffect image s count reach answer l
   ends_earlier answer ends =
       let end = start_in_end s.size s.offset (length image) there in
       let same : max s.offset (payload_end_of s image) ≡ max reach (payload_end_of s image) = omega arith in
@@ -321,8 +321,8 @@ module _ (s : Segment) (cipher : Cipher) (count reach : ℕ) (image : List ℕ) 
       let same : max s.offset (sector_start s (count + 1)) ≡ max reach (sector_start s (count + 1)) = omega arith in
       record { is_one = takes.is_one; took = rw same at takes.took }
 
-  steps_earlier : (answer : Result Step VolumeFault) → Steps s cipher count s.offset image answer l b a
-      → Steps s cipher count reach image answer l b a
+  steps_earlier : (answer : Result Step VolumeFault) → StepEffect s cipher count s.offset image answer l b a
+      → StepEffect s cipher count reach image answer l b a
   steps_earlier (Ok Sector) (takes, adds) =
       (takes_earlier takes, adds)
   steps_earlier (Ok End) ends = ends_earlier (Ok End) ends
@@ -340,10 +340,10 @@ module _ (s : Segment) (cipher : Cipher) (consumed count : ℕ) (front image : L
       → StandsIn image (pumped s cipher consumed count state front) r → consumed ≤ s.offset
       → SkipsAgain state (Ok tt) T
       → (T → r' ≡ r) → (state ≡ BeforePayload → (count ≡ 0) × (front ≡ []))
-      → (state ≡ BeforePayload → Skips (pumped s cipher consumed count state front) image (Ok tt) r')
-      → (StandsAt image front (sector_start s count) r'
-      → Steps s cipher count (sector_start s count + length front) image answer r'' before after)
-      → Steps s cipher count (reach_of (pumped s cipher consumed count state front)) image answer r'' before after
+      → (state ≡ BeforePayload → SkipEffect (pumped s cipher consumed count state front) image (Ok tt) r')
+      → (PositionedAt image front (sector_start s count) r'
+      → StepEffect s cipher count (sector_start s count + length front) image answer r'' before after)
+      → StepEffect s cipher count (consumed_by (pumped s cipher consumed count state front)) image answer r'' before after
   steps_skipped BeforePayload T stands early again same none skipped steps =
       let (first, bare) = none refl in
       let took = skipped refl in
@@ -351,8 +351,8 @@ module _ (s : Segment) (cipher : Cipher) (consumed count : ℕ) (front image : L
       let next : front ≡ take (length front) (drop (sector_start s count) image) = rw bare refl in
       let from : consumed + length front ≤ s.offset = rw bare (omega arith) in
       steps_earlier s cipher count (consumed + length front) image r'' before after from took.within answer
-      (subst (λ n. Steps s cipher count n image answer r'' before after) (sym start)
-      (steps (record { next = next; took = subst (Took image r') start took })))
+      (subst (λ n. StepEffect s cipher count n image answer r'' before after) (sym start)
+      (steps (record { next = next; took = subst (ConsumedExactly image r') start took })))
   steps_skipped InPayload T stands early again same none skipped steps = steps (rw (same again.1) stands.stands)
   steps_skipped Ended T stands early again same none skipped steps =
       let not = stands.running in
@@ -362,22 +362,22 @@ module _ (s : Segment) (cipher : Cipher) (consumed count : ℕ) (front image : L
       absurd (cc)
 
   -- the same, where the pump that it goes on with is told by its parts
-  pub steps_resumed : (now skipped : Pumped) (state state' : State) (T : Type 0) → now ≡ skipped
+  pub steps_resumed : (now skipped : PumpModel) (state state' : State) (T : Type 0) → now ≡ skipped
       → skipped ≡ pumped s cipher consumed count state' front
       → StandsIn image (pumped s cipher consumed count state front) r → now.consumed ≤ now.segment.offset
       → SkipsAgain state (Ok tt) T → (T → r' ≡ r)
       → (state ≡ BeforePayload → (count ≡ 0) × (front ≡ []))
-      → (state ≡ BeforePayload → Skips (pumped s cipher consumed count state front) image (Ok tt) r')
-      → (StandsAt image now.front (sector_start now.segment now.count) r'
-      → Steps now.segment now.cipher now.count (sector_start now.segment now.count + length now.front) image answer r''
+      → (state ≡ BeforePayload → SkipEffect (pumped s cipher consumed count state front) image (Ok tt) r')
+      → (PositionedAt image now.front (sector_start now.segment now.count) r'
+      → StepEffect now.segment now.cipher now.count (sector_start now.segment now.count + length now.front) image answer r''
       before after)
-      → Steps s cipher count (reach_of (pumped s cipher consumed count state front)) image answer r'' before after
+      → StepEffect s cipher count (consumed_by (pumped s cipher consumed count state front)) image answer r'' before after
   steps_resumed now skipped state state' T closed moved stands early again same none skips steps =
       let is : now ≡ pumped s cipher consumed count state' front = closed ∙ moved in
-      steps_skipped state T stands (subst (λ (p : Pumped). p.consumed ≤ p.segment.offset) is early) again same none
+      steps_skipped state T stands (subst (λ (p : PumpModel). p.consumed ≤ p.segment.offset) is early) again same none
       skips
-      (subst (λ (p : Pumped). StandsAt image p.front (sector_start p.segment p.count) r'
-      → Steps p.segment p.cipher p.count (sector_start p.segment p.count + length p.front) image answer r'' before
+      (subst (λ (p : PumpModel). PositionedAt image p.front (sector_start p.segment p.count) r'
+      → StepEffect p.segment p.cipher p.count (sector_start p.segment p.count + length p.front) image answer r'' before
       after) is steps)
 
 -- where a skip let a pump go on that has not ended, it is in its payload

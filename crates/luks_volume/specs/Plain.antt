@@ -27,8 +27,8 @@ unfoldable pub unit_plain : Cipher → ℕ → List ℕ → List ℕ
 unit_plain cipher number unit = sector_decrypted cipher.0 cipher.1 number unit
 
 -- the plain bytes of sector i
-abbrev pub sector_of : Segment → Cipher → List ℕ → ℕ → List ℕ
-sector_of s cipher image i = unit_plain cipher (unit_number s i) (take (sector_len s) (drop (sector_start s i) image))
+abbrev pub sector_plaintext : Segment → Cipher → List ℕ → ℕ → List ℕ
+sector_plaintext s cipher image i = unit_plain cipher (unit_number s i) (take (sector_len s) (drop (sector_start s i) image))
 
 -- how many bytes of the image stand behind the payload's start
 abbrev pub payload_len : Segment → List ℕ → ℕ
@@ -45,7 +45,7 @@ sectors_of s image = within_size s.size (payload_len s image) / sector_len s
 
 -- the plain text: all whole sectors, joined
 abbrev pub plain_of : Segment → Cipher → List ℕ → List ℕ
-plain_of s cipher image = joined (sector_of s cipher image) (sectors_of s image)
+plain_of s cipher image = joined (sector_plaintext s cipher image) (sectors_of s image)
 
 -- how a payload ends whose image has so many bytes behind its start
 abbrev pub ending_within : Option ℕ → ℕ → ℕ → Result Step VolumeFault

@@ -2,10 +2,10 @@
 
 ghost use Rattle.std.specs.Prelude.{◌≡◌, ◌-◌, ◌%◌, ◌<◌, ◌≤◌, ◌⊎◌, ◌++◌, List, ℕ, Some, IfOk, IfErr};
 ghost use Rattle.std.specs.Prelude.{OnOk, length, take, min};
-ghost use Rattle.luks_io.specs.Bytes.{Adds, Took, TookFewer, WhereKnown, counted, is_short};
-ghost use Rattle.luks_volume.specs.Passing.{AddsUnit, BeginsWith, Gathers, StopsDiscarding};
-ghost use Rattle.luks_volume.specs.Passing.{PassesSector};
-ghost use Rattle.luks_volume.specs.Passing.{is_cut, is_failed_read, is_failed_write};
+ghost use Rattle.luks_io.specs.Bytes.{Appended, ConsumedExactly, ConsumedFewer, IfKnown, counted, is_short_read};
+ghost use Rattle.luks_volume.specs.Passing.{AddsUnit, BeginsWith, FilledSector, StopsDiscarding};
+ghost use Rattle.luks_volume.specs.Passing.{SectorEffect};
+ghost use Rattle.luks_volume.specs.Passing.{is_cut, is_pump_read_failure, is_pump_write_failure};
 ghost use Rattle.luks_volume.specs.Plain.{unit_plain};
 
 use crate::decryption::Decryption;
@@ -21,13 +21,13 @@ pub(crate) fn discard<S: Source>(
     piece: &mut [u8],
 ) -> Result<(), VolumeFault>
     requires { 0 < length piece.old }
-    ensures ok { OnOk result (WhereKnown (S.to_come source.old)
-        (λ known. Took known (S.to_come source.new) count)) }
-    ensures err { IfErr result (λ fault. WhereKnown (S.to_come source.old)
+    ensures ok { OnOk result (IfKnown (S.to_come source.old)
+        (λ known. ConsumedExactly known (S.to_come source.new) count)) }
+    ensures err { IfErr result (λ fault. IfKnown (S.to_come source.old)
         (λ known. StopsDiscarding count known (S.to_come source.new) fault)) }
     ensures only { IfErr result
         (λ fault. (fault ≡ VolumeFault.CutBeforePayload) ⊎ (fault ≡ VolumeFault.Read)) }
-    ensures reads { S.failures source.new ≡ counted (is_failed_read result)
+    ensures reads { S.failures source.new ≡ counted (is_pump_read_failure result)
         (S.failures source.old) }
     ensures ends { S.ends source.new ≡ counted (is_cut result) (S.ends source.old) }
 {
@@ -46,17 +46,17 @@ pub(crate) fn discard<S: Source>(
 /// many there were: fewer than the sector has only where the source is at its end.
 fn gather<S: Source>(front: &[u8], sector: &mut [u8], source: &mut S) -> Result<usize, VolumeFault>
     ensures most { IfOk result (λ got. got ≤ length sector.old) }
-    ensures gathered { IfOk result (λ got. WhereKnown (S.to_come source.old)
-        (λ known. Gathers (length sector.old) front.now known (S.to_come source.new)
+    ensures gathered { IfOk result (λ got. IfKnown (S.to_come source.old)
+        (λ known. FilledSector (length sector.old) front.now known (S.to_come source.new)
         sector.new got)) }
     ensures begins { IfOk result (λ got. BeginsWith front.now sector.new) }
-    ensures err { IfErr result (λ fault. WhereKnown (S.to_come source.old)
-        (λ known. TookFewer known (S.to_come source.new)
+    ensures err { IfErr result (λ fault. IfKnown (S.to_come source.old)
+        (λ known. ConsumedFewer known (S.to_come source.new)
         (length sector.old - length front.now))) }
     ensures only { IfErr result (λ fault. fault ≡ VolumeFault.Read) }
-    ensures reads { S.failures source.new ≡ counted (is_failed_read result)
+    ensures reads { S.failures source.new ≡ counted (is_pump_read_failure result)
         (S.failures source.old) }
-    ensures ends { S.ends source.new ≡ counted (is_short result (length sector.old))
+    ensures ends { S.ends source.new ≡ counted (is_short_read result (length sector.old))
         (S.ends source.old) }
 {
     let held = front.len().min(sector.len());
@@ -79,14 +79,14 @@ pub(crate) fn pass_sector<S: Source, O: Sink>(
     requires whole_blocks { length sector.old % 16 ≡ 0 }
     requires shortest { 16 ≤ length sector.old }
     requires longest { length sector.old ≤ 4096 }
-    ensures passes { PassesSector cipher.now number (length sector.old) front.now result
+    ensures passes { SectorEffect cipher.now number (length sector.old) front.now result
         (S.to_come source.old) (S.to_come source.new) (O.written sink.old) (O.written sink.new)
         (sink.new ≡ sink.old) }
-    ensures reads { S.failures source.new ≡ counted (is_failed_read result)
+    ensures reads { S.failures source.new ≡ counted (is_pump_read_failure result)
         (S.failures source.old) }
-    ensures ends { S.ends source.new ≡ counted (is_short result (length sector.old))
+    ensures ends { S.ends source.new ≡ counted (is_short_read result (length sector.old))
         (S.ends source.old) }
-    ensures writes { O.failures sink.new ≡ counted (is_failed_write result) (O.failures sink.old) }
+    ensures writes { O.failures sink.new ≡ counted (is_pump_write_failure result) (O.failures sink.old) }
 {
     // Bytes in front are not the source's: a sector that begins with them is gathered.
     if front.is_empty() {

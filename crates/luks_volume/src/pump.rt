@@ -3,12 +3,12 @@
 ghost use Rattle.std.specs.Prelude.{◌≡◌, ◌+◌, ◌^◌, ◌<◌, ◌≤◌, ◌⊎◌, List, [], ℕ, Some, Ok, IfErr};
 ghost use Rattle.std.specs.Prelude.{true, drop, length};
 ghost use Rattle.luks_io.specs.Bytes.{counted};
-ghost use Rattle.luks_volume.specs.Passing.{AddsUnit, StandsAt, is_cut, is_failed_read};
-ghost use Rattle.luks_volume.specs.Passing.{is_failed_write, limit_of};
+ghost use Rattle.luks_volume.specs.Passing.{AddsUnit, PositionedAt, is_cut, is_pump_read_failure};
+ghost use Rattle.luks_volume.specs.Passing.{is_pump_write_failure, max_sectors};
 ghost use Rattle.luks_volume.specs.Plain.{sector_len, sector_start, unit_number};
-ghost use Rattle.luks_volume.specs.Pumped.{MayAnswer, SkipsAgain, Skips, StandsIn, Steps};
+ghost use Rattle.luks_volume.specs.Pumped.{MayAnswer, SkipsAgain, SkipEffect, StandsIn, StepEffect};
 ghost use Rattle.luks_volume.specs.Pumped.{StepsAgain, WritesSectors};
-ghost use Rattle.luks_volume.specs.Pumped.{after_step, is_found_end, is_running, reach_of};
+ghost use Rattle.luks_volume.specs.Pumped.{after_step, hits_eof_at, is_running, consumed_by};
 ghost use Rattle.luks_volume.specs.Pumped.{state_after_skip};
 
 use crate::fault::VolumeFault;
@@ -42,11 +42,11 @@ pub struct Pump<'a> {
 
 impl<'a> Model for Pump<'a> {
     ghost use Rattle.std.specs.Prelude.{◌≡◌, ◌≤◌, []};
-    ghost use Rattle.luks_volume.specs.Passing.{limit_of};
-    ghost use Rattle.luks_volume.specs.Pumped.{Pumped};
+    ghost use Rattle.luks_volume.specs.Passing.{max_sectors};
+    ghost use Rattle.luks_volume.specs.Pumped.{PumpModel};
     ghost use Rattle.luks_volume.specs.declared.state.State.TheVariants.{BeforePayload};
 
-    ghost Value = { Pumped };
+    ghost Value = { PumpModel };
 
     ghost view = { λ p.
         record {
@@ -58,7 +58,7 @@ impl<'a> Model for Pump<'a> {
           front = p.front.now;
         } };
 
-    ghost invariant = { λ p. (p.consumed ≤ p.segment.offset) × (p.count ≤ limit_of p.segment)
+    ghost invariant = { λ p. (p.consumed ≤ p.segment.offset) × (p.count ≤ max_sectors p.segment)
         × (p.state ≡ BeforePayload → (p.count ≡ 0) × (p.front.now ≡ [])) };
 }
 
@@ -74,23 +74,23 @@ fn next_sector<S: Source, O: Sink>(
     sink: &mut O,
 ) -> Result<Step, VolumeFault>
     requires room { length buffer.old ≡ ROOM }
-    requires within { count ≤ limit_of segment.now }
-    ensures limit { count ≡ limit_of segment.now
+    requires within { count ≤ max_sectors segment.now }
+    ensures limit { count ≡ max_sectors segment.now
         → (result ≡ Ok Step.End) × (source.new ≡ source.old) × (sink.new ≡ sink.old) }
-    ensures below { result ≡ Ok Step.Sector → count < limit_of segment.now }
+    ensures below { result ≡ Ok Step.Sector → count < max_sectors segment.now }
     ensures passed { result ≡ Ok Step.Sector → AddsUnit cipher.now (unit_number segment.now count)
         (sector_len segment.now) front.now (O.written sink.old) (O.written sink.new) }
     ensures only { MayAnswer State.InPayload segment.now count result }
     ensures run { (image : List ℕ) → length image < 2 ^ 64
-        → StandsAt image front.now (sector_start segment.now count) (S.to_come source.old)
-        → Steps segment.now cipher.now count (sector_start segment.now count + length front.now)
+        → PositionedAt image front.now (sector_start segment.now count) (S.to_come source.old)
+        → StepEffect segment.now cipher.now count (sector_start segment.now count + length front.now)
         image result (S.to_come source.new) (O.written sink.old) (O.written sink.new) }
     ensures writes_sectors { WritesSectors result (sink.new ≡ sink.old) }
-    ensures reads { S.failures source.new ≡ counted (is_failed_read result)
+    ensures reads { S.failures source.new ≡ counted (is_pump_read_failure result)
         (S.failures source.old) }
-    ensures ends { S.ends source.new ≡ counted (is_found_end segment.now count result)
+    ensures ends { S.ends source.new ≡ counted (hits_eof_at segment.now count result)
         (S.ends source.old) }
-    ensures writes { O.failures sink.new ≡ counted (is_failed_write result) (O.failures sink.old) }
+    ensures writes { O.failures sink.new ≡ counted (is_pump_write_failure result) (O.failures sink.old) }
 {
     if count == limit(segment) {
         return Ok(Step::End);
@@ -169,13 +169,13 @@ impl<'a> Pump<'a> {
         ensures again { SkipsAgain self.old.state result (source.new ≡ source.old) }
         ensures run { (image : List ℕ) → self.old.state ≡ State.BeforePayload
             → StandsIn image self.old (S.to_come source.old)
-            → Skips self.old image result (S.to_come source.new) }
+            → SkipEffect self.old image result (S.to_come source.new) }
         ensures only { self.old.state ≡ State.BeforePayload → IfErr result (λ fault.
             (fault ≡ VolumeFault.CutBeforePayload) ⊎ (fault ≡ VolumeFault.Read)) }
         ensures fresh { self.old.state ≡ State.BeforePayload
             → (self.old.count ≡ 0) × (self.old.front ≡ []) }
         ensures reads { is_running self.old.state ≡ true
-            → S.failures source.new ≡ counted (is_failed_read result) (S.failures source.old) }
+            → S.failures source.new ≡ counted (is_pump_read_failure result) (S.failures source.old) }
         ensures ends { is_running self.old.state ≡ true
             → S.ends source.new ≡ counted (is_cut result) (S.ends source.old) }
     {
@@ -197,7 +197,7 @@ impl<'a> Pump<'a> {
     /// Remembers what a step in the payload answered.
     fn remember(&mut self, answer: Result<Step, VolumeFault>)
         requires running { self.old.state ≡ State.InPayload }
-        requires below { answer ≡ Ok Step.Sector → self.old.count < limit_of self.old.segment }
+        requires below { answer ≡ Ok Step.Sector → self.old.count < max_sectors self.old.segment }
         ensures { self.new ≡ after_step self.old answer }
     {
         match answer {
@@ -226,11 +226,11 @@ impl<'a> Pump<'a> {
         ensures again { StepsAgain self.old.state result ((source.new ≡ source.old)
             × (sink.new ≡ sink.old)) }
         ensures limit { self.old.state ≡ State.InPayload
-            → self.old.count ≡ limit_of self.old.segment
+            → self.old.count ≡ max_sectors self.old.segment
             → (result ≡ Ok Step.End) × (source.new ≡ source.old) × (sink.new ≡ sink.old) }
         ensures run { (image : List ℕ) → length image < 2 ^ 64
             → StandsIn image self.old (S.to_come source.old)
-            → Steps self.old.segment self.old.cipher self.old.count (reach_of self.old) image result
+            → StepEffect self.old.segment self.old.cipher self.old.count (consumed_by self.old) image result
             (S.to_come source.new) (O.written sink.old) (O.written sink.new) }
         ensures passed { result ≡ Ok Step.Sector
             → AddsUnit self.old.cipher (unit_number self.old.segment self.old.count)
@@ -240,11 +240,11 @@ impl<'a> Pump<'a> {
             → MayAnswer self.old.state self.old.segment self.old.count result }
         ensures writes_sectors { WritesSectors result (sink.new ≡ sink.old) }
         ensures reads { is_running self.old.state ≡ true
-            → S.failures source.new ≡ counted (is_failed_read result) (S.failures source.old) }
+            → S.failures source.new ≡ counted (is_pump_read_failure result) (S.failures source.old) }
         ensures ends { is_running self.old.state ≡ true → S.ends source.new
-            ≡ counted (is_found_end self.old.segment self.old.count result) (S.ends source.old) }
+            ≡ counted (hits_eof_at self.old.segment self.old.count result) (S.ends source.old) }
         ensures writes { is_running self.old.state ≡ true
-            → O.failures sink.new ≡ counted (is_failed_write result) (O.failures sink.old) }
+            → O.failures sink.new ≡ counted (is_pump_write_failure result) (O.failures sink.old) }
     {
         self.skip(source)?;
         if self.state == State::Ended {

@@ -1,7 +1,7 @@
 //! Numbers of a segment's sectors.
 
 ghost use Rattle.std.specs.Prelude.{◌≡◌, ◌+◌, ◌*◌, ◌<◌};
-ghost use Rattle.luks_volume.specs.Passing.{limit_of};
+ghost use Rattle.luks_volume.specs.Passing.{max_sectors};
 ghost use Rattle.luks_volume.specs.Plain.{ending_within, sector_len, unit_number};
 
 use crate::fault::VolumeFault;
@@ -11,7 +11,7 @@ use luks_header::segment::Segment;
 /// The most sectors that are passed on: those of a fixed size, and else as many as a count of them
 /// can say.
 pub(crate) fn limit(segment: &Segment) -> u64
-    ensures { result ≡ limit_of segment.now }
+    ensures { result ≡ max_sectors segment.now }
 {
     match segment.size {
         Some(size) => size / segment.sector_size.bytes() as u64,
@@ -29,7 +29,7 @@ pub(crate) fn number(segment: &Segment, sector: u64) -> u64
 
 /// How the payload ends where the image has so many sectors of it and so many bytes more.
 pub(crate) fn ending(segment: &Segment, sectors: u64, more: usize) -> Result<Step, VolumeFault>
-    requires below { sectors < limit_of segment.now }
+    requires below { sectors < max_sectors segment.now }
     requires torn { more < sector_len segment.now }
     ensures { result ≡ ending_within segment.now.size (sector_len segment.now)
         (sectors * sector_len segment.now + more) }

@@ -1,14 +1,14 @@
 //! What the commands do over a header in a file of its own.
 
 ghost use Rattle.std.specs.Prelude.{◌≡◌, None, true};
-ghost use Rattle.luks_io.specs.Bytes.{WhereKnown};
+ghost use Rattle.luks_io.specs.Bytes.{IfKnown};
 ghost use Rattle.luks_report.specs.Report.{report_of};
-ghost use Rattle.luks_request.specs.Request.{is_detached, request_of, secret_of};
+ghost use Rattle.luks_request.specs.Request.{has_header_file, request_of, secret_of};
 ghost use Rattle.luks_cli.specs.Detached.{CountsDetached, EndsWithoutKey, NeedsNoPayload};
 ghost use Rattle.luks_cli.specs.Detached.{NeedsNoSecretDetached, RunsDetached};
-ghost use Rattle.luks_cli.specs.Run.{FindsFirstEnd, ReadsFirst};
-ghost use Rattle.luks_runs.specs.Run.{failures_of, FindsEndOnce, message_of};
-ghost use Rattle.luks_cli.specs.MayEnd.{MayTell};
+ghost use Rattle.luks_cli.specs.Run.{HitsFirstEof, ReadsFirst};
+ghost use Rattle.luks_runs.specs.Run.{failures_of, HitsEofOnce, result_message};
+ghost use Rattle.luks_cli.specs.MayEnd.{MayReport};
 
 use super::volumes;
 use luks_io::sink::Sink;
@@ -36,14 +36,14 @@ pub fn execute_detached<H: Source, I: Source, K: Source, O: Sink>(
     secret: &mut K,
     out: &mut O,
 ) -> Report
-    requires detached { is_detached (request_of command.now) ≡ true }
+    requires detached { has_header_file (request_of command.now) ≡ true }
     ensures run { RunsDetached (request_of command.now) result.message
         (H.to_come header.old) (H.to_come header.new) (I.to_come image.old) (I.to_come image.new)
         (K.to_come secret.old) (K.to_come secret.new) (O.written out.old) (O.written out.new) }
-    ensures only { MayTell (request_of command.now) result.message }
+    ensures only { MayReport (request_of command.now) result.message }
     ensures status { result ≡ report_of result.message }
     ensures unread { secret_of (request_of command.now) ≡ None → secret.new ≡ secret.old }
-    ensures unneeded { WhereKnown (H.to_come header.old) (λ file.
+    ensures unneeded { IfKnown (H.to_come header.old) (λ file.
         NeedsNoSecretDetached (request_of command.now) file → secret.new ≡ secret.old) }
     ensures untouched { NeedsNoPayload (request_of command.now) → image.new ≡ image.old }
     ensures before_key { EndsWithoutKey result.message → image.new ≡ image.old }
@@ -52,10 +52,10 @@ pub fn execute_detached<H: Source, I: Source, K: Source, O: Sink>(
     ensures counts { CountsDetached result.message (H.failures header.old) (H.failures header.new)
         (failures_of (I.failures image.old) (K.failures secret.old) (O.failures out.old))
         (failures_of (I.failures image.new) (K.failures secret.new) (O.failures out.new)) }
-    ensures header_end { FindsFirstEnd (request_of command.now) (H.ends header.old)
+    ensures header_end { HitsFirstEof (request_of command.now) (H.ends header.old)
         (H.ends header.new) }
-    ensures image_end { FindsEndOnce (I.ends image.old) (I.ends image.new) }
-    ensures secret_end { FindsEndOnce (K.ends secret.old) (K.ends secret.new) }
+    ensures image_end { HitsEofOnce (I.ends image.old) (I.ends image.new) }
+    ensures secret_end { HitsEofOnce (K.ends secret.old) (K.ends secret.new) }
 {
     match perform_detached(alloc, command, header, image, secret, out) {
         Ok(()) => Report::of(Message::Done),
@@ -72,26 +72,26 @@ fn perform_detached<H: Source, I: Source, K: Source, O: Sink>(
     secret: &mut K,
     out: &mut O,
 ) -> Result<(), Message>
-    requires detached { is_detached (request_of command.now) ≡ true }
-    ensures run { RunsDetached (request_of command.now) (message_of result)
+    requires detached { has_header_file (request_of command.now) ≡ true }
+    ensures run { RunsDetached (request_of command.now) (result_message result)
         (H.to_come header.old) (H.to_come header.new) (I.to_come image.old) (I.to_come image.new)
         (K.to_come secret.old) (K.to_come secret.new) (O.written out.old) (O.written out.new) }
-    ensures only { MayTell (request_of command.now) (message_of result) }
+    ensures only { MayReport (request_of command.now) (result_message result) }
     ensures unread { secret_of (request_of command.now) ≡ None → secret.new ≡ secret.old }
-    ensures unneeded { WhereKnown (H.to_come header.old) (λ file.
+    ensures unneeded { IfKnown (H.to_come header.old) (λ file.
         NeedsNoSecretDetached (request_of command.now) file → secret.new ≡ secret.old) }
     ensures untouched { NeedsNoPayload (request_of command.now) → image.new ≡ image.old }
-    ensures before_key { EndsWithoutKey (message_of result) → image.new ≡ image.old }
+    ensures before_key { EndsWithoutKey (result_message result) → image.new ≡ image.old }
     ensures reads_first { ReadsFirst (request_of command.now)
-        → message_of result ≡ Message.ReadFailed → out.new ≡ out.old }
-    ensures counts { CountsDetached (message_of result) (H.failures header.old)
+        → result_message result ≡ Message.ReadFailed → out.new ≡ out.old }
+    ensures counts { CountsDetached (result_message result) (H.failures header.old)
         (H.failures header.new)
         (failures_of (I.failures image.old) (K.failures secret.old) (O.failures out.old))
         (failures_of (I.failures image.new) (K.failures secret.new) (O.failures out.new)) }
-    ensures header_end { FindsFirstEnd (request_of command.now) (H.ends header.old)
+    ensures header_end { HitsFirstEof (request_of command.now) (H.ends header.old)
         (H.ends header.new) }
-    ensures image_end { FindsEndOnce (I.ends image.old) (I.ends image.new) }
-    ensures secret_end { FindsEndOnce (K.ends secret.old) (K.ends secret.new) }
+    ensures image_end { HitsEofOnce (I.ends image.old) (I.ends image.new) }
+    ensures secret_end { HitsEofOnce (K.ends secret.old) (K.ends secret.new) }
 {
     let standing = Standing::Detached;
     match command {

@@ -4,8 +4,8 @@ ghost use Rattle.std.specs.Prelude.{◌≡◌, ◌≢◌, ◌<◌, ◌≤◌, �
 ghost use Rattle.std.specs.Prelude.{IfOk, IfErr};
 ghost use Rattle.std.specs.Prelude.{false, is_err, length, take, true};
 ghost use Rattle.luks_cipher.specs.Sector.{is_mode_key_length};
-ghost use Rattle.luks_io.specs.Bytes.{Adds, Took, WhereKnown, counted};
-ghost use Rattle.luks_header.specs.Header.{cost_of, header_of};
+ghost use Rattle.luks_io.specs.Bytes.{Appended, ConsumedExactly, IfKnown, counted};
+ghost use Rattle.luks_header.specs.Header.{header_read_len, header_of};
 ghost use Rattle.luks_header.specs.Segment.{segment_of};
 ghost use Rattle.luks_open.specs.Order.{order_of};
 ghost use Rattle.luks_cli.specs.Volume.{OnOpened, detached_payload_outcome, payload_outcome};
@@ -14,9 +14,9 @@ ghost use Rattle.luks_cli.specs.Volume.{volume_outcome, volume_outcome_by};
 ghost use Rattle.luks_cli.specs.VolumeParts.{cat_promptly};
 ghost use Rattle.luks_request.specs.Request.{opening_request};
 ghost use Rattle.luks_cli.specs.Detached.{CountsDetached, EndsWithoutKey};
-ghost use Rattle.luks_runs.specs.Run.{Counts, failures_of, FindsEndOnce, FindsEndTwice};
-ghost use Rattle.luks_runs.specs.Run.{Runs, RunsApart, at_any_pace};
-ghost use Rattle.luks_runs.specs.Run.{is_failed_read, is_failed_write, message_of};
+ghost use Rattle.luks_runs.specs.Run.{Counts, failures_of, HitsEofOnce, HitsEofTwice};
+ghost use Rattle.luks_runs.specs.Run.{RunMatches, DetachedRunMatches, at_any_pace};
+ghost use Rattle.luks_runs.specs.Run.{is_run_read_failure, is_run_write_failure, result_message};
 ghost use Rattle.luks_cli.specs.MayEnd.{OpeningMessage};
 ghost use Rattle.luks_runs.specs.MayEnd.{PayloadMessage};
 ghost use Rattle.luks_runs.specs.Reading.{detached_header_of};
@@ -25,7 +25,7 @@ ghost use Rattle.luks_cli.specs.Unlocking.{OpensVolume, TellsSlot, TriesSlots, U
 ghost use Rattle.luks_cli.specs.Unlocking.{opens_promptly};
 ghost use Rattle.luks_cli.specs.Volume.{volume_of};
 ghost use Rattle.luks_runs.specs.Payload.{FindsPayloadEnd, PassesHeld};
-ghost use Rattle.luks_cli.specs.VolumeParts.{StopsFinding, TakesHeld, detached_cat_promptly};
+ghost use Rattle.luks_cli.specs.VolumeParts.{AbortsFinding, TakesHeld, detached_cat_promptly};
 
 use luks_cipher::SectorCipher;
 use luks_header::area::HeaderArea;
@@ -115,26 +115,26 @@ fn find_volume<I: Source>(
     opening: &Opening<'_>,
     image: &mut I,
 ) -> Result<Volume, Message>
-    ensures ok { IfOk result (λ volume. WhereKnown (I.to_come image.old)
+    ensures ok { IfOk result (λ volume. IfKnown (I.to_come image.old)
         (λ known. (reading_of standing known ≡ Ok volume.header)
-        × (volume.area ≡ take (cost_of known) known)
-        × Took known (I.to_come image.new) (cost_of known))) }
-    ensures err { IfErr result (λ message. WhereKnown (I.to_come image.old)
-        (λ known. StopsFinding (reading_of standing) (opening_request opening.now) known
+        × (volume.area ≡ take (header_read_len known) known)
+        × ConsumedExactly known (I.to_come image.new) (header_read_len known))) }
+    ensures err { IfErr result (λ message. IfKnown (I.to_come image.old)
+        (λ known. AbortsFinding (reading_of standing) (opening_request opening.now) known
         (I.to_come image.new) message)) }
     ensures only { IfErr result OpeningMessage }
     ensures segment { IfOk result (λ volume. segment_of volume.header ≡ Ok volume.segment) }
     ensures order { IfOk result (λ volume. let o = opening_request opening.now in
         order_of volume.header o.key_slot o.max_iterations ≡ Ok volume.order) }
-    ensures volume { IfOk result (λ _. WhereKnown (I.to_come image.old)
+    ensures volume { IfOk result (λ _. IfKnown (I.to_come image.old)
         (λ known. is_err (volume_by (reading_of standing) (opening_request opening.now) known)
         ≡ false)) }
-    ensures area { IfOk result (λ volume. length volume.area ≡ cost_of volume.area) }
+    ensures area { IfOk result (λ volume. length volume.area ≡ header_read_len volume.area) }
     ensures front { IfOk result (λ volume. reading_of standing volume.area ≡ Ok volume.header) }
     ensures writes { IfErr result (λ message. message ≢ Message.WriteFailed) }
     ensures reads { I.failures image.new
-        ≡ counted (is_failed_read (message_of result)) (I.failures image.old) }
-    ensures end { FindsEndOnce (I.ends image.old) (I.ends image.new) }
+        ≡ counted (is_run_read_failure (result_message result)) (I.failures image.old) }
+    ensures end { HitsEofOnce (I.ends image.old) (I.ends image.new) }
 {
     let (header, area) = find_header(alloc, standing, image)?;
     match find_slots(alloc, opening, &header) {
@@ -158,7 +158,7 @@ fn try_slots<I: Source>(
     requires segment { segment_of volume.old.header ≡ Ok volume.old.segment }
     requires order { let o = opening_request opening.now in
         order_of volume.old.header o.key_slot o.max_iterations ≡ Ok volume.old.order }
-    ensures run { WhereKnown (I.to_come image.old) (λ rest.
+    ensures run { IfKnown (I.to_come image.old) (λ rest.
         TriesSlots (opening_request opening.now).key_slot volume.old.order pass.now
         volume.old.area volume.new.area rest (I.to_come image.new) result) }
     ensures kept { volume.new ≡ record volume.old { area = volume.new.area } }
@@ -167,8 +167,8 @@ fn try_slots<I: Source>(
     ensures key { IfOk result (λ opened.
         is_mode_key_length volume.old.segment.mode (length opened.key) ≡ true) }
     ensures reads { I.failures image.new
-        ≡ counted (is_failed_read (message_of result)) (I.failures image.old) }
-    ensures image_end { FindsEndOnce (I.ends image.old) (I.ends image.new) }
+        ≡ counted (is_run_read_failure (result_message result)) (I.failures image.old) }
+    ensures image_end { HitsEofOnce (I.ends image.old) (I.ends image.new) }
     ensures still { IfOk result (λ _. I.ends image.new ≡ I.ends image.old) }
 {
     if !volume.area.extend_to(image, held_end(&volume.order))? {
@@ -197,7 +197,7 @@ fn open_volume<I: Source, K: Source>(
     requires segment { segment_of volume.old.header ≡ Ok volume.old.segment }
     requires order { let o = opening_request opening.now in
         order_of volume.old.header o.key_slot o.max_iterations ≡ Ok volume.old.order }
-    ensures run { WhereKnown (I.to_come image.old) (λ rest. WhereKnown (K.to_come secret.old)
+    ensures run { IfKnown (I.to_come image.old) (λ rest. IfKnown (K.to_come secret.old)
         (λ pass. OpensVolume (opening_request opening.now).key_slot volume.old.order pass
         volume.old.area volume.new.area rest (I.to_come image.new) (K.to_come secret.new)
         result)) }
@@ -205,12 +205,12 @@ fn open_volume<I: Source, K: Source>(
     ensures only { IfErr result OpeningMessage }
     ensures key { IfOk result (λ opened.
         is_mode_key_length volume.old.segment.mode (length opened.key) ≡ true) }
-    ensures counts { (written : ℕ) → Counts (message_of result)
+    ensures counts { (written : ℕ) → Counts (result_message result)
         (failures_of (I.failures image.old) (K.failures secret.old) written)
         (failures_of (I.failures image.new) (K.failures secret.new) written) }
-    ensures image_end { FindsEndOnce (I.ends image.old) (I.ends image.new) }
+    ensures image_end { HitsEofOnce (I.ends image.old) (I.ends image.new) }
     ensures still { IfOk result (λ _. I.ends image.new ≡ I.ends image.old) }
-    ensures secret_end { FindsEndOnce (K.ends secret.old) (K.ends secret.new) }
+    ensures secret_end { HitsEofOnce (K.ends secret.old) (K.ends secret.new) }
 {
     let pass = read_secret(alloc, secret)?;
     try_slots(opening, volume, image, &pass)
@@ -232,30 +232,30 @@ fn unlock<I: Source, K: Source>(
     image: &mut I,
     secret: &mut K,
 ) -> Result<Unlocked, Message>
-    ensures ok { IfOk result (λ unlocked. WhereKnown (I.to_come image.old) (λ known.
-        WhereKnown (K.to_come secret.old) (λ pass.
+    ensures ok { IfOk result (λ unlocked. IfKnown (I.to_come image.old) (λ known.
+        IfKnown (K.to_come secret.old) (λ pass.
         Unlocks standing (opening_request opening.now) known pass unlocked.segment
         unlocked.opened unlocked.area (I.to_come image.new) (K.to_come secret.new)))) }
     ensures err { IfErr result
-        (λ message. (written : Option (List ℕ)) → WhereKnown (I.to_come image.old) (λ known.
-        WhereKnown (K.to_come secret.old) (λ pass. (on_opened : OnOpened) → TakesHeld pass on_opened
-        → Runs (opens_promptly standing known)
+        (λ message. (written : Option (List ℕ)) → IfKnown (I.to_come image.old) (λ known.
+        IfKnown (K.to_come secret.old) (λ pass. (on_opened : OnOpened) → TakesHeld pass on_opened
+        → RunMatches (opens_promptly standing known)
         (volume_outcome_by (reading_of standing) on_opened (opening_request opening.now) known pass)
         message
-        (Took known (I.to_come image.new)) (Took pass (K.to_come secret.new))
-        (Adds written written)))) }
-    ensures unneeded { WhereKnown (I.to_come image.old) (λ known.
+        (ConsumedExactly known (I.to_come image.new)) (ConsumedExactly pass (K.to_come secret.new))
+        (Appended written written)))) }
+    ensures unneeded { IfKnown (I.to_come image.old) (λ known.
         is_err (volume_by (reading_of standing) (opening_request opening.now) known) ≡ true
         → secret.new ≡ secret.old) }
     ensures only { IfErr result OpeningMessage }
     ensures key { IfOk result (λ unlocked.
         is_mode_key_length unlocked.segment.mode (length unlocked.opened.key) ≡ true) }
-    ensures counts { (written : ℕ) → Counts (message_of result)
+    ensures counts { (written : ℕ) → Counts (result_message result)
         (failures_of (I.failures image.old) (K.failures secret.old) written)
         (failures_of (I.failures image.new) (K.failures secret.new) written) }
-    ensures once { IfOk result (λ _. FindsEndOnce (I.ends image.old) (I.ends image.new)) }
-    ensures image_end { FindsEndTwice (I.ends image.old) (I.ends image.new) }
-    ensures secret_end { FindsEndOnce (K.ends secret.old) (K.ends secret.new) }
+    ensures once { IfOk result (λ _. HitsEofOnce (I.ends image.old) (I.ends image.new)) }
+    ensures image_end { HitsEofTwice (I.ends image.old) (I.ends image.new) }
+    ensures secret_end { HitsEofOnce (K.ends secret.old) (K.ends secret.new) }
 {
     let mut volume = find_volume(alloc, standing, opening, image)?;
     let opened = open_volume(alloc, opening, &mut volume, image, secret);
@@ -271,9 +271,9 @@ fn unlock<I: Source, K: Source>(
 /// Tells the key slot that opened a volume.
 fn tell_slot<O: Sink>(alloc: Global, unlocked: &Unlocked, out: &mut O) -> Result<(), Message>
     ensures told { TellsSlot unlocked.now.opened (O.written out.old) (O.written out.new)
-        (message_of result) }
+        (result_message result) }
     ensures writes { O.failures out.new
-        ≡ counted (is_failed_write (message_of result)) (O.failures out.old) }
+        ≡ counted (is_run_write_failure (result_message result)) (O.failures out.old) }
 {
     let page = opened_page(alloc, unlocked.opened.slot)?;
     put_all(out, page.as_bytes())?;
@@ -289,23 +289,23 @@ pub(super) fn test_passphrase<I: Source, K: Source, O: Sink>(
     secret: &mut K,
     out: &mut O,
 ) -> Result<(), Message>
-    ensures run { WhereKnown (I.to_come image.old)
-        (λ known. WhereKnown (K.to_come secret.old) (λ pass.
-        Runs at_any_pace (volume_outcome_by (reading_of standing) (slot_outcome pass)
+    ensures run { IfKnown (I.to_come image.old)
+        (λ known. IfKnown (K.to_come secret.old) (λ pass.
+        RunMatches at_any_pace (volume_outcome_by (reading_of standing) (slot_outcome pass)
         (opening_request opening.now) known pass)
-        (message_of result) (Took known (I.to_come image.new)) (Took pass (K.to_come secret.new))
-        (Adds (O.written out.old) (O.written out.new)))) }
-    ensures unneeded { WhereKnown (I.to_come image.old) (λ known.
+        (result_message result) (ConsumedExactly known (I.to_come image.new)) (ConsumedExactly pass (K.to_come secret.new))
+        (Appended (O.written out.old) (O.written out.new)))) }
+    ensures unneeded { IfKnown (I.to_come image.old) (λ known.
         is_err (volume_by (reading_of standing) (opening_request opening.now) known) ≡ true
         → secret.new ≡ secret.old) }
-    ensures only { OpeningMessage (message_of result)
-        ⊎ (message_of result ≡ Message.Done ⊎ message_of result ≡ Message.WriteFailed) }
-    ensures reads_first { message_of result ≡ Message.ReadFailed → out.new ≡ out.old }
-    ensures counts { Counts (message_of result)
+    ensures only { OpeningMessage (result_message result)
+        ⊎ (result_message result ≡ Message.Done ⊎ result_message result ≡ Message.WriteFailed) }
+    ensures reads_first { result_message result ≡ Message.ReadFailed → out.new ≡ out.old }
+    ensures counts { Counts (result_message result)
         (failures_of (I.failures image.old) (K.failures secret.old) (O.failures out.old))
         (failures_of (I.failures image.new) (K.failures secret.new) (O.failures out.new)) }
-    ensures image_end { FindsEndTwice (I.ends image.old) (I.ends image.new) }
-    ensures secret_end { FindsEndOnce (K.ends secret.old) (K.ends secret.new) }
+    ensures image_end { HitsEofTwice (I.ends image.old) (I.ends image.new) }
+    ensures secret_end { HitsEofOnce (K.ends secret.old) (K.ends secret.new) }
 {
     let unlocked = unlock(alloc, standing, opening, image, secret)?;
     tell_slot(alloc, &unlocked, out)
@@ -322,14 +322,14 @@ fn write_plain<I: Source, O: Sink>(
         ≡ true }
     ensures run { PassesHeld unlocked.now.segment
         (unlocked.now.segment.mode, unlocked.now.opened.key) held.now (I.to_come image.old)
-        (I.to_come image.new) (O.written out.old) (O.written out.new) (message_of result) }
-    ensures ends { FindsPayloadEnd (message_of result) (I.ends image.old) (I.ends image.new) }
-    ensures only { PayloadMessage (message_of result) }
+        (I.to_come image.new) (O.written out.old) (O.written out.new) (result_message result) }
+    ensures ends { FindsPayloadEnd (result_message result) (I.ends image.old) (I.ends image.new) }
+    ensures only { PayloadMessage (result_message result) }
     ensures memory { IfErr result (λ message. message ≢ Message.OutOfMemory) }
     ensures reads { I.failures image.new
-        ≡ counted (is_failed_read (message_of result)) (I.failures image.old) }
+        ≡ counted (is_run_read_failure (result_message result)) (I.failures image.old) }
     ensures writes { O.failures out.new
-        ≡ counted (is_failed_write (message_of result)) (O.failures out.old) }
+        ≡ counted (is_run_write_failure (result_message result)) (O.failures out.old) }
 {
     let segment = unlocked.segment;
     let key = unlocked.opened.key.as_slice();
@@ -347,20 +347,20 @@ pub(super) fn cat<I: Source, K: Source, O: Sink>(
     secret: &mut K,
     out: &mut O,
 ) -> Result<(), Message>
-    ensures only { OpeningMessage (message_of result) ⊎ PayloadMessage (message_of result) }
-    ensures run { WhereKnown (I.to_come image.old)
-        (λ known. WhereKnown (K.to_come secret.old) (λ pass.
-        length known < 2 ^ 64 → Runs (cat_promptly known)
+    ensures only { OpeningMessage (result_message result) ⊎ PayloadMessage (result_message result) }
+    ensures run { IfKnown (I.to_come image.old)
+        (λ known. IfKnown (K.to_come secret.old) (λ pass.
+        length known < 2 ^ 64 → RunMatches (cat_promptly known)
         (volume_outcome (payload_outcome known pass) (opening_request opening.now) known pass)
-        (message_of result) (Took known (I.to_come image.new)) (Took pass (K.to_come secret.new))
-        (Adds (O.written out.old) (O.written out.new)))) }
-    ensures unneeded { WhereKnown (I.to_come image.old) (λ known.
+        (result_message result) (ConsumedExactly known (I.to_come image.new)) (ConsumedExactly pass (K.to_come secret.new))
+        (Appended (O.written out.old) (O.written out.new)))) }
+    ensures unneeded { IfKnown (I.to_come image.old) (λ known.
         is_err (volume_of (opening_request opening.now) known) ≡ true → secret.new ≡ secret.old) }
-    ensures counts { Counts (message_of result)
+    ensures counts { Counts (result_message result)
         (failures_of (I.failures image.old) (K.failures secret.old) (O.failures out.old))
         (failures_of (I.failures image.new) (K.failures secret.new) (O.failures out.new)) }
-    ensures image_end { FindsEndTwice (I.ends image.old) (I.ends image.new) }
-    ensures secret_end { FindsEndOnce (K.ends secret.old) (K.ends secret.new) }
+    ensures image_end { HitsEofTwice (I.ends image.old) (I.ends image.new) }
+    ensures secret_end { HitsEofOnce (K.ends secret.old) (K.ends secret.new) }
 {
     let unlocked = unlock(alloc, Standing::Attached, opening, image, secret)?;
     write_plain(&unlocked, unlocked.area.as_slice(), image, out)
@@ -375,25 +375,25 @@ pub(super) fn cat_detached<H: Source, I: Source, K: Source, O: Sink>(
     secret: &mut K,
     out: &mut O,
 ) -> Result<(), Message>
-    ensures only { OpeningMessage (message_of result) ⊎ PayloadMessage (message_of result) }
-    ensures run { WhereKnown (H.to_come header.old)
-        (λ file. WhereKnown (I.to_come image.old) (λ known. WhereKnown (K.to_come secret.old)
-        (λ pass. length known < 2 ^ 64 → RunsApart (detached_cat_promptly file)
+    ensures only { OpeningMessage (result_message result) ⊎ PayloadMessage (result_message result) }
+    ensures run { IfKnown (H.to_come header.old)
+        (λ file. IfKnown (I.to_come image.old) (λ known. IfKnown (K.to_come secret.old)
+        (λ pass. length known < 2 ^ 64 → DetachedRunMatches (detached_cat_promptly file)
         (volume_outcome_by detached_header_of (detached_payload_outcome known pass)
-        (opening_request opening.now) file pass) (message_of result)
-        (Took file (H.to_come header.new)) (Took known (I.to_come image.new))
-        (Took pass (K.to_come secret.new)) (Adds (O.written out.old) (O.written out.new))))) }
-    ensures unneeded { WhereKnown (H.to_come header.old) (λ file.
+        (opening_request opening.now) file pass) (result_message result)
+        (ConsumedExactly file (H.to_come header.new)) (ConsumedExactly known (I.to_come image.new))
+        (ConsumedExactly pass (K.to_come secret.new)) (Appended (O.written out.old) (O.written out.new))))) }
+    ensures unneeded { IfKnown (H.to_come header.old) (λ file.
         is_err (volume_by detached_header_of (opening_request opening.now) file) ≡ true
         → secret.new ≡ secret.old) }
-    ensures before_key { EndsWithoutKey (message_of result) → image.new ≡ image.old }
-    ensures counts { CountsDetached (message_of result) (H.failures header.old)
+    ensures before_key { EndsWithoutKey (result_message result) → image.new ≡ image.old }
+    ensures counts { CountsDetached (result_message result) (H.failures header.old)
         (H.failures header.new)
         (failures_of (I.failures image.old) (K.failures secret.old) (O.failures out.old))
         (failures_of (I.failures image.new) (K.failures secret.new) (O.failures out.new)) }
-    ensures header_end { FindsEndTwice (H.ends header.old) (H.ends header.new) }
-    ensures image_end { FindsEndOnce (I.ends image.old) (I.ends image.new) }
-    ensures secret_end { FindsEndOnce (K.ends secret.old) (K.ends secret.new) }
+    ensures header_end { HitsEofTwice (H.ends header.old) (H.ends header.new) }
+    ensures image_end { HitsEofOnce (I.ends image.old) (I.ends image.new) }
+    ensures secret_end { HitsEofOnce (K.ends secret.old) (K.ends secret.new) }
 {
     let unlocked = unlock(alloc, Standing::Detached, opening, header, secret)?;
     write_plain(&unlocked, &[], image, out)

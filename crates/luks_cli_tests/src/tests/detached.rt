@@ -1,7 +1,7 @@
 //! Whole runs over a header in a file of its own.
 
 ghost use Rattle.std.specs.Prelude.{◌≡◌, true};
-ghost use Rattle.luks_request.specs.Request.{is_detached, request_of};
+ghost use Rattle.luks_request.specs.Request.{has_header_file, request_of};
 
 use super::runs::{Ends, check_beginning, check_run, check_told, first_of, sink, words_of};
 use super::volume::{KEY, PASSPHRASE, PLAIN_LEN, USUAL, changed, followed, plain_bytes, sealed_in};
@@ -23,7 +23,7 @@ type Left = (usize, usize, usize);
 
 /// The command of these words, whose header stands in a file of its own.
 pub(super) fn detached<'a>(rt: &(impl Abort + AllocGlobal), words: &'a [&'a str]) -> Command<'a>
-    ensures { is_detached (request_of result) ≡ true }
+    ensures { has_header_file (request_of result) ≡ true }
 {
     match plan(rt.alloc(), words) {
         Ok(command) if command.is_detached() => command,

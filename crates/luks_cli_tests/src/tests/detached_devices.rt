@@ -2,7 +2,7 @@
 //! are refused memory.
 
 ghost use Rattle.std.specs.Prelude.{◌≡◌, true};
-ghost use Rattle.luks_request.specs.Request.{is_detached, request_of};
+ghost use Rattle.luks_request.specs.Request.{has_header_file, request_of};
 
 use super::detached::{CAT, detached, front_of, payload_of};
 use super::failing::{Failing, check_asked, check_brought};
@@ -54,7 +54,7 @@ fn run_failing(
     inputs: (&[u8], &[u8]),
     whole: &[u8],
 ) -> bool
-    requires detached { is_detached (request_of command.now) ≡ true }
+    requires detached { has_header_file (request_of command.now) ≡ true }
 {
     let (header, image) = inputs;
     let mut out = Leaky::new(rt.alloc(), 4096, 300, failing.call_of(2)).expect(rt, "room");
@@ -87,7 +87,7 @@ fn check_device(
     inputs: (&[u8], &[u8]),
     whole: &[u8],
 )
-    requires detached { is_detached (request_of command.now) ≡ true }
+    requires detached { has_header_file (request_of command.now) ≡ true }
 {
     for call in 0..900 {
         if run_failing(rt, command, Failing { device, call }, inputs, whole) {

@@ -1,7 +1,7 @@
 //! Runs in which one call of one device fails.
 
 ghost use Rattle.std.specs.Prelude.{◌≡◌, false};
-ghost use Rattle.luks_request.specs.Request.{is_detached, request_of};
+ghost use Rattle.luks_request.specs.Request.{has_header_file, request_of};
 
 use super::runs::{attached, words_of};
 use crate::tests::same::assert_in;
@@ -82,7 +82,7 @@ fn run_failing(
     inputs: [&[u8]; 2],
     whole: &[u8],
 ) -> bool
-    requires attached { is_detached (request_of command.now) ≡ false }
+    requires attached { has_header_file (request_of command.now) ≡ false }
 {
     let piece = (inputs[0].len() / 100).max(5);
     let mut out = Leaky::new(rt.alloc(), 4096, 3, failing.call_of(2)).expect(rt, "room");
@@ -105,7 +105,7 @@ fn check_device(
     inputs: [&[u8]; 2],
     whole: &[u8],
 )
-    requires attached { is_detached (request_of command.now) ≡ false }
+    requires attached { has_header_file (request_of command.now) ≡ false }
 {
     for call in 0..600 {
         if !run_failing(rt, command, Failing { device, call }, inputs, whole) {
@@ -121,7 +121,7 @@ fn check_command(
     inputs: [&[u8]; 2],
     whole: &[u8],
 )
-    requires attached { is_detached (request_of command.now) ≡ false }
+    requires attached { has_header_file (request_of command.now) ≡ false }
 {
     for device in 0..3 {
         check_device(rt, command, device, inputs, whole);

@@ -2,7 +2,7 @@
 //! that a test is a call with its texts and volumes.
 
 ghost use Rattle.std.specs.Prelude.{◌≡◌, false};
-ghost use Rattle.luks_request.specs.Request.{is_detached, request_of};
+ghost use Rattle.luks_request.specs.Request.{has_header_file, request_of};
 
 use crate::tests::same::{assert_in, assert_same_in};
 use luks_cli::execute::execute;
@@ -43,7 +43,7 @@ pub(super) fn sink(rt: &(impl Abort + AllocGlobal), room: usize) -> MemSink {
 
 /// The command of these words, whose header stands in its image.
 pub(super) fn attached<'a>(rt: &(impl Abort + AllocGlobal), words: &'a [&'a str]) -> Command<'a>
-    ensures { is_detached (request_of result) ≡ false }
+    ensures { has_header_file (request_of result) ≡ false }
 {
     match plan(rt.alloc(), words) {
         Ok(command) if !command.is_detached() => command,

@@ -1,8 +1,8 @@
 //! What is printed of a LUKS1 header.
 
 ghost use Rattle.std.specs.Prelude.{◌≡◌, ◌++◌, IfOk, OnOk, length, string_bytes, ◌≤◌};
-ghost use Rattle.luks_pages.specs.Dump1.{dump1_of, enabled_text, number_lines, slot_line};
-ghost use Rattle.luks_pages.specs.Dump1.{slot_lines};
+ghost use Rattle.luks_pages.specs.Dump1.{dump1_of, enabled_text, number_lines, slot1_line};
+ghost use Rattle.luks_pages.specs.Dump1.{slot1_lines};
 ghost use Rattle.luks_pages.specs.Dump1.{slot_text, text_lines, uuid_line};
 
 use crate::escaping::escape;
@@ -67,11 +67,11 @@ fn push_numbers(alloc: Global, page: &mut String, header: &Header1) -> Result<()
 }
 
 /// Adds a line for each key slot.
-#[tactic(auto, unfolding(crate::specs::Dump1::slot_lines))]
+#[tactic(auto, unfolding(crate::specs::Dump1::slot1_lines))]
 fn push_slots(alloc: Global, page: &mut String, slots: &[KeySlot]) -> Result<(), AllocError>
     requires { length slots.now ≤ 8 }
     ensures { OnOk result
-        (string_bytes page.new ≡ string_bytes page.old ++ slot_lines 0 slots.now) }
+        (string_bytes page.new ≡ string_bytes page.old ++ slot1_lines 0 slots.now) }
 {
     for (number, slot) in slots.iter().enumerate() {
         push_slot(alloc, page, number, slot)?;
@@ -80,7 +80,7 @@ fn push_slots(alloc: Global, page: &mut String, slots: &[KeySlot]) -> Result<(),
 }
 
 /// Adds the line of one key slot.
-#[tactic(auto, unfolding(crate::specs::Dump1::slot_line))]
+#[tactic(auto, unfolding(crate::specs::Dump1::slot1_line))]
 fn push_slot(
     alloc: Global,
     page: &mut String,
@@ -88,7 +88,7 @@ fn push_slot(
     slot: &KeySlot,
 ) -> Result<(), AllocError>
     ensures { OnOk result
-        (string_bytes page.new ≡ string_bytes page.old ++ slot_line number slot.now) }
+        (string_bytes page.new ≡ string_bytes page.old ++ slot1_line number slot.now) }
 {
     let name = format!(in alloc; "Slot {number}")?;
     let text = describe_slot(alloc, slot)?;

@@ -1,5 +1,5 @@
 use Rattle.std.proofs.Common.{◌∙◌, sym, arith, rules}
-use Rattle.luks2_header.specs.Choice2.{beside_primary}
+use Rattle.luks2_header.specs.Choice2.{with_valid_primary}
 use Rattle.luks2_header.proofs.ValidLemmas.{valid_range}
 use Rattle.luks2_header.proofs.choice.beside_primary.Goals as goal
 
@@ -11,5 +11,5 @@ binary_at-requires-2 c =
     (let range = valid_range c.args.bytes.now c.args.size (sym c.is_valid.ensures ∙ c.if-not-is_valid.false) in range.0)
 
 pub returns-then-not-is_valid : goal.returns-then-not-is_valid
-unfolding beside_primary
+unfolding with_valid_primary
 returns-then-not-is_valid c = search rules

@@ -1,7 +1,7 @@
 use Rattle.std.proofs.Common.{◌∙◌, ◌*◌, ap, sym, arith}
 use Rattle.std.proofs.lemmas.Result.{err_from_is_err_and}
-use Rattle.luks2_header.specs.Choice2.{beside_primary}
-use Rattle.luks2_header.specs.Cost2.{reach2_of, reach_at}
+use Rattle.luks2_header.specs.Choice2.{with_valid_primary}
+use Rattle.luks2_header.specs.Cost2.{reach2_of, probe_end}
 use Rattle.luks2_header.proofs.ChoiceLemmas.{beside_same, chosen_primary, found_chosen, found_early, found_over}
 use Rattle.luks2_header.proofs.ChoiceLemmas.{found_settled, no_size_valid, primary_within, reach_first, reach_other}
 use Rattle.luks2_header.proofs.ChoiceLemmas.{reach_primary, size_valid}
@@ -83,7 +83,7 @@ returns-clause-chosen g c = λ image front.
     let first = c.grow.ensures.grew.fronts image front in
     let is = size_valid image 0 c.in-Some.size (sym c.in-Some.is ∙ c.in_ok-size.ensures.valid image first) in
     c.beside_primary.ensures
-    ∙ ap beside_primary c.as_slice.ensures.value
+    ∙ ap with_valid_primary c.as_slice.ensures.value
     ∙ beside_same c.grow.new.area c.grow.new.ended image front is.0
     (λ goes. omega (arith, c.in_ok-grow.ensures.settled goes, is.1))
     ∙ sym (chosen_primary image is.0)
@@ -106,6 +106,6 @@ returns-clause-over g c = λ image front.
     let first = c.grow.ensures.grew.fronts image front in
     let is = size_valid image 0 c.in-Some.size (sym c.in-Some.is ∙ c.in_ok-size.ensures.valid image first) in
     over_joined image c.header_at.new.area c.grow.new.area c.args.ended.now c.header_at.new.ended c.grow.new.ended
-    (reach_at image 0) (2 * c.in-Some.size) (reach2_of image) first front
+    (probe_end image 0) (2 * c.in-Some.size) (reach2_of image) first front
     (c.in_ok-size.ensures.over image first) c.in_ok-grow.ensures.over (reach_first image)
     (omega (arith, reach_primary image is.0, is.1))

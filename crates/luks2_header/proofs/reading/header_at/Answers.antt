@@ -1,7 +1,7 @@
 use Rattle.std.proofs.Common.{◌∙◌, ◌+◌, ◌≤◌, ap, length, arith}
 use Rattle.std.specs.Bool.{then_some}
 use Rattle.std.proofs.lemmas.Result.{err_from_is_err_and}
-use Rattle.luks2_header.specs.Cost2.{reach_at}
+use Rattle.luks2_header.specs.Cost2.{probe_end}
 use Rattle.luks2_header.proofs.AgreeLemmas.{fit_here, no_size, reach_fit, reach_least, reach_unfit, short-valid}
 use Rattle.luks2_header.proofs.AgreeLemmas.{unfit_here, valid_here, whole_image}
 use Rattle.luks2_header.proofs.FrontLemmas.{over_joined}
@@ -100,7 +100,7 @@ returns-then-not-branch-2-clause-over g c =
     first c.as_slice.ensures.value
     (c.in_ok-grow.ensures.whole.0 c.if-not-branch.false) c.in-Some.size c.in-Some.ensures.value in
     over_joined image c.grow.new.area c.grow-2.new.area c.args.ended.now c.grow.new.ended c.grow-2.new.ended
-    (c.args.place + 4096) (c.args.place + c.in-Some.size) (reach_at image c.args.place) first front
+    (c.args.place + 4096) (c.args.place + c.in-Some.size) (probe_end image c.args.place) first front
     c.in_ok-grow.ensures.over c.in_ok-grow-2.ensures.over (reach_least image c.args.place)
     (omega (arith, reach_fit image c.args.place fit.0, fit.1))
 

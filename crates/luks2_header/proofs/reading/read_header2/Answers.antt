@@ -1,6 +1,6 @@
 use Rattle.std.proofs.Common.{◌∙◌, ◌++◌, subst, sym}
 use Rattle.std.proofs.lemmas.Result.{err_from_is_err_and}
-use Rattle.luks2_header.specs.Front2.{IsFront}
+use Rattle.luks2_header.specs.Front2.{IsPrefixOf}
 use Rattle.luks2_header.proofs.FrontLemmas.{front_self}
 use Rattle.luks2_header.proofs.SeekingLemmas.{answer_is, below_cost, breaks_seeking, cost_held, header_taken}
 use Rattle.luks2_header.proofs.SeekingLemmas.{holds_start, if_answered, if_header, none_taken, took_cost}
@@ -25,7 +25,7 @@ returns-in_err-header-clause-early g c =
     let new = c.choose.new.area in
     rw (p.1, p.2) (λ stops image front.
     c.in_err-header.ensures.early stops image
-    (subst (λ ended. IsFront new ended image) (sym c.in_err-header.ensures.going) front))
+    (subst (λ ended. IsPrefixOf new ended image) (sym c.in_err-header.ensures.going) front))
 
 pub returns-clause-taken : goal.returns-clause-taken
 returns-clause-taken g c =

@@ -1,6 +1,6 @@
 use Rattle.std.proofs.Common.{◌≡◌}
 use Rattle.luks2_header.specs.Cost2.{search_reach}
-use Rattle.luks2_header.specs.Front2.{FallsShort, Grew, OfEach}
+use Rattle.luks2_header.specs.Front2.{FallsShort, Extended, OfEach}
 use Rattle.luks2_header.proofs.SearchLemmas.{Searched}
 use Rattle.luks2_header.proofs.reading.search.Given as goal
 
@@ -9,7 +9,7 @@ abbrev pub invariant-loop-place : goal.invariant-loop-place
 invariant-loop-place g l = record {
   searched : OfEach l.area l.ended (λ image. Searched image l.fn.area l.area l.ended l.place-index);
   over : FallsShort l.area l.fn.ended l.ended search_reach;
-  grew : Grew l.fn.area l.area l.fn.ended l.ended (g.S.Source.to_come l.fn.source) (g.S.Source.to_come l.source)
+  grew : Extended l.fn.area l.area l.fn.ended l.ended (g.S.Source.to_come l.fn.source) (g.S.Source.to_come l.source)
       (g.S.Source.ends l.fn.source) (g.S.Source.ends l.source);
   reads : g.S.Source.failures l.source ≡ g.S.Source.failures l.fn.source;
 }

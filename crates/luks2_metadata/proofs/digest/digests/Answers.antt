@@ -1,7 +1,7 @@
 use Rattle.std.proofs.Common.{◌≡◌, ◌∙◌, ◌++◌, ◌∷◌, [], ℕ, List, Option, Some, None, sym, ap, arith, length}
 use Rattle.luks2_metadata.specs.declared.digest.Digest.{Digest}
 use Rattle.luks_verdict.proofs.TableLemmas.{length-rising, rising_none, rising_not, rising_one}
-use Rattle.luks_verdict.specs.Table.{rising}
+use Rattle.luks_verdict.specs.Table.{ascending}
 use Rattle.luks2_metadata.specs.Digest2.{digest2_numbered, digests2_of}
 use Rattle.luks2_metadata.proofs.digest.digests.Goals as goal
 use Rattle.luks2_metadata.proofs.digest.digests.Goals.{in-Some+in_ok-push, in_default}
@@ -31,7 +31,7 @@ pub returns-clause-value : goal.returns-clause-value
 unfolding digests2_of
 returns-clause-value c =
     let end : c.loop-number.number ≡ 32 = omega arith in
-    c.loop-number.invariant ∙ ap (rising (digest2_numbered c.args.metadata.now)) end
+    c.loop-number.invariant ∙ ap (ascending (digest2_numbered c.args.metadata.now)) end
 
 pub returns-clause-few : goal.returns-clause-few
 returns-clause-few c =

@@ -3,7 +3,7 @@ use Rattle.std.specs.Prelude.{is_some}
 use Rattle.luks2_members.proofs.NumberedLemmas.{lowest_next, lowest_none, none_from_not_some}
 use Rattle.luks2_members.specs.Numbered.{lowest}
 use Rattle.luks2_metadata.proofs.DigestLemmas.{iterations_found, same_some}
-use Rattle.luks2_metadata.specs.Digest2.{digest2_for, own_digest_at, iterations_of}
+use Rattle.luks2_metadata.specs.Digest2.{digest2_for, own_digest_at, iterations_of_digest}
 use Rattle.luks2_metadata.proofs.digest.iterations_for.Goals as goal
 use Rattle.serde_json.specs.View.{view}
 
@@ -15,7 +15,7 @@ unfolding digest2_for
 returns-then-is_some c =
     let f = own_digest_at (view c.args.tree.now) c.args.number in
     let here = c.iterations_of_slot_at-found.ensures in
-    let some : is_some (option_map iterations_of (f c.loop-digest.digest)) ≡ true =
+    let some : is_some (option_map iterations_of_digest (f c.loop-digest.digest)) ≡ true =
     ap is_some (sym here) ∙ (sym c.is_some.ensures ∙ c.if-is_some.true) in
     here ∙ sym (iterations_found f c.loop-digest.digest 32 c.loop-digest.invariant c.loop-digest-test.true some)
 
@@ -31,5 +31,5 @@ pub returns : goal.returns
 unfolding digest2_for
 returns c =
     let end : c.loop-digest.digest ≡ 32 = omega arith in
-    ap (option_map iterations_of)
+    ap (option_map iterations_of_digest)
     (sym c.loop-digest.invariant ∙ ap (lowest (own_digest_at (view c.args.tree.now) c.args.number)) end)

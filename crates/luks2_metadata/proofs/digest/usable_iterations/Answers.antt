@@ -1,16 +1,16 @@
 use Rattle.std.proofs.Common.{◌≡◌, true, option_map, sym, ap, arith}
 use Rattle.luks_verdict.specs.Rule.{is_digest}
-use Rattle.luks2_metadata.specs.Digest2.{iterations_of}
+use Rattle.luks2_metadata.specs.Digest2.{iterations_of_digest}
 use Rattle.luks2_metadata.proofs.DigestLemmas.{few_iterations, in_range, not_digest, out_of_range}
 use Rattle.luks2_metadata.proofs.digest.usable_iterations.Goals as goal
 use Rattle.serde_json.specs.View.{view}
 
 pub returns-then-not-is_digest : goal.returns-then-not-is_digest
-returns-then-not-is_digest c = sym (ap (option_map iterations_of) (not_digest (view c.args.digest.now) (cc)))
+returns-then-not-is_digest c = sym (ap (option_map iterations_of_digest) (not_digest (view c.args.digest.now) (cc)))
 
 pub returns-then-not-usable_digest : goal.returns-then-not-usable_digest
 returns-then-not-usable_digest c =
-    sym (ap (option_map iterations_of) (out_of_range (view c.args.digest.now) (cc) (cc)))
+    sym (ap (option_map iterations_of_digest) (out_of_range (view c.args.digest.now) (cc) (cc)))
 
 pub overflow_cast-result : goal.overflow_cast-result
 overflow_cast-result c =

@@ -1,6 +1,6 @@
 use Rattle.luks2_metadata.proofs.SlotLemmas.{key_sizes_few, stripes_few}
 use Rattle.luks2_metadata.proofs.slot.reason.Goals as goal
-use Rattle.luks2_metadata.specs.Slot2.{stripes_of}
+use Rattle.luks2_metadata.specs.Slot2.{stripes_member}
 use Rattle.serde_json.specs.View.{view}
 
 pub is_misplaced-requires-clause-short : goal.is_misplaced-requires-clause-short
@@ -8,4 +8,4 @@ is_misplaced-requires-clause-short c =
     (key_sizes_few c.payload_mode.result (view c.args.slot.now) (cc)).1
 
 pub is_misplaced-requires-clause-few : goal.is_misplaced-requires-clause-few
-is_misplaced-requires-clause-few c = stripes_few (stripes_of (view c.args.slot.now)) (cc)
+is_misplaced-requires-clause-few c = stripes_few (stripes_member (view c.args.slot.now)) (cc)

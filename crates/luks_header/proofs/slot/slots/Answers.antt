@@ -1,23 +1,23 @@
 use Rattle.std.proofs.Common.{◌≡◌, ◌∙◌, ◌++◌, ◌∷◌, [], ℕ, List, length, Option, Some, None, sym, ap, arith}
 use Rattle.std.specs.Prelude.{option_map}
 use Rattle.luks_verdict.proofs.TableLemmas.{length-rising, rising_none, rising_not, rising_one}
-use Rattle.luks_verdict.specs.Table.{rising}
+use Rattle.luks_verdict.specs.Table.{ascending}
 use Rattle.luks_verdict.specs.declared.slot.Verdict.{Verdict}
-use Rattle.luks_header.specs.Slot.{numbered, verdicts_of}
+use Rattle.luks_header.specs.Slot.{numbered_verdict, verdicts_of}
 use Rattle.luks_header.proofs.slot.slots.Goals as goal
 use Rattle.luks_header.proofs.slot.slots.Goals.{in-Some+in_ok-push, in_default}
 
--- what is numbered is the verdict
+-- what is numbered_verdict is the verdict
 beside : (n : ℕ) → Option Verdict → Option (ℕ × Verdict)
 beside n verdict = option_map (λ v. (n, v)) verdict
 
 pub loop-number-init : goal.loop-number-init
-loop-number-init c = c.new-verdicts.ensures.items ∙ sym (rising_none (numbered c.args.header.now c.args.limit))
+loop-number-init c = c.new-verdicts.ensures.items ∙ sym (rising_none (numbered_verdict c.args.header.now c.args.limit))
 
 pub loop-number-preserved : goal.loop-number-preserved
 unfolding beside
 loop-number-preserved c =
-    let f = numbered c.args.header.now c.args.limit in
+    let f = numbered_verdict c.args.header.now c.args.limit in
     let n = c.loop-number.number in
     let before = c.loop-number.invariant in
     elim c.match-branch-2.branch [
@@ -36,7 +36,7 @@ pub returns-clause-value : goal.returns-clause-value
 unfolding verdicts_of
 returns-clause-value c =
     let end : c.loop-number.number ≡ 32 = omega arith in
-    c.loop-number.invariant ∙ ap (rising (numbered c.args.header.now c.args.limit)) end
+    c.loop-number.invariant ∙ ap (ascending (numbered_verdict c.args.header.now c.args.limit)) end
 
 pub returns-clause-few : goal.returns-clause-few
 returns-clause-few c =
@@ -44,6 +44,6 @@ returns-clause-few c =
     omega (
       arith,
       ap length c.loop-number.invariant,
-      length-rising (numbered c.args.header.now c.args.limit) c.loop-number.number,
+      length-rising (numbered_verdict c.args.header.now c.args.limit) c.loop-number.number,
       c.loop-number.verdicts.ok.0,
     )

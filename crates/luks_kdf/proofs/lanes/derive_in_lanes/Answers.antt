@@ -1,6 +1,6 @@
 use Rattle.std.proofs.Common.{◌≡◌, ◌∙◌, ℕ, ◌+◌, ◌-◌, ◌*◌, ◌<◌, ap, ap₂, drop, length, arith, length-drop}
 use Rattle.std.proofs.lemmas.List.{length-take}
-use Rattle.luks_kdf.specs.Hash.{size_of}
+use Rattle.luks_kdf.specs.Hash.{digest_len}
 use Rattle.luks_kdf.proofs.BytesLemmas.{cut_start, cut_step, piece_begins}
 use Rattle.luks_kdf.proofs.LaneLemmas.{count_end, count_group, count_start, group_at}
 use Rattle.luks_kdf.proofs.LaneLemmas.{group_from, groups_end, has_lanes, length-blocks}
@@ -24,8 +24,8 @@ fill-preserved g c =
     let before = c.args.out.now in
     let group = c.WIDTH.result * c.size.result in
     let known = g.met.E.Lanes.known in
-    let is_size : c.size.result ≡ size_of h = c.size.ensures ∙ ap size_of c.hash.ensures in
-    let is_group : group ≡ w * size_of h = ap₂ ◌*◌ c.WIDTH.ensures is_size in
+    let is_size : c.size.result ≡ digest_len h = c.size.ensures ∙ ap digest_len c.hash.ensures in
+    let is_group : group ≡ w * digest_len h = ap₂ ◌*◌ c.WIDTH.ensures is_size in
     let inside : c.fill.i * group < length before =
     piece_begins (length before) group c.div_ceil-count.result c.fill.i (rw is_group ((has_lanes h w known).long))
     c.div_ceil-count.ensures c.fill-test.true in
@@ -52,7 +52,7 @@ pub returns-clause-key : goal.returns-clause-key
 returns-clause-key g c =
     let h = g.E.Engine.function in
     let w = g.E.Lanes.WIDTH in
-    let is_size : c.size.result ≡ size_of h = c.size.ensures ∙ ap size_of c.hash.ensures in
+    let is_size : c.size.result ≡ digest_len h = c.size.ensures ∙ ap digest_len c.hash.ensures in
     groups_end h c.args.pass.now c.args.salt.now c.args.out.now c.fill.out c.args.iterations w
     (c.WIDTH.result * c.size.result) c.div_ceil-count.result c.fill.i g.met.E.Lanes.known
     (ap₂ ◌*◌ c.WIDTH.ensures is_size) c.div_ceil-count.ensures (omega arith) c.fill.invariant.0
@@ -61,7 +61,7 @@ pub returns-clause-work : goal.returns-clause-work
 returns-clause-work g c =
     let h = g.E.Engine.function in
     let w = g.E.Lanes.WIDTH in
-    let is_size : c.size.result ≡ size_of h = c.size.ensures ∙ ap size_of c.hash.ensures in
+    let is_size : c.size.result ≡ digest_len h = c.size.ensures ∙ ap digest_len c.hash.ensures in
     count_end h w (c.WIDTH.result * c.size.result) c.args.work.now c.fill.work c.args.iterations (length c.args.out.now)
     c.div_ceil-count.result c.fill.i g.met.E.Lanes.known (ap₂ ◌*◌ c.WIDTH.ensures is_size) c.requires.some
     c.div_ceil-count.ensures (omega arith) c.fill.invariant.1

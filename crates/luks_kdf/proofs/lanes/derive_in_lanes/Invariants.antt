@@ -1,7 +1,7 @@
 use Rattle.std.proofs.Common.{◌≡◌, ◌*◌, ◌++◌, drop, length, min}
 use Rattle.std.specs.Int.{div_ceil}
 use Rattle.luks_kdf.specs.Bytes.{joined}
-use Rattle.luks_kdf.specs.Hash.{size_of}
+use Rattle.luks_kdf.specs.Hash.{digest_len}
 use Rattle.luks_kdf.proofs.BytesLemmas.{cut}
 use Rattle.luks_kdf.proofs.LaneLemmas.{group_at}
 use Rattle.luks_kdf.proofs.Pbkdf2Lemmas.{IsCounted, block_at}
@@ -15,4 +15,4 @@ invariant-fill g l =
     (l.out
     ≡ joined (cut (group_at (block_at h l.fn.pass l.salt l.iterations) w) l.group (length l.fn.out)) l.i
     ++ drop (l.i * l.group) l.fn.out)
-    × IsCounted l.fn.work l.work l.iterations (min (w * l.i) (div_ceil (length l.fn.out) (size_of h)))
+    × IsCounted l.fn.work l.work l.iterations (min (w * l.i) (div_ceil (length l.fn.out) (digest_len h)))

@@ -1,6 +1,6 @@
 use Rattle.std.proofs.Common.{◌≡◌, ◌∙◌, ◌*◌, ◌+◌, ap, arith, length, sym}
 use Rattle.luks_sha_lanes.proofs.WordLemmas.{written_next}
-use Rattle.luks_kdf.specs.Hash.{size_of}
+use Rattle.luks_kdf.specs.Hash.{digest_len}
 use Rattle.luks_kdf.specs.Pbkdf2.{u_of}
 use Rattle.luks_kdf.proofs.LaneLemmas.{digest_ends, length-first_u}
 use Rattle.luks_kdf.proofs.lanes.first_turns.Goals as goal
@@ -9,7 +9,7 @@ pub first-preserved : goal.first-preserved
 first-preserved g c = λ pass holds_inner holds_outer i below.
     let h = g.E.Engine.function in
     let size = c.size-size.result in
-    let is_size : size ≡ size_of h = c.size-size.ensures ∙ ap size_of c.hash.ensures in
+    let is_size : size ≡ digest_len h = c.size-size.ensures ∙ ap digest_len c.hash.ensures in
     let ends = digest_ends size g.E.Lanes.WIDTH c.first.k c.args.count c.first-test.true c.requires.count in
     let room : length c.args.u.now ≡ g.E.Lanes.WIDTH * size = rw is_size c.requires.room in
     let so_far = c.first.invariant pass holds_inner holds_outer in

@@ -1,23 +1,23 @@
 use Rattle.std.proofs.Common.{◌≡◌, ◌∙◌, None, Some, sym}
-use Rattle.luks_open.specs.Opening.{key_of}
+use Rattle.luks_open.specs.Opening.{slot_key}
 use Rattle.luks_open.proofs.OpeningLemmas.{go_last, go_on, go_out}
 use Rattle.luks_open.proofs.opening.first_opening.Goals as goal
 
 pub returns-in-Some-clause-value : goal.returns-in-Some-clause-value
 returns-in-Some-clause-value c =
-    let some : key_of c.entry-item.result c.args.image.now c.args.pass.now
+    let some : slot_key c.entry-item.result c.args.image.now c.args.pass.now
     ≡ Some c.in-Some.key = sym c.key.ensures.value ∙ c.in-Some.is in
     sym (go_last _ _ _ _ _ _ _ _ _ c.entries.invariant c.entries-test.true c.entry-item.is some c.key.ensures.work).0
 
 pub returns-in-Some-clause-work : goal.returns-in-Some-clause-work
 returns-in-Some-clause-work c =
-    let some : key_of c.entry-item.result c.args.image.now c.args.pass.now
+    let some : slot_key c.entry-item.result c.args.image.now c.args.pass.now
     ≡ Some c.in-Some.key = sym c.key.ensures.value ∙ c.in-Some.is in
     (go_last _ _ _ _ _ _ _ _ _ c.entries.invariant c.entries-test.true c.entry-item.is some c.key.ensures.work).1
 
 pub entries-preserved : goal.entries-preserved
 entries-preserved c =
-    let none : key_of c.entry-item.result c.args.image.now c.args.pass.now ≡ None = sym c.key.ensures.value
+    let none : slot_key c.entry-item.result c.args.image.now c.args.pass.now ≡ None = sym c.key.ensures.value
     ∙ c.in_default.is in
     go_on _ _ _ _ _ _ _ _ c.entries.invariant c.entries-test.true c.entry-item.is none c.key.ensures.work
 

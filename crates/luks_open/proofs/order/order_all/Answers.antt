@@ -1,6 +1,6 @@
 use Rattle.std.proofs.Common.{rules, arith, length-append}
-use Rattle.luks_verdict.specs.Rule.{most_slots}
-use Rattle.luks_verdict.specs.Table.{rising}
+use Rattle.luks_verdict.specs.Rule.{max_slots}
+use Rattle.luks_verdict.specs.Table.{ascending}
 use Rattle.luks_open.specs.Order.{tries_of_all, usable_at}
 use Rattle.luks_open.proofs.OrderLemmas.{some_tried}
 use Rattle.luks_open.proofs.order.order_all.Goals as goal
@@ -12,7 +12,7 @@ returns-in_err-push_usable-clause-memory c = λ memory.
     some_tried _ _
     (omega (
       arith,
-      length-append (rising (entries 2) most_slots) (rising (entries 1) most_slots),
+      length-append (ascending (entries 2) max_slots) (ascending (entries 1) max_slots),
       c.in_err-push_usable.ensures.err,
     ))
 
@@ -23,7 +23,7 @@ returns-in_err-push_usable-2-clause-memory c = λ memory.
     some_tried _ _
     (omega (
       arith,
-      length-append (rising (entries 2) most_slots) (rising (entries 1) most_slots),
+      length-append (ascending (entries 2) max_slots) (ascending (entries 1) max_slots),
       c.in_err-push_usable-2.ensures.err,
     ))
 

@@ -1,7 +1,7 @@
 use Rattle.std.proofs.Common.{rules, ◌≡◌, ◌∙◌, ◌≤◌, ◌∷◌, ◌++◌, [], List, Some, None, IsSome, ap, sym, refl, length}
 use Rattle.std.proofs.Common.{append_assoc, arith}
 use Rattle.std.proofs.lemmas.List.{append-nil}
-use Rattle.luks_verdict.specs.Table.{rising}
+use Rattle.luks_verdict.specs.Table.{ascending}
 use Rattle.luks_verdict.proofs.TableLemmas.{rising_none, rising_not, rising_one, some_rising}
 use Rattle.luks_open.specs.Order.{usable_at}
 use Rattle.luks_open.specs.declared.entry.Entry.{Entry}
@@ -17,7 +17,7 @@ loop-number-init c =
 pub returns-in_err-entry-clause-err : goal.returns-in_err-entry-clause-err
 returns-in_err-entry-clause-err c =
     let f = usable_at c.args.header.now c.args.limit c.args.priority in
-    let many : 1 ≤ length (rising f 32) =
+    let many : 1 ≤ length (ascending f 32) =
     some_rising f c.loop-number.number 32 c.in_err-entry.ensures.err (omega arith) in
     search (rules, many)
 
@@ -25,7 +25,7 @@ pub returns-in_err-push-clause-err : goal.returns-in_err-push-clause-err
 returns-in_err-push-clause-err c =
     let f = usable_at c.args.header.now c.args.limit c.args.priority in
     let some : IsSome (f c.loop-number.number) = rw (← c.in_ok-entry.ensures.ok, c.in-Some.is) refl in
-    let many : 1 ≤ length (rising f 32) = some_rising f c.loop-number.number 32 some (omega arith) in
+    let many : 1 ≤ length (ascending f 32) = some_rising f c.loop-number.number 32 some (omega arith) in
     search (rules, many)
 
 pub loop-number-preserved : goal.loop-number-preserved
@@ -38,7 +38,7 @@ loop-number-preserved c =
       | in-Some+in_ok-push w ↦
           (let one : f n ≡ Some w.in-Some.entry = sym c.in_ok-entry.ensures.ok ∙ w.in-Some.is in
           rw w.entries-is (w.in_ok-push.ensures.items ∙ (ap (λ (l : List Entry). l ++ w.in-Some.entry ∷ []) before
-          ∙ (append_assoc old (rising f n) (w.in-Some.entry ∷ [])
+          ∙ (append_assoc old (ascending f n) (w.in-Some.entry ∷ [])
           ∙ ap (λ (l : List Entry). old ++ l) (sym (rising_one f n w.in-Some.entry one))))))
       | in_default w ↦
           (let none : f n ≡ None = sym c.in_ok-entry.ensures.ok ∙ w.in_default.is in

@@ -1,6 +1,6 @@
 use Rattle.std.proofs.Common.{ap, arith}
 use Rattle.std.proofs.lemmas.List.{drop_all}
-use Rattle.luks_open.specs.Order.{held_of}
+use Rattle.luks_open.specs.Order.{key_areas_end}
 use Rattle.luks_open.proofs.OrderLemmas.{held_of-drop, held_of-nil, held_of-within}
 use Rattle.luks_open.proofs.tries.held_end.Goals as goal
 
@@ -19,9 +19,9 @@ loop-entry-preserved c =
 pub returns-clause-value : goal.returns-clause-value
 returns-clause-value c =
     let none = drop_all c.loop-entry.entry-index c.entries-entry-items.result.now (omega arith) in
-    omega (arith, c.loop-entry.invariant, ap held_of none, held_of-nil)
+    omega (arith, c.loop-entry.invariant, ap key_areas_end none, held_of-nil)
 
 pub returns-clause-within : goal.returns-clause-within
 returns-clause-within c =
     let none = drop_all c.loop-entry.entry-index c.entries-entry-items.result.now (omega arith) in
-    omega (arith, c.loop-entry.invariant, ap held_of none, held_of-nil, held_of-within c.args.order.now.slots)
+    omega (arith, c.loop-entry.invariant, ap key_areas_end none, held_of-nil, held_of-within c.args.order.now.slots)

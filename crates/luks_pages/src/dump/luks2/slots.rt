@@ -1,7 +1,7 @@
 //! The lines of key slots.
 
 ghost use Rattle.std.specs.Prelude.{◌≡◌, ◌++◌, None, Some, IfOk, OnOk, string_bytes};
-ghost use Rattle.luks_pages.specs.Dump2.{hash_text, slot_line, slot_line_at, slot_lines};
+ghost use Rattle.luks_pages.specs.Dump2.{hash_text, slot2_line, slot_line_at, slot2_lines};
 ghost use Rattle.luks_pages.specs.Dump2.{usable_text, verdict_text};
 ghost use Rattle.luks2_metadata.specs.Slot2.{verdict2_at};
 
@@ -15,7 +15,7 @@ use luks2_metadata::slot::{judge, slot};
 use std::alloc::{AllocError, Global};
 
 /// Adds a line for each key slot of a header with these bounds.
-#[tactic(auto, unfolding(crate::specs::Dump2::slot_lines))]
+#[tactic(auto, unfolding(crate::specs::Dump2::slot2_lines))]
 pub(super) fn push_slots(
     alloc: Global,
     page: &mut String,
@@ -23,7 +23,7 @@ pub(super) fn push_slots(
     bounds: Bounds,
 ) -> Result<(), AllocError>
     ensures { OnOk result
-        (string_bytes page.new ≡ string_bytes page.old ++ slot_lines metadata.now bounds) }
+        (string_bytes page.new ≡ string_bytes page.old ++ slot2_lines metadata.now bounds) }
 {
     for number in 0..MOST_SLOTS {
         push_slot(alloc, page, metadata, bounds, number)?;
@@ -76,7 +76,7 @@ fn push_verdict(
     verdict: &Verdict,
 ) -> Result<(), AllocError>
     ensures { OnOk result
-        (string_bytes page.new ≡ string_bytes page.old ++ slot_line number (Some verdict.now)) }
+        (string_bytes page.new ≡ string_bytes page.old ++ slot2_line number (Some verdict.now)) }
 {
     let name = format!(in alloc; "Slot {number}")?;
     let text = describe(alloc, verdict)?;

@@ -1,5 +1,5 @@
 use Rattle.std.proofs.Common.{◌≡◌, ◌+◌, ◌-◌, ◌≤◌, length, take, drop, refl, subst, arith}
-use Rattle.luks_io.specs.Bytes.{Took}
+use Rattle.luks_io.specs.Bytes.{ConsumedExactly}
 use Rattle.luks_volume.specs.Plain.{sector_start}
 use Rattle.luks_runs.proofs.PayloadLemmas.{held_reach, stands_within}
 use Rattle.luks_runs.proofs.payload.pump_behind.Goals as goal
@@ -9,7 +9,7 @@ returns-then-consumed-segment-clause-stands c whole left front took =
     let same : length c.args.held.now ≡ length c.args.held.now + 0 = omega arith in
     rw c.new.ensures (record {
       running = refl;
-      stands = record { next = refl; took = subst (Took whole left) same took };
+      stands = record { next = refl; took = subst (ConsumedExactly whole left) same took };
     })
 
 pub returns-clause-stands : goal.returns-clause-stands
@@ -27,7 +27,7 @@ returns-clause-stands c whole left front took =
         next = subst (λ n. take (length held - offset) (drop offset held)
             ≡ take (length (take (length held - offset) (drop offset held))) (drop n whole)) start
             (stands_within held whole offset within front);
-        took = subst (Took whole left) all took;
+        took = subst (ConsumedExactly whole left) all took;
       };
     })
 

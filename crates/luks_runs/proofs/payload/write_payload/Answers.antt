@@ -1,11 +1,11 @@
 use Rattle.std.proofs.Common.{◌+◌, ◌∙◌, nat_lt, false, ap, refl, arith}
-use Rattle.luks_volume.specs.Passing.{limit_of}
+use Rattle.luks_volume.specs.Passing.{max_sectors}
 use Rattle.std.proofs.lemmas.Result.{err_from_is_err_and}
 use Rattle.luks_runs.proofs.PayloadLemmas.{ends_are, few_sectors, never_memory, passing_breaks, passing_ends}
 use Rattle.luks_runs.proofs.PayloadLemmas.{passing_more, passing_start, reads_are, writes_are}
 use Rattle.luks_report.specs.Faults.{message_for_payload}
 use Rattle.luks_io.specs.Bytes.{counted}
-use Rattle.luks_runs.specs.Run.{is_failed_read, is_failed_write}
+use Rattle.luks_runs.specs.Run.{is_run_read_failure, is_run_write_failure}
 use Rattle.luks_runs.proofs.payload.write_payload.Goals as goal
 
 pub sectors-init : goal.sectors-init
@@ -58,7 +58,7 @@ returns-in_err-step-clause-reads g c =
     let fault = c.in_err-step.field-0.0 in
     rw (p.1, p.2, ← c.announce.ensures.failures) (c.in_err-step.ensures.reads so_far.running
     ∙ reads_are fault (g.I.Source.failures c.sectors.image)
-    ∙ ap (counted (is_failed_read (message_for_payload fault))) so_far.reads)
+    ∙ ap (counted (is_run_read_failure (message_for_payload fault))) so_far.reads)
 
 pub returns-in_err-step-clause-writes : goal.returns-in_err-step-clause-writes
 returns-in_err-step-clause-writes g c =
@@ -66,7 +66,7 @@ returns-in_err-step-clause-writes g c =
     let so_far = c.sectors.invariant in
     let fault = c.in_err-step.field-0.0 in
     rw (p.1, p.2) (c.in_err-step.ensures.writes so_far.running ∙ writes_are fault (g.O.Sink.failures c.sectors.out)
-    ∙ ap (counted (is_failed_write (message_for_payload fault))) so_far.writes)
+    ∙ ap (counted (is_run_write_failure (message_for_payload fault))) so_far.writes)
 
 pub returns-in_err-step-clause-memory : goal.returns-in_err-step-clause-memory
 returns-in_err-step-clause-memory g c =
@@ -117,7 +117,7 @@ returns-in-End-clause-ends g c =
     let step = rw c.in-End.is at c.in_ok-step.ensures in
     let so_far = c.sectors.invariant in
     rw (← c.announce.ensures.ends)
-    (nat_lt c.sectors.pump.count (limit_of c.sectors.pump.segment), rw so_far.ends at (step.ends so_far.running))
+    (nat_lt c.sectors.pump.count (max_sectors c.sectors.pump.segment), rw so_far.ends at (step.ends so_far.running))
 
 pub returns-clause-ends : goal.returns-clause-ends
 returns-clause-ends g c = (false, c.sectors.invariant.ends ∙ c.announce.ensures.ends)

@@ -1,5 +1,5 @@
 use Rattle.std.proofs.Common.{◌≡◌, ◌≤◌, ◌-◌}
-use Rattle.luks_io.specs.Bytes.{Took, WhereKnown}
+use Rattle.luks_io.specs.Bytes.{ConsumedExactly, IfKnown}
 use Rattle.luks_volume.proofs.passing.discard.Given as goal
 
 -- the bytes so far are gone, and no read has failed or found the end
@@ -8,8 +8,8 @@ invariant-pieces g l = record {
   reads : g.S.Source.failures l.source ≡ g.S.Source.failures l.initial.source;
   ends : g.S.Source.ends l.source ≡ g.S.Source.ends l.initial.source;
   few : l.left ≤ l.count;
-  taken : WhereKnown (g.S.Source.to_come l.initial.source)
-      (λ known. Took known (g.S.Source.to_come l.source) (l.count - l.left));
+  taken : IfKnown (g.S.Source.to_come l.initial.source)
+      (λ known. ConsumedExactly known (g.S.Source.to_come l.source) (l.count - l.left));
 }
 
 -- the bytes that are still to be taken

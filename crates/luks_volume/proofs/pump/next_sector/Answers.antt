@@ -1,7 +1,7 @@
 use Rattle.std.proofs.Common.{rules, ◌≡◌, ◌<◌, ◌≤◌, ◌∙◌, take, length, length-take-le, arith}
 use Rattle.std.proofs.lemmas.Result.{err_from_is_err_and}
 use Rattle.luks_io.proofs.Taking.{counted-short, counted-whole}
-use Rattle.luks_volume.specs.Passing.{limit_of}
+use Rattle.luks_volume.specs.Passing.{max_sectors}
 use Rattle.luks_volume.specs.declared.state.State.TheVariants.{InPayload}
 use Rattle.luks_volume.specs.Plain.{sector_len}
 use Rattle.luks_volume.proofs.SectorLemmas.{at_most_4096}
@@ -11,14 +11,14 @@ use Rattle.luks_volume.proofs.pump.next_sector.Goals as goal
 
 pub returns-then-count-limit-clause-run : goal.returns-then-count-limit-clause-run
 returns-then-count-limit-clause-run g c image few stands =
-    let full : c.args.count ≡ limit_of c.args.segment.now = omega arith in
+    let full : c.args.count ≡ max_sectors c.args.segment.now = omega arith in
     steps_at_limit c.args.segment.now image c.args.count c.args.front.now _ stands c.args.cipher.now
     (g.O.Sink.written c.args.sink.now) (g.O.Sink.written c.args.sink.now) full few
 
 pub returns-in_err-got-clause-run : goal.returns-in_err-got-clause-run
 returns-in_err-got-clause-run g c =
     let p = err_from_is_err_and c.from_residual.result c.from_residual.ensures.1 in
-    let below : c.args.count < limit_of c.args.segment.now = omega arith in
+    let below : c.args.count < max_sectors c.args.segment.now = omega arith in
     let most = at_most_4096 c.args.segment.now.sector_size in
     let sized : length (take c.bytes-size.result c.args.buffer.now) ≡ sector_len c.args.segment.now =
     length-take-le c.bytes-size.result c.args.buffer.now (omega arith) ∙ c.bytes-size.ensures in
@@ -28,7 +28,7 @@ returns-in_err-got-clause-run g c =
 
 pub returns-then-got-size-clause-run : goal.returns-then-got-size-clause-run
 returns-then-got-size-clause-run g c image few stands =
-    let below : c.args.count < limit_of c.args.segment.now = omega arith in
+    let below : c.args.count < max_sectors c.args.segment.now = omega arith in
     let most = at_most_4096 c.args.segment.now.sector_size in
     let sized : length (take c.bytes-size.result c.args.buffer.now) ≡ sector_len c.args.segment.now =
     length-take-le c.bytes-size.result c.args.buffer.now (omega arith) ∙ c.bytes-size.ensures in
@@ -38,7 +38,7 @@ returns-then-got-size-clause-run g c image few stands =
 
 pub returns-clause-run : goal.returns-clause-run
 returns-clause-run g c image few stands =
-    let below : c.args.count < limit_of c.args.segment.now = omega arith in
+    let below : c.args.count < max_sectors c.args.segment.now = omega arith in
     let most = at_most_4096 c.args.segment.now.sector_size in
     let sized : length (take c.bytes-size.result c.args.buffer.now) ≡ sector_len c.args.segment.now =
     length-take-le c.bytes-size.result c.args.buffer.now (omega arith) ∙ c.bytes-size.ensures in
@@ -52,13 +52,13 @@ returns-clause-run g c image few stands =
 
 pub returns-then-got-size-clause-only : goal.returns-then-got-size-clause-only
 returns-then-got-size-clause-only g c =
-    let below : c.args.count < limit_of c.args.segment.now = omega arith in
+    let below : c.args.count < max_sectors c.args.segment.now = omega arith in
     may_be_torn c.args.segment.now c.args.count c.in_ok-got.got _ below c.ending.ensures InPayload
     (rw c.bytes-size.ensures at c.if-got-size.true)
 
 pub returns-then-got-size-clause-ends : goal.returns-then-got-size-clause-ends
 returns-then-got-size-clause-ends g c =
-    let below : c.args.count < limit_of c.args.segment.now = omega arith in
+    let below : c.args.count < max_sectors c.args.segment.now = omega arith in
     let most = at_most_4096 c.args.segment.now.sector_size in
     let torn : c.in_ok-got.got < length (take c.bytes-size.result c.args.buffer.now) =
     omega (arith, length-take-le c.bytes-size.result c.args.buffer.now (omega arith), c.if-got-size.true) in
@@ -67,18 +67,18 @@ returns-then-got-size-clause-ends g c =
 
 pub returns-then-got-size-clause-passed : goal.returns-then-got-size-clause-passed
 returns-then-got-size-clause-passed g c is =
-    let below : c.args.count < limit_of c.args.segment.now = omega arith in
+    let below : c.args.count < max_sectors c.args.segment.now = omega arith in
     absurd (torn_is_no_sector c.args.segment.now c.args.count c.in_ok-got.got _ below c.ending.ensures is)
 
 pub returns-then-got-size-clause-reads : goal.returns-then-got-size-clause-reads
 returns-then-got-size-clause-reads g c =
-    let below : c.args.count < limit_of c.args.segment.now = omega arith in
+    let below : c.args.count < max_sectors c.args.segment.now = omega arith in
     let none = torn_fails_nothing c.args.segment.now c.args.count c.in_ok-got.got _ below c.ending.ensures in
     c.in_ok-got.ensures.reads ∙ (none _).0
 
 pub returns-then-got-size-clause-writes : goal.returns-then-got-size-clause-writes
 returns-then-got-size-clause-writes g c =
-    let below : c.args.count < limit_of c.args.segment.now = omega arith in
+    let below : c.args.count < max_sectors c.args.segment.now = omega arith in
     let none = torn_fails_nothing c.args.segment.now c.args.count c.in_ok-got.got _ below c.ending.ensures in
     c.in_ok-got.ensures.writes ∙ (none _).1
 

@@ -1,17 +1,17 @@
 use Rattle.std.proofs.Common.{◌≡◌, ◌∙◌, refl, sym, Some, None}
-use Rattle.luks2_header.specs.Header2.{hash_in, header_in}
+use Rattle.luks2_header.specs.Header2.{checksum_hash_in, header2_from}
 use Rattle.luks2_header.proofs.header.Header2.from_bytes.Goals as goal
 
 pub returns-in_err-hash : goal.returns-in_err-hash
-unfolding header_in
+unfolding header2_from
 returns-in_err-hash c =
-    let none : hash_in c.args.binary.now ≡ None = sym c.hash_in.ensures ∙ c.in_err-hash.was in
+    let none : checksum_hash_in c.args.binary.now ≡ None = sym c.hash_in.ensures ∙ c.in_err-hash.was in
     rw none c.from_residual.ensures
 
 pub returns : goal.returns
-unfolding header_in
+unfolding header2_from
 returns c =
-    let some : hash_in c.args.binary.now ≡ Some c.in_ok-hash.hash = sym c.hash_in.ensures ∙ c.in_ok-hash.was in
+    let some : checksum_hash_in c.args.binary.now ≡ Some c.in_ok-hash.hash = sym c.hash_in.ensures ∙ c.in_ok-hash.was in
     rw (
       some,
       c.size_in.ensures,

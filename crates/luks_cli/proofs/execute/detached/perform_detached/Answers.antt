@@ -1,4 +1,4 @@
-use Rattle.luks_runs.specs.Header.{text_of, told_of}
+use Rattle.luks_runs.specs.Header.{printout_text, printout_message}
 use Rattle.luks_runs.specs.Reading.{detached_header_of}
 use Rattle.luks_runs.specs.Run.{at_any_pace}
 use Rattle.luks_runs.specs.declared.headers.Page.TheVariants.{Uuid, Dump, Check}
@@ -12,17 +12,17 @@ returns-in-IsLuks-clause-run g c = rw c.in-IsLuks.is (λ file there known payloa
 
 pub returns-in-LuksUuid-clause-run : goal.returns-in-LuksUuid-clause-run
 returns-in-LuksUuid-clause-run g c = rw c.in-LuksUuid.is (λ file there known payload pass secret counted.
-    runs_apart at_any_pace _ _ _ _ _ (no_payload_for_page detached_header_of (text_of Uuid) (told_of Uuid) file)
+    runs_apart at_any_pace _ _ _ _ _ (no_payload_for_page detached_header_of (printout_text Uuid) (printout_message Uuid) file)
     (c.print.ensures.run file there))
 
 pub returns-in-LuksDump-clause-run : goal.returns-in-LuksDump-clause-run
 returns-in-LuksDump-clause-run g c = rw c.in-LuksDump.is (λ file there known payload pass secret counted.
-    runs_apart at_any_pace _ _ _ _ _ (no_payload_for_page detached_header_of (text_of Dump) (told_of Dump) file)
+    runs_apart at_any_pace _ _ _ _ _ (no_payload_for_page detached_header_of (printout_text Dump) (printout_message Dump) file)
     (c.print-in-LuksDump.ensures.run file there))
 
 pub returns-in-LuksCheck-clause-run : goal.returns-in-LuksCheck-clause-run
 returns-in-LuksCheck-clause-run g c = rw c.in-LuksCheck.is (λ file there known payload pass secret counted.
-    runs_apart at_any_pace _ _ _ _ _ (no_payload_for_page detached_header_of (text_of Check) (told_of Check) file)
+    runs_apart at_any_pace _ _ _ _ _ (no_payload_for_page detached_header_of (printout_text Check) (printout_message Check) file)
     (c.print-in-LuksCheck.ensures.run file there))
 
 pub returns-in-TestPassphrase-clause-run : goal.returns-in-TestPassphrase-clause-run

@@ -2,7 +2,7 @@ use Rattle.std.proofs.lemmas.Result.{err_from_is_err_and}
 use Rattle.std.proofs.Common.{false, refl}
 use Rattle.luks_io.proofs.Taking.{took-none}
 use Rattle.luks_request.specs.Request.{opening_request}
-use Rattle.luks_runs.specs.Run.{message_of}
+use Rattle.luks_runs.specs.Run.{result_message}
 use Rattle.luks_cli.specs.Volume.{detached_payload_outcome}
 use Rattle.luks_cli.proofs.DetachedRuns.{counts_passed_apart, counts_apart, runs_passed_apart, runs_unopened_apart}
 use Rattle.luks_cli.proofs.DetachedRuns.{takes_detached_payload, with_key}
@@ -22,7 +22,7 @@ returns-in_err-unlocked-clause-run g c =
 pub returns-clause-run : goal.returns-clause-run
 returns-clause-run g c file there known is pass has counted =
     let u = c.in_ok-unlocked.ensures.ok file there pass has in
-    runs_passed_apart _ file known pass _ _ _ _ _ u _ _ _ (message_of c.write_plain.result)
+    runs_passed_apart _ file known pass _ _ _ _ _ u _ _ _ (result_message c.write_plain.result)
     (never_memory c.write_plain.result c.write_plain.ensures.memory)
     (c.write_plain.ensures.run known counted refl (took-none known _ is))
 
@@ -36,11 +36,11 @@ returns-in_err-unlocked-clause-counts g c =
 
 pub returns-clause-counts : goal.returns-clause-counts
 returns-clause-counts g c =
-    counts_passed_apart (message_of c.write_plain.result) _ _ _ _ _ _ _ _ c.in_ok-unlocked.ensures.counts
+    counts_passed_apart (result_message c.write_plain.result) _ _ _ _ _ _ _ _ c.in_ok-unlocked.ensures.counts
     c.write_plain.ensures.reads c.write_plain.ensures.writes
 
 pub returns-clause-image_end : goal.returns-clause-image_end
-returns-clause-image_end g c = payload_ends_once (message_of c.write_plain.result) _ _ c.write_plain.ensures.ends
+returns-clause-image_end g c = payload_ends_once (result_message c.write_plain.result) _ _ c.write_plain.ensures.ends
 
 pub returns-in_err-unlocked-clause-image_end : goal.returns-in_err-unlocked-clause-image_end
 returns-in_err-unlocked-clause-image_end g c = (false, refl)

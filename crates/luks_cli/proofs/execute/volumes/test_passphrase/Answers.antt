@@ -1,7 +1,7 @@
 use Rattle.std.proofs.lemmas.Result.{err_from_is_err_and}
 use Rattle.std.proofs.Common.{refl}
 use Rattle.luks_cli.specs.Volume.{slot_outcome}
-use Rattle.luks_runs.specs.Run.{message_of}
+use Rattle.luks_runs.specs.Run.{result_message}
 use Rattle.luks_cli.proofs.OpenedRuns.{counts_passed, runs_at_any_pace, runs_slot, slot_message, slot_reads_nothing}
 use Rattle.luks_cli.proofs.OpenedRuns.{takes_slot}
 use Rattle.luks_cli.proofs.execute.volumes.test_passphrase.Goals as goal
@@ -16,21 +16,21 @@ returns-in_err-unlocked-clause-run g c =
 pub returns-clause-run : goal.returns-clause-run
 returns-clause-run g c known is pass has =
     runs_slot c.args.standing _ known pass _ _ _ _ _ (c.in_ok-unlocked.ensures.ok known is pass has) _ _
-    (message_of c.tell_slot.result) c.tell_slot.ensures.told
+    (result_message c.tell_slot.result) c.tell_slot.ensures.told
 
 pub returns-clause-only : goal.returns-clause-only
 returns-clause-only g c =
-    slot_message c.in_ok-unlocked.unlocked.opened _ _ (message_of c.tell_slot.result) c.tell_slot.ensures.told
+    slot_message c.in_ok-unlocked.unlocked.opened _ _ (result_message c.tell_slot.result) c.tell_slot.ensures.told
 
 pub returns-clause-reads_first : goal.returns-clause-reads_first
 returns-clause-reads_first g c failed =
-    let told = slot_reads_nothing c.in_ok-unlocked.unlocked.opened _ _ (message_of c.tell_slot.result)
+    let told = slot_reads_nothing c.in_ok-unlocked.unlocked.opened _ _ (result_message c.tell_slot.result)
     c.tell_slot.ensures.told in
     absurd (cc (rw failed at told))
 
 pub returns-clause-counts : goal.returns-clause-counts
 returns-clause-counts g c =
-    let not_read = slot_reads_nothing c.in_ok-unlocked.unlocked.opened _ _ (message_of c.tell_slot.result)
+    let not_read = slot_reads_nothing c.in_ok-unlocked.unlocked.opened _ _ (result_message c.tell_slot.result)
     c.tell_slot.ensures.told in
-    counts_passed (message_of c.tell_slot.result) _ _ _ _ _ _ _ c.in_ok-unlocked.ensures.counts
+    counts_passed (result_message c.tell_slot.result) _ _ _ _ _ _ _ c.in_ok-unlocked.ensures.counts
     (rw not_read refl) c.tell_slot.ensures.writes

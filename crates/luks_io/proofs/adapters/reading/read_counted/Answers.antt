@@ -1,17 +1,17 @@
 use Rattle.std.proofs.Common.{rules, arith, refl}
-use Rattle.luks_io.specs.Answers.{told_of_read}
+use Rattle.luks_io.specs.Answers.{read_result}
 use Rattle.luks_io.proofs.Telling.{tells_again, tells_failed, tells_last, tells_moved}
 use Rattle.luks_io.proofs.adapters.reading.read_counted.Goals as goal
 
 pub returns-in-Moved-clause-told : goal.returns-in-Moved-clause-told
 returns-in-Moved-clause-told g c =
     c.tries.invariant.told _ _
-    (tells_moved told_of_read _ _ c.tries.tries c.in-Moved.count _ refl c.in-Moved.ensures.next)
+    (tells_moved read_result _ _ c.tries.tries c.in-Moved.count _ refl c.in-Moved.ensures.next)
 
 pub tries-preserved : goal.tries-preserved
 tries-preserved g c = record {
   told = λ told after rest. c.tries.invariant.told told after
-      (tells_again told_of_read _ _ told after c.tries.tries (omega arith) c.in-Interrupted.ensures.next rest);
+      (tells_again read_result _ _ told after c.tries.tries (omega arith) c.in-Interrupted.ensures.next rest);
   kept = search rules;
   failures = search rules;
   ends = search rules;
@@ -19,11 +19,11 @@ tries-preserved g c = record {
 
 pub returns-in-Interrupted-2-clause-told : goal.returns-in-Interrupted-2-clause-told
 returns-in-Interrupted-2-clause-told g c =
-    c.tries.invariant.told _ _ (tells_last told_of_read _ _ c.tries.tries (omega arith) c.in-Interrupted.ensures.next)
+    c.tries.invariant.told _ _ (tells_last read_result _ _ c.tries.tries (omega arith) c.in-Interrupted.ensures.next)
 
 pub returns-in-Failed-clause-told : goal.returns-in-Failed-clause-told
 returns-in-Failed-clause-told g c =
-    c.tries.invariant.told _ _ (tells_failed told_of_read _ _ c.tries.tries c.in-Failed.ensures.next)
+    c.tries.invariant.told _ _ (tells_failed read_result _ _ c.tries.tries c.in-Failed.ensures.next)
 
 pub tries-init : goal.tries-init
 tries-init g c = search rules

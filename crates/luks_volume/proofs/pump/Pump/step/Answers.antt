@@ -1,6 +1,6 @@
 use Rattle.std.proofs.Common.{◌≡◌, ◌∙◌, ap}
 use Rattle.std.proofs.lemmas.Result.{err_from_is_err_and}
-use Rattle.luks_volume.specs.Pumped.{Pumped}
+use Rattle.luks_volume.specs.Pumped.{PumpModel}
 use Rattle.luks_volume.specs.declared.state.State.TheVariants.{Ended}
 use Rattle.luks_volume.proofs.StepLemmas.{first_answer, resumed, steps_resumed, steps_unskipped, unwritten}
 use Rattle.luks_volume.proofs.pump.Pump.step.Goals as goal
@@ -33,10 +33,10 @@ pub remember-requires-clause-running : goal.remember-requires-clause-running
 remember-requires-clause-running g c =
     let going : c.self.inside.state ≡ Ended → ⊥ = λ ended. (let f = rw ended at c.if-eq.ensures in absurd cc) in
     resumed c.args.self.now.state c.self.inside.state _ c.in_ok-skip.ensures.again
-    (ap (λ (p : Pumped). p.state) (c.self.view_is ∙ c.in_ok-skip.ensures.pump)) going
+    (ap (λ (p : PumpModel). p.state) (c.self.view_is ∙ c.in_ok-skip.ensures.pump)) going
 
 pub returns-clause-again : goal.returns-clause-again
 returns-clause-again g c =
     let going : c.self.inside.state ≡ Ended → ⊥ = λ ended. (let f = rw ended at c.if-eq.ensures in absurd cc) in
     first_answer c.args.self.now.state c.self.inside.state _ _ _ c.in_ok-skip.ensures.again
-    (ap (λ (p : Pumped). p.state) (c.self.view_is ∙ c.in_ok-skip.ensures.pump)) going
+    (ap (λ (p : PumpModel). p.state) (c.self.view_is ∙ c.in_ok-skip.ensures.pump)) going
