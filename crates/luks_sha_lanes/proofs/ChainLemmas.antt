@@ -2,7 +2,7 @@
 use Rattle.std.proofs.Common.{◌≡◌, ℕ, zero, suc, List, ◌++◌, length, bit_xor, refl, sym, ap, ap₂, ◌∙◌}
 use Rattle.std.specs.Simd.Lanes.{zip2}
 use Rattle.sha2.specs.Sha256.{digest_bytes}
-use Rattle.luks_sha_lanes.specs.Chains.{chain, chain_sum, hmac_by, sums, turn, turns, xor_words}
+use Rattle.luks_sha_lanes.specs.Chains.{chain, chain_sum, hmac_by, sums, turn, turns}
 use Rattle.luks_sha_lanes.proofs.WordLemmas.{xor_of_words}
 
 -- What the turns need of a hash function with digests of m words, where `after b` is its hash value after a block b: a
