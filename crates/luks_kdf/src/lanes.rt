@@ -34,14 +34,7 @@ pub(crate) trait Lanes: Engine {
 
     /// Xors the next `count` digests of the first `used` chains into their sums. `last` holds the
     /// last digest of each chain, one after the other, and `sums` their sums.
-    fn add_chains(
-        inner: &[u8],
-        outer: &[u8],
-        used: usize,
-        count: u32,
-        last: &[u8],
-        sums: &mut [u8],
-    )
+    fn add_chains(inner: &[u8], outer: &[u8], used: usize, count: u32, last: &[u8], sums: &mut [u8])
         requires inner { length inner.now ≡ 64 }
         requires outer { length outer.now ≡ 64 }
         requires used { used ≤ WIDTH }
@@ -199,14 +192,7 @@ fn sum_group<E: Lanes>(
     let u = &mut u[..t.len()];
     first_turns(keyed, salt, number, count, u);
     t.copy_from_slice(u);
-    E::add_chains(
-        &blocks.inner,
-        &blocks.outer,
-        count,
-        iterations - 1,
-        u,
-        t,
-    );
+    E::add_chains(&blocks.inner, &blocks.outer, count, iterations - 1, u, t);
 }
 
 // Writes the first U of so many blocks from this number on.

@@ -2,7 +2,7 @@
 use Rattle.std.proofs.Common.{◌≡◌, ℕ, zero, suc, List, ◌++◌, length, bit_xor, refl, sym, ap, ap₂, ◌∙◌}
 use Rattle.std.specs.Simd.Lanes.{zip2}
 use Rattle.sha2.specs.Sha256.{digest_bytes}
-use Rattle.luks_sha_lanes.specs.Chains.{chain, chain_sum, hmac_by, sums, turn, turns, xor_words}
+use Rattle.luks_sha_lanes.specs.Chains.{chain, chain_sum, hmac_by, sums, turn, turns}
 use Rattle.luks_sha_lanes.proofs.WordLemmas.{xor_of_words}
 
 -- What the turns need of a hash function with digests of m words, where `after b` is its hash value after a block b: a
@@ -28,7 +28,8 @@ chain_turns hash after behind m is inner outer w li lo (suc n) =
 
 sums_turns : (hash after : List ℕ → List ℕ) (behind : List ℕ → List ℕ → List ℕ) (m : ℕ)
     → IsChained hash after behind m → (inner outer w t : List ℕ) → length inner ≡ 64 → length outer ≡ 64 → (n : ℕ)
-    → chain_sum hash inner outer (digest_bytes w m) (digest_bytes t m) n ≡ digest_bytes (sums m behind (after inner) (after outer) w t n) m
+    → chain_sum hash inner outer (digest_bytes w m) (digest_bytes t m) n
+    ≡ digest_bytes (sums m behind (after inner) (after outer) w t n) m
 unfolding chain_sum sums
 sums_turns hash after behind m is inner outer w t li lo zero = refl
 sums_turns hash after behind m is inner outer w t li lo (suc n) =
@@ -39,7 +40,8 @@ sums_turns hash after behind m is inner outer w t li lo (suc n) =
 -- what a lane comes to, on bytes
 pub sum_of_lane : (hash after : List ℕ → List ℕ) (behind : List ℕ → List ℕ → List ℕ) (m : ℕ)
     → IsChained hash after behind m → (inner outer u t i o w s r : List ℕ) (n : ℕ)
-    → length inner ≡ 64 → length outer ≡ 64 → i ≡ after inner → o ≡ after outer → digest_bytes w m ≡ u → digest_bytes s m ≡ t
+    → length inner ≡ 64 → length outer ≡ 64 → i ≡ after inner → o ≡ after outer
+    → digest_bytes w m ≡ u → digest_bytes s m ≡ t
     → r ≡ sums m behind i o w s n → digest_bytes r m ≡ chain_sum hash inner outer u t n
 sum_of_lane hash after behind m is inner outer u t i o w s r n li lo is_i is_o is_u is_t is_r =
     rw (is_r, is_i, is_o, ← is_u, ← is_t) (sym (sums_turns hash after behind m is inner outer w s li lo n))

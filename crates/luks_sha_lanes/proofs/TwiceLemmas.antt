@@ -1,10 +1,9 @@
 -- A word that stands twice in 64 bits, shifted to the right, has in its low half the word rotated.
 use Rattle.std.proofs.Common.{◌≡◌, ℕ, ◌+◌, ◌-◌, ◌*◌, ◌/◌, ◌%◌, ◌^◌, ◌<◌, List, [], ◌∷◌, length, bit_and}
-use Rattle.std.proofs.Common.{bit_or, bit_xor, ap, ap₂, sym, ◌∙◌, arith, refl, pow-add, add_comm, mod-lt, pow_pos}
-use Rattle.std.specs.Int.{w32}
+use Rattle.std.proofs.Common.{bit_or, bit_xor, ap, sym, ◌∙◌, arith, refl, pow-add, add_comm, mod-lt, pow_pos}
 use Rattle.std.specs.Int.Bits.{or_shifted_r}
 use Rattle.std.specs.Simd.Lanes.{zip2}
-use Rattle.std.proofs.lemmas.Nat.{and_mask, and_mod, mod-pow-add, mod_low, shr_below, shr_high, shr_split, shl-shr}
+use Rattle.std.proofs.lemmas.Nat.{and_mask, mod-pow-add, mod_low, shr_below, shr_high, shr_split, shl-shr}
 use Rattle.std.proofs.lemmas.Nat.{xor_mod}
 use Rattle.luks_sha_lanes.proofs.LaneLemmas.{half_lt}
 use Rattle.luks_sha_lanes.proofs.WordLemmas.{below_two}

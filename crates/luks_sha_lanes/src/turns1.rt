@@ -40,7 +40,8 @@ fn digest_block<const N: usize>(d: &[Simd<u32, N>; 5]) -> [Simd<u32, N>; 16]
 // The hash value of a digest behind one block.
 fn behind<const N: usize>(state: &[Simd<u32, N>; 5], d: &[Simd<u32, N>; 5]) -> [Simd<u32, N>; 5]
     requires { N ≤ 64 }
-    ensures { (j : ℕ) → j < N → lane j result ≡ behind compress 5 (lane j state.now) (lane j d.now) }
+    ensures { (j : ℕ) → j < N
+        → lane j result ≡ behind compress 5 (lane j state.now) (lane j d.now) }
 {
     compress::<N, 1>(state, &digest_block(d))
 }

@@ -41,7 +41,8 @@ fn digest_block(d: &[u64x2; 8]) -> [u64x2; 16]
 // The hash value of a digest behind one block.
 fn behind(state: &[u64x2; 8], d: &[u64x2; 8]) -> [u64x2; 8]
     ensures { (j : ℕ) → j < 2 → AllTwice j state.now → AllTwice j d.now
-        → AllTwice j result × (lane j result ≡ behind compress 8 (lane j state.now) (lane j d.now)) }
+        → AllTwice j result
+        × (lane j result ≡ behind compress 8 (lane j state.now) (lane j d.now)) }
 {
     compress::<1>(state, &digest_block(d))
 }
@@ -79,8 +80,8 @@ pub(crate) fn add_turns(
     sum: &[u64x2; 8],
 ) -> [u64x2; 8]
     ensures { (j : ℕ) → j < 2 → AllTwice j inner.now → AllTwice j outer.now → AllTwice j last.now
-        → lane j result ≡ sums 8 (behind compress 8) (lane j inner.now) (lane j outer.now) (lane j last.now)
-        (lane j sum.now) count }
+        → lane j result ≡ sums 8 (behind compress 8) (lane j inner.now) (lane j outer.now)
+        (lane j last.now) (lane j sum.now) count }
 {
     let mut u = *last;
     let mut t = *sum;

@@ -1,4 +1,4 @@
-//! Words in bytes, as both hash functions read them (FIPS 180-4, section 3.1).
+//! Words in bytes, as both hash functions read them (FIPS 180-4, section 3.1), and arrays of words.
 
 ghost use Rattle.std.specs.Prelude.{◌≡◌, ◌+◌, ◌≤◌, [], ◌∷◌, length};
 ghost use Rattle.sha2.specs.Sha256.{word_at};
@@ -11,8 +11,8 @@ pub(crate) fn load_be(bytes: &[u8], i: usize) -> u32
     u32::from_be_bytes([bytes[i], bytes[i + 1], bytes[i + 2], bytes[i + 3]])
 }
 
-/// The array of these. The checker has no rule for such an array of vectors of `N` lanes, as long
-/// as it is not known that they are vectors.
+/// The array of these. An array of vectors of `N` lanes is made here, at any type: the prover does
+/// not cover one that is written out where the lanes are not yet counted.
 #[inline(always)]
 pub(crate) fn five<T: Copy>(a: T, b: T, c: T, d: T, e: T) -> [T; 5]
     ensures { result ≡ a ∷ b ∷ c ∷ d ∷ e ∷ [] }
@@ -20,7 +20,7 @@ pub(crate) fn five<T: Copy>(a: T, b: T, c: T, d: T, e: T) -> [T; 5]
     [a, b, c, d, e]
 }
 
-/// The array of these.
+/// The array of these, as `five`.
 #[inline(always)]
 pub(crate) fn sixteen<T: Copy>(
     a: T,

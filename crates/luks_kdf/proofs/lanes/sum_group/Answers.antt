@@ -1,4 +1,4 @@
-use Rattle.std.proofs.Common.{◌-◌, ◌∙◌, List, ℕ, ap, arith}
+use Rattle.std.proofs.Common.{◌-◌, ◌∙◌, List, ℕ, ap}
 use Rattle.luks_sha_lanes.specs.Chains.{chain_sum, digest_at}
 use Rattle.luks_kdf.specs.Hash.{hash_of, digest_len}
 use Rattle.luks_kdf.proofs.LaneLemmas.{sum_of_block}

@@ -11,4 +11,5 @@ overflow_shr-result g c = shifts_fit_splat 32 c.args.x g.row.N (32 - c.args.bits
 
 pub returns : goal.returns
 returns g c =
-    words_rotated g.row.N c.args.bits (32 - c.args.bits) c.requires.low c.requires.high refl c.args.x c.fits-x.0 c.fits-x.1
+    words_rotated g.row.N c.args.bits (32 - c.args.bits) c.requires.low c.requires.high refl c.args.x c.fits-x.0
+    c.fits-x.1

@@ -8,4 +8,5 @@ pub compress-requires : goal.compress-requires
 compress-requires g c = (omega arith, (omega arith, omega arith))
 
 pub returns : goal.returns
-returns g c = λ j in_lane. rw (← c.first_state.ensures j in_lane) (c.compress.ensures j _ in_lane (c.load_block.ensures j in_lane))
+returns g c = λ j in_lane.
+    rw (← c.first_state.ensures j in_lane) (c.compress.ensures j _ in_lane (c.load_block.ensures j in_lane))

@@ -1,5 +1,4 @@
 use Rattle.std.proofs.Common.{◌≡◌, ℕ, ◌+◌, ◌*◌, ◌<◌, length}
-use Rattle.std.specs.Prelude.{slice_index}
 use Rattle.sha2.specs.Sha256.{word_at}
 use Rattle.luks_sha_lanes.specs.Lanes.{word}
 use Rattle.luks_sha_lanes.proofs.chains1.load_each.Given as goal

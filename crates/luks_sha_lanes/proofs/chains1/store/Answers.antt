@@ -9,7 +9,8 @@ lanes-preserved g c = (
   search rules,
   λ k below.
       written_next 20 c.lanes.j k c.lanes.out c.store_lane.new.out _ (λ i. digest_bytes (lane i c.args.x.now) 5)
-      (omega arith) (ap length c.store_lane.ensures ∙ length-digest_bytes _ 5) c.lanes.invariant.1 c.store_lane.ensures below,
+      (omega arith) (ap length c.store_lane.ensures ∙ length-digest_bytes _ 5) c.lanes.invariant.1
+      c.store_lane.ensures below,
 )
 
 pub returns : goal.returns

@@ -13,7 +13,8 @@ unfolding sums turn turns
 turns-preserved g c = λ j in_lane.
     let so_far = c.turns.invariant j in_lane in
     let middle = c.behind-middle.ensures j in_lane in
-    let is_next = c.behind-next.ensures j in_lane ∙ ap (behind compress 5 _) (middle ∙ ap (behind compress 5 _) so_far.0) in
+    let is_next = c.behind-next.ensures j in_lane
+    ∙ ap (behind compress 5 _) (middle ∙ ap (behind compress 5 _) so_far.0) in
     rw add-one (is_next, c.xor_words-more.ensures j in_lane ∙ ap₂ (xor_words 5) so_far.1 is_next)
 
 pub returns : goal.returns

@@ -8,4 +8,5 @@ use Rattle.luks_sha_lanes.proofs.turns1.add_turns.Given as goal
 abbrev pub invariant-turns : goal.invariant-turns
 invariant-turns g l = (j : ℕ) → j < g.row.N
     → (lane j l.u ≡ turns (behind compress 5) (lane j l.inner) (lane j l.outer) (lane j l.last) l.counter)
-    × (lane j l.t ≡ sums 5 (behind compress 5) (lane j l.inner) (lane j l.outer) (lane j l.last) (lane j l.sum) l.counter)
+    × (lane j l.t
+    ≡ sums 5 (behind compress 5) (lane j l.inner) (lane j l.outer) (lane j l.last) (lane j l.sum) l.counter)
