@@ -3,18 +3,18 @@ use Rattle.std.proofs.Common.{◌≡◌, ◌∙◌, ℕ, ◌<◌, ◌≤◌, Boo
 use Rattle.std.proofs.Common.{length}
 use Rattle.std.specs.Prelude.{◌&&◌, codes, if◌then◌else◌, is_some, option_and_then, option_map}
 use Rattle.luks_kdf.specs.declared.hash.Hash.{Hash}
-use Rattle.luks2_members.specs.List.{has_texts}
-use Rattle.luks2_members.specs.Member.{base64_member, is_type, integer_member}
+use Rattle.luks2_json.specs.List.{has_texts}
+use Rattle.luks2_json.specs.Member.{base64_member, is_type, integer_member}
 use Rattle.std.proofs.lemmas.Bool.Decides.{nat_tests}
 use Rattle.luks_verdict.proofs.MadeLemmas.{digest_from-no, digest_from-some, digest_from-yes}
 use Rattle.luks_verdict.specs.Digest.{digest_from, digest_of}
 use Rattle.luks_verdict.specs.Rule.{is_beyond, is_digest, most_iterations, max_slots, usable_digest}
 use Rattle.luks_verdict.specs.declared.digest.KeyDigest.{KeyDigest}
-use Rattle.luks2_members.proofs.NumberedLemmas.{lowest_found, lowest_made}
-use Rattle.luks2_members.specs.Numbered.{lowest, object_numbered}
+use Rattle.luks2_json.proofs.NumberedLemmas.{lowest_found, lowest_made}
+use Rattle.luks2_json.specs.Numbered.{lowest, object_numbered}
 use Rattle.luks2_metadata.specs.Digest2.{digest2_for, digest2_of, own_digest, own_digest_at, digest_parts2_of}
 use Rattle.luks2_metadata.specs.Digest2.{is_digest2, is_of_slot, iterations_of_digest, value_in}
-use Rattle.luks2_members.specs.Derivation.{hash_member, iterations_in}
+use Rattle.luks2_json.specs.Derivation.{hash_member, iterations_in}
 use Rattle.serde_json.specs.Data.{Data}
 
 -- one that lacks a member, or has one of a wrong kind

@@ -19,10 +19,10 @@ use Rattle.luks_verdict.specs.declared.slot.Verdict.TheVariants.{Usable}
 use Rattle.luks_verdict.specs.declared.slot.Judgement.TheVariants.{Usable as Open}
 use Rattle.luks_kdf.specs.declared.hash.Hash.{Hash}
 use Rattle.luks_cipher.specs.Sector.{is_mode_key_length}
-use Rattle.luks2_members.specs.Numbered.{object_numbered}
+use Rattle.luks2_json.specs.Numbered.{object_numbered}
 use Rattle.luks_verdict.proofs.TableLemmas.{none_holds}
-use Rattle.luks2_members.specs.Encryption.{is_length_for}
-use Rattle.luks2_members.specs.Member.{is_type}
+use Rattle.luks2_json.specs.Encryption.{is_length_for}
+use Rattle.luks2_json.specs.Member.{is_type}
 use Rattle.luks2_metadata.specs.Digest2.{digest2_for}
 use Rattle.luks2_segment.specs.declared.bounds.Bounds.{Bounds}
 use Rattle.luks2_segment.specs.Segment2.{payload2_of, payload_mode2_of}

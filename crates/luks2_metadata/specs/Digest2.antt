@@ -6,10 +6,10 @@ use Rattle.luks_verdict.specs.Rule.{max_slots}
 use Rattle.luks_verdict.specs.Table.{ascending}
 use Rattle.luks_verdict.specs.declared.digest.DigestParts.{DigestParts}
 use Rattle.luks_verdict.specs.declared.digest.KeyDigest.{KeyDigest}
-use Rattle.luks2_members.specs.Derivation.{hash_member, iterations_in, salt_in}
-use Rattle.luks2_members.specs.List.{has_texts, array_contains, texts_at}
-use Rattle.luks2_members.specs.Member.{base64_member, is_type, integer_member}
-use Rattle.luks2_members.specs.Numbered.{lowest, object_numbered}
+use Rattle.luks2_json.specs.Derivation.{hash_member, iterations_in, salt_in}
+use Rattle.luks2_json.specs.List.{has_texts, array_contains, texts_at}
+use Rattle.luks2_json.specs.Member.{base64_member, is_type, integer_member}
+use Rattle.luks2_json.specs.Numbered.{lowest, object_numbered}
 use Rattle.luks2_metadata.specs.declared.digest.Digest.{Digest}
 use Rattle.serde_json.specs.Data.{Data}
 

@@ -14,11 +14,11 @@ use Rattle.luks_verdict.specs.declared.refusal.SkipReason.TheVariants.{Stripes, 
 use Rattle.luks_verdict.specs.declared.slot.Slot.{Slot}
 use Rattle.luks_verdict.specs.declared.slot.SlotParts.{SlotParts}
 use Rattle.luks_verdict.specs.declared.slot.Verdict.{Verdict}
-use Rattle.luks2_members.specs.Member.{base64_member, decimal_member, is_type, passes, string_member, integer_member, in_member}
-use Rattle.luks2_members.specs.Derivation.{hash_member, iterations_in, salt_in}
+use Rattle.luks2_json.specs.Member.{base64_member, decimal_member, is_type, passes, string_member, integer_member, in_member}
+use Rattle.luks2_json.specs.Derivation.{hash_member, iterations_in, salt_in}
 use Rattle.luks2_metadata.specs.Digest2.{digest2_for}
-use Rattle.luks2_members.specs.Encryption.{is_length_for, encryption_mode}
-use Rattle.luks2_members.specs.Numbered.{object_numbered}
+use Rattle.luks2_json.specs.Encryption.{is_length_for, encryption_mode}
+use Rattle.luks2_json.specs.Numbered.{object_numbered}
 use Rattle.luks2_segment.specs.declared.bounds.Bounds.{Bounds}
 use Rattle.luks2_segment.specs.Segment2.{payload2_of, payload_mode2_of}
 use Rattle.serde_json.specs.Data.{Data}

@@ -11,11 +11,11 @@ use itoa::Buffer;
 use luks_verdict::bytes::HeaderBytes;
 use luks_verdict::digest::{DigestParts, KeyDigest};
 use luks_verdict::rule::{MOST_ITERATIONS, MOST_SLOTS, usable_digest};
-use luks2_members::derivation::{bytes_in, hash_in, iterations_in, salt_in};
-use luks2_members::list::{Names, has_texts, lists, texts_at};
-use luks2_members::member::{base64_len, is_type, whole_number};
-use luks2_members::numbered::numbered;
-use luks2_members::tree::Metadata;
+use luks2_json::derivation::{bytes_in, hash_in, iterations_in, salt_in};
+use luks2_json::list::{Names, has_texts, lists, texts_at};
+use luks2_json::member::{base64_len, is_type, whole_number};
+use luks2_json::numbered::numbered;
+use luks2_json::tree::Metadata;
 use serde_json::Value;
 use std::alloc::{AllocError, Global};
 

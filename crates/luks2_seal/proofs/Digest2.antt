@@ -12,11 +12,11 @@ use Rattle.luks_verdict.specs.Rule.{is_beyond, is_digest}
 use Rattle.luks_verdict.specs.declared.digest.DigestParts.{DigestParts}
 use Rattle.luks_verdict.specs.declared.digest.KeyDigest.{KeyDigest}
 use Rattle.luks_verdict.proofs.MadeLemmas.{digest_from-yes}
-use Rattle.luks2_members.specs.Derivation.{hash_member, iterations_in, salt_in}
-use Rattle.luks2_members.specs.List.{has_texts, array_contains}
-use Rattle.luks2_members.specs.Member.{base64_member, is_named, string_member, integer_member}
-use Rattle.luks2_members.specs.Numbered.{object_numbered}
-use Rattle.luks2_members.proofs.NumberedLemmas.{lowest_found, lowest_none}
+use Rattle.luks2_json.specs.Derivation.{hash_member, iterations_in, salt_in}
+use Rattle.luks2_json.specs.List.{has_texts, array_contains}
+use Rattle.luks2_json.specs.Member.{base64_member, is_named, string_member, integer_member}
+use Rattle.luks2_json.specs.Numbered.{object_numbered}
+use Rattle.luks2_json.proofs.NumberedLemmas.{lowest_found, lowest_none}
 use Rattle.luks2_metadata.specs.Digest2.{digest2_for, digest2_of, digest_parts2_of, is_digest2, is_of_slot, own_digest}
 use Rattle.luks2_metadata.specs.Digest2.{own_digest_at, value_in}
 use Rattle.luks_seal.specs.Sealed.{IsDigestOf}

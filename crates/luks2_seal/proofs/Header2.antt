@@ -13,9 +13,9 @@ use Rattle.luks_area.specs.Field.{at, be64, text_of}
 use Rattle.luks_kdf.specs.Hash.{hash_named, hash_of}
 use Rattle.luks_kdf.specs.declared.hash.Hash.TheVariants.{Sha256}
 use Rattle.luks_kdf.proofs.HashLemmas.{length-hash_of}
-use Rattle.luks2_header.specs.Checksum2.{checksum_matches, no_checksum, without_checksum}
-use Rattle.luks2_header.specs.Choice2.{beginning_at, is_binary_of}
-use Rattle.luks2_header.specs.Header2.{checksum_hash_in, hdr_offset_in, sequence_in, size_in, sizes}
+use Rattle.luks2_binary.specs.Checksum2.{checksum_matches, no_checksum, without_checksum}
+use Rattle.luks2_binary.specs.Choice2.{beginning_at, is_binary_of}
+use Rattle.luks2_binary.specs.Header2.{checksum_hash_in, hdr_offset_in, sequence_in, size_in, sizes}
 use Rattle.luks_seal.specs.Pieces.{padded}
 use Rattle.luks_seal.specs.declared.parameters.Seal2.{Seal2}
 use Rattle.luks_seal.proofs.SlicingLemmas.{at_at, at_behind, at_first, at_padded, at_second, length-padded}

@@ -12,9 +12,9 @@ use Rattle.luks_verdict.specs.declared.slot.Slot.{Slot}
 use Rattle.luks_verdict.specs.declared.slot.SlotParts.{SlotParts}
 use Rattle.luks_verdict.specs.declared.slot.Verdict.TheVariants.{Usable}
 use Rattle.luks_verdict.proofs.MadeLemmas.{slot_from-yes}
-use Rattle.luks2_members.specs.Encryption.{is_length_for}
-use Rattle.luks2_members.specs.Member.{is_named, string_member}
-use Rattle.luks2_members.specs.Numbered.{object_numbered}
+use Rattle.luks2_json.specs.Encryption.{is_length_for}
+use Rattle.luks2_json.specs.Member.{is_named, string_member}
+use Rattle.luks2_json.specs.Numbered.{object_numbered}
 use Rattle.luks2_metadata.specs.Digest2.{digest2_for}
 use Rattle.luks2_segment.specs.Segment2.{payload2_of, payload_mode2_of}
 use Rattle.luks2_metadata.specs.Slot2.{are_key_sizes, area_mode_of, has_unknown_hash, is_misplaced2, iterations_of_slot}

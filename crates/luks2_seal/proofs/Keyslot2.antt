@@ -3,8 +3,8 @@ use Rattle.std.proofs.Common.{◌≡◌, ◌+◌, ◌*◌, ◌≤◌, Some, true
 use Rattle.std.specs.Prelude.{codes}
 use Rattle.std.proofs.lemmas.Bool.{le-leb}
 use Rattle.luks_verdict.specs.declared.slot.SlotParts.{SlotParts}
-use Rattle.luks2_members.specs.Derivation.{hash_member, iterations_in, salt_in}
-use Rattle.luks2_members.specs.Member.{base64_member, decimal_member, is_named, string_member, integer_member}
+use Rattle.luks2_json.specs.Derivation.{hash_member, iterations_in, salt_in}
+use Rattle.luks2_json.specs.Member.{base64_member, decimal_member, is_named, string_member, integer_member}
 use Rattle.luks2_metadata.specs.Slot2.{af_hash_of, area_mode_of, has_members, is_af, is_area, is_kdf, is_pbkdf2}
 use Rattle.luks2_metadata.specs.Slot2.{kdf_hash_of, priority_of, slot_parts2_of}
 use Rattle.luks_seal.specs.declared.parameters.Seal2.{Seal2}

@@ -11,13 +11,13 @@ use Rattle.std.proofs.lemmas.Str.{is_utf8-from_IsUtf8}
 use Rattle.luks_area.specs.Field.{at, be64, text_of}
 use Rattle.luks_kdf.specs.declared.hash.Hash.TheVariants.{Sha256}
 use Rattle.luks1_header.specs.Header1.{is_luks1}
-use Rattle.luks2_header.specs.Choice2.{beginning_at, with_valid_primary, binary_at, chosen2_of, fits, header2_of, is_valid}
-use Rattle.luks2_header.specs.Choice2.{size_at}
-use Rattle.luks2_header.specs.Header2.{checksum_hash_in, header2_from, sequence_in, size_in}
-use Rattle.luks2_header.specs.Text2.{json_area_of, json_text_of}
-use Rattle.luks2_header.specs.declared.header.Header2.{Header2}
-use Rattle.luks2_header.specs.declared.header.Place.TheVariants.{Primary}
-use Rattle.luks2_members.specs.Tree.{has_objects, tree_of, value_of}
+use Rattle.luks2_binary.specs.Choice2.{beginning_at, with_valid_primary, binary_at, chosen2_of, fits, header2_of, is_valid}
+use Rattle.luks2_binary.specs.Choice2.{size_at}
+use Rattle.luks2_binary.specs.Header2.{checksum_hash_in, header2_from, sequence_in, size_in}
+use Rattle.luks2_binary.specs.Text2.{json_area_of, json_text_of}
+use Rattle.luks2_binary.specs.declared.header.Header2.{Header2}
+use Rattle.luks2_binary.specs.declared.header.Place.TheVariants.{Primary}
+use Rattle.luks2_json.specs.Tree.{has_objects, tree_of, value_of}
 use Rattle.luks_header.specs.Header.{bounds2_of}
 use Rattle.luks_header.specs.Header.{header_of as read_header}
 use Rattle.luks_header.specs.declared.header.Header.TheVariants.{V2}

@@ -12,7 +12,7 @@ use Rattle.luks_verdict.specs.declared.sector_size.SectorSize.{SectorSize}
 use Rattle.luks_verdict.specs.declared.sector_size.SectorSize.TheVariants.{B512, B1024, B2048, B4096}
 use Rattle.luks_verdict.specs.declared.segment.Segment.{Segment}
 use Rattle.luks_verdict.proofs.MadeLemmas.{segment_of_all-yes}
-use Rattle.luks2_members.specs.Member.{decimal_of, decimal_member, is_named, string_member, integer_member}
+use Rattle.luks2_json.specs.Member.{decimal_of, decimal_member, is_named, string_member, integer_member}
 use Rattle.luks2_segment.specs.Segment2.{fault2_of, has_requirement, has_segment_members, is_segment, is_torn}
 use Rattle.luks2_segment.specs.Segment2.{iv_tweak_of, mode2_of, offset_of, sector_size_of, sector_size_with}
 use Rattle.luks2_segment.specs.Segment2.{segment2_of, segment_parts2_of, size_member, overlaps_headers2, starts_wrong}

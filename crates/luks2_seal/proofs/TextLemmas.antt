@@ -18,8 +18,8 @@ use Rattle.luks_cipher.specs.declared.mode.Mode.TheVariants.{XtsPlain64, XtsPlai
 use Rattle.luks_kdf.specs.Hash.{hash_named, hash_name}
 use Rattle.luks_kdf.specs.declared.hash.Hash.{Hash}
 use Rattle.luks_kdf.specs.declared.hash.Hash.TheVariants.{Sha1, Sha224, Sha256, Sha384, Sha512}
-use Rattle.luks2_members.specs.Encryption.{encryption_mode}
-use Rattle.luks2_members.specs.Member.{decimal_of}
+use Rattle.luks2_json.specs.Encryption.{encryption_mode}
+use Rattle.luks2_json.specs.Member.{decimal_of}
 
 numerals : IsNumeralModel (λ ds. list_all is_ascii_digit ds ≡ true) (digits_value 10)
 numerals = numerals_by_value _ (search rules)

@@ -19,8 +19,8 @@ use Rattle.luks_verdict.specs.declared.sector_size.SectorSize.TheVariants.{B512,
 use Rattle.luks_verdict.specs.declared.segment.Segment.{Segment}
 use Rattle.luks_verdict.specs.declared.segment.SegmentParts.{SegmentParts}
 use Rattle.luks2_segment.specs.declared.bounds.Bounds.{Bounds}
-use Rattle.luks2_members.specs.Member.{decimal_member, has, is_named, is_type, string_member, integer_member, in_member}
-use Rattle.luks2_members.specs.Encryption.{encryption_mode}
+use Rattle.luks2_json.specs.Member.{decimal_member, has, is_named, is_type, string_member, integer_member, in_member}
+use Rattle.luks2_json.specs.Encryption.{encryption_mode}
 use Rattle.serde_json.specs.Data.{Data, null, Items, no_items, item, Members, no_members, member}
 use Rattle.serde_json.specs.Find.{as_array, as_object, get}
 

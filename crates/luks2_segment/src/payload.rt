@@ -15,9 +15,9 @@ use luks_cipher::Mode;
 use luks_verdict::refusal::SegmentFault;
 use luks_verdict::sector_size::SectorSize;
 use luks_verdict::segment::{Segment, SegmentParts};
-use luks2_members::encryption::mode_of;
-use luks2_members::member::{decimal_text, is_named, is_type, text, whole_number};
-use luks2_members::tree::Metadata;
+use luks2_json::encryption::mode_of;
+use luks2_json::member::{decimal_text, is_named, is_type, text, whole_number};
+use luks2_json::tree::Metadata;
 use serde_json::Value;
 
 // The value is a list without items.

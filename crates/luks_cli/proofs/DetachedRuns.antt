@@ -12,11 +12,11 @@ use Rattle.luks_open.specs.Opening.{opening_of}
 use Rattle.luks_open.specs.Order.{key_areas_end}
 use Rattle.luks_open.specs.declared.fault.OpenFault.{OpenFault}
 use Rattle.luks_open.specs.declared.opening.Opened.{Opened}
-use Rattle.luks_volume.specs.Plain.{ending_of, payload_end_of, sector_len, sector_start, sectors_of}
-use Rattle.luks_volume.specs.declared.fault.VolumeFault.{VolumeFault}
-use Rattle.luks_volume.specs.declared.fault.VolumeFault.TheVariants.{CutBeforePayload as IsCutBefore, Tail as HasTail}
-use Rattle.luks_volume.specs.declared.fault.VolumeFault.TheVariants.{Short as IsShort, Read, Write}
-use Rattle.luks_volume.specs.declared.state.Step.{Step}
+use Rattle.luks_payload.specs.Plain.{ending_of, payload_end_of, sector_len, sector_start, sectors_of}
+use Rattle.luks_payload.specs.declared.fault.VolumeFault.{VolumeFault}
+use Rattle.luks_payload.specs.declared.fault.VolumeFault.TheVariants.{CutBeforePayload as IsCutBefore, Tail as HasTail}
+use Rattle.luks_payload.specs.declared.fault.VolumeFault.TheVariants.{Short as IsShort, Read, Write}
+use Rattle.luks_payload.specs.declared.state.Step.{Step}
 use Rattle.luks_request.specs.Request.{OpeningRequest}
 use Rattle.luks_report.specs.Faults.{message_at_end}
 use Rattle.luks_report.specs.declared.message.Message.{Message}

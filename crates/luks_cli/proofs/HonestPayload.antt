@@ -9,9 +9,9 @@ use Rattle.luks_verdict.specs.declared.sector_size.SectorSize.{SectorSize}
 use Rattle.luks_verdict.specs.declared.sector_size.SectorSize.TheVariants.{B512, B1024, B2048, B4096}
 use Rattle.luks_verdict.specs.declared.segment.Segment.{Segment}
 use Rattle.luks_seal.specs.Sealed.{EndsWith, SealsPlain}
-use Rattle.luks_volume.specs.Plain.{ending_of, ending_within, plain_of, sector_len, sector_plaintext, unit_number, unit_plain}
-use Rattle.luks_volume.specs.Plain.{within_size}
-use Rattle.luks_volume.specs.declared.state.Step.TheVariants.{End}
+use Rattle.luks_payload.specs.Plain.{ending_of, ending_within, plain_of, sector_len, sector_plaintext, unit_number, unit_plain}
+use Rattle.luks_payload.specs.Plain.{within_size}
+use Rattle.luks_payload.specs.declared.state.Step.TheVariants.{End}
 use Rattle.luks_cipher.specs.Xts.{joined}
 use Rattle.luks_cli.proofs.SealedUnits.{units_undone}
 

@@ -10,7 +10,7 @@ use Rattle.luks_verdict.specs.declared.segment.Segment.{Segment}
 use Rattle.luks_io.proofs.Taking.{adds-none}
 use Rattle.luks_io.specs.Bytes.{Appended, ConsumedExactly, counted, saturating_inc}
 use Rattle.luks_open.specs.declared.opening.Opened.{Opened}
-use Rattle.luks_volume.specs.Plain.{sector_len, sector_start, sectors_of}
+use Rattle.luks_payload.specs.Plain.{sector_len, sector_start, sectors_of}
 use Rattle.luks_runs.proofs.PayloadLemmas.{plain_len}
 use Rattle.luks_cli.proofs.PromptLemmas.{same_segment_by}
 use Rattle.luks_runs.specs.Ending.{Outcome}

@@ -9,7 +9,7 @@ use Rattle.luks_header.proofs.KnownLemmas.{is_attached}
 use Rattle.luks_verdict.specs.declared.segment.Segment.{Segment}
 use Rattle.luks_open.proofs.CallerLemmas.{held_before_payload}
 use Rattle.luks_open.specs.Order.{OrderModel, key_areas_end, order_of}
-use Rattle.luks_volume.specs.Plain.{sector_len}
+use Rattle.luks_payload.specs.Plain.{sector_len}
 use Rattle.luks_report.specs.declared.message.Message.{Message}
 use Rattle.luks_report.specs.declared.message.Message.TheVariants.{Cut, ReadFailed, WriteFailed}
 use Rattle.luks_runs.specs.Reading.{Reading}

@@ -13,7 +13,7 @@ use Rattle.luks_report.specs.Faults.{message_for_header, message_for_opening}
 use Rattle.luks_request.specs.Request.{OpeningRequest}
 use Rattle.luks_open.specs.Opening.{opening_of}
 use Rattle.luks_open.specs.declared.opening.Opened.{Opened}
-use Rattle.luks_volume.specs.Plain.{ending_of, payload_end_of, plain_of}
+use Rattle.luks_payload.specs.Plain.{ending_of, payload_end_of, plain_of}
 use Rattle.luks_report.specs.Faults.{message_at_end}
 use Rattle.luks_report.specs.Texts.{opened_line}
 use Rattle.luks_report.specs.declared.message.Message.TheVariants.{Done, Cut, KeyFileLength}

@@ -6,7 +6,7 @@ use Rattle.luks_header.specs.Segment.{segment_of}
 use Rattle.luks_header.specs.declared.header.Header.{Header}
 use Rattle.luks_verdict.specs.declared.segment.Segment.{Segment}
 use Rattle.luks_open.specs.declared.opening.Opened.{Opened}
-use Rattle.luks_volume.specs.Plain.{sector_len, sector_start}
+use Rattle.luks_payload.specs.Plain.{sector_len, sector_start}
 use Rattle.luks_request.specs.Request.{OpeningRequest}
 use Rattle.luks_report.specs.declared.message.Message.{Message}
 use Rattle.luks_report.specs.declared.message.Message.TheVariants.{OutOfMemory, ReadFailed, WriteFailed}

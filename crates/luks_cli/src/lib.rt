@@ -3,7 +3,7 @@
 //! With what the program needs of the layers beneath: the command line and the report of a run.
 #![tactic(auto)]
 
-pub use luks_command::planning::{PlanFault, plan};
+pub use luks_args::planning::{PlanFault, plan};
 pub use luks_report::input::{NOT_OPENED, not_opened_page};
 pub use luks_report::message::Message;
 pub use luks_report::report::Report;

@@ -23,7 +23,7 @@ mod volumes2;
 
 use crate::tests::same::assert_same_in;
 use failing::check_failures;
-use luks_command::planning::PlanFault;
+use luks_args::planning::PlanFault;
 use luks_report::message::Message;
 use luks_report::report::Report;
 use runs::{check_left, check_room, check_told, check_words, sink};

@@ -12,14 +12,14 @@ use Rattle.luks_area.specs.declared.fault.HeaderFault.{HeaderFault}
 use Rattle.luks_area.specs.declared.fault.HeaderFault.TheVariants.{NotLuks, Cut, Json, Read, Memory}
 use Rattle.luks1_header.specs.Header1.{header1_of, is_luks1}
 use Rattle.luks1_header.specs.declared.header.Header1.{Header1}
-use Rattle.luks2_header.specs.Choice2.{header2_of}
-use Rattle.luks2_header.specs.Cost2.{header2_read_len, reach2_of}
-use Rattle.luks2_header.specs.Front2.{TookBelow, TookCost, TookEarly}
-use Rattle.luks2_header.proofs.AbsentLemmas.{cost_least, cost_short, none_short}
-use Rattle.luks2_header.proofs.ChoiceLemmas.{reach_some}
-use Rattle.luks2_header.specs.Text2.{json_text_of}
-use Rattle.luks2_header.specs.declared.header.Header2.{Header2}
-use Rattle.luks2_members.specs.Tree.{tree_of}
+use Rattle.luks2_binary.specs.Choice2.{header2_of}
+use Rattle.luks2_binary.specs.Cost2.{header2_read_len, reach2_of}
+use Rattle.luks2_binary.specs.Front2.{TookBelow, TookCost, TookEarly}
+use Rattle.luks2_binary.proofs.AbsentLemmas.{cost_least, cost_short, none_short}
+use Rattle.luks2_binary.proofs.ChoiceLemmas.{reach_some}
+use Rattle.luks2_binary.specs.Text2.{json_text_of}
+use Rattle.luks2_binary.specs.declared.header.Header2.{Header2}
+use Rattle.luks2_json.specs.Tree.{tree_of}
 use Rattle.serde_json.specs.Data.{Data}
 use Rattle.luks_header.specs.Header.{BreaksHeld, BreaksReading, TookCostly, header_read_len, falls_short, header_of, probe_len}
 use Rattle.luks_header.specs.Header.{with_metadata, with_text}

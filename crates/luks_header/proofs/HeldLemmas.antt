@@ -7,14 +7,14 @@ use Rattle.luks_io.specs.Bytes.{counted}
 use Rattle.luks_area.specs.declared.fault.HeaderFault.{HeaderFault}
 use Rattle.luks_area.specs.declared.fault.HeaderFault.TheVariants.{NotLuks, Cut, Json, Read, Memory}
 use Rattle.luks1_header.specs.Header1.{is_luks1}
-use Rattle.luks2_header.specs.Choice2.{header2_of}
-use Rattle.luks2_header.specs.Cost2.{header2_read_len, reach2_of}
-use Rattle.luks2_header.specs.Front2.{BreaksSeeking, TookCost, finds_end}
-use Rattle.luks2_header.specs.Text2.{json_text_of}
-use Rattle.luks2_header.specs.declared.header.Header2.{Header2}
-use Rattle.luks2_header.proofs.JsonLemmas.{json_beginning}
-use Rattle.luks2_header.proofs.StableLemmas.{falls_short-take}
-use Rattle.luks2_members.specs.Tree.{tree_of}
+use Rattle.luks2_binary.specs.Choice2.{header2_of}
+use Rattle.luks2_binary.specs.Cost2.{header2_read_len, reach2_of}
+use Rattle.luks2_binary.specs.Front2.{BreaksSeeking, TookCost, finds_end}
+use Rattle.luks2_binary.specs.Text2.{json_text_of}
+use Rattle.luks2_binary.specs.declared.header.Header2.{Header2}
+use Rattle.luks2_binary.proofs.JsonLemmas.{json_beginning}
+use Rattle.luks2_binary.proofs.StableLemmas.{falls_short-take}
+use Rattle.luks2_json.specs.Tree.{tree_of}
 use Rattle.serde_json.specs.Data.{Data}
 use Rattle.luks_header.specs.Header.{BreaksHeld, TookCosts, header_read_len, falls_short, header_of, probe_len}
 use Rattle.luks_header.specs.declared.header.Header.TheVariants.{V2}

@@ -19,13 +19,13 @@ use Rattle.luks_area.specs.declared.fault.HeaderFault.TheVariants.{Cut}
 use Rattle.luks1_header.specs.Header1.{header1_len, header1_of, is_luks1}
 use Rattle.luks1_header.specs.Segment1.{is_key_length1}
 use Rattle.luks1_header.specs.Slot1.{payload1_start}
-use Rattle.luks2_header.specs.Choice2.{header2_of}
-use Rattle.luks2_header.specs.Header2.{end2_of}
-use Rattle.luks2_header.specs.Text2.{json_text_of}
-use Rattle.luks2_header.specs.declared.header.Header2.{Header2}
-use Rattle.luks2_header.proofs.JsonLemmas.{read_attached}
-use Rattle.luks2_members.specs.Encryption.{is_length_for}
-use Rattle.luks2_members.specs.Tree.{tree_of}
+use Rattle.luks2_binary.specs.Choice2.{header2_of}
+use Rattle.luks2_binary.specs.Header2.{end2_of}
+use Rattle.luks2_binary.specs.Text2.{json_text_of}
+use Rattle.luks2_binary.specs.declared.header.Header2.{Header2}
+use Rattle.luks2_binary.proofs.JsonLemmas.{read_attached}
+use Rattle.luks2_json.specs.Encryption.{is_length_for}
+use Rattle.luks2_json.specs.Tree.{tree_of}
 use Rattle.serde_json.specs.Data.{Data}
 use Rattle.luks2_segment.specs.Segment2.{payload2_of, payload_mode2_of}
 use Rattle.luks2_metadata.proofs.DigestLemmas.{digest2_hash}

@@ -4,13 +4,13 @@ use Rattle.std.specs.Prelude.{nat_lt, if◌then◌else◌}
 use Rattle.luks_io.specs.Bytes.{ConsumedExactly, ConsumedFewer, ConsumedAtMost, counted}
 use Rattle.luks_area.specs.Field.{at}
 use Rattle.luks1_header.specs.Header1.{header1_len, header1_of, is_luks1}
-use Rattle.luks2_header.specs.Choice2.{header2_of}
-use Rattle.luks2_header.specs.Cost2.{header2_read_len, reach2_of}
-use Rattle.luks2_header.specs.Front2.{TookBelow, TookCost, TookEarly}
-use Rattle.luks2_header.specs.Header2.{end2_of}
-use Rattle.luks2_header.specs.Text2.{json_text_of}
-use Rattle.luks2_header.specs.declared.header.Header2.{Header2}
-use Rattle.luks2_members.specs.Tree.{tree_of}
+use Rattle.luks2_binary.specs.Choice2.{header2_of}
+use Rattle.luks2_binary.specs.Cost2.{header2_read_len, reach2_of}
+use Rattle.luks2_binary.specs.Front2.{TookBelow, TookCost, TookEarly}
+use Rattle.luks2_binary.specs.Header2.{end2_of}
+use Rattle.luks2_binary.specs.Text2.{json_text_of}
+use Rattle.luks2_binary.specs.declared.header.Header2.{Header2}
+use Rattle.luks2_json.specs.Tree.{tree_of}
 use Rattle.luks2_segment.specs.declared.bounds.Bounds.{Bounds}
 use Rattle.serde_json.specs.Data.{Data}
 use Rattle.luks_header.specs.declared.header.Header.{Header}

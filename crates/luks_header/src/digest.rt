@@ -6,7 +6,7 @@ ghost use Rattle.luks_header.specs.Digest.{digest_for, digests_of};
 
 use crate::header::Header;
 pub use luks_verdict::digest::KeyDigest;
-pub use luks2_members::list::Names;
+pub use luks2_json::list::Names;
 pub use luks2_metadata::digest::Digest;
 use std::alloc::{AllocError, Global};
 

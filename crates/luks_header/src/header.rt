@@ -5,7 +5,7 @@ ghost use Rattle.std.specs.Prelude.{length, take, true, false};
 ghost use Rattle.luks_io.specs.Bytes.{ConsumedExactly, IfKnown, counted};
 ghost use Rattle.luks_area.specs.Area.{is_read};
 ghost use Rattle.luks1_header.specs.Header1.{is_luks1};
-ghost use Rattle.luks2_header.specs.Front2.{TookCost};
+ghost use Rattle.luks2_binary.specs.Front2.{TookCost};
 ghost use Rattle.luks_header.specs.Header.{BreaksHeld, BreaksReading, bounds2_of, header_read_len};
 ghost use Rattle.luks_header.specs.Header.{detached_of, falls_short, header_of};
 
@@ -14,9 +14,9 @@ use luks_area::fault::HeaderFault;
 use luks_io::source::Source;
 use luks1_header::header::{HEADER1_LEN, is_header1};
 pub use luks1_header::header::{Header1, KeySlot, SlotState};
-pub use luks2_header::header::{Finding, Header2, Place};
-use luks2_header::reading::read_header2;
-pub use luks2_members::tree::Metadata;
+pub use luks2_binary::header::{Finding, Header2, Place};
+use luks2_binary::reading::read_header2;
+pub use luks2_json::tree::Metadata;
 pub use luks2_segment::bounds::Bounds;
 use std::alloc::Global;
 

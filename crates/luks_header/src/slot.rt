@@ -9,7 +9,7 @@ use crate::header::{Header, bounds};
 use luks_verdict::refusal::SkipReason;
 use luks_verdict::rule::MOST_SLOTS;
 pub use luks_verdict::slot::{Judgement, Slot, Verdict};
-use luks2_members::numbered::passes_over;
+use luks2_json::numbered::passes_over;
 use std::alloc::{AllocError, Global};
 
 /// What becomes of the key slot of this number, where the header has one, without what it takes to

@@ -1,7 +1,7 @@
 -- What `luksCheck` prints of what is amiss with a header, and how it ends.
 use Rattle.std.specs.Prelude.{ℕ, ◌==◌, ◌∷◌, ◌++◌, [], List, codes, if◌then◌else◌, length}
 use Rattle.luks_header.specs.declared.header.Header.{Header}
-pub use Rattle.luks_findings.specs.Check.{findings_of}
+pub use Rattle.luks_check.specs.Check.{findings_of}
 use Rattle.luks_report.specs.declared.message.Message.{Message}
 use Rattle.luks_report.specs.declared.message.Message.TheVariants.{Done, Findings}
 

@@ -7,12 +7,12 @@ use Rattle.luks_open.specs.declared.fault.OpenFault.{OpenFault}
 use Rattle.luks_open.specs.declared.fault.OpenFault.TheVariants.{NoSuchSlot as NotThere, Disabled, NamedSkipped}
 use Rattle.luks_open.specs.declared.fault.OpenFault.TheVariants.{NothingTried as NoneTried, NoKey as NoneOpens}
 use Rattle.luks_open.specs.declared.fault.OpenFault.TheVariants.{Memory as NoRoom}
-use Rattle.luks_volume.specs.declared.fault.VolumeFault.{VolumeFault}
-use Rattle.luks_volume.specs.declared.fault.VolumeFault.TheVariants.{CutBeforePayload as IsCutBefore, Tail as HasTail}
-use Rattle.luks_volume.specs.declared.fault.VolumeFault.TheVariants.{Short as IsShort, Read, Write}
-use Rattle.luks_volume.specs.declared.state.Step.{Step}
-use Rattle.luks_command.specs.declared.planning.PlanFault.{PlanFault}
-use Rattle.luks_command.specs.declared.planning.PlanFault.TheVariants.{Memory as NoPlan, Usage as NoCommand}
+use Rattle.luks_payload.specs.declared.fault.VolumeFault.{VolumeFault}
+use Rattle.luks_payload.specs.declared.fault.VolumeFault.TheVariants.{CutBeforePayload as IsCutBefore, Tail as HasTail}
+use Rattle.luks_payload.specs.declared.fault.VolumeFault.TheVariants.{Short as IsShort, Read, Write}
+use Rattle.luks_payload.specs.declared.state.Step.{Step}
+use Rattle.luks_args.specs.declared.planning.PlanFault.{PlanFault}
+use Rattle.luks_args.specs.declared.planning.PlanFault.TheVariants.{Memory as NoPlan, Usage as NoCommand}
 use Rattle.luks_report.specs.declared.message.Message.{Message}
 use Rattle.luks_report.specs.declared.message.Message.TheVariants.{Done, Usage, NotLuks, Cut, Json, OutOfMemory}
 use Rattle.luks_report.specs.declared.message.Message.TheVariants.{ReadFailed, WriteFailed}

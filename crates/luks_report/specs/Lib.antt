@@ -2,4 +2,4 @@ pub mod Check
 pub mod Faults
 pub mod Report
 pub mod Texts
-pub use Rattle.luks_pages.specs.Dump
+pub use Rattle.luks_dump.specs.Dump

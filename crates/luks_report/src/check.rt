@@ -4,7 +4,7 @@ ghost use Rattle.std.specs.Prelude.{◌≡◌, IfOk, string_bytes};
 ghost use Rattle.luks_report.specs.Check.{check_of, message_for_check};
 
 use crate::message::Message;
-use luks_findings::check::findings;
+use luks_check::check::findings;
 use luks_header::header::Header;
 use std::alloc::{AllocError, Global};
 

@@ -9,7 +9,7 @@ use luks_header::refusal::SegmentFault;
 use luks_io::sink::WriteFault;
 use luks_io::source::ReadFault;
 use luks_open::fault::OpenFault;
-use luks_volume::fault::VolumeFault;
+use luks_payload::fault::VolumeFault;
 use std::alloc::AllocError;
 
 impl Message {

@@ -11,4 +11,4 @@ pub mod opened;
 pub mod report;
 mod wording;
 
-pub use luks_pages::dump;
+pub use luks_dump::dump;

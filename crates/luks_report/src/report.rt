@@ -1,7 +1,7 @@
 //! How a run ended, for the program that ran it.
 
 use crate::message::Message;
-use luks_command::planning::PlanFault;
+use luks_args::planning::PlanFault;
 
 /// The exit status of a run and what is told of it.
 #[derive(Clone, Copy, Debug, PartialEq, Eq)]

@@ -7,7 +7,7 @@ ghost use Rattle.luks_report.specs.Texts.{message_line, line_of, more_skips_text
 
 use crate::line::Line;
 use crate::message::Message;
-use luks_command::usage::usage;
+use luks_args::usage::usage;
 use luks_header::refusal::SkipReason;
 use luks_io::sink::{Sink, WriteFault, put_all};
 use luks_open::skipped::SkippedSlots;

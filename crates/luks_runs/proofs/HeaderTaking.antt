@@ -2,7 +2,7 @@
 use Rattle.std.proofs.Common.{◌≡◌, ℕ, ◌≤◌, List, Option, Some, Err, Bool, true, false, refl, drop, length, arith}
 use Rattle.luks_io.specs.Bytes.{ConsumedExactly}
 use Rattle.luks1_header.specs.Header1.{is_luks1}
-use Rattle.luks2_header.proofs.AbsentLemmas.{cost2_there}
+use Rattle.luks2_binary.proofs.AbsentLemmas.{cost2_there}
 use Rattle.luks_header.specs.Header.{header_read_len, header_of}
 use Rattle.luks_area.specs.declared.fault.HeaderFault.{HeaderFault}
 use Rattle.luks_runs.specs.Standing.{reading_of}

@@ -16,18 +16,18 @@ use Rattle.luks_verdict.specs.declared.sector_size.SectorSize.TheVariants.{B512,
 use Rattle.luks_verdict.specs.declared.segment.Segment.{Segment}
 use Rattle.luks_io.proofs.Taking.{adds-more, adds-none}
 use Rattle.luks_io.specs.Bytes.{Appended, ConsumedExactly, counted}
-use Rattle.luks_volume.specs.Passing.{is_pump_read_failure as is_lost, is_pump_write_failure as is_unwritten}
-use Rattle.luks_volume.specs.Plain.{end_within, ending_of, payload_end_of, plain_of, sector_len, sector_plaintext}
-use Rattle.luks_volume.specs.Plain.{sector_start, sectors_of, unit_plain, within_size}
-use Rattle.luks_volume.specs.Pumped.{EndEffect, PumpModel, StandsIn, StepEffect, WritesSectors, after_step, next_offset, position}
-use Rattle.luks_volume.specs.Pumped.{hits_eof_at, consumed_by}
-use Rattle.luks_volume.specs.declared.fault.VolumeFault.{VolumeFault}
-use Rattle.luks_volume.specs.declared.fault.VolumeFault.TheVariants.{CutBeforePayload as IsCutBefore, Tail as HasTail}
-use Rattle.luks_volume.specs.declared.fault.VolumeFault.TheVariants.{Short as IsShort, Read, Write}
-use Rattle.luks_volume.specs.declared.state.State.{State}
-use Rattle.luks_volume.specs.declared.state.State.TheVariants.{BeforePayload, InPayload, Ended, Faulted}
-use Rattle.luks_volume.specs.declared.state.Step.{Step}
-use Rattle.luks_volume.specs.declared.state.Step.TheVariants.{Sector, End}
+use Rattle.luks_payload.specs.Passing.{is_pump_read_failure as is_lost, is_pump_write_failure as is_unwritten}
+use Rattle.luks_payload.specs.Plain.{end_within, ending_of, payload_end_of, plain_of, sector_len, sector_plaintext}
+use Rattle.luks_payload.specs.Plain.{sector_start, sectors_of, unit_plain, within_size}
+use Rattle.luks_payload.specs.Pumped.{EndEffect, PumpModel, StandsIn, StepEffect, WritesSectors, after_step, next_offset, position}
+use Rattle.luks_payload.specs.Pumped.{hits_eof_at, consumed_by}
+use Rattle.luks_payload.specs.declared.fault.VolumeFault.{VolumeFault}
+use Rattle.luks_payload.specs.declared.fault.VolumeFault.TheVariants.{CutBeforePayload as IsCutBefore, Tail as HasTail}
+use Rattle.luks_payload.specs.declared.fault.VolumeFault.TheVariants.{Short as IsShort, Read, Write}
+use Rattle.luks_payload.specs.declared.state.State.{State}
+use Rattle.luks_payload.specs.declared.state.State.TheVariants.{BeforePayload, InPayload, Ended, Faulted}
+use Rattle.luks_payload.specs.declared.state.Step.{Step}
+use Rattle.luks_payload.specs.declared.state.Step.TheVariants.{Sector, End}
 use Rattle.luks_runs.specs.Payload.{FindsPayloadEnd, PassesPayload}
 use Rattle.luks_report.specs.Faults.{message_at_end, message_for_payload}
 use Rattle.luks_runs.specs.Run.{HitsEofOnce, is_run_read_failure, is_run_write_failure}

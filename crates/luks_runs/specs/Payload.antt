@@ -3,8 +3,8 @@ use Rattle.std.specs.Prelude.{◌≡◌, ℕ, ◌+◌, ◌-◌, ◌*◌, ◌/◌
 use Rattle.luks_cipher.specs.Sector.{Cipher}
 use Rattle.luks_io.specs.Bytes.{Appended, ConsumedExactly, max_count, saturating_inc}
 use Rattle.luks_verdict.specs.declared.segment.Segment.{Segment}
-use Rattle.luks_volume.specs.Plain.{end_within, ending_of, payload_end_of, plain_of, sector_len, sector_start}
-use Rattle.luks_volume.specs.Plain.{sectors_of}
+use Rattle.luks_payload.specs.Plain.{end_within, ending_of, payload_end_of, plain_of, sector_len, sector_start}
+use Rattle.luks_payload.specs.Plain.{sectors_of}
 use Rattle.luks_report.specs.Faults.{message_at_end}
 use Rattle.luks_report.specs.declared.message.Message.{Message}
 use Rattle.luks_report.specs.declared.message.Message.TheVariants.{Done, ReadFailed, WriteFailed}

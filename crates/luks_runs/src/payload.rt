@@ -6,15 +6,15 @@ ghost use Rattle.luks_runs.specs.Payload.{FindsPayloadEnd, PassesHeld, most_need
 ghost use Rattle.luks_runs.specs.MayEnd.{PayloadMessage};
 ghost use Rattle.luks_runs.specs.Run.{is_run_read_failure, is_run_write_failure, result_message};
 ghost use Rattle.luks_io.specs.Bytes.{ConsumedExactly, counted};
-ghost use Rattle.luks_volume.specs.Pumped.{StandsIn, is_running, consumed_by};
+ghost use Rattle.luks_payload.specs.Pumped.{StandsIn, is_running, consumed_by};
 
 use luks_cipher::SectorCipher;
 use luks_header::segment::Segment;
 use luks_io::sink::Sink;
 use luks_io::source::Source;
 use luks_report::message::Message;
-use luks_volume::pump::Pump;
-use luks_volume::state::{State, Step};
+use luks_payload::pump::Pump;
+use luks_payload::state::{State, Step};
 
 /// A pump of the payload of an image whose first bytes are held: those of the payload among them
 /// are passed on first.

@@ -9,7 +9,7 @@ mod ranges2;
 
 use luks_cipher::Mode;
 use luks_seal::parameters::SealFault;
-use luks_seal_testing::bytes;
+use luks_seal_fixtures::bytes;
 use std::process::Abort;
 
 /// Lengths of keys in bytes, and whether the mode has such keys.

@@ -1,12 +1,12 @@
-//! The payload of a volume: the sectors that it stores, one after the other, as their plain text.
+//! The payload of a volume as plain sectors, and whole volumes made for tests.
 //!
-//! A [`Pump`](pump::Pump) takes an image once and forwards, and writes each sector's plain bytes as
-//! it comes.
+//! This crate has no code of its own. [`Pump`] comes from `luks_payload`, [`seal1`] and [`seal2`]
+//! from the crates of the same names.
 #![tactic(auto)]
 
-mod decryption;
-pub mod fault;
-mod passing;
-pub mod pump;
-mod sector;
-pub mod state;
+pub use luks_payload::fault::VolumeFault;
+pub use luks_payload::pump::Pump;
+pub use luks_payload::state::Step;
+pub use luks_seal::parameters::{Seal1, Seal2, SealFault};
+pub use luks1_seal::seal1;
+pub use luks2_seal::seal2;

@@ -1,12 +1,12 @@
 //! The members of a key slot: whether each is there, in its kind.
 
 ghost use Rattle.std.specs.Prelude.{◌≡◌, codes};
-ghost use Rattle.luks2_members.specs.Member.{passes};
+ghost use Rattle.luks2_json.specs.Member.{passes};
 ghost use Rattle.luks2_metadata.specs.Slot2.{has_members, is_af, is_area, is_kdf, is_pbkdf2};
 ghost use Rattle.luks2_metadata.specs.Slot2.{priority_of};
 ghost use Rattle.serde_json.specs.View.{view as data_of};
 
-use luks2_members::member::{base64_len, decimal_text, is_type, text, whole_number};
+use luks2_json::member::{base64_len, decimal_text, is_type, text, whole_number};
 use serde_json::Value;
 
 /// How soon the slot is tried: 0, 1 or 2, and 1 where nothing is said.

@@ -7,7 +7,7 @@ use luks_kdf::Hash;
 use luks_verdict::digest::KeyDigest;
 use luks_verdict::refusal::SkipReason;
 use luks_verdict::slot::Judgement;
-use luks2_members::tree::Metadata;
+use luks2_json::tree::Metadata;
 use luks2_metadata::digest::{Digest, digest_for, digests};
 use luks2_metadata::slot::judge;
 use luks2_segment::bounds::Bounds;

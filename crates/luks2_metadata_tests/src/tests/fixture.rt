@@ -3,7 +3,7 @@
 //! Where a call is to succeed, an error ends the test on the spot: what is not handed up needs not
 //! be dropped on the way.
 
-use luks2_members::tree::Metadata;
+use luks2_json::tree::Metadata;
 use luks2_segment::bounds::Bounds;
 use std::process::Abort;
 

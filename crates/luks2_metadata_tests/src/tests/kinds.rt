@@ -3,9 +3,9 @@
 use super::assert_of;
 use super::fixture::with_member;
 use luks_cipher::Mode;
-use luks2_members::encryption::{is_length_for, mode_of};
-use luks2_members::list::has_texts;
-use luks2_members::member::{
+use luks2_json::encryption::{is_length_for, mode_of};
+use luks2_json::list::has_texts;
+use luks2_json::member::{
     base64_len, base64_text, decimal_text, is_named, is_type, text, whole_number,
 };
 use std::process::Abort;

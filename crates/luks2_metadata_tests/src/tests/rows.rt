@@ -5,7 +5,7 @@
 
 use super::fixture::{ATTACHED, DETACHED, metadata};
 use super::{assert_answer, digests, segments, slots};
-use luks2_members::tree::Metadata;
+use luks2_json::tree::Metadata;
 use luks2_segment::bounds::Bounds;
 use std::process::Abort;
 

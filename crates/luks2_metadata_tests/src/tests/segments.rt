@@ -6,7 +6,7 @@ use super::rows::{Subject, check_rows};
 use luks_cipher::Mode;
 use luks_verdict::sector_size::SectorSize;
 use luks_verdict::segment::{Segment, SegmentParts};
-use luks2_members::tree::Metadata;
+use luks2_json::tree::Metadata;
 use luks2_segment::bounds::Bounds;
 use luks2_segment::payload::segment;
 use std::process::Abort;

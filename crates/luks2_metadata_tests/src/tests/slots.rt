@@ -6,7 +6,7 @@ use super::{assert_answer, assert_of};
 use luks_cipher::Mode;
 use luks_kdf::Hash;
 use luks_verdict::slot::{Judgement, Slot};
-use luks2_members::tree::Metadata;
+use luks2_json::tree::Metadata;
 use luks2_metadata::slot::{judge, slot};
 use luks2_segment::bounds::Bounds;
 use std::process::Abort;

@@ -3,10 +3,10 @@
 use super::fixture::{BEFORE_X, joined, quoted, read, with_member};
 use super::{assert_answer, assert_of};
 use luks_area::fault::HeaderFault;
-use luks2_members::list::{lists, texts_at};
-use luks2_members::member::{text, whole_number};
-use luks2_members::numbered::{numbered, passes_over};
-use luks2_members::tree::Metadata;
+use luks2_json::list::{lists, texts_at};
+use luks2_json::member::{text, whole_number};
+use luks2_json::numbered::{numbered, passes_over};
+use luks2_json::tree::Metadata;
 use std::process::Abort;
 
 // Reading the JSON area ends so.

@@ -11,7 +11,7 @@ use luks_io::ahead::AheadSource;
 use luks_io::memory::{MemSink, MemSource};
 use luks_report::message::Message;
 use luks_report::report::Report;
-use luks_testing::devices::Flaky;
+use luks_test_support::devices::Flaky;
 use std::process::Abort;
 
 // An image that gives all that is asked for, of which up to `room` bytes are taken ahead.

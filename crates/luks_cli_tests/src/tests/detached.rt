@@ -9,11 +9,11 @@ use super::volume2::header2;
 use crate::tests::same::{assert_in, assert_same_in};
 use luks_cipher::Mode;
 use luks_cli::execute::execute_detached;
-use luks_command::planning::plan;
+use luks_args::planning::plan;
 use luks_io::memory::{MemSink, MemSource};
 use luks_report::report::Report;
 use luks_request::command::Command;
-use luks_seal_testing::bytes::at;
+use luks_seal_fixtures::bytes::at;
 use std::process::Abort;
 
 pub(super) const CAT: &str = "luksCat --key-file f --header h i";

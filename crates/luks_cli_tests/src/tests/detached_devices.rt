@@ -14,7 +14,7 @@ use luks_cli::execute::execute_detached;
 use luks_report::message::Message;
 use luks_report::report::Report;
 use luks_request::command::Command;
-use luks_testing::devices::{Flaky, Leaky};
+use luks_test_support::devices::{Flaky, Leaky};
 use std::process::Abort;
 
 // The number of the file with the header among the devices, behind those that there are without it.

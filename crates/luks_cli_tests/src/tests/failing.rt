@@ -9,7 +9,7 @@ use luks_cli::execute::execute;
 use luks_report::message::Message;
 use luks_report::report::Report;
 use luks_request::command::Command;
-use luks_testing::devices::{Flaky, Leaky};
+use luks_test_support::devices::{Flaky, Leaky};
 use std::process::Abort;
 
 /// A call that fails: which device's (the image is 0, the second input 1, the output 2), and which

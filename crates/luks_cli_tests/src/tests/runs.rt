@@ -6,14 +6,14 @@ ghost use Rattle.luks_request.specs.Request.{has_header_file, request_of};
 
 use crate::tests::same::{assert_in, assert_same_in};
 use luks_cli::execute::execute;
-use luks_command::planning::plan;
+use luks_args::planning::plan;
 use luks_io::memory::{MemSink, MemSource};
 use luks_io::sink::Sink;
 use luks_io::source::Source;
 use luks_report::message::Message;
 use luks_report::report::Report;
 use luks_request::command::Command;
-use luks_testing::devices::{Flaky, Leaky};
+use luks_test_support::devices::{Flaky, Leaky};
 use std::fmt::Debug;
 use std::process::Abort;
 

@@ -3,12 +3,12 @@
 use super::runs::{sink, words_of};
 use crate::tests::same::{assert_in, assert_same_in};
 use luks_cli::execute::{execute, execute_detached};
-use luks_command::planning::plan;
+use luks_args::planning::plan;
 use luks_io::memory::{MemSink, MemSource};
 use luks_report::message::Message;
 use luks_report::report::Report;
 use luks_request::command::Command;
-use luks_testing::scarce::Scarcity;
+use luks_test_support::scarce::Scarcity;
 use std::alloc::Global;
 use std::process::Abort;
 

@@ -5,7 +5,7 @@ use super::failing::check_failures;
 use super::runs::{Ends, check_left, check_pieces, first_of, words_of};
 use super::scarce::check_refusals;
 use luks_report::message::Message;
-use luks_testing::header2::{SIZE, image_of};
+use luks_test_support::header2::{SIZE, image_of};
 use std::process::Abort;
 
 // One key slot, one digest, and a payload behind both headers and the key material.

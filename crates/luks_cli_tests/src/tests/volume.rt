@@ -3,7 +3,7 @@
 use luks_cipher::Mode;
 use luks_kdf::Hash;
 use luks_seal::parameters::{Seal1, Slot1};
-use luks_seal_testing::bytes::counted;
+use luks_seal_fixtures::bytes::counted;
 use luks1_seal::seal1;
 use std::process::Abort;
 

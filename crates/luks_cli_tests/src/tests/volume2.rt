@@ -2,8 +2,8 @@
 //! their own, since both formats store them alike.
 
 use super::volume::{PASSPHRASE, PLAIN_LEN, SMALL, followed, sealed, text_of};
-use luks_seal_testing::bytes::at;
-use luks_testing::header2::{SIZE, image_of};
+use luks_seal_fixtures::bytes::at;
+use luks_test_support::header2::{SIZE, image_of};
 use std::process::Abort;
 
 /// Its one key slot, without a number. The key material stands right behind both headers. The salts

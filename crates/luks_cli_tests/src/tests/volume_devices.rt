@@ -8,7 +8,7 @@ use crate::tests::volume::{PASSPHRASE, SMALL, USUAL, USUAL_LEN, plain_bytes, sea
 use crate::tests::volume2::sealed2;
 use luks_io::memory::MemSource;
 use luks_report::message::Message;
-use luks_testing::devices::Broken;
+use luks_test_support::devices::Broken;
 use std::process::Abort;
 
 const CAT: [&str; 4] = ["luksCat", "--key-file", "f", "i"];

@@ -7,7 +7,7 @@ use crate::tests::volume::{KEY, followed, plain_of, put};
 use luks_kdf::Hash;
 use luks_report::message::Message;
 use luks_seal::parameters::{Seal2, Slot2};
-use luks_seal_testing::parameters::{parameters2, slot2};
+use luks_seal_fixtures::parameters::{parameters2, slot2};
 use luks2_seal::seal2;
 use std::process::Abort;
 

@@ -5,8 +5,8 @@ use super::judging::is_there;
 use luks_header::header::Header;
 use luks_header::payload::segment;
 use luks_header::slot::{Judgement, judge};
-use luks_testing::header2::image_of;
-use luks_testing::same::same;
+use luks_test_support::header2::image_of;
+use luks_test_support::same::same;
 use std::alloc::{AllocError, Global};
 use std::process::Abort;
 

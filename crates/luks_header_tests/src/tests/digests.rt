@@ -5,8 +5,8 @@ use luks_header::digest::{Digest, KeyDigest, Names, digests};
 use luks_header::header::Header;
 use luks_header::slot::has_name_out_of_range;
 use luks_kdf::Hash;
-use luks_testing::header2::image_of;
-use luks_testing::same::{same, same_in};
+use luks_test_support::header2::image_of;
+use luks_test_support::same::{same, same_in};
 use std::alloc::{AllocError, Global};
 use std::process::Abort;
 

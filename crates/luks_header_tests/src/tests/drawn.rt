@@ -7,7 +7,7 @@ use super::judging::{
 };
 use luks_header::header::Header;
 use luks_header::slot::{Verdict, slots};
-use luks_testing::same::{holds_in, same_in};
+use luks_test_support::same::{holds_in, same_in};
 use std::process::Abort;
 
 // The next of some numbers that look drawn: a linear congruence of 64 bits, of which the upper half

@@ -7,7 +7,7 @@ use luks_header::header::{Header, Header1, KeySlot, SlotState, read_header};
 use luks_io::adapters::ReadSource;
 use luks_io::memory::MemSource;
 use luks_io::source::Source;
-use luks_testing::same::{same, same_in};
+use luks_test_support::same::{same, same_in};
 use std::alloc::Global;
 use std::process::Abort;
 

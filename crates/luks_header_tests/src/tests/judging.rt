@@ -9,7 +9,7 @@ use luks_header::refusal::{SegmentFault, SkipReason};
 use luks_header::sector_size::SectorSize;
 use luks_header::slot::{Judgement, Slot, Verdict, judge, slot, slots};
 use luks_kdf::Hash;
-use luks_testing::same::{same, same_in};
+use luks_test_support::same::{same, same_in};
 use std::process::Abort;
 
 pub(super) const STATE: usize = 208;

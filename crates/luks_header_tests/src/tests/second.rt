@@ -10,7 +10,7 @@ use luks_header::refusal::SegmentFault;
 use luks_header::slot::{judge, slots};
 use luks_io::memory::MemSource;
 use luks_kdf::{Hash, digest};
-use luks_testing::same::same;
+use luks_test_support::same::same;
 use std::alloc::{AllocError, Global};
 use std::process::Abort;
 

@@ -6,7 +6,7 @@ use luks_io::DeviceFault;
 use luks_io::ahead::AheadSource;
 use luks_io::memory::MemSource;
 use luks_io::source::{Source, fill};
-use luks_testing::devices::Flaky;
+use luks_test_support::devices::Flaky;
 use std::process::Abort;
 
 const BYTES: &[u8] = b"abcdefghij";

@@ -7,7 +7,7 @@ use luks_io::change::Change;
 use luks_io::memory::{MemSink, MemSource};
 use luks_io::sink::WriteFault;
 use luks_io::source::Source;
-use luks_testing::devices::{Flaky, Leaky};
+use luks_test_support::devices::{Flaky, Leaky};
 use std::process::Abort;
 use std::test::Fail;
 

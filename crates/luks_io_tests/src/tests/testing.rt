@@ -4,8 +4,8 @@ use super::assert_at;
 use luks_io::DeviceFault;
 use luks_io::sink::Sink;
 use luks_io::source::Source;
-use luks_testing::devices::{Broken, Flaky, Leaky};
-use luks_testing::same::{holds_in, same, same_in};
+use luks_test_support::devices::{Broken, Flaky, Leaky};
+use luks_test_support::same::{holds_in, same, same_in};
 use std::process::Abort;
 use std::test::Fail;
 

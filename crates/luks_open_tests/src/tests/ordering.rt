@@ -7,7 +7,7 @@ use luks_io::memory::MemSource;
 use luks_open::fault::OpenFault;
 use luks_open::order::order;
 use luks_open::tries::{Order, held_end};
-use luks_testing::scarce::Scarcity;
+use luks_test_support::scarce::Scarcity;
 use std::alloc::Global;
 use std::process::Abort;
 

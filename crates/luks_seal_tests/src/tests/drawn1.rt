@@ -4,7 +4,7 @@
 use luks_cipher::Mode;
 use luks_kdf::Hash;
 use luks_seal::parameters::{Seal1, Slot1};
-use luks_seal_testing::parameters::slot1 as slot;
+use luks_seal_fixtures::parameters::slot1 as slot;
 use luks1_seal::seal1;
 use std::process::Abort;
 

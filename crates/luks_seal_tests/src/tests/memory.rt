@@ -3,8 +3,8 @@
 
 use super::counted;
 use luks_seal::parameters::{Seal1, Seal2, SealFault};
-use luks_seal_testing::parameters::{parameters1, parameters2, slot1, slot2};
-use luks_testing::scarce::Scarcity;
+use luks_seal_fixtures::parameters::{parameters1, parameters2, slot1, slot2};
+use luks_test_support::scarce::Scarcity;
 use luks1_seal::seal1;
 use luks2_seal::seal2;
 use std::alloc::Global;

@@ -3,8 +3,8 @@
 use super::{KEY_LENGTHS, check_fits, counted};
 use luks_cipher::Mode;
 use luks_seal::parameters::{Seal1, Slot1};
-use luks_seal_testing::bytes::at;
-use luks_seal_testing::parameters::{SALT, parameters1, slot1};
+use luks_seal_fixtures::bytes::at;
+use luks_seal_fixtures::parameters::{SALT, parameters1, slot1};
 use luks1_seal::seal1;
 use std::process::Abort;
 

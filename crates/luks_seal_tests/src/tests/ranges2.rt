@@ -3,8 +3,8 @@
 use super::{KEY_LENGTHS, check_fits, counted};
 use luks_cipher::Mode;
 use luks_seal::parameters::{Seal2, Slot2};
-use luks_seal_testing::bytes::at;
-use luks_seal_testing::parameters::{SALT, parameters2, slot2};
+use luks_seal_fixtures::bytes::at;
+use luks_seal_fixtures::parameters::{SALT, parameters2, slot2};
 use luks_verdict::sector_size::SectorSize;
 use luks2_seal::seal2;
 use std::process::Abort;

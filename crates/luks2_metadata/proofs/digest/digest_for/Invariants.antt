@@ -1,5 +1,5 @@
 use Rattle.std.proofs.Common.{◌≡◌, None}
-use Rattle.luks2_members.specs.Numbered.{lowest}
+use Rattle.luks2_json.specs.Numbered.{lowest}
 use Rattle.luks2_metadata.specs.Digest2.{own_digest_at}
 use Rattle.luks2_metadata.proofs.digest.digest_for.Given as goal
 

@@ -1,7 +1,7 @@
 use Rattle.std.proofs.Common.{◌≡◌, true, sym, ap, arith, ◌∙◌, option_map}
 use Rattle.std.specs.Prelude.{is_some}
-use Rattle.luks2_members.proofs.NumberedLemmas.{lowest_next, lowest_none, none_from_not_some}
-use Rattle.luks2_members.specs.Numbered.{lowest}
+use Rattle.luks2_json.proofs.NumberedLemmas.{lowest_next, lowest_none, none_from_not_some}
+use Rattle.luks2_json.specs.Numbered.{lowest}
 use Rattle.luks2_metadata.proofs.DigestLemmas.{iterations_found, same_some}
 use Rattle.luks2_metadata.specs.Digest2.{digest2_for, own_digest_at, iterations_of_digest}
 use Rattle.luks2_metadata.proofs.digest.iterations_for.Goals as goal

@@ -1,5 +1,5 @@
 use Rattle.std.proofs.Common.{◌≡◌, None, sym, ◌∙◌}
-use Rattle.luks2_members.proofs.NumberedLemmas.{none_from_not_some}
+use Rattle.luks2_json.proofs.NumberedLemmas.{none_from_not_some}
 use Rattle.luks2_metadata.proofs.SlotLemmas.{IsSmall, small_of}
 use Rattle.luks2_metadata.proofs.slot.usable.Goals as goal
 use Rattle.luks2_metadata.specs.Slot2.{reason2_of}

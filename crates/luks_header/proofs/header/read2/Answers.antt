@@ -2,8 +2,8 @@ use Rattle.std.proofs.Common.{◌∙◌, ◌≤◌, ◌++◌, Err, ap, sym, leng
 use Rattle.std.proofs.lemmas.Result.{err_from_is_err_and}
 use Rattle.std.specs.Prelude.{nat_lt}
 use Rattle.luks_io.specs.Bytes.{counted}
-use Rattle.luks2_header.specs.Text2.{json_text_of}
-use Rattle.luks2_members.specs.Tree.{tree_of}
+use Rattle.luks2_binary.specs.Text2.{json_text_of}
+use Rattle.luks2_json.specs.Tree.{tree_of}
 use Rattle.luks_header.proofs.HeldLemmas.{begins_behind, begins_longer, cost_other, header_read, reach_other}
 use Rattle.luks_header.proofs.HeldLemmas.{reading_broken, seeking_broken, text_held}
 use Rattle.luks_header.proofs.header.read2.Goals as goal

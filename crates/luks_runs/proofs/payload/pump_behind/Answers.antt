@@ -1,6 +1,6 @@
 use Rattle.std.proofs.Common.{◌≡◌, ◌+◌, ◌-◌, ◌≤◌, length, take, drop, refl, subst, arith}
 use Rattle.luks_io.specs.Bytes.{ConsumedExactly}
-use Rattle.luks_volume.specs.Plain.{sector_start}
+use Rattle.luks_payload.specs.Plain.{sector_start}
 use Rattle.luks_runs.proofs.PayloadLemmas.{held_reach, stands_within}
 use Rattle.luks_runs.proofs.payload.pump_behind.Goals as goal
 

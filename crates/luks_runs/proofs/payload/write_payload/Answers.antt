@@ -1,5 +1,5 @@
 use Rattle.std.proofs.Common.{◌+◌, ◌∙◌, nat_lt, false, ap, refl, arith}
-use Rattle.luks_volume.specs.Passing.{max_sectors}
+use Rattle.luks_payload.specs.Passing.{max_sectors}
 use Rattle.std.proofs.lemmas.Result.{err_from_is_err_and}
 use Rattle.luks_runs.proofs.PayloadLemmas.{ends_are, few_sectors, never_memory, passing_breaks, passing_ends}
 use Rattle.luks_runs.proofs.PayloadLemmas.{passing_more, passing_start, reads_are, writes_are}

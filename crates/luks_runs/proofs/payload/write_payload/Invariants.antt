@@ -1,6 +1,6 @@
 use Rattle.std.proofs.Common.{◌≡◌, ◌<◌, ◌^◌, List, ℕ, length, take, true}
 use Rattle.luks_io.specs.Bytes.{ConsumedExactly}
-use Rattle.luks_volume.specs.Pumped.{is_running}
+use Rattle.luks_payload.specs.Pumped.{is_running}
 use Rattle.luks_runs.proofs.PayloadLemmas.{Passing}
 use Rattle.luks_runs.proofs.payload.write_payload.Given as goal
 

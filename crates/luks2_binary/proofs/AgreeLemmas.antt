@@ -1,0 +1,137 @@
+-- The front of an image says of its headers what the image says.
+use Rattle.std.proofs.Common.{◌≡◌, ◌∙◌, ℕ, ◌+◌, ◌-◌, ◌<◌, ◌≤◌, List, Some, None, Bool, true, false, ap, sym, refl, take}
+use Rattle.std.proofs.Common.{drop, length, max, arith}
+use Rattle.std.specs.Prelude.{if◌then◌else◌, not, IsTrue, ◌↔◌}
+use Rattle.std.specs.Bool.{then_some}
+use Rattle.std.proofs.lemmas.Bool.{le-leb, lt-leb}
+use Rattle.std.proofs.lemmas.List.{drop-take, take-take}
+use Rattle.luks_area.specs.Field.{at}
+use Rattle.luks2_binary.specs.Choice2.{fits, is_valid, size_at}
+use Rattle.luks2_binary.specs.Cost2.{probe_end}
+use Rattle.luks2_binary.specs.Header2.{size_in}
+use Rattle.luks2_binary.specs.Front2.{IsPrefixOf, valid_size}
+use Rattle.luks2_binary.proofs.FrontLemmas.{short_from_not}
+use Rattle.luks2_binary.proofs.ValidLemmas.{unfit-is_valid}
+
+module _ (held : List ℕ) (ended : Bool) (image : List ℕ) (front : IsPrefixOf held ended image) where
+  -- bytes that are held are the image's
+  pub at-front : (place n : ℕ) → place + n ≤ length held → at place n held ≡ at place n image
+  at-front place n within =
+      let split : length held ≡ place + (length held - place) = omega arith in
+      ap (λ l. take n (drop place l)) (sym front.begins)
+      ∙ ap (λ m. take n (drop place (take m image))) split
+      ∙ ap (take n) (drop-take place (length held - place) image)
+      ∙ take-take n (length held - place) (drop place image) (omega arith)
+
+  -- a header fits what is held where it fits the image
+  pub fits-front : (place : ℕ) → place + 4096 ≤ length held → fits held place ≡ fits image place
+  unfolding fits
+  fits-front place within =
+      rw (
+        le-leb (place + 4096) (length held) within,
+        le-leb (place + 4096) (length image) (omega (arith, front.within)),
+        at-front place 4096 within,
+      ) refl
+
+  -- one that is held whole is valid where it is so in the image
+  valid-whole : (place : ℕ) → place + 4096 ≤ length held → fits image place ≡ true
+      → place + size_at image place ≤ length held → is_valid held place ≡ is_valid image place
+  unfolding is_valid
+  valid-whole place within fit whole =
+      rw (
+        fits-front place within,
+        fit,
+        at-front place 4096 within,
+        le-leb (place + size_at image place) (length held) whole,
+        le-leb (place + size_at image place) (length image) (omega (arith, front.within)),
+        at-front place (size_at image place) whole,
+      ) refl
+
+  valid-by : (place : ℕ) (fit : Bool) → fits image place ≡ fit → place + 4096 ≤ length held
+      → (fits image place ≡ true → place + size_at image place ≤ length held)
+      → is_valid held place ≡ is_valid image place
+  valid-by place true is within whole = valid-whole place within is (whole is)
+  valid-by place false is within whole =
+      unfit-is_valid held place (fits-front place within ∙ is) ∙ sym (unfit-is_valid image place is)
+
+  -- a header is valid in what is held where it is so in the image
+  pub valid-front : (place : ℕ) → place + 4096 ≤ length held
+      → (fits image place ≡ true → place + size_at image place ≤ length held)
+      → is_valid held place ≡ is_valid image place
+  valid-front place = valid-by place (fits image place) refl
+
+-- where an image ends before its header does, that is not valid
+pub short-valid : (image : List ℕ) (place : ℕ) → fits image place ≡ true
+    → length image < place + size_at image place → is_valid image place ≡ false
+unfolding is_valid
+short-valid image place fit short = rw (fit, lt-leb (place + size_at image place) (length image) short) refl
+
+-- what is not valid has no length
+pub no_size : (image : List ℕ) (place : ℕ) → is_valid image place ≡ false → None ≡ valid_size image place
+no_size image place is = rw is refl
+
+-- a place is looked at by a binary header's length at least
+pub reach_least : (image : List ℕ) (place : ℕ) → place + 4096 ≤ probe_end image place
+unfolding probe_end
+reach_least image place = omega arith
+
+-- and by no more where none fits
+pub reach_unfit : (image : List ℕ) (place : ℕ) → fits image place ≡ false → probe_end image place ≡ place + 4096
+unfolding probe_end
+reach_unfit image place is = rw is (omega arith)
+
+-- and by the header's whole length where one fits
+pub reach_fit : (image : List ℕ) (place : ℕ) → fits image place ≡ true
+    → probe_end image place ≡ max (place + 4096) (place + size_at image place)
+unfolding probe_end
+reach_fit image place is = rw is refl
+
+-- where less is there than was asked for, the image is held whole
+pub whole_image : (held : List ℕ) (ended : Bool) (image : List ℕ) (whole : Bool) (end : ℕ) → IsPrefixOf held ended image
+    → (IsTrue whole ↔ (end ≤ length held)) → (ended ≡ false → end ≤ length held) → whole ≡ false
+    → (image ≡ held) × (length held < end)
+whole_image held true image whole end front iff settled is =
+    (front.ends refl, short_from_not whole end (length held) iff (ap not is))
+whole_image held false image whole end front iff settled is =
+    (let short = short_from_not whole end (length held) iff (ap not is) in absurd (omega (arith, settled refl)))
+
+-- a test that answered None has failed
+pub none_fails : (b : Bool) (n : ℕ) → None ≡ (if b then Some n else None) → b ≡ false
+none_fails true n is = absurd (cc)
+none_fails false n is = refl
+
+-- one that answered a number has not, and that is the number
+pub some_holds : (b : Bool) (size n : ℕ) → Some size ≡ (if b then Some n else None) → (b ≡ true) × (size ≡ n)
+some_holds true size n is = (refl, cc)
+some_holds false size n is = absurd (cc)
+
+module _ (held : List ℕ) (ended : Bool) (image bytes : List ℕ) (place : ℕ) (front : IsPrefixOf held ended image)
+    (is : bytes ≡ held) (there : place + 4096 ≤ length held) where
+  fits-bytes : fits bytes place ≡ fits image place
+  fits-bytes = ap (λ l. fits l place) is ∙ fits-front held ended image front place there
+
+  -- no header fits, as far as what is held says
+  pub unfit_here : None ≡ (if fits bytes place then Some (size_at bytes place) else None) → fits image place ≡ false
+  unfit_here none = sym fits-bytes ∙ none_fails (fits bytes place) (size_at bytes place) none
+
+  -- a header fits, and this is its length
+  pub fit_here : (size : ℕ) → Some size ≡ (if fits bytes place then Some (size_at bytes place) else None)
+      → (fits image place ≡ true) × (size ≡ size_at image place)
+  fit_here size some =
+      let one = some_holds (fits bytes place) size (size_at bytes place) some in (
+        sym fits-bytes ∙ one.0,
+        one.1 ∙ ap (λ l. size_at l place) is ∙ ap size_in (at-front held ended image front place 4096 there),
+      )
+
+then_some_is : (b : Bool) (n : ℕ) → then_some b n ≡ (if b then Some n else None)
+then_some_is true n = refl
+then_some_is false n = refl
+
+-- a header that fits and is held whole
+pub valid_here : (held : List ℕ) (ended : Bool) (image bytes : List ℕ) (place size : ℕ) → IsPrefixOf held ended image
+    → bytes ≡ held → place + 4096 ≤ length held → size ≡ size_at image place → place + size ≤ length held
+    → then_some (is_valid bytes place) size ≡ valid_size image place
+valid_here held ended image bytes place size front is there long whole =
+    let valid : is_valid bytes place ≡ is_valid image place = ap (λ l. is_valid l place) is
+    ∙ valid-front held ended image front place there (λ fit. omega (arith, long, whole)) in
+    rw (valid, long) (then_some_is (is_valid image place) (size_at image place))

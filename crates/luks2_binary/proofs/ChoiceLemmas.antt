@@ -1,0 +1,132 @@
+-- The choice between the headers, and how far an image is read for it.
+use Rattle.std.proofs.Common.{◌≡◌, ◌∙◌, ℕ, ◌+◌, ◌*◌, ◌≤◌, List, Option, Some, None, Bool, true, false, ap, sym, refl}
+use Rattle.std.proofs.Common.{length, max, arith}
+use Rattle.std.specs.Prelude.{IfErr, IfOk, OnOk, Result, Ok, Err, option_and_then}
+use Rattle.luks_area.specs.declared.fault.HeaderFault.{HeaderFault}
+use Rattle.luks_area.specs.declared.fault.HeaderFault.TheVariants.{Memory}
+use Rattle.luks2_binary.specs.Choice2.{with_valid_primary, binary_at, chosen2_of, found_at, is_valid, least_valid, size_at}
+use Rattle.luks2_binary.specs.Cost2.{reach2_of, probe_end, search_reach}
+use Rattle.luks2_binary.specs.Front2.{FallsShort, IsPrefixOf, OfEach, Reaches, StaysBelow, valid_size}
+use Rattle.luks2_binary.specs.declared.header.Header2.{Header2}
+use Rattle.luks2_binary.proofs.AgreeLemmas.{at-front, reach_fit, reach_least, some_holds, none_fails, valid-front}
+use Rattle.luks2_binary.proofs.FrontLemmas.{over_joined}
+use Rattle.luks2_binary.proofs.ValidLemmas.{fits_parts, size_is_place, valid_parts, valid_range}
+
+module _ (image : List ℕ) where
+  -- an image with a valid primary header
+  pub chosen_primary : is_valid image 0 ≡ true → chosen2_of image ≡ with_valid_primary image
+  unfolding chosen2_of
+  chosen_primary is = rw is refl
+
+  pub reach_primary : is_valid image 0 ≡ true → reach2_of image ≡ 2 * size_at image 0
+  unfolding reach2_of
+  reach_primary is = rw is refl
+
+  -- and one without
+  pub chosen_other : is_valid image 0 ≡ false
+      → chosen2_of image ≡ option_and_then (found_at image) (least_valid image)
+  unfolding chosen2_of
+  chosen_other is = rw is refl
+
+  pub reach_other : is_valid image 0 ≡ false → reach2_of image ≡ max (probe_end image 0) (search_reach image)
+  unfolding reach2_of
+  reach_other is = rw is refl
+
+  -- the primary header is read in each case
+  pub reach_first : probe_end image 0 ≤ reach2_of image
+  reach_first = by (is_valid image 0) refl where
+    by : (b : Bool) → is_valid image 0 ≡ b → probe_end image 0 ≤ reach2_of image
+    by true e =
+        let fit = valid_parts image 0 e in
+        let range = valid_range image 0 e in
+        omega (arith, reach_fit image 0 fit.0, reach_primary e, range.1)
+    by false e = omega (arith, reach_other e)
+
+  -- an image is read by a binary header's length at least
+  pub reach_some : 4096 ≤ reach2_of image
+  reach_some = omega (arith, reach_first, reach_least image 0)
+
+module _ (held : List ℕ) (ended : Bool) (image : List ℕ) (front : IsPrefixOf held ended image)
+    (valid : is_valid image 0 ≡ true) where
+  beside_whole : 2 * size_at image 0 ≤ length held → with_valid_primary held ≡ with_valid_primary image
+  unfolding with_valid_primary
+  beside_whole whole =
+      let range = valid_range image 0 valid in
+      let size = size_at image 0 in
+      let long : size + 4096 ≤ length held = omega (arith, range.1, whole) in
+      let second : is_valid held size ≡ is_valid image size =
+      valid-front held ended image front size long
+      (λ fit.
+      let parts = fits_parts image size fit in
+      let own = size_is_place size (binary_at image size) parts.1 (λ none. absurd (omega (arith, range.1, none))) in
+      omega (arith, own, whole)) in
+      rw (
+        at-front held ended image front 0 4096 (omega (arith, long)),
+        second,
+        at-front held ended image front size 4096 long,
+      ) refl
+
+  -- what is held of the two headers says which is chosen
+  pub beside_same : (ended ≡ false → 2 * size_at image 0 ≤ length held) → with_valid_primary held ≡ with_valid_primary image
+  beside_same whole = by ended refl where
+    by : (b : Bool) → ended ≡ b → with_valid_primary held ≡ with_valid_primary image
+    by true e = ap with_valid_primary (sym (front.ends e))
+    by false e = beside_whole (whole e)
+
+-- a valid header's length that was answered
+pub size_valid : (image : List ℕ) (place size : ℕ) → Some size ≡ valid_size image place
+    → (is_valid image place ≡ true) × (size ≡ size_at image place)
+size_valid image place size is = some_holds (is_valid image place) size (size_at image place) is
+
+-- none was
+pub no_size_valid : (image : List ℕ) (place : ℕ) → None ≡ valid_size image place → is_valid image place ≡ false
+no_size_valid image place is = none_fails (is_valid image place) (size_at image place) is
+
+-- what is held once a valid primary header was seen
+pub primary_within : (image old first both : List ℕ) (size : ℕ) → Some size ≡ valid_size image 0
+    → length first ≤ max (length old) (probe_end image 0) → length both ≤ max (length first) (2 * size)
+    → length both ≤ max (length old) (reach2_of image)
+primary_within image old first both size is near far =
+    let valid = size_valid image 0 size is in
+    omega (arith, near, far, reach_first image, reach_primary image valid.0, valid.1)
+
+-- what the search answers is what is chosen where the primary header is not valid
+pub found_chosen : (held : List ℕ) (ended : Bool) (found : Result (Option Header2) HeaderFault)
+    → OfEach held ended (λ image. is_valid image 0 ≡ false)
+    → IfOk found (λ header. OfEach held ended (λ image. header ≡ option_and_then (found_at image) (least_valid image)))
+    → IfOk found (λ header. OfEach held ended (λ image. header ≡ chosen2_of image))
+found_chosen held ended (Ok header) none is = λ image front.
+    is image front ∙ sym (chosen_other image (none image front))
+found_chosen held ended (Err fault) none is = tt
+
+-- and so far is read for it
+pub found_settled : (held' : List ℕ) (ended' : Bool) (found : Result (Option Header2) HeaderFault)
+    → OfEach held' ended' (λ image. is_valid image 0 ≡ false)
+    → OfEach held' ended' (λ image. ended' ≡ false → probe_end image 0 ≤ length held')
+    → OnOk found (Reaches held' ended' search_reach)
+    → OnOk found (Reaches held' ended' reach2_of)
+found_settled held' ended' (Ok header) none first reaches = λ image front goes.
+    omega (arith, reach_other image (none image front), first image front goes, reaches image front goes)
+found_settled held' ended' (Err fault) none first reaches = tt
+
+-- and less is held where memory was refused
+pub found_early : (held' : List ℕ) (ended' : Bool) (found : Result (Option Header2) HeaderFault)
+    → OfEach held' ended' (λ image. is_valid image 0 ≡ false)
+    → IfErr found (λ fault. fault ≡ Memory → StaysBelow held' ended' search_reach)
+    → IfErr found (λ fault. fault ≡ Memory → StaysBelow held' ended' reach2_of)
+found_early held' ended' (Ok header) none early = tt
+found_early held' ended' (Err fault) none early = λ stops image front.
+    omega (arith, early stops image front, reach_other image (none image front))
+
+-- and less is held where the end was found
+pub found_over : (held held' : List ℕ) (e e1 e2 : Bool) (found : Result (Option Header2) HeaderFault)
+    → ((image : List ℕ) → IsPrefixOf held' e2 image → IsPrefixOf held e1 image)
+    → OfEach held' e2 (λ image. is_valid image 0 ≡ false)
+    → FallsShort held e e1 (λ image. probe_end image 0) → OnOk found (FallsShort held' e1 e2 search_reach)
+    → OnOk found (FallsShort held' e e2 reach2_of)
+found_over held held' e e1 e2 (Ok header) fronts none first then = λ image front.
+    let other = reach_other image (none image front) in
+    over_joined image held held' e e1 e2 (probe_end image 0) (search_reach image) (reach2_of image)
+    (fronts image front) front (first image (fronts image front)) (then image front)
+    (omega (arith, other)) (omega (arith, other))
+found_over held held' e e1 e2 (Err fault) fronts none first then = tt

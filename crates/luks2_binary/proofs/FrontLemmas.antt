@@ -1,0 +1,166 @@
+-- What is held of an image, call after call.
+use Rattle.std.proofs.Common.{◌≡◌, ◌∙◌, ℕ, ◌+◌, ◌-◌, ◌<◌, ◌≤◌, List, ◌++◌, Option, Some, Bool, true, false, ap, sym}
+use Rattle.std.proofs.Common.{refl, take, drop, length, length-take-le, length-append, length-drop, take_all, min, inl}
+use Rattle.std.proofs.Common.{inr, arith}
+use Rattle.std.specs.Prelude.{not, ◌&&◌, IsTrue, ◌↔◌}
+use Rattle.std.proofs.lemmas.Bool.{cases_lt}
+use Rattle.std.proofs.Math.Seq.{take-add}
+use Rattle.std.proofs.lemmas.List.{drop-drop, length-take, take-take}
+use Rattle.luks_io.specs.Bytes.{counted}
+use Rattle.luks_area.specs.Area.{AbortsConsuming, ConsumedOnto}
+use Rattle.luks_area.specs.declared.fault.HeaderFault.{HeaderFault}
+use Rattle.luks_area.specs.declared.fault.HeaderFault.TheVariants.{NotLuks, Cut, Json, Read, Memory}
+use Rattle.luks2_binary.specs.Front2.{Extended, HoldsFront, IsPrefixOf}
+
+-- a list whose first bytes are another list is no shorter
+pub longer_than : (old new : List ℕ) → take (length old) new ≡ old → length old ≤ length new
+longer_than old new kept = omega (arith, ap length kept, length-take (length old) new)
+
+-- what could not grow is shorter than it was to be
+pub not_grown : (old new : List ℕ) (end : ℕ) → new ≡ old → (end ≤ length old → ⊥) → length new < end
+not_grown old new end same some =
+    elim (cases_lt (length old) end) [ inl few ↦ omega (arith, few, ap length same) | inr all ↦ absurd (some all) ]
+
+-- a front of a front is a front
+front_of : (old new image : List ℕ) (ended' : Bool) → take (length old) new ≡ old → IsPrefixOf new ended' image
+    → IsPrefixOf old false image
+front_of old new image ended' kept front = record {
+  begins = sym (take-take (length old) (length new) image (longer_than old new kept))
+      ∙ (ap (take (length old)) front.begins ∙ kept);
+  within = omega (arith, longer_than old new kept, front.within);
+  ends = λ wrong. absurd (cc);
+}
+
+-- the bytes that were taken went behind those that were held
+holds_more : (image old new known : List ℕ) (ended' : Bool) (left left' : Option (List ℕ)) (count : ℕ)
+    → HoldsFront image old false left → left ≡ Some known → ConsumedOnto old new known left' count
+    → (ended' ≡ true → length known ≤ count) → HoldsFront image new ended' left'
+holds_more image old new known ended' left left' count holds is took all =
+    let rest : known ≡ drop (length old) image =
+    (let e : Some known ≡ Some (drop (length old) image) = sym is ∙ holds.behind in cc) in
+    let long : length known ≡ length image - length old = ap length rest ∙ length-drop (length old) image in
+    let few : length old ≤ length image = holds.front.within in
+    let within : count ≤ length known = took.0.within in
+    let front : new ≡ take (length old + count) image =
+    took.1
+    ∙ ap (λ l. l ++ take count known) (sym holds.front.begins)
+    ∙ ap (λ l. take (length old) image ++ take count l) rest
+    ∙ sym (take-add (length old) count image) in
+    let len : length new ≡ length old + count =
+    ap length front ∙ length-take-le (length old + count) image (omega arith) in
+    record {
+      front = record {
+        begins = ap (λ n. take n image) len ∙ sym front;
+        within = omega arith;
+        ends = λ ends. sym (front ∙ take_all (length old + count) image (omega (arith, all ends)));
+      };
+      behind = took.0.left
+          ∙ ap (λ l. Some (drop count l)) rest
+          ∙ ap Some (drop-drop count (length old) image)
+          ∙ ap (λ n. Some (drop n image)) (sym len);
+    }
+
+-- a source gave some of the bytes that it knew, and all of them where its end was found
+pub grew_by : (old new : List ℕ) (ended' : Bool) (left left' : Option (List ℕ)) (ends ends' : ℕ)
+    → take (length old) new ≡ old
+    → ((known : List ℕ) → left ≡ Some known
+    → (count : ℕ) × ConsumedOnto old new known left' count × (ended' ≡ true → length known ≤ count))
+    → ends' ≡ counted ended' ends → Extended old new false ended' left left' ends ends'
+grew_by old new ended' left left' ends ends' kept gave found = record {
+  fronts = λ image front. front_of old new image ended' kept front;
+  longer = longer_than old new kept;
+  holds = λ image holds.
+      let taken = gave (drop (length old) image) holds.behind in
+      holds_more image old new (drop (length old) image) ended' left left' taken.0 holds holds.behind taken.1 taken.2;
+  stays = λ wrong. absurd (cc);
+  found = found;
+}
+
+-- where nothing is done nothing changes
+pub grew_none : (held : List ℕ) (ended : Bool) (left : Option (List ℕ)) (ends : ℕ)
+    → Extended held held ended ended left left ends ends
+grew_none held ended left ends = record {
+  fronts = λ image front. front;
+  longer = omega arith;
+  holds = λ image holds. holds;
+  stays = λ is. is;
+  found = found_none ended;
+} where
+  found_none : (b : Bool) → ends ≡ counted (not b && b) ends
+  found_none true = refl
+  found_none false = refl
+
+-- not whole is short
+pub short_from_not : (whole : Bool) (end len : ℕ) → (IsTrue whole ↔ (end ≤ len)) → not whole ≡ true → len < end
+short_from_not true end len iff is = absurd (cc)
+short_from_not false end len iff is =
+    elim (cases_lt len end) [ inl short ↦ short | inr all ↦ (let yes : false ≡ true = iff.1 all in absurd (cc)) ]
+
+-- where not all is there that was asked for, the image was taken to its end
+pub ended_short : (old new known : List ℕ) (whole : Bool) (left' : Option (List ℕ)) (end : ℕ)
+    → ConsumedOnto old new known left' (min (end - length old) (length known))
+    → (IsTrue whole ↔ (end ≤ length new)) → not whole ≡ true → length known ≤ min (end - length old) (length known)
+ended_short old new known whole left' end took iff short =
+    let count = min (end - length old) (length known) in
+    let fewer = short_from_not whole end (length new) iff short in
+    omega (
+      arith,
+      fewer,
+      ap length took.1,
+      length-append old (take count known),
+      length-take count known,
+    )
+
+-- what stops an area from taking bytes
+pub gave_broken : (most : ℕ) (old new known : List ℕ) (left' : Option (List ℕ)) (fault : HeaderFault)
+    → AbortsConsuming most old new known left' fault
+    → (count : ℕ) × ConsumedOnto old new known left' count × (false ≡ true → length known ≤ count)
+gave_broken most old new known left' Read (count, few, took) = (count, took, λ wrong. absurd (cc))
+gave_broken most old new known left' Memory took = (0, took, λ wrong. absurd (cc))
+gave_broken most old new known left' NotLuks h = absurd h
+gave_broken most old new known left' Cut h = absurd h
+gave_broken most old new known left' Json h = absurd h
+
+-- the end is found once at most
+found_join : (e e1 e2 : Bool) (n n1 n2 : ℕ) → (e ≡ true → e1 ≡ true) → (e1 ≡ true → e2 ≡ true)
+    → n1 ≡ counted (not e && e1) n → n2 ≡ counted (not e1 && e2) n1 → n2 ≡ counted (not e && e2) n
+found_join true true true n n1 n2 s s1 h h1 = h1 ∙ h
+found_join true true false n n1 n2 s s1 h h1 = absurd (let wrong = s1 refl in cc)
+found_join true false e2 n n1 n2 s s1 h h1 = absurd (let wrong = s refl in cc)
+found_join false true true n n1 n2 s s1 h h1 = h1 ∙ h
+found_join false true false n n1 n2 s s1 h h1 = absurd (let wrong = s1 refl in cc)
+found_join false false e2 n n1 n2 s s1 h h1 = h1 ∙ ap (counted e2) h
+
+-- more came to be held, and then more again
+pub grew_more : (a b c : List ℕ) (e e1 e2 : Bool) (l l1 l2 : Option (List ℕ)) (n n1 n2 : ℕ)
+    → Extended a b e e1 l l1 n n1 → Extended b c e1 e2 l1 l2 n1 n2 → Extended a c e e2 l l2 n n2
+grew_more a b c e e1 e2 l l1 l2 n n1 n2 first then = record {
+  fronts = λ image front. first.fronts image (then.fronts image front);
+  longer = omega (arith, first.longer, then.longer);
+  holds = λ image holds. then.holds image (first.holds image holds);
+  stays = λ is. then.stays (first.stays is);
+  found = found_join e e1 e2 n n1 n2 first.stays then.stays first.found then.found;
+}
+
+-- what is held is its own front
+pub front_self : (held : List ℕ) (ended : Bool) → IsPrefixOf held ended held
+front_self held ended = record {
+  begins = take_all (length held) held (omega arith);
+  within = omega arith;
+  ends = λ _. refl;
+}
+
+-- where the end is not found in the end it was not found before
+pub not_ended : (ended ended' : Bool) → (ended ≡ true → ended' ≡ true) → ended' ≡ false → ended ≡ false
+not_ended true ended' stays goes = absurd (let wrong = stays refl in cc)
+not_ended false ended' stays goes = refl
+
+-- the end was found in one of two calls, so that less is held than is to be read
+pub over_joined : (image held held' : List ℕ) (e e1 e2 : Bool) (near far most : ℕ) → IsPrefixOf held e1 image
+    → IsPrefixOf held' e2 image → (e ≡ false → e1 ≡ true → length held < near)
+    → (e1 ≡ false → e2 ≡ true → length held' < far) → near ≤ most → far ≤ most → e ≡ false → e2 ≡ true
+    → length held' < most
+over_joined image held held' e true e2 near far most first then over over' below below' goes found =
+    omega (arith, over goes refl, ap length (first.ends refl), ap length (then.ends found))
+over_joined image held held' e false e2 near far most first then over over' below below' goes found =
+    omega (arith, over' refl found)

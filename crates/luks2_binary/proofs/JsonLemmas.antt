@@ -1,0 +1,185 @@
+-- The header that an image has stands, with its JSON area, within the bytes that were read to choose it.
+use Rattle.std.proofs.Common.{◌≡◌, ◌∙◌, ℕ, ◌+◌, ◌-◌, ◌≤◌, List, [], ◌∷◌, Option, Some, None, Bool, true, false, ap, sym}
+use Rattle.std.proofs.Common.{refl, take, drop, arith}
+use Rattle.std.specs.Prelude.{Ok, nat_lt, ok_or}
+use Rattle.std.proofs.lemmas.List.{drop-take, take-take}
+use Rattle.std.proofs.lemmas.Option.{option_and_then_some}
+use Rattle.luks_kdf.specs.declared.hash.Hash.{Hash}
+use Rattle.luks_area.specs.declared.fault.HeaderFault.TheVariants.{NotLuks}
+use Rattle.luks_area.specs.Field.{at, text_of}
+use Rattle.luks2_binary.specs.Choice2.{with_valid_primary, binary_at, chosen2_of, found_at, header2_of, is_valid}
+use Rattle.luks2_binary.specs.Choice2.{least_valid, size_at}
+use Rattle.luks2_binary.specs.Cost2.{header2_read_len, reach2_of, probe_end}
+use Rattle.luks2_binary.specs.Header2.{binary_len, checksum_hash_in, header2_from, sequence_in, size_in, sizes}
+use Rattle.luks2_binary.specs.Text2.{json_area_of, json_text_of, header_offset}
+use Rattle.luks2_binary.specs.declared.header.Finding.{Finding}
+use Rattle.luks2_binary.specs.declared.header.Finding.TheVariants.{PrimaryNotValid, SecondaryNotValid, SequencesDiffer}
+use Rattle.luks2_binary.specs.declared.header.Header2.{Header2}
+use Rattle.luks2_binary.specs.declared.header.Place.{Place}
+use Rattle.luks2_binary.specs.declared.header.Place.TheVariants.{Primary, Secondary}
+use Rattle.luks2_binary.proofs.AgreeLemmas.{reach_fit}
+use Rattle.luks2_binary.proofs.ChoiceLemmas.{chosen_other, chosen_primary, reach_other, reach_primary}
+use Rattle.luks2_binary.proofs.SearchLemmas.{least_is, search_reach_is}
+use Rattle.luks2_binary.proofs.ValidLemmas.{fits_parts, size_is_place, valid_parts, valid_range}
+use Rattle.luks2_binary.proofs.WalkLemmas.{first_valid, furthest}
+
+-- the first valid place is valid, and the places are looked at as far as it is
+first_is : (valid : ℕ → Bool) (reach : ℕ → ℕ) (places : List ℕ) (place : ℕ) → first_valid valid places ≡ Some place
+    → (valid place ≡ true) × (reach place ≤ furthest valid reach places)
+unfolding first_valid furthest
+first_is valid reach [] place is = absurd (cc)
+first_is valid reach (here ∷ places) place is = by (valid here) refl (first_is valid reach places place) where
+  by : (b : Bool) → valid here ≡ b
+      → (first_valid valid places ≡ Some place → (valid place ≡ true) × (reach place ≤ furthest valid reach places))
+      → (valid place ≡ true) × (reach place ≤ furthest valid reach (here ∷ places))
+  by true e behind =
+      let same : here ≡ place = (let first : Some here ≡ Some place = rw e at is in cc) in
+      (ap valid (sym same) ∙ e, omega (arith, ap reach same))
+  by false e behind = (let rest = behind (rw e at is) in (rest.0, rw e (omega (arith, rest.1))))
+
+-- what the fields of a header say of its place, its length and the payload's image
+made_of : (place : Place) (finding : Option Finding) (binary : List ℕ) (header : Header2)
+    → header2_from place finding binary ≡ Some header
+    → (header.place ≡ place) × (header.size ≡ size_in binary) × (header.detached ≡ false)
+unfolding header2_from
+made_of place finding binary header is = by (checksum_hash_in binary) refl where
+  by : (known : Option Hash) → checksum_hash_in binary ≡ known
+      → (header.place ≡ place) × (header.size ≡ size_in binary) × (header.detached ≡ false)
+  by (Some hash) e = (let made = rw e at is in (cc, cc, cc))
+  by None e = absurd (let made = rw e at is in cc)
+
+-- the header stands at this place of the image, where it is valid, and that is looked at as far as it goes
+record Stands (image : List ℕ) (header : Header2) (place : ℕ) : Type 0 where
+  pub valid : is_valid image place ≡ true
+  pub here : header_offset header.place header.size ≡ place
+  pub size : header.size ≡ size_at image place
+  pub reached : place + header.size ≤ reach2_of image
+  pub attached : header.detached ≡ false
+
+-- the sequence number of the header at a place
+abbrev sequence_at : List ℕ → ℕ → ℕ
+sequence_at image place = sequence_in (binary_at image place)
+
+module _ (image : List ℕ) (header : Header2) where
+  -- a primary header
+  primary_stands : (finding : Option Finding) → is_valid image 0 ≡ true
+      → header2_from Primary finding (binary_at image 0) ≡ Some header → Stands image header 0
+  primary_stands finding valid is =
+      let made = made_of Primary finding (binary_at image 0) header is in
+      record {
+        valid = valid;
+        here = ap (λ p. header_offset p header.size) made.0;
+        size = made.1;
+        reached = omega (arith, made.1, reach_primary image valid);
+        attached = made.2;
+      }
+
+  -- a secondary header, which is as long as its place says
+  secondary_stands : (finding : Option Finding) (place : ℕ) → is_valid image place ≡ true → (place ≡ 0 → ⊥)
+      → place + place ≤ reach2_of image
+      → header2_from Secondary finding (binary_at image place) ≡ Some header → Stands image header place
+  secondary_stands finding place valid some reach is =
+      let made = made_of Secondary finding (binary_at image place) header is in
+      let fit = fits_parts image place (valid_parts image place valid).0 in
+      let own = size_is_place place (binary_at image place) fit.1 some in
+      record {
+        valid = valid;
+        here = ap (λ p. header_offset p header.size) made.0 ∙ made.1 ∙ own;
+        size = made.1;
+        reached = omega (arith, made.1, own, reach);
+        attached = made.2;
+      }
+
+  -- the header of an image with a valid primary one
+  beside_stands : is_valid image 0 ≡ true → with_valid_primary image ≡ Some header → (place : ℕ) × Stands image header place
+  unfolding with_valid_primary
+  beside_stands valid is = by (is_valid image (size_at image 0)) refl where
+    earlier : is_valid image (size_at image 0) ≡ true
+        → nat_lt (sequence_at image 0) (sequence_at image (size_at image 0)) ≡ false
+        → (b : Bool) → nat_lt (sequence_at image (size_at image 0)) (sequence_at image 0) ≡ b
+        → (place : ℕ) × Stands image header place
+    earlier both not_later true e = (0, primary_stands (Some SequencesDiffer) valid (rw (both, not_later, e) at is))
+    earlier both not_later false e = (0, primary_stands None valid (rw (both, not_later, e) at is))
+
+    later : is_valid image (size_at image 0) ≡ true → (b : Bool)
+        → nat_lt (sequence_at image 0) (sequence_at image (size_at image 0)) ≡ b
+        → (place : ℕ) × Stands image header place
+    later both true e =
+        let range = valid_range image 0 valid in (
+          size_at image 0,
+          secondary_stands (Some SequencesDiffer) (size_at image 0) both
+              (λ none. absurd (omega (arith, range.1, none))) (omega (arith, reach_primary image valid))
+              (rw (both, e) at is),
+        )
+    later both false e =
+        earlier both e (nat_lt (sequence_at image (size_at image 0)) (sequence_at image 0)) refl
+
+    by : (b : Bool) → is_valid image (size_at image 0) ≡ b → (place : ℕ) × Stands image header place
+    by false e = (0, primary_stands (Some SecondaryNotValid) valid (rw e at is))
+    by true e = later e (nat_lt (sequence_at image 0) (sequence_at image (size_at image 0))) refl
+
+  -- the header that the search finds
+  found_stands : is_valid image 0 ≡ false → (place : ℕ) → least_valid image ≡ Some place
+      → found_at image place ≡ Some header → Stands image header place
+  found_stands none place least is =
+      let one = first_is (is_valid image) (probe_end image) sizes place (sym (least_is image) ∙ least) in
+      let some : place ≡ 0 → ⊥ =
+      λ start. (let wrong : true ≡ false = sym one.0 ∙ ap (is_valid image) start ∙ none in cc) in
+      let fit = valid_parts image place one.0 in
+      let own = size_is_place place (binary_at image place) (fits_parts image place fit.0).1 some in
+      secondary_stands (Some PrimaryNotValid) place one.0 some
+      (omega (arith, one.1, reach_fit image place fit.0, own, search_reach_is image, reach_other image none)) is
+
+  -- the header that is chosen
+  chosen_stands : chosen2_of image ≡ Some header → (place : ℕ) × Stands image header place
+  chosen_stands is = by (is_valid image 0) refl where
+    by : (b : Bool) → is_valid image 0 ≡ b → (place : ℕ) × Stands image header place
+    by true e = beside_stands e (sym (chosen_primary image e) ∙ is)
+    by false e =
+        option_and_then_some (found_at image) (least_valid image) header (sym (chosen_other image e) ∙ is)
+        (λ place least made. (place, found_stands e place least made))
+
+  -- the header of an image
+  stands : header2_of image ≡ Ok header → (place : ℕ) × Stands image header place
+  unfolding header2_of
+  stands is = by (chosen2_of image) refl where
+    by : (chosen : Option Header2) → chosen2_of image ≡ chosen → (place : ℕ) × Stands image header place
+    by (Some found) e =
+        chosen_stands (e ∙ (let answer = sym (ap (λ o. ok_or o NotLuks) e) ∙ is in ap Some cc))
+    by None e = absurd (let answer = sym (ap (λ o. ok_or o NotLuks) e) ∙ is in cc)
+
+-- the length of a header is in range
+pub size_range : (image : List ℕ) (header : Header2) → header2_of image ≡ Ok header
+    → (16384 ≤ header.size) × (header.size ≤ 4194304)
+size_range image header is =
+    let it = stands image header is in
+    let range = valid_range image it.0 it.1.valid in
+    (omega (arith, range.1, it.1.size), omega (arith, range.2, it.1.size))
+
+-- it is read as one that stands in the payload's image
+pub read_attached : (image : List ℕ) (header : Header2) → header2_of image ≡ Ok header → header.detached ≡ false
+read_attached image header is = (stands image header is).1.attached
+
+-- and it ends with its JSON area within the bytes that were read to choose it
+pub json_within : (image : List ℕ) (header : Header2) → header2_of image ≡ Ok header
+    → header_offset header.place header.size + binary_len + (header.size - binary_len) ≤ header2_read_len image
+unfolding header2_read_len
+json_within image header is =
+    let it = stands image header is in
+    let whole = valid_parts image it.0 it.1.valid in
+    omega (arith, (size_range image header is).0, it.1.here, it.1.size, it.1.reached, whole.1)
+
+-- bytes that stand before place n stand in the first n bytes
+at_beginning : (place len n : ℕ) (image : List ℕ) → place + len ≤ n → at place len (take n image) ≡ at place len image
+at_beginning place len n image before =
+    let count : n ≡ place + (n - place) = omega arith in
+    ap (take len) (ap (λ m. drop place (take m image)) count ∙ drop-take place (n - place) image)
+    ∙ take-take len (n - place) (drop place image) (omega arith)
+
+-- so those bytes say the header's JSON text
+pub json_beginning : (image : List ℕ) (header : Header2) → header2_of image ≡ Ok header
+    → json_text_of (take (header2_read_len image) image) header ≡ json_text_of image header
+unfolding json_text_of json_area_of
+json_beginning image header is =
+    let place = header_offset header.place header.size + binary_len in
+    ap text_of (at_beginning place (header.size - binary_len) (header2_read_len image) image (json_within image header is))

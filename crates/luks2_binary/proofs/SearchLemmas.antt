@@ -1,0 +1,170 @@
+-- The search for a secondary header, place by place.
+use Rattle.std.proofs.Common.{◌≡◌, ◌∙◌, ℕ, suc, ◌+◌, ◌<◌, ◌≤◌, List, ◌∷◌, Option, Some, None, Bool, true, false, ap}
+use Rattle.std.proofs.Common.{sym, refl, drop, get_or, length, max, add-one, arith}
+use Rattle.std.proofs.Math.Seq.{drop-cons}
+use Rattle.std.specs.Prelude.{is_some, nat_le, option_and_then}
+use Rattle.std.proofs.lemmas.Bool.{leb-true}
+use Rattle.std.proofs.lemmas.List.{drop_all}
+use Rattle.std.proofs.lemmas.List.Sums.{AllPass-from_list_all}
+use Rattle.luks_area.specs.Field.{at}
+use Rattle.luks2_binary.specs.Choice2.{binary_at, found_at, is_tried, is_valid, least_valid, size_at}
+use Rattle.luks2_binary.specs.Cost2.{probe_end, search_reach}
+use Rattle.luks2_binary.specs.Front2.{IsPrefixOf, valid_size}
+use Rattle.luks2_binary.specs.Header2.{header2_from, sizes}
+use Rattle.luks2_binary.specs.declared.header.Finding.TheVariants.{PrimaryNotValid}
+use Rattle.luks2_binary.specs.declared.header.Header2.{Header2}
+use Rattle.luks2_binary.specs.declared.header.Place.TheVariants.{Secondary}
+use Rattle.luks2_binary.proofs.AgreeLemmas.{at-front}
+use Rattle.luks2_binary.proofs.FrontLemmas.{over_joined}
+use Rattle.luks2_binary.proofs.ValidLemmas.{valid_range}
+use Rattle.luks2_binary.proofs.WalkLemmas.{are_one, first_valid, furthest}
+
+-- how far the places from number k on are looked at
+abbrev pub ahead : List ℕ → ℕ → ℕ
+ahead image k = furthest (is_valid image) (probe_end image) (drop k sizes)
+
+-- none of the first k places has a valid header, and as much is held as they are looked at
+pub record Searched (image old held : List ℕ) (ended : Bool) (k : ℕ) : Type 0 where
+  pub place : first_valid (is_valid image) sizes ≡ first_valid (is_valid image) (drop k sizes)
+  pub within : length held ≤ max (length old) (ahead image 0)
+  pub settled : ended ≡ false → ahead image 0 ≤ max (length held) (ahead image k)
+  pub behind : ahead image k ≤ ahead image 0
+
+-- before the first place
+pub searched_none : (image held : List ℕ) (ended : Bool) → Searched image held held ended 0
+searched_none image held ended = record {
+  place = refl;
+  within = omega arith;
+  settled = λ goes. omega arith;
+  behind = omega arith;
+}
+
+-- the definitions say what the walk says
+pub least_is : (image : List ℕ) → least_valid image ≡ first_valid (is_valid image) sizes
+unfolding least_valid is_tried
+least_is image = (let one = are_one (is_valid image) (probe_end image) in sym one.0)
+
+pub search_reach_is : (image : List ℕ) → search_reach image ≡ ahead image 0
+unfolding search_reach is_tried
+search_reach_is image = (let one = are_one (is_valid image) (probe_end image) in sym one.1)
+
+-- at place number k of a list that is that of the places
+module _ (image old held held' : List ℕ) (ended ended' : Bool) (k : ℕ) (items : List ℕ) (are : items ≡ sizes)
+    (inside : k < length items) (so_far : Searched image old held ended k)
+    (longer : length held ≤ length held') (stays : ended ≡ true → ended' ≡ true)
+    (within : length held' ≤ max (length held) (probe_end image (get_or items k 0))) where
+  abbrev pub place : ℕ
+  place = get_or items k 0
+
+  here : drop k sizes ≡ place ∷ drop (suc k) sizes
+  here =
+      drop-cons sizes k 0 (omega (arith, inside, ap length are))
+      ∙ ap (λ p. p ∷ drop (suc k) sizes) (sym (ap (λ l. get_or l k 0) are))
+
+  goes_on : ended' ≡ false → ended ≡ false
+  goes_on goes = went ended refl where
+    went : (b : Bool) → ended ≡ b → ended ≡ false
+    went true e = absurd (let wrong = stays e in cc)
+    went false e = e
+
+  -- how far the places from this one on are looked at
+  reached : (is_valid image place ≡ false) → ahead image k ≡ max (probe_end image place) (ahead image (suc k))
+  unfolding furthest
+  reached fails = rw (here, fails) refl
+
+  reached_last : (is_valid image place ≡ true) → ahead image k ≡ probe_end image place
+  unfolding furthest
+  reached_last holds = rw (here, holds) (omega arith)
+
+  -- no valid header here: the search goes on
+  pub searched_on : is_valid image place ≡ false → (ended' ≡ false → probe_end image place ≤ length held')
+      → Searched image old held' ended' (k + 1)
+  unfolding first_valid
+  searched_on fails settled = rw add-one record {
+    place = so_far.place ∙ rw (here, fails) refl;
+    within = omega (arith, reached fails, so_far.within, so_far.behind, within);
+    settled = λ goes. omega (arith, reached fails, so_far.settled (goes_on goes), settled goes, longer);
+    behind = omega (arith, reached fails, so_far.behind);
+  }
+
+  -- this place is one of those that are looked at
+  pub reach_below : probe_end image place ≤ search_reach image
+  reach_below = by (is_valid image place) refl where
+    by : (b : Bool) → is_valid image place ≡ b → probe_end image place ≤ search_reach image
+    by true e = omega (arith, reached_last e, so_far.behind, search_reach_is image)
+    by false e = omega (arith, reached e, so_far.behind, search_reach_is image)
+
+  -- what is held stays within what the search looks at
+  pub searched_within : length held' ≤ max (length old) (search_reach image)
+  searched_within = omega (arith, reach_below, so_far.within, within, search_reach_is image)
+
+  -- where the end was found by now less is held than the search looks at
+  pub over_here : (before : Bool) → IsPrefixOf held ended image → IsPrefixOf held' ended' image
+      → (before ≡ false → ended ≡ true → length held < search_reach image)
+      → (ended ≡ false → ended' ≡ true → length held' < probe_end image place)
+      → before ≡ false → ended' ≡ true → length held' < search_reach image
+  over_here before front front' over over' =
+      over_joined image held held' before ended ended' (search_reach image) (probe_end image place)
+      (search_reach image) front front' over over' (omega arith) reach_below
+
+  -- a valid header is here: the search ends
+  pub searched_place : is_valid image place ≡ true → first_valid (is_valid image) sizes ≡ Some place
+  unfolding first_valid
+  searched_place holds = so_far.place ∙ rw (here, holds) refl
+
+  pub searched_settled : is_valid image place ≡ true → (ended' ≡ false → probe_end image place ≤ length held')
+      → ended' ≡ false → search_reach image ≤ length held'
+  searched_settled holds settled goes =
+      omega (
+        arith,
+        reached_last holds,
+        so_far.settled (goes_on goes),
+        settled goes,
+        longer,
+        search_reach_is image,
+      )
+
+-- what says that a header has a length says that it is valid
+pub some_valid : (image : List ℕ) (place : ℕ) (found : Option ℕ) → found ≡ valid_size image place
+    → is_some found ≡ true → is_valid image place ≡ true
+some_valid image place found is some = by (is_valid image place) refl where
+  by : (b : Bool) → is_valid image place ≡ b → is_valid image place ≡ true
+  by true e = e
+  by false e =
+      absurd (let none : found ≡ None = is ∙ rw e refl in
+      let wrong : is_some found ≡ false = ap is_some none in cc)
+
+pub none_valid : (image : List ℕ) (place : ℕ) (found : Option ℕ) → found ≡ valid_size image place
+    → is_some found ≡ false → is_valid image place ≡ false
+none_valid image place found is none = by (is_valid image place) refl where
+  by : (b : Bool) → is_valid image place ≡ b → is_valid image place ≡ false
+  by false e = e
+  by true e =
+      absurd (let some : found ≡ Some (size_at image place) = is ∙ rw e refl in
+      let right : is_some found ≡ true = ap is_some some in cc)
+
+-- the places are in range
+pub place_range : (k : ℕ) → k < length sizes → get_or sizes k 0 ≤ 4194304
+unfolding sizes
+place_range k inside =
+    leb-true (get_or sizes k 0) 4194304 (AllPass-from_list_all (λ size. nat_le size 4194304) sizes refl k 0 inside)
+
+-- the header that was found is that of the least place
+pub found_least : (held : List ℕ) (ended : Bool) (image bytes : List ℕ) (place : ℕ) (header : Option Header2)
+    → IsPrefixOf held ended image → bytes ≡ held → is_valid held place ≡ true
+    → header ≡ header2_from Secondary (Some PrimaryNotValid) (binary_at bytes place)
+    → first_valid (is_valid image) sizes ≡ Some place
+    → header ≡ option_and_then (found_at image) (least_valid image)
+found_least held ended image bytes place header front is valid made first =
+    let range = valid_range held place valid in
+    let same : binary_at bytes place ≡ binary_at image place = ap (λ l. at place 4096 l) is
+    ∙ at-front held ended image front place 4096 range.0 in
+    made ∙ ap (header2_from Secondary (Some PrimaryNotValid)) same
+    ∙ sym (ap (option_and_then (found_at image)) (least_is image ∙ first))
+
+-- where no place is left none has a valid header
+pub searched_all : (image old held : List ℕ) (ended : Bool) (k : ℕ) → Searched image old held ended k → length sizes ≤ k
+    → (first_valid (is_valid image) sizes ≡ None) × (ahead image k ≡ 0)
+unfolding first_valid furthest
+searched_all image old held ended k so_far end =
+    let none = drop_all k sizes end in (so_far.place ∙ rw none refl, rw none refl)

@@ -1,0 +1,91 @@
+-- What a header that fits says of itself.
+use Rattle.std.proofs.Common.{◌≡◌, ◌==◌, ◌&&◌, ◌||◌, ℕ, ◌+◌, ◌<◌, ◌≤◌, List, Bool, true, false, refl, length, arith}
+use Rattle.std.specs.Prelude.{bytes_eq, is_some, nat_le}
+use Rattle.std.specs.List.{list_any}
+use Rattle.std.proofs.lemmas.Bool.{leb-true, eqb-true, lt-leb, ne_eqb}
+use Rattle.std.proofs.lemmas.Bool.Decides.{nat_tests}
+use Rattle.luks_area.specs.Field.{at}
+use Rattle.luks2_binary.specs.Checksum2.{checksum_matches}
+use Rattle.luks2_binary.specs.Choice2.{beginning_at, binary_at, fits, is_binary_of, is_valid, size_at}
+use Rattle.luks2_binary.specs.Header2.{checksum_hash_in, hdr_offset_in, size_in, sizes}
+
+-- both of two tests hold
+pub and_parts : (a b : Bool) → (a && b) ≡ true → (a ≡ true) × (b ≡ true)
+and_parts true b h = (refl, h)
+and_parts false b h = (h, absurd (let wrong : false ≡ true = h in cc))
+
+-- one of two tests fails
+pub and_fails : (a b : Bool) → a ≡ false → (a && b) ≡ false
+and_fails a b h = rw h refl
+
+-- a length that is one of the nine
+known_size : (n : ℕ) → list_any (λ size. size == n) sizes ≡ true → (16384 ≤ n) × (n ≤ 4194304)
+unfolding sizes
+known_size n h = (grind (arith, nat_tests), grind (arith, nat_tests))
+
+-- either holds, and not the first
+or_second : (a b : Bool) → a ≡ false → (a || b) ≡ true → b ≡ true
+or_second true b fails h = absurd (cc)
+or_second false b fails h = h
+
+module _ (place : ℕ) (binary : List ℕ) (is : is_binary_of place binary ≡ true) where
+  -- the tests of a binary header, but for its hash function and its own place
+  tests : (list_any (λ size. size == size_in binary) sizes ≡ true) × ((place == 0 || size_in binary == place) ≡ true)
+  unfolding is_binary_of
+  tests =
+      let begins = bytes_eq (at 0 8 binary) (beginning_at place) in
+      let sized = list_any (λ size. size == size_in binary) sizes in
+      let own = place == 0 || size_in binary == place in
+      let there = hdr_offset_in binary == place in
+      let known = is_some (checksum_hash_in binary) in
+      let four = and_parts (begins && sized && own && there) known is in
+      let three = and_parts (begins && sized && own) there four.0 in
+      let two = and_parts (begins && sized) own three.0 in
+      let one = and_parts begins sized two.0 in
+      (one.1, two.1)
+
+  -- the length of a header is one of the nine
+  pub size_range : (16384 ≤ size_in binary) × (size_in binary ≤ 4194304)
+  size_range = known_size (size_in binary) tests.0
+
+  -- a header that is no primary one is as long as its place says
+  pub size_is_place : (place ≡ 0 → ⊥) → size_in binary ≡ place
+  size_is_place some =
+      eqb-true (size_in binary) place (or_second (place == 0) (size_in binary == place) (ne_eqb place 0 some) tests.1)
+
+module _ (image : List ℕ) (place : ℕ) where
+  -- a header that fits is there
+  pub fits_parts : fits image place ≡ true
+      → (place + 4096 ≤ length image) × (is_binary_of place (binary_at image place) ≡ true)
+  unfolding fits
+  fits_parts h =
+      let both = and_parts (nat_le (place + 4096) (length image)) (is_binary_of place (binary_at image place)) h in
+      (leb-true (place + 4096) (length image) both.0, both.1)
+
+  -- none fits an image that ends before
+  pub short-fits : length image < place + 4096 → fits image place ≡ false
+  unfolding fits
+  short-fits h = rw (lt-leb (place + 4096) (length image) h) refl
+
+  -- what does not fit is not valid
+  pub unfit-is_valid : fits image place ≡ false → is_valid image place ≡ false
+  unfolding is_valid
+  unfit-is_valid h = rw h refl
+
+  -- what is valid fits, and is there whole
+  pub valid_parts : is_valid image place ≡ true
+      → (fits image place ≡ true) × (place + size_at image place ≤ length image)
+  unfolding is_valid
+  valid_parts h =
+      let whole = nat_le (place + size_at image place) (length image) in
+      let two = and_parts (fits image place && whole) (checksum_matches (at place (size_at image place) image)) h in
+      let one = and_parts (fits image place) whole two.0 in
+      (one.0, leb-true (place + size_at image place) (length image) one.1)
+
+  -- a valid header has room for its binary header, and one of the nine lengths
+  pub valid_range : is_valid image place ≡ true
+      → (place + 4096 ≤ length image) × (16384 ≤ size_at image place) × (size_at image place ≤ 4194304)
+  valid_range h =
+      let fit = fits_parts (valid_parts h).0 in
+      let range = size_range place (binary_at image place) fit.1 in
+      (fit.0, range.0, range.1)

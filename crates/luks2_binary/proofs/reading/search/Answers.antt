@@ -1,0 +1,150 @@
+use Rattle.std.proofs.Common.{◌∙◌, ◌<◌, ap, sym, refl, length, get_or, arith}
+use Rattle.std.specs.Prelude.{option_and_then}
+use Rattle.std.proofs.lemmas.Result.{err_from_is_err_and}
+use Rattle.luks2_binary.specs.Choice2.{found_at}
+use Rattle.luks2_binary.specs.Header2.{sizes}
+use Rattle.luks2_binary.proofs.FrontLemmas.{front_self, grew_more, grew_none}
+use Rattle.luks2_binary.proofs.SearchLemmas.{found_least, least_is, none_valid, over_here, place_range, reach_below}
+use Rattle.luks2_binary.proofs.SearchLemmas.{search_reach_is, searched_all, searched_none, searched_on, searched_place}
+use Rattle.luks2_binary.proofs.SearchLemmas.{searched_settled, searched_within, some_valid}
+use Rattle.luks2_binary.proofs.reading.search.Goals as goal
+
+pub loop-place-init : goal.loop-place-init
+loop-place-init g c = record {
+  searched = λ image front. searched_none image c.args.area.now c.args.ended.now;
+  over = λ image front goes found. absurd (cc);
+  grew = grew_none c.args.area.now c.args.ended.now _ _;
+  reads = refl;
+}
+
+pub header_at-requires : goal.header_at-requires
+header_at-requires g c =
+    let inside : c.loop-place.place-index < length sizes =
+    omega (arith, c.loop-place-test.true, ap length c.places-place-items.ensures) in
+    rw c.places-place-items.ensures (place_range c.loop-place.place-index inside)
+
+-- reading is broken off at a place
+pub returns-in_err-header_at-clause-within : goal.returns-in_err-header_at-clause-within
+returns-in_err-header_at-clause-within g c = λ image front.
+    let grew = c.header_at.ensures.grew in
+    searched_within image c.args.area.now c.loop-place.area _ c.loop-place.ended _ c.loop-place.place-index _
+    c.places-place-items.ensures c.loop-place-test.true
+    (c.loop-place.invariant.searched image (grew.fronts image front)) grew.longer grew.stays
+    (c.header_at.ensures.within image front)
+
+pub returns-in_err-header_at-clause-early : goal.returns-in_err-header_at-clause-early
+returns-in_err-header_at-clause-early g c =
+    let p = err_from_is_err_and c.from_residual.result c.from_residual.ensures.1 in
+    let grew = c.header_at.ensures.grew in
+    rw (p.1, p.2) (λ is image front.
+    let below = reach_below image c.args.area.now c.loop-place.area _ c.loop-place.ended _ c.loop-place.place-index _
+    c.places-place-items.ensures c.loop-place-test.true
+    (c.loop-place.invariant.searched image (grew.fronts image front)) grew.longer grew.stays
+    (c.header_at.ensures.within image front) in
+    omega (arith, below, c.in_err-header_at.ensures.early is image front))
+
+-- a valid header is at a place
+pub valid_header-requires-clause-valid : goal.valid_header-requires-clause-valid
+valid_header-requires-clause-valid g c =
+    rw c.as_slice-bytes.ensures.value (some_valid _ _ c.in_ok-header_at.field-0
+    (c.in_ok-header_at.ensures.valid c.header_at.new.area (front_self c.header_at.new.area c.header_at.new.ended))
+    (sym c.is_some.ensures ∙ c.if-is_some.true))
+
+pub valid_header-requires-clause-range : goal.valid_header-requires-clause-range
+valid_header-requires-clause-range g c =
+    let inside : c.loop-place.place-index < length sizes =
+    omega (arith, c.loop-place-test.true, ap length c.places-place-items.ensures) in
+    rw c.places-place-items.ensures (place_range c.loop-place.place-index inside)
+
+pub returns-then-is_some-clause-found : goal.returns-then-is_some-clause-found
+returns-then-is_some-clause-found g c = λ image front.
+    let some = sym c.is_some.ensures ∙ c.if-is_some.true in
+    let place = get_or c.places-place-items.result.now c.loop-place.place-index 0 in
+    let grew = c.header_at.ensures.grew in
+    let first = searched_place image c.args.area.now c.loop-place.area _ c.loop-place.ended _
+    c.loop-place.place-index _ c.places-place-items.ensures c.loop-place-test.true
+    (c.loop-place.invariant.searched image (grew.fronts image front)) grew.longer grew.stays
+    (c.header_at.ensures.within image front)
+    (some_valid image place c.in_ok-header_at.field-0 (c.in_ok-header_at.ensures.valid image front) some) in
+    let valid = some_valid c.header_at.new.area place c.in_ok-header_at.field-0
+    (c.in_ok-header_at.ensures.valid c.header_at.new.area (front_self c.header_at.new.area c.header_at.new.ended))
+    some in
+    found_least c.header_at.new.area c.header_at.new.ended image c.as_slice-bytes.result.now place
+    c.valid_header.result front c.as_slice-bytes.ensures.value valid c.valid_header.ensures first
+
+pub returns-then-is_some-clause-within : goal.returns-then-is_some-clause-within
+returns-then-is_some-clause-within g c = λ image front.
+    let grew = c.header_at.ensures.grew in
+    searched_within image c.args.area.now c.loop-place.area _ c.loop-place.ended _ c.loop-place.place-index _
+    c.places-place-items.ensures c.loop-place-test.true
+    (c.loop-place.invariant.searched image (grew.fronts image front)) grew.longer grew.stays
+    (c.header_at.ensures.within image front)
+
+pub returns-then-is_some-clause-settled : goal.returns-then-is_some-clause-settled
+returns-then-is_some-clause-settled g c = λ image front goes.
+    let place = get_or c.places-place-items.result.now c.loop-place.place-index 0 in
+    let grew = c.header_at.ensures.grew in
+    searched_settled image c.args.area.now c.loop-place.area _ c.loop-place.ended _ c.loop-place.place-index _
+    c.places-place-items.ensures c.loop-place-test.true
+    (c.loop-place.invariant.searched image (grew.fronts image front)) grew.longer grew.stays
+    (c.header_at.ensures.within image front)
+    (some_valid image place c.in_ok-header_at.field-0 (c.in_ok-header_at.ensures.valid image front)
+    (sym c.is_some.ensures ∙ c.if-is_some.true))
+    (c.in_ok-header_at.ensures.settled image front) goes
+
+pub returns-then-is_some-clause-over : goal.returns-then-is_some-clause-over
+returns-then-is_some-clause-over g c = λ image front.
+    let grew = c.header_at.ensures.grew in
+    let first = grew.fronts image front in
+    over_here image c.args.area.now c.loop-place.area _ c.loop-place.ended _ c.loop-place.place-index _
+    c.places-place-items.ensures c.loop-place-test.true
+    (c.loop-place.invariant.searched image first) grew.longer grew.stays (c.header_at.ensures.within image front)
+    c.args.ended.now first front (c.loop-place.invariant.over image first) (c.in_ok-header_at.ensures.over image front)
+
+-- none is: the search goes on
+pub loop-place-preserved : goal.loop-place-preserved
+loop-place-preserved g c = record {
+  searched = λ image front.
+      let place = get_or c.places-place-items.result.now c.loop-place.place-index 0 in
+      let grew = c.header_at.ensures.grew in
+      searched_on image c.args.area.now c.loop-place.area _ c.loop-place.ended _ c.loop-place.place-index _
+      c.places-place-items.ensures c.loop-place-test.true
+      (c.loop-place.invariant.searched image (grew.fronts image front)) grew.longer grew.stays
+      (c.header_at.ensures.within image front)
+      (none_valid image place c.in_ok-header_at.field-0 (c.in_ok-header_at.ensures.valid image front)
+      (sym c.is_some.ensures ∙ c.if-is_some.false))
+      (c.in_ok-header_at.ensures.settled image front);
+  over = λ image front.
+      let grew = c.header_at.ensures.grew in
+      let first = grew.fronts image front in
+      over_here image c.args.area.now c.loop-place.area _ c.loop-place.ended _ c.loop-place.place-index _
+      c.places-place-items.ensures c.loop-place-test.true
+      (c.loop-place.invariant.searched image first) grew.longer grew.stays (c.header_at.ensures.within image front)
+      c.args.ended.now first front (c.loop-place.invariant.over image first)
+      (c.in_ok-header_at.ensures.over image front);
+  grew = grew_more _ _ _ _ _ _ _ _ _ _ _ _ c.loop-place.invariant.grew c.header_at.ensures.grew;
+  reads = c.in_ok-header_at.ensures.reads ∙ c.loop-place.invariant.reads;
+}
+
+-- no place has one
+pub returns-clause-found : goal.returns-clause-found
+returns-clause-found g c = λ image front.
+    let none = searched_all image c.args.area.now c.loop-place.area c.loop-place.ended c.loop-place.place-index
+    (c.loop-place.invariant.searched image front)
+    (omega (arith, c.loop-place-test.false, ap length c.places-place-items.ensures)) in
+    sym (ap (option_and_then (found_at image)) (least_is image ∙ none.0))
+
+pub returns-clause-within : goal.returns-clause-within
+returns-clause-within g c = λ image front.
+    (let so_far = c.loop-place.invariant.searched image front in
+    omega (arith, so_far.within, search_reach_is image))
+
+pub returns-clause-settled : goal.returns-clause-settled
+returns-clause-settled g c = λ image front goes.
+    let so_far = c.loop-place.invariant.searched image front in
+    let none = searched_all image c.args.area.now c.loop-place.area c.loop-place.ended c.loop-place.place-index so_far
+    (omega (arith, c.loop-place-test.false, ap length c.places-place-items.ensures)) in
+    omega (arith, so_far.settled goes, none.1, search_reach_is image)
+
+pub returns-clause-over : goal.returns-clause-over
+returns-clause-over g c = λ image front goes found. c.loop-place.invariant.over image front goes found

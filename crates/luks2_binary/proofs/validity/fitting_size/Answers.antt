@@ -1,0 +1,18 @@
+use Rattle.std.proofs.Common.{◌∙◌, sym}
+use Rattle.luks2_binary.specs.Choice2.{binary_at}
+use Rattle.luks2_binary.proofs.ValidLemmas.{fits_parts, size_range}
+use Rattle.luks2_binary.proofs.validity.fitting_size.Goals as goal
+
+pub binary_at-requires : goal.binary_at-requires
+binary_at-requires c =
+    (let is = fits_parts c.args.bytes.now c.args.place (sym c.fits.ensures ∙ c.if-fits.true) in is.0)
+
+pub returns-then-fits-clause-range : goal.returns-then-fits-clause-range
+returns-then-fits-clause-range c =
+    let is = fits_parts c.args.bytes.now c.args.place (sym c.fits.ensures ∙ c.if-fits.true) in
+    let range = size_range c.args.place (binary_at c.args.bytes.now c.args.place) is.1 in
+    rw (c.size_in.ensures, c.binary_at.ensures.value) range
+
+pub returns-then-fits-clause-within : goal.returns-then-fits-clause-within
+returns-then-fits-clause-within c =
+    (let is = fits_parts c.args.bytes.now c.args.place (sym c.fits.ensures ∙ c.if-fits.true) in is.0)

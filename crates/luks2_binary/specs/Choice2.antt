@@ -1,0 +1,82 @@
+-- Which header of LUKS2 an image has (LUKS2 On-Disk Format Specification 1.1, sections 2.1 and 2.2): the primary one
+-- stands at the image's start, the secondary one at its own length.
+use Rattle.std.specs.Prelude.{ℕ, ◌+◌, ◌==◌, ◌&&◌, ◌||◌, not, nat_le, nat_lt, if◌then◌else◌, Bool, List, [], ◌∷◌, Option}
+use Rattle.std.specs.Prelude.{Some, None, Result, bytes_eq, is_some, length, ok_or, option_and_then}
+use Rattle.std.specs.List.{find, list_any}
+use Rattle.luks_area.specs.Field.{at}
+use Rattle.luks_area.specs.declared.fault.HeaderFault.{HeaderFault}
+use Rattle.luks_area.specs.declared.fault.HeaderFault.TheVariants.{NotLuks}
+use Rattle.luks2_binary.specs.Checksum2.{checksum_matches}
+use Rattle.luks2_binary.specs.Header2.{binary_len, checksum_hash_in, header2_from, hdr_offset_in, sequence_in, size_in, sizes}
+use Rattle.luks2_binary.specs.declared.header.Finding.TheVariants.{PrimaryNotValid, SecondaryNotValid, SequencesDiffer}
+use Rattle.luks2_binary.specs.declared.header.Header2.{Header2}
+use Rattle.luks2_binary.specs.declared.header.Place.TheVariants.{Primary, Secondary}
+
+-- what the header at a place begins with: LUKS at the image's start and SKUL elsewhere, BA BE, and the version 2 in two
+-- bytes
+unfoldable pub beginning_at : ℕ → List ℕ
+beginning_at place =
+    if place == 0 then 0x4c ∷ 0x55 ∷ 0x4b ∷ 0x53 ∷ 0xba ∷ 0xbe ∷ 0x00 ∷ 0x02 ∷ []
+    else 0x53 ∷ 0x4b ∷ 0x55 ∷ 0x4c ∷ 0xba ∷ 0xbe ∷ 0x00 ∷ 0x02 ∷ []
+
+-- these 4096 bytes are a binary header of this place: its magic bytes and version, one of the nine lengths, which is
+-- the place of a secondary header, the place itself, and a hash function that is known
+unfoldable pub is_binary_of : ℕ → List ℕ → Bool
+is_binary_of place binary =
+    bytes_eq (at 0 8 binary) (beginning_at place)
+    && list_any (λ size. size == size_in binary) sizes
+    && (place == 0 || size_in binary == place)
+    && hdr_offset_in binary == place
+    && is_some (checksum_hash_in binary)
+
+-- the 4096 bytes at a place
+abbrev pub binary_at : List ℕ → ℕ → List ℕ
+binary_at image place = at place binary_len image
+
+-- the length of the header at a place with its JSON area
+abbrev pub size_at : List ℕ → ℕ → ℕ
+size_at image place = size_in (binary_at image place)
+
+-- the image has a binary header of this place there
+unfoldable pub fits : List ℕ → ℕ → Bool
+fits image place = nat_le (place + binary_len) (length image) && is_binary_of place (binary_at image place)
+
+-- and all of the header, with a checksum that agrees
+unfoldable pub is_valid : List ℕ → ℕ → Bool
+is_valid image place =
+    fits image place
+    && nat_le (place + size_at image place) (length image)
+    && checksum_matches (at place (size_at image place) image)
+
+-- a place is tried, where the primary header is not valid: one of the nine before which there is no valid header
+unfoldable pub is_tried : List ℕ → ℕ → Bool
+is_tried image place = not (list_any (λ other. nat_lt other place && is_valid image other) sizes)
+
+-- the least place of the nine with a valid header
+unfoldable pub least_valid : List ℕ → Option ℕ
+least_valid image = find (λ place. is_tried image place && is_valid image place) sizes
+
+-- the header of an image whose primary one is valid: the secondary one right behind it, where that is valid and of a
+-- later sequence number, and otherwise the primary
+unfoldable pub with_valid_primary : List ℕ → Option Header2
+with_valid_primary image =
+    let primary = binary_at image 0 in
+    let secondary = binary_at image (size_at image 0) in
+    if not (is_valid image (size_at image 0)) then header2_from Primary (Some SecondaryNotValid) primary
+    else if nat_lt (sequence_in primary) (sequence_in secondary)
+    then header2_from Secondary (Some SequencesDiffer) secondary
+    else if nat_lt (sequence_in secondary) (sequence_in primary) then header2_from Primary (Some SequencesDiffer) primary
+    else header2_from Primary None primary
+
+-- the header that is found at a place by the search
+abbrev pub found_at : List ℕ → ℕ → Option Header2
+found_at image place = header2_from Secondary (Some PrimaryNotValid) (binary_at image place)
+
+-- the header of an image, where it has one
+unfoldable pub chosen2_of : List ℕ → Option Header2
+chosen2_of image =
+    if is_valid image 0 then with_valid_primary image else option_and_then (found_at image) (least_valid image)
+
+-- the header of an image that is not of LUKS1, or that there is none
+unfoldable pub header2_of : List ℕ → Result Header2 HeaderFault
+header2_of image = ok_or (chosen2_of image) NotLuks

@@ -1,0 +1,54 @@
+-- The binary header of LUKS2: its fields (LUKS2 On-Disk Format Specification 1.1, section 2.1).
+use Rattle.std.specs.Prelude.{ℕ, ◌*◌, false, List, [], ◌∷◌, Option, option_map}
+use Rattle.luks_area.specs.Field.{at, be64, text_of}
+use Rattle.luks_kdf.specs.Hash.{hash_named}
+use Rattle.luks_kdf.specs.declared.hash.Hash.{Hash}
+use Rattle.luks2_binary.specs.declared.header.Finding.{Finding}
+use Rattle.luks2_binary.specs.declared.header.Header2.{Header2}
+use Rattle.luks2_binary.specs.declared.header.Place.{Place}
+
+-- the length of a binary header in bytes. Its JSON area follows it
+abbrev pub binary_len : ℕ
+binary_len = 4096
+
+-- the lengths that a header and its JSON area can have together, in bytes. They are also the places of secondary
+-- headers
+unfoldable pub sizes : List ℕ
+sizes = 16384 ∷ 32768 ∷ 65536 ∷ 131072 ∷ 262144 ∷ 524288 ∷ 1048576 ∷ 2097152 ∷ 4194304 ∷ []
+
+-- `hdr_size`: the length of the header and its JSON area, in bytes
+unfoldable pub size_in : List ℕ → ℕ
+size_in binary = be64 (at 8 8 binary)
+
+-- `seqid`: the number that rises with each change of the header
+unfoldable pub sequence_in : List ℕ → ℕ
+sequence_in binary = be64 (at 16 8 binary)
+
+-- `csum_alg`: the hash function of the checksum, where its name is known
+unfoldable pub checksum_hash_in : List ℕ → Option Hash
+checksum_hash_in binary = hash_named (text_of (at 72 32 binary))
+
+-- `hdr_offset`: the header's own place in bytes
+unfoldable pub hdr_offset_in : List ℕ → ℕ
+hdr_offset_in binary = be64 (at 256 8 binary)
+
+-- the header that 4096 bytes write, where the hash function is known. It is read as one that stands in the payload's
+-- image
+unfoldable pub header2_from : Place → Option Finding → List ℕ → Option Header2
+header2_from place finding binary =
+    option_map (λ hash. record {
+      place = place;
+      size = size_in binary;
+      sequence = sequence_in binary;
+      label = text_of (at 24 48 binary);
+      hash = hash;
+      salt = at 104 64 binary;
+      uuid = text_of (at 168 40 binary);
+      subsystem = text_of (at 208 48 binary);
+      finding = finding;
+      detached = false;
+    }) (checksum_hash_in binary)
+
+-- the first byte behind both headers of an image
+abbrev pub end2_of : Header2 → ℕ
+end2_of header = 2 * header.size

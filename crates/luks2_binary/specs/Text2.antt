@@ -1,0 +1,20 @@
+-- The JSON text of a header (LUKS2 On-Disk Format Specification 1.1, section 3).
+use Rattle.std.specs.Prelude.{ℕ, ◌+◌, ◌-◌, List}
+use Rattle.luks_area.specs.Field.{at, text_of}
+use Rattle.luks2_binary.specs.Header2.{binary_len}
+use Rattle.luks2_binary.specs.declared.header.Header2.{Header2}
+use Rattle.luks2_binary.specs.declared.header.Place.{Place}
+use Rattle.luks2_binary.specs.declared.header.Place.TheVariants.{Primary, Secondary}
+
+-- where the header of this length stands, in bytes: a secondary one right behind the primary
+abbrev pub header_offset : Place → ℕ → ℕ
+header_offset Primary size = 0
+header_offset Secondary size = size
+
+-- the JSON area behind the binary header
+unfoldable pub json_area_of : List ℕ → Header2 → List ℕ
+json_area_of image header = at (header_offset header.place header.size + binary_len) (header.size - binary_len) image
+
+-- its text, which ends before the first zero byte or with the area
+unfoldable pub json_text_of : List ℕ → Header2 → List ℕ
+json_text_of image header = text_of (json_area_of image header)

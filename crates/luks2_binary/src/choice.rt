@@ -1,0 +1,50 @@
+//! Which of two valid headers is chosen.
+
+ghost use Rattle.std.specs.Prelude.{◌≡◌, ◌≤◌, true};
+ghost use Rattle.luks2_binary.specs.Choice2.{with_valid_primary, binary_at, is_valid, size_at};
+ghost use Rattle.luks2_binary.specs.Header2.{header2_from};
+
+use crate::header::{Finding, Header2, Place, sequence_in};
+use crate::validity::{binary_at, is_valid};
+
+/// The valid header that stands in these bytes at a place.
+pub(crate) fn valid_header(
+    bytes: &[u8],
+    start: usize,
+    place: Place,
+    finding: Option<Finding>,
+) -> Option<Header2>
+    requires valid { is_valid bytes.now start ≡ true }
+    requires range { start ≤ 4194304 }
+    ensures { result ≡ header2_from place finding (binary_at bytes.now start) }
+{
+    Header2::from_bytes(place, finding, binary_at(bytes, start))
+}
+
+/// The header of an image whose primary one is valid and of this length: the secondary one where
+/// that is valid and of a later sequence number, and otherwise the primary.
+#[tactic(auto, unfolding(crate::specs::Choice2::with_valid_primary))]
+pub(crate) fn beside_primary(bytes: &[u8], size: usize) -> Option<Header2>
+    requires valid { is_valid bytes.now 0 ≡ true }
+    requires long { size ≡ size_at bytes.now 0 }
+    requires range { size ≤ 4194304 }
+    ensures { result ≡ with_valid_primary bytes.now }
+{
+    if !is_valid(bytes, size) {
+        return valid_header(bytes, 0, Place::Primary, Some(Finding::SecondaryNotValid));
+    }
+    let primary = sequence_in(binary_at(bytes, 0));
+    let secondary = sequence_in(binary_at(bytes, size));
+    if primary < secondary {
+        valid_header(
+            bytes,
+            size,
+            Place::Secondary,
+            Some(Finding::SequencesDiffer),
+        )
+    } else if secondary < primary {
+        valid_header(bytes, 0, Place::Primary, Some(Finding::SequencesDiffer))
+    } else {
+        valid_header(bytes, 0, Place::Primary, None)
+    }
+}

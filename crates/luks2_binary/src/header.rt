@@ -1,0 +1,167 @@
+//! The binary header of LUKS2 (LUKS2 On-Disk Format Specification 1.1, section 2.1).
+
+ghost use Rattle.std.specs.Prelude.{◌≡◌, ◌≤◌, ◌==◌, length, position};
+ghost use Rattle.luks_area.specs.Field.{at, text_of};
+ghost use Rattle.luks2_binary.specs.Header2.{end2_of, checksum_hash_in, header2_from, hdr_offset_in, sequence_in};
+ghost use Rattle.luks2_binary.specs.Header2.{size_in};
+ghost use Rattle.luks2_binary.specs.Text2.{json_text_of};
+
+use luks_area::field::{bytes_at, number64_at, text_at};
+use luks_area::text::Text;
+use luks_kdf::Hash;
+
+/// The length of a binary header in bytes. Its JSON area follows it.
+pub const BINARY_LEN: usize = 4096;
+
+/// Which of the two headers of an image.
+#[derive(Clone, Copy, PartialEq, Eq, Debug)]
+pub enum Place {
+    /// The one at the image's start.
+    Primary,
+    /// The one right behind it, at its own length.
+    Secondary,
+}
+
+/// What is amiss with the two headers of an image that has one.
+#[derive(Clone, Copy, PartialEq, Eq, Debug)]
+pub enum Finding {
+    /// The primary header is not valid; the secondary one was found by the search.
+    PrimaryNotValid,
+    /// The primary header is valid, and the secondary one is not.
+    SecondaryNotValid,
+    /// Both are valid, and their sequence numbers differ.
+    SequencesDiffer,
+}
+
+/// The fields of a header, as they are stored, and whether it is detached.
+#[derive(Drop, Debug)]
+pub struct Header2 {
+    /// Where it stands.
+    pub place: Place,
+    /// The length of the header and its JSON area in bytes, 16,384 to 4,194,304.
+    pub size: u32,
+    /// The number that rises with each change of the header.
+    pub sequence: u64,
+    /// The volume's label.
+    pub label: Text<48>,
+    /// The hash function of the checksum.
+    pub hash: Hash,
+    /// Bytes that make the two headers differ.
+    pub salt: [u8; 64],
+    /// The volume's UUID.
+    pub uuid: Text<40>,
+    /// The volume's subsystem, a second label.
+    pub subsystem: Text<48>,
+    /// What is amiss with the two headers, if anything.
+    pub finding: Option<Finding>,
+    /// Whether it stands apart from the payload's image. No header says so of itself: it is read
+    /// as one that does not.
+    pub detached: bool,
+}
+
+/// The hash function of a header's checksum, where its name is known.
+#[tactic(auto, unfolding(crate::specs::Header2::checksum_hash_in))]
+pub(crate) fn hash_in(binary: &[u8]) -> Option<Hash>
+    requires { 4096 ≤ length binary.now }
+    ensures { result ≡ checksum_hash_in binary.now }
+{
+    Hash::from_bytes(text_at::<32>(binary, 72).as_bytes())
+}
+
+/// The length that a header gives for itself and its JSON area.
+#[tactic(auto, unfolding(crate::specs::Header2::size_in))]
+pub(crate) fn size_in(binary: &[u8]) -> u64
+    requires { 4096 ≤ length binary.now }
+    ensures { result ≡ size_in binary.now }
+{
+    number64_at(binary, 8)
+}
+
+/// The sequence number of a header.
+#[tactic(auto, unfolding(crate::specs::Header2::sequence_in))]
+pub(crate) fn sequence_in(binary: &[u8]) -> u64
+    requires { 4096 ≤ length binary.now }
+    ensures { result ≡ sequence_in binary.now }
+{
+    number64_at(binary, 16)
+}
+
+/// The place that a header gives for itself.
+#[tactic(auto, unfolding(crate::specs::Header2::hdr_offset_in))]
+pub(crate) fn place_in(binary: &[u8]) -> u64
+    requires { 4096 ≤ length binary.now }
+    ensures { result ≡ hdr_offset_in binary.now }
+{
+    number64_at(binary, 256)
+}
+
+impl Header2 {
+    /// The header that the 4,096 bytes write, or `None` where the hash function of its checksum is
+    /// not known.
+    pub(crate) fn from_bytes(
+        place: Place,
+        finding: Option<Finding>,
+        binary: &[u8],
+    ) -> Option<Header2>
+        requires whole { 4096 ≤ length binary.now }
+        requires sized { size_in binary.now ≤ 4194304 }
+        ensures { result ≡ header2_from place finding binary.now }
+    {
+        let hash = hash_in(binary)?;
+        Some(Header2 {
+            place,
+            size: size_in(binary) as u32,
+            sequence: sequence_in(binary),
+            label: text_at(binary, 24),
+            hash,
+            salt: bytes_at(binary, 104),
+            uuid: text_at(binary, 168),
+            subsystem: text_at(binary, 208),
+            finding,
+            detached: false,
+        })
+    }
+
+    /// The first byte behind both headers of the image.
+    pub fn end(&self) -> u64
+        ensures { result ≡ end2_of self.now }
+    {
+        2 * u64::from(self.size)
+    }
+
+    /// The text of its JSON area, as it stands in the image: it ends before the first zero byte or
+    /// with the area. `image` is the front of the image that was read for the header.
+    #[tactic(auto, unfolding(crate::specs::Text2::json_text_of, crate::specs::Text2::json_area_of))]
+    pub fn json_text<'a>(&self, image: &'a [u8]) -> &'a [u8]
+        ensures { result.now ≡ json_text_of image.now self.now }
+    {
+        let size = self.size as usize;
+        let start = match self.place {
+            Place::Primary => 0,
+            Place::Secondary => size,
+        };
+        text_before_zero(range(image, start + BINARY_LEN, size.saturating_sub(BINARY_LEN)))
+    }
+}
+
+// So many bytes from a place on, or as many of them as there are.
+fn range(bytes: &[u8], start: usize, len: usize) -> &[u8]
+    ensures { result.now ≡ at start len bytes.now }
+{
+    let rest = &bytes[start.min(bytes.len())..];
+    &rest[..len.min(rest.len())]
+}
+
+// The bytes before the first zero byte, or all of them.
+fn text_before_zero(area: &[u8]) -> &[u8]
+    ensures { result.now ≡ text_of area.now }
+{
+    &area[..first_zero(area).unwrap_or(area.len())]
+}
+
+// The place of the first zero byte.
+fn first_zero(bytes: &[u8]) -> Option<usize>
+    ensures { result ≡ position (λ b. b == 0) bytes.now }
+{
+    bytes.iter().position(|byte| *byte == 0)
+}

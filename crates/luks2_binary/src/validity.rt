@@ -1,0 +1,148 @@
+//! Whether there is a valid header at a place.
+
+ghost use Rattle.std.specs.Prelude.{◌≡◌, ◌+◌, ◌≤◌, ◌++◌, ◌==◌, ◌&&◌, ◌||◌, IfSome, bytes_eq};
+ghost use Rattle.std.specs.Prelude.{if◌then◌else◌, length, Some, None};
+ghost use Rattle.std.specs.List.{list_any};
+ghost use Rattle.luks_kdf.specs.Hash.{hash_of, digest_len};
+ghost use Rattle.luks_area.specs.Field.{at};
+ghost use Rattle.luks2_binary.specs.Checksum2.{checksum_matches, no_checksum, without_checksum};
+ghost use Rattle.luks2_binary.specs.Choice2.{beginning_at, binary_at, fits, is_binary_of, is_valid};
+ghost use Rattle.luks2_binary.specs.Choice2.{size_at};
+ghost use Rattle.luks2_binary.specs.Header2.{checksum_hash_in, size_in, sizes};
+
+use crate::header::{BINARY_LEN, hash_in, place_in, size_in};
+use luks_kdf::{Hash, digest};
+
+/// The lengths that a header and its JSON area can have together, in bytes. They are also the
+/// places of secondary headers.
+static SIZES: [u64; 9] = [
+    16_384, 32_768, 65_536, 131_072, 262_144, 524_288, 1_048_576, 2_097_152, 4_194_304,
+];
+
+/// What a primary header begins with: the magic bytes and the version 2.
+const PRIMARY_BEGINNING: [u8; 8] = [0x4c, 0x55, 0x4b, 0x53, 0xba, 0xbe, 0x00, 0x02];
+
+/// What a secondary header begins with.
+const SECONDARY_BEGINNING: [u8; 8] = [0x53, 0x4b, 0x55, 0x4c, 0xba, 0xbe, 0x00, 0x02];
+
+// A header begins as it has to at this place.
+#[tactic(auto, unfolding(crate::specs::Choice2::beginning_at))]
+fn begins(place: u64, binary: &[u8]) -> bool
+    ensures { result ≡ bytes_eq (at 0 8 binary.now) (beginning_at place) }
+{
+    if place == 0 {
+        binary.starts_with(&PRIMARY_BEGINNING)
+    } else {
+        binary.starts_with(&SECONDARY_BEGINNING)
+    }
+}
+
+// The number is one of the nine lengths.
+#[tactic(auto, unfolding(crate::specs::Header2::sizes))]
+fn is_size(number: u64) -> bool
+    ensures { result ≡ list_any (λ size. size == number) sizes }
+{
+    SIZES.contains(&number)
+}
+
+// These bytes are a binary header of this place.
+#[tactic(auto, unfolding(crate::specs::Choice2::is_binary_of))]
+fn is_binary_of(place: u64, binary: &[u8]) -> bool
+    requires { length binary.now ≡ 4096 }
+    ensures { result ≡ is_binary_of place binary.now }
+{
+    let size = size_in(binary);
+    begins(place, binary)
+        && is_size(size)
+        && (place == 0 || size == place)
+        && place_in(binary) == place
+        && hash_in(binary).is_some()
+}
+
+/// The 4,096 bytes at a place.
+pub(crate) fn binary_at(bytes: &[u8], place: usize) -> &[u8]
+    requires { place + 4096 ≤ length bytes.now }
+    ensures value { result.now ≡ binary_at bytes.now place }
+    ensures whole { length result.now ≡ 4096 }
+{
+    &bytes[place..place + BINARY_LEN]
+}
+
+/// There is a binary header of this place.
+#[tactic(auto, unfolding(crate::specs::Choice2::fits))]
+pub(crate) fn fits(bytes: &[u8], place: usize) -> bool
+    requires { place ≤ 4194304 }
+    ensures { result ≡ fits bytes.now place }
+{
+    place + BINARY_LEN <= bytes.len() && is_binary_of(place as u64, binary_at(bytes, place))
+}
+
+static NO_CHECKSUM: [u8; 64] = [0; 64];
+
+// What stands in place of a checksum while it is computed.
+#[tactic(auto, unfolding(crate::specs::Checksum2::no_checksum))]
+fn no_checksum() -> &'static [u8]
+    ensures { result.now ≡ no_checksum }
+{
+    &NO_CHECKSUM
+}
+
+// The checksum of a header by this hash function is the one that it holds. `sum` is room for it.
+#[tactic(auto, unfolding(crate::specs::Checksum2::without_checksum))]
+fn agrees(hash: Hash, header: &[u8], sum: &mut [u8]) -> bool
+    requires whole { 4096 ≤ length header.now }
+    requires room { length sum.old ≡ digest_len hash }
+    ensures { result ≡ bytes_eq (hash_of hash (without_checksum header.now))
+        (at 448 (digest_len hash) header.now) }
+{
+    digest(hash, &header[..448], no_checksum(), &header[512..], sum);
+    header[448..].starts_with(sum)
+}
+
+// The checksum of a header and its JSON area is the one that it holds.
+#[tactic(auto, unfolding(crate::specs::Checksum2::checksum_matches))]
+fn is_intact(header: &[u8]) -> bool
+    requires { 4096 ≤ length header.now }
+    ensures { result ≡ checksum_matches header.now }
+{
+    let mut sum = [0; 64];
+    match hash_in(header) {
+        Some(hash) => agrees(hash, header, &mut sum[..hash.size()]),
+        None => false,
+    }
+}
+
+/// There is a valid header at the place: it fits, is there whole, and its checksum agrees.
+#[tactic(auto, unfolding(crate::specs::Choice2::is_valid))]
+pub(crate) fn is_valid(bytes: &[u8], place: usize) -> bool
+    requires { place ≤ 4194304 }
+    ensures { result ≡ is_valid bytes.now place }
+{
+    let Some(size) = fitting_size(bytes, place) else {
+        return false;
+    };
+    place + size <= bytes.len() && is_intact(&bytes[place..place + size])
+}
+
+/// The length of the header at the place, where it fits.
+pub(crate) fn fitting_size(bytes: &[u8], place: usize) -> Option<usize>
+    requires { place ≤ 4194304 }
+    ensures value { result
+        ≡ (if fits bytes.now place then Some (size_at bytes.now place) else None) }
+    ensures range { IfSome result (λ size. (16384 ≤ size) × (size ≤ 4194304)) }
+    ensures within { IfSome result (λ size. place + 4096 ≤ length bytes.now) }
+{
+    if fits(bytes, place) {
+        Some(size_in(binary_at(bytes, place)) as usize)
+    } else {
+        None
+    }
+}
+
+/// The places where a secondary header may stand, by rising number.
+#[tactic(auto, unfolding(crate::specs::Header2::sizes))]
+pub(crate) fn places() -> &'static [u64]
+    ensures { result.now ≡ sizes }
+{
+    &SIZES
+}

@@ -1,0 +1,134 @@
+//! Images with headers of LUKS2, and what is read of them.
+//!
+//! Where a call is to succeed, an error ends the test on the spot: what is not handed up needs not
+//! be dropped on the way.
+
+use luks_area::area::HeaderArea;
+use luks_area::fault::HeaderFault;
+use luks_io::source::Source;
+use luks_kdf::{Hash, digest};
+use luks2_binary::header::Header2;
+use luks2_binary::reading::read_header2;
+use std::alloc::Global;
+use std::process::Abort;
+
+/// The JSON text of every header.
+pub const JSON: &[u8] =
+    b"{\"keyslots\":{},\"tokens\":{},\"segments\":{},\"digests\":{},\"config\":{}}";
+
+/// A header to be written.
+#[derive(Clone, Copy)]
+pub struct Sketch<'a> {
+    pub magic: &'a str,
+    pub place: usize,
+    pub size: usize,
+    pub sequence: u64,
+    pub hash: Hash,
+    pub name: &'a str,
+}
+
+/// A header of 16,384 bytes with SHA-256 and the sequence number 7, at the image's start.
+pub const PRIMARY: Sketch<'static> = Sketch {
+    magic: "LUKS",
+    place: 0,
+    size: 16_384,
+    sequence: 7,
+    hash: Hash::Sha256,
+    name: "sha256",
+};
+
+/// The one behind it.
+pub const SECONDARY: Sketch<'static> = Sketch {
+    magic: "SKUL",
+    place: 16_384,
+    ..PRIMARY
+};
+
+/// Puts bytes into others, from a place on.
+pub fn put(bytes: &mut [u8], place: usize, with: &[u8]) {
+    for (i, byte) in with.iter().enumerate() {
+        let at = place.saturating_add(i);
+        if at < bytes.len() {
+            bytes[at] = *byte;
+        }
+    }
+}
+
+/// Changes one byte by these bits.
+pub fn flip(bytes: &mut [u8], place: usize, bits: u8) {
+    if place < bytes.len() {
+        bytes[place] ^= bits;
+    }
+}
+
+/// So many bytes from a place on, or as many as there are.
+pub fn range_mut(bytes: &mut [u8], place: usize, len: usize) -> &mut [u8] {
+    let start = place.min(bytes.len());
+    let rest = &mut bytes[start..];
+    let len = len.min(rest.len());
+    &mut rest[..len]
+}
+
+// Writes a header into an image, its checksum last.
+fn write_header(image: &mut [u8], sketch: Sketch<'_>) {
+    let header = range_mut(image, sketch.place, sketch.size);
+    put(header, 0, sketch.magic.as_bytes());
+    put(header, 4, &[0xba, 0xbe, 0, 2]);
+    put(header, 8, &(sketch.size as u64).to_be_bytes());
+    put(header, 16, &sketch.sequence.to_be_bytes());
+    put(header, 24, b"label");
+    put(header, 72, sketch.name.as_bytes());
+    for i in 0..64 {
+        put(header, 104 + i as usize, &[i]);
+    }
+    put(header, 168, b"11111111-2222-3333-4444-555555555555");
+    put(header, 208, b"sub");
+    put(header, 256, &(sketch.place as u64).to_be_bytes());
+    put(header, 4096, JSON);
+    seal(header, sketch.hash);
+}
+
+/// Writes the checksum of a header.
+pub fn seal(header: &mut [u8], hash: Hash) {
+    put(header, 448, &[0; 64]);
+    let mut sum = [0; 64];
+    let sum = &mut sum[..hash.size()];
+    digest(hash, header, b"", b"", sum);
+    put(header, 448, sum);
+}
+
+/// An image of this length with these headers.
+pub fn image_of(rt: &(impl Abort + AllocGlobal), len: usize, headers: &[Sketch<'_>]) -> Vec<u8> {
+    let mut image = vec![in rt.alloc(); 0; len.max(100_000)].expect(rt, "memory");
+    for header in headers {
+        write_header(image.as_mut_slice(), *header);
+    }
+    image.truncate(len);
+    image
+}
+
+/// What is read of a source whose first 592 bytes are held before.
+pub fn read_from<S: Source>(
+    alloc: Global,
+    source: &mut S,
+) -> Result<(Header2, HeaderArea), HeaderFault> {
+    let mut area = HeaderArea::new(alloc);
+    area.extend_to(source, 592)?;
+    let header = read_header2(&mut area, source)?;
+    Ok((header, area))
+}
+
+/// Why a source is not read, where it is not.
+pub fn fault_of<S: Source>(alloc: Global, source: &mut S) -> Option<HeaderFault> {
+    read_from(alloc, source).err()
+}
+
+/// Asserts what holds in the case of this number.
+pub fn assert_in(rt: &impl Abort, case: usize, holds: bool) {
+    assert!(rt; holds, "{case}");
+}
+
+/// Asserts what holds of a hash function of this name.
+pub fn assert_of(rt: &impl Abort, name: &str, holds: bool) {
+    assert!(rt; holds, "{name}");
+}

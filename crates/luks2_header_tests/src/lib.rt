@@ -1,7 +1,0 @@
-//! Tests of `luks2_header`: binary headers of LUKS2, through its public calls.
-//!
-//! A crate of their own: what they stand on is not proved once more with them.
-#![tactic(auto)]
-
-#[cfg(test)]
-mod tests;

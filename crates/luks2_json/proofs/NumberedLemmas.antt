@@ -1,0 +1,98 @@
+-- Names that are numbers.
+use Rattle.std.proofs.Common.{◌≡◌, ◌∙◌, ℕ, zero, suc, ◌+◌, ◌-◌, ◌<◌, ◌≤◌, Bool, true, false, List, [], ◌∷◌, ap, sym}
+use Rattle.std.proofs.Common.{refl, subst, arith, add-one, length, ◌⊎◌, inl, inr}
+use Rattle.std.specs.Prelude.{◌||◌, Option, Some, None, is_some, String, bytes_eq, decimal, string_bytes}
+use Rattle.std.specs.declared.alloc.Global.{Global}
+use Rattle.std.specs.List.{list_any}
+use Rattle.std.specs.Map.{keys_of}
+use Rattle.std.specs.Option.{option_or}
+use Rattle.std.specs.Map.Iter.{TakesFirst, deref}
+use Rattle.std.proofs.lemmas.Iterator.{YieldsList}
+use Rattle.std.proofs.lemmas.Iterator.Consumers.{YieldsList-from_shown}
+use Rattle.std.proofs.lemmas.Bool.{cases_lt}
+use Rattle.luks2_json.specs.Numbered.{any_name, is_number_below, lowest}
+use Rattle.serde_json.specs.View.{members_view}
+use Rattle.serde_json.specs.declared.value.Value.{Value}
+
+pub none_below : (name : List ℕ) → is_number_below 0 name ≡ false
+unfolding is_number_below
+none_below name = refl
+
+-- the next number
+pub number_next : (n : ℕ) (name : List ℕ) (is : Bool) → is_number_below n name ≡ false → bytes_eq name (decimal n) ≡ is
+    → is_number_below (n + 1) name ≡ is
+unfolding is_number_below
+number_next n name is none here = rw (add-one, none, here) refl
+
+-- a number below n is one below any higher one
+of_place : (n m : ℕ) (name : List ℕ) → (n ≤ m → is_number_below m name ≡ true) → is_number_below n name ≡ true
+    → (n < suc m) ⊎ (suc m ≤ n) → n ≤ suc m → is_number_below (suc m) name ≡ true
+unfolding is_number_below
+of_place n m name before is (inl below) few = rw (before (omega arith)) refl
+of_place n m name before is (inr at) few =
+    let same : n ≡ suc m = omega arith in
+    subst (λ k. is_number_below k name ≡ true) same is
+
+pub number_stays : (n m : ℕ) (name : List ℕ) → n ≤ m → is_number_below n name ≡ true → is_number_below m name ≡ true
+number_stays n zero name few is =
+    let same : n ≡ 0 = omega arith in
+    subst (λ k. is_number_below k name ≡ true) same is
+number_stays n (suc m) name few is =
+    of_place n m name (λ below. number_stays n m name below is) is (cases_lt n (suc m)) few
+
+-- the names of an object's members
+pub list_any-names : (test : List ℕ → Bool) (entries : List (String Global × Value))
+    → list_any (λ (key : String Global). test (string_bytes key)) (keys_of entries)
+    ≡ any_name test (members_view entries)
+list_any-names test [] = refl
+list_any-names test (entry ∷ rest) = ap (λ others. test (string_bytes entry.0) || others) (list_any-names test rest)
+
+-- the chain that gives the keys of a map
+pub keys_given : {K : Type 0} (keys : List K) → YieldsList (TakesFirst (deref {X = K})) (deref {X = K}) keys keys
+keys_given {K} keys = YieldsList-from_shown (TakesFirst (deref {X = K})) (deref {X = K}) (λ rest. rest)
+    (λ s t ended. ap (λ (l : List K). length l) ended.0) (λ s x t taken. taken) keys
+
+-- ---- the lowest number of which something is made
+
+pub none_from_not_some : {T : Type 0} (o : Option T) → is_some o ≡ false → o ≡ None
+none_from_not_some None is = refl
+none_from_not_some (Some x) is = absurd cc
+
+pub lowest_none : {T : Type 0} (f : ℕ → Option T) → lowest f 0 ≡ None
+unfolding lowest
+lowest_none f = refl
+
+pub lowest_next : {T : Type 0} (f : ℕ → Option T) (n : ℕ) → lowest f n ≡ None → lowest f (n + 1) ≡ f n
+unfolding lowest
+lowest_next f n none = rw (add-one, none) refl
+
+lowest_kept : {T : Type 0} (o p : Option T) → is_some o ≡ true → option_or o p ≡ o
+lowest_kept None p is = absurd cc
+lowest_kept (Some x) p is = refl
+
+lowest_stays : {T : Type 0} (f : ℕ → Option T) (n k : ℕ) → is_some (lowest f n) ≡ true → lowest f (n + k) ≡ lowest f n
+unfolding lowest
+lowest_stays f n zero is = let same : n + 0 ≡ n = omega arith in ap (lowest f) same
+lowest_stays f n (suc k) is =
+    let same : n + suc k ≡ suc (n + k) = omega arith in
+    let before = lowest_stays f n k is in
+    ap (lowest f) same ∙ (lowest_kept (lowest f (n + k)) (f (n + k)) (ap is_some before ∙ is) ∙ before)
+
+-- the first that is found
+pub lowest_found : {T : Type 0} (f : ℕ → Option T) (n m : ℕ) → lowest f n ≡ None → n < m → is_some (f n) ≡ true
+    → lowest f m ≡ f n
+lowest_found f n m none below is =
+    let next = lowest_next f n none in
+    let same : n + 1 + (m - (n + 1)) ≡ m = omega arith in
+    ap (lowest f) (sym same) ∙ (lowest_stays f (n + 1) (m - (n + 1)) (ap is_some next ∙ is) ∙ next)
+
+of_before : {T : Type 0} (f : ℕ → Option T) (n : ℕ) (x : T) (before : Option T)
+    → (before ≡ Some x → (i : ℕ) × (f i ≡ Some x)) → option_or before (f n) ≡ Some x → (i : ℕ) × (f i ≡ Some x)
+of_before f n x None below is = (n, is)
+of_before f n x (Some y) below is = below is
+
+-- what is found is made of some number
+pub lowest_made : {T : Type 0} (f : ℕ → Option T) (n : ℕ) (x : T) → lowest f n ≡ Some x → (i : ℕ) × (f i ≡ Some x)
+unfolding lowest
+lowest_made f zero x is = absurd cc
+lowest_made f (suc n) x is = of_before f n x (lowest f n) (λ below. lowest_made f n x below) is

@@ -1,0 +1,14 @@
+use Rattle.luks2_json.proofs.TreeLemmas.{read-json, read-ok, tree_of-unread}
+use Rattle.luks2_json.proofs.tree.Metadata.read.Goals as goal
+
+pub returns-in-Ok-clause-ok : goal.returns-in-Ok-clause-ok
+returns-in-Ok-clause-ok c =
+    read-ok c.args.text.now _ _ c.in-Ok.ensures.ok.0 c.in-Ok.ensures.ok.1 c.with_tree.ensures
+
+pub returns-in-Ok-clause-json : goal.returns-in-Ok-clause-json
+returns-in-Ok-clause-json c =
+    read-json c.args.text.now _ _ c.in-Ok.ensures.ok.0 c.in-Ok.ensures.ok.1 c.with_tree.ensures
+
+pub returns-in-Err-clause-json : goal.returns-in-Err-clause-json
+returns-in-Err-clause-json c is =
+    tree_of-unread c.args.text.now (c.in-Err.ensures.err (c.fault_of.ensures.json.0 (cc)))

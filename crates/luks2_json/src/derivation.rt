@@ -1,0 +1,47 @@
+//! What is said of a use of PBKDF2. Key slots and digests say it alike.
+
+ghost use Rattle.std.specs.Prelude.{◌≡◌, [], IfOk, unwrap_or};
+ghost use Rattle.luks2_json.specs.Derivation.{hash_member, iterations_in, salt_in};
+ghost use Rattle.luks2_json.specs.Member.{base64_member};
+ghost use Rattle.serde_json.specs.View.{view as data_of};
+
+use crate::member::{base64_text, text, whole_number};
+use luks_kdf::Hash;
+use luks_verdict::bytes::HeaderBytes;
+use serde_json::Value;
+use std::alloc::{AllocError, Global};
+
+/// The hash function that the object's member `hash` names, where it is known.
+#[tactic(auto, unfolding(crate::specs::Derivation::hash_member))]
+pub fn hash_in(object: &Value) -> Option<Hash>
+    ensures { result ≡ hash_member (data_of object.now) }
+{
+    Hash::from_name(text(object, "hash")?)
+}
+
+/// The object's iterations of PBKDF2, or 0 where they are missing.
+#[tactic(auto, unfolding(crate::specs::Derivation::iterations_in))]
+pub fn iterations_in(object: &Value) -> u64
+    ensures { result ≡ iterations_in (data_of object.now) }
+{
+    whole_number(object, "iterations").unwrap_or(0)
+}
+
+/// The bytes under this name in base64, or none where they are missing.
+pub fn bytes_in(alloc: Global, object: &Value, name: &str) -> Result<HeaderBytes, AllocError>
+    ensures { IfOk result (λ bytes. bytes
+        ≡ unwrap_or (base64_member name.now (data_of object.now)) []) }
+{
+    match base64_text(alloc, object, name)? {
+        Some(bytes) => HeaderBytes::new(alloc, bytes.as_slice()),
+        None => HeaderBytes::new(alloc, &[]),
+    }
+}
+
+/// The object's salt of PBKDF2, or no bytes where it is missing.
+#[tactic(auto, unfolding(crate::specs::Derivation::salt_in))]
+pub fn salt_in(alloc: Global, object: &Value) -> Result<HeaderBytes, AllocError>
+    ensures { IfOk result (λ salt. salt ≡ salt_in (data_of object.now)) }
+{
+    bytes_in(alloc, object, "salt")
+}

@@ -1,0 +1,121 @@
+//! Lists of texts.
+
+ghost use Rattle.std.specs.Prelude.{◌≡◌, ◌++◌, [], IfOk, OnOk, List, ℕ, map, string_bytes};
+ghost use Rattle.std.specs.List.{cons_option};
+ghost use Rattle.luks2_json.specs.List.{all_items, any_item, has_texts, is_text, is_the_text};
+ghost use Rattle.luks2_json.specs.List.{array_contains, texts_among, texts_at};
+ghost use Rattle.serde_json.specs.Find.{as_str};
+ghost use Rattle.serde_json.specs.View.{items_view, view as data_of};
+
+use serde_json::Value;
+use std::alloc::{AllocError, Global};
+use std::marker::Model;
+
+// The value is this text.
+fn is_the_text(value: &Value, text: &str) -> bool
+    ensures { result ≡ is_the_text text.now (data_of value.now) }
+{
+    match value.as_str() {
+        Some(found) => text == found,
+        None => false,
+    }
+}
+
+// All that the list has are texts.
+fn all_texts(values: &[Value]) -> bool
+    ensures { result ≡ all_items is_text (items_view values.now) }
+{
+    values.iter().all(|value| value.is_string())
+}
+
+// The list has the text.
+fn any_text(values: &[Value], text: &str) -> bool
+    ensures { result ≡ any_item (is_the_text text.now) (items_view values.now) }
+{
+    values.iter().any(|value| is_the_text(value, text))
+}
+
+/// There is a list under this name, and all that it has are texts.
+#[tactic(auto, unfolding(crate::specs::List::has_texts))]
+pub fn has_texts(object: &Value, name: &str) -> bool
+    ensures { result ≡ has_texts name.now (data_of object.now) }
+{
+    let Some(list) = object.get(name) else {
+        return false;
+    };
+    match list.as_array() {
+        Some(values) => all_texts(values.as_slice()),
+        None => false,
+    }
+}
+
+/// There is a list under this name, and it has the text.
+#[tactic(auto, unfolding(crate::specs::List::array_contains))]
+pub fn lists(object: &Value, name: &str, text: &str) -> bool
+    ensures { result ≡ array_contains name.now text.now (data_of object.now) }
+{
+    let Some(list) = object.get(name) else {
+        return false;
+    };
+    match list.as_array() {
+        Some(values) => any_text(values.as_slice(), text),
+        None => false,
+    }
+}
+
+/// Names, in the order in which a list has them. A clause sees their bytes.
+#[derive(Drop, Debug)]
+pub struct Names {
+    names: Vec<String>,
+}
+
+impl Model for Names {
+    ghost Value = { List (List ℕ) };
+
+    ghost view = { λ names. map string_bytes names.names.items };
+}
+
+impl Names {
+    /// The names.
+    pub fn as_slice(&self) -> &[String]
+        ensures { map string_bytes result.now ≡ self.now }
+    {
+        self.names.as_slice()
+    }
+}
+
+// Puts the value behind the names, if it is a text.
+fn push_text(alloc: Global, names: &mut Vec<String>, value: &Value) -> Result<(), AllocError>
+    ensures { OnOk result (map string_bytes names.new.items
+        ≡ map string_bytes names.old.items ++ cons_option (as_str (data_of value.now)) []) }
+{
+    if let Some(text) = value.as_str() {
+        names.push(String::from_str(alloc, text)?)?;
+    }
+    Ok(())
+}
+
+// The texts that the list has.
+fn texts_among(alloc: Global, values: &[Value]) -> Result<Names, AllocError>
+    ensures { IfOk result (λ names. names ≡ texts_among (items_view values.now)) }
+{
+    let mut names = Vec::new(alloc);
+    for value in values {
+        push_text(alloc, &mut names, value)?;
+    }
+    Ok(Names { names })
+}
+
+/// The texts of the list under this name.
+#[tactic(auto, unfolding(crate::specs::List::texts_at))]
+pub fn texts_at(alloc: Global, object: &Value, name: &str) -> Result<Names, AllocError>
+    ensures { IfOk result (λ names. names ≡ texts_at name.now (data_of object.now)) }
+{
+    let Some(list) = object.get(name) else {
+        return texts_among(alloc, &[]);
+    };
+    match list.as_array() {
+        Some(values) => texts_among(alloc, values.as_slice()),
+        None => texts_among(alloc, &[]),
+    }
+}

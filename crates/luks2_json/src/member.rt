@@ -1,0 +1,94 @@
+//! The kinds of members: each function finds what an object has under a name, where it is there and
+//! of that kind.
+
+ghost use Rattle.std.specs.Prelude.{◌≡◌, List, ℕ, length, option_map, IfOk};
+ghost use Rattle.std.specs.Char.{is_ascii_digit};
+ghost use Rattle.std.specs.List.{list_all};
+ghost use Rattle.luks2_json.specs.Member.{base64_member, decimal_of, decimal_member, is_named};
+ghost use Rattle.luks2_json.specs.Member.{is_type, string_member as text_of, integer_member};
+ghost use Rattle.serde_json.specs.View.{view};
+
+use crate::encoded::{decoded, encoded_len};
+use serde_json::Value;
+use std::alloc::{AllocError, Global};
+
+/// The whole number under this name.
+#[tactic(auto, unfolding(crate::specs::Member::integer_member))]
+pub fn whole_number(object: &Value, name: &str) -> Option<u64>
+    ensures { result ≡ integer_member name.now (view object.now) }
+{
+    object.get(name)?.as_u64()
+}
+
+/// The text under this name.
+#[tactic(auto, unfolding(crate::specs::Member::string_member))]
+pub fn text<'v>(object: &'v Value, name: &str) -> Option<&'v str>
+    ensures { option_map (λ t. t.now) result ≡ text_of name.now (view object.now) }
+{
+    object.get(name)?.as_str()
+}
+
+/// The text under this name is that one.
+#[tactic(auto, unfolding(crate::specs::Member::is_named))]
+pub fn is_named(object: &Value, name: &str, expected: &str) -> bool
+    ensures { result ≡ is_named name.now expected.now (view object.now) }
+{
+    match text(object, name) {
+        Some(text) => expected == text,
+        None => false,
+    }
+}
+
+/// The member `type` is this text.
+pub fn is_type(object: &Value, expected: &str) -> bool
+    ensures { result ≡ is_type expected.now (view object.now) }
+{
+    is_named(object, "type", expected)
+}
+
+// Each byte of the text is a decimal digit.
+fn all_digits(text: &str) -> bool
+    ensures { result ≡ list_all is_ascii_digit text.now }
+{
+    text.bytes().all(|byte| byte.is_ascii_digit())
+}
+
+// The number below 2^64 that the text writes in 1 to 20 decimal digits.
+#[tactic(auto, unfolding(crate::specs::Member::decimal_of))]
+fn number_of(text: &str) -> Option<u64>
+    ensures { result ≡ decimal_of text.now }
+{
+    if text.len() == 0 || 20 < text.len() || !all_digits(text) {
+        return None;
+    }
+    text.parse().ok()
+}
+
+/// The number below 2^64 that the text under this name writes in 1 to 20 decimal digits.
+#[tactic(auto, unfolding(crate::specs::Member::decimal_member))]
+pub fn decimal_text(object: &Value, name: &str) -> Option<u64>
+    ensures { result ≡ decimal_member name.now (view object.now) }
+{
+    number_of(text(object, name)?)
+}
+
+/// How many bytes are under this name in base64. This takes no memory.
+#[tactic(auto, unfolding(crate::specs::Member::base64_member))]
+pub fn base64_len(object: &Value, name: &str) -> Option<usize>
+    ensures { result ≡ option_map (λ (bytes : List ℕ). length bytes)
+        (base64_member name.now (view object.now)) }
+{
+    encoded_len(text(object, name)?)
+}
+
+/// The bytes under this name in base64.
+#[tactic(auto, unfolding(crate::specs::Member::base64_member))]
+pub fn base64_text(alloc: Global, object: &Value, name: &str) -> Result<Option<Vec<u8>>, AllocError>
+    ensures { IfOk result (λ bytes. option_map (λ b. b.items) bytes
+        ≡ base64_member name.now (view object.now)) }
+{
+    match text(object, name) {
+        Some(text) => decoded(alloc, text),
+        None => Ok(None),
+    }
+}

@@ -1,0 +1,67 @@
+//! Members under numbers.
+
+ghost use Rattle.std.specs.Prelude.{◌≡◌, bytes_eq, decimal, not, option_map, string_bytes};
+ghost use Rattle.luks_verdict.specs.Rule.{max_slots};
+ghost use Rattle.luks2_json.specs.Numbered.{any_name, is_number_below, object_numbered, has_name_out_of_range};
+ghost use Rattle.serde_json.specs.View.{members_view, view as data_of};
+
+use crate::tree::Metadata;
+use itoa::Buffer;
+use luks_verdict::rule::MOST_SLOTS;
+use serde_json::{Map, Value};
+
+/// What the object of these names has for the number, which is below 32.
+#[tactic(auto, unfolding(crate::specs::Numbered::object_numbered))]
+pub fn numbered<'v>(tree: &'v Value, names: &str, number: u8) -> Option<&'v Value>
+    ensures { option_map (λ value. data_of value.now) result
+        ≡ object_numbered names.now (data_of tree.now) number }
+{
+    if number >= MOST_SLOTS {
+        return None;
+    }
+    let mut name = Buffer::new();
+    tree.get(names)?.get(name.format(number))
+}
+
+// The name is that of this number.
+fn is_name(name: &str, number: u8) -> bool
+    ensures { result ≡ bytes_eq name.now (decimal number) }
+{
+    let mut expected = Buffer::new();
+    name == expected.format(number)
+}
+
+// The name is that of a number below 32.
+fn is_number(name: &str) -> bool
+    ensures { result ≡ is_number_below max_slots name.now }
+{
+    for number in 0..MOST_SLOTS {
+        if is_name(name, number) {
+            return true;
+        }
+    }
+    false
+}
+
+// A member has another name.
+fn any_other_name(members: &Map<String, Value>) -> bool
+    ensures { result ≡ any_name (λ name. not (is_number_below max_slots name))
+        (members_view members.now.entries) }
+{
+    members.keys().any(|name| !is_number(name.as_str()))
+}
+
+/// Whether a member of `keyslots` is passed over, since its name is no number below 32. This takes
+/// no memory.
+#[tactic(auto, unfolding(crate::specs::Numbered::has_name_out_of_range))]
+pub fn passes_over(metadata: &Metadata) -> bool
+    ensures { result ≡ has_name_out_of_range metadata.now }
+{
+    let Some(keyslots) = metadata.tree().get("keyslots") else {
+        return false;
+    };
+    match keyslots.as_object() {
+        Some(members) => any_other_name(members),
+        None => false,
+    }
+}

@@ -1,0 +1,133 @@
+-- What a command line asks for.
+use Rattle.std.specs.Prelude.{◌∷◌, [], ℕ, List, Option, Some, None, bytes_eq, codes}
+use Rattle.std.specs.Prelude.{if◌then◌else◌, option_and_then, option_map}
+use Rattle.clap.specs.Words.{Kinds, Row, Text, fault_of, first_of, subcommand_of}
+use Rattle.clap.specs.declared.error.ErrorKind.{ErrorKind}
+use Rattle.clap.specs.declared.error.ErrorKind.TheVariants.{OutOfMemory}
+use Rattle.luks_kdf.specs.Hash.{hash_named}
+use Rattle.luks_kdf.specs.declared.Hash.{Hash}
+use Rattle.luks_request.specs.Number.{number_within, optional_within}
+use Rattle.luks_request.specs.Request.{MergingRequest, OpeningRequest, ReadingRequest, Request, SplittingRequest}
+use Rattle.luks_request.specs.Request.{af_merge, af_split, is_luks, luks_cat, luks_check, luks_dump, luks_uuid}
+use Rattle.luks_request.specs.Request.{reuses_stdin, test_passphrase}
+use Rattle.luks_args.specs.Grammar.{luksrd}
+use Rattle.luks_args.specs.declared.planning.PlanFault.{PlanFault}
+use Rattle.luks_args.specs.declared.planning.PlanFault.TheVariants.{Memory, Usage}
+
+infixl 10 ◌>>=◌
+abbrev pub ◌>>=◌ : {A B : Type 0} → Option A → (A → Option B) → Option B
+o >>= f = option_and_then f o
+
+-- the text of the option or input
+unfoldable pub text_in : Text → List Row → Option Text
+text_in name rows = first_of name rows
+
+-- the name of the input that stands by itself
+abbrev pub input_in : List Row → Option Text
+input_in rows = text_in (codes "input") rows
+
+-- FILE of `--header`, where it is given
+abbrev pub header_file_in : List Row → Option Text
+header_file_in rows = text_in (codes "header") rows
+
+-- the hash function that `--hash` names
+unfoldable pub hash_option : List Row → Option Hash
+hash_option rows = text_in (codes "hash") rows >>= hash_named
+
+-- the number of `--stripes`
+unfoldable pub stripes_in : List Row → Option ℕ
+stripes_in rows = text_in (codes "stripes") rows >>= number_within 1 4000
+
+-- the number of `--key-bytes`
+unfoldable pub key_bytes_in : List Row → Option ℕ
+key_bytes_in rows = text_in (codes "key-bytes") rows >>= number_within 1 512
+
+-- the number of `--key-slot`, where it is given
+unfoldable pub key_slot_in : List Row → Option (Option ℕ)
+key_slot_in rows = optional_within 0 31 (text_in (codes "key-slot") rows)
+
+-- the number of `--max-iterations`, where it is given
+unfoldable pub max_iterations_in : List Row → Option (Option ℕ)
+max_iterations_in rows = optional_within 1 4294967295 (text_in (codes "max-iterations") rows)
+
+abbrev pub reading_in : List Row → Option ReadingRequest
+reading_in rows = do
+  image ← input_in rows
+  Some (record { image = image; header = header_file_in rows })
+
+abbrev pub opening_in : List Row → Option OpeningRequest
+opening_in rows = do
+  key_file ← text_in (codes "key-file") rows
+  key_slot ← key_slot_in rows
+  max_iterations ← max_iterations_in rows
+  image ← input_in rows
+  Some (record {
+    image = image;
+    header = header_file_in rows;
+    key_file = key_file;
+    key_slot = key_slot;
+    max_iterations = max_iterations;
+  })
+
+abbrev pub splitting_in : List Row → Option SplittingRequest
+splitting_in rows = do
+  hash ← hash_option rows
+  stripes ← stripes_in rows
+  random ← text_in (codes "random") rows
+  key ← input_in rows
+  Some (record { hash = hash; stripes = stripes; random = random; key = key })
+
+abbrev pub merging_in : List Row → Option MergingRequest
+merging_in rows = do
+  hash ← hash_option rows
+  stripes ← stripes_in rows
+  key_bytes ← key_bytes_in rows
+  stripes_file ← input_in rows
+  Some (record {
+    hash = hash;
+    stripes = stripes;
+    key_bytes = key_bytes;
+    stripes_file = stripes_file;
+  })
+
+-- the command on headers by its name, with its options
+unfoldable pub header_request_in : Text → List Row → Option Request
+header_request_in name rows =
+    if bytes_eq name (codes "isLuks") then option_map is_luks (reading_in rows)
+    else (if bytes_eq name (codes "luksUUID") then option_map luks_uuid (reading_in rows)
+    else (if bytes_eq name (codes "luksDump") then option_map luks_dump (reading_in rows)
+    else (if bytes_eq name (codes "luksCheck") then option_map luks_check (reading_in rows)
+    else None)))
+
+-- the command by its name, with its options
+abbrev pub request_in : Text × List Row → Option Request
+request_in (name, rows) =
+    if bytes_eq name (codes "testPassphrase") then option_map test_passphrase (opening_in rows)
+    else (if bytes_eq name (codes "luksCat") then option_map luks_cat (opening_in rows)
+    else (if bytes_eq name (codes "afSplit") then option_map af_split (splitting_in rows)
+    else (if bytes_eq name (codes "afMerge") then option_map af_merge (merging_in rows)
+    else header_request_in name rows)))
+
+abbrev pub with_distinct_inputs : Request → Option Request
+with_distinct_inputs request = if reuses_stdin request then None else Some request
+
+-- nothing is found where there is a fault
+abbrev pub unless_faulty : {A : Type 0} → Kinds → Option A → Option A
+unless_faulty [] found = found
+unless_faulty (fault ∷ faults) found = None
+
+-- the subcommand that the words name and its texts, where `clap` finds no fault in the words
+unfoldable pub subcommand_in : List Text → Option (Text × List Row)
+subcommand_in words = unless_faulty (fault_of luksrd words) (subcommand_of luksrd words)
+
+-- what the words after the program's name ask for, if they are a command line of luksrd
+abbrev pub command_of : List Text → Option Request
+command_of words = do
+  found ← subcommand_in words
+  request ← request_in found
+  with_distinct_inputs request
+
+-- want of memory is the one error of `clap` that is no fault of the words
+abbrev pub fault_for : ErrorKind → PlanFault
+fault_for OutOfMemory = Memory
+fault_for _ = Usage

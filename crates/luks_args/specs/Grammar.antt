@@ -1,0 +1,101 @@
+-- The command line of luksrd as `clap` reads it: one level of subcommands, each with options that
+-- take one text and with one input, and no rule between options.
+use Rattle.std.specs.Prelude.{◌≡◌, ◌∷◌, ◌++◌, [], Bool, true, false, IfOk, List, Result, Some, codes}
+use Rattle.clap.specs.Words.{App, Rule, Shape, Text, app_of, new_rule}
+use Rattle.clap.specs.Simple.{new_shape}
+use Rattle.clap.specs.declared.builder.Command.{Command}
+use Rattle.clap.specs.declared.builder.Command.TheViews.{out-Command}
+
+-- the option `--name`, which takes one text
+abbrev pub option : Text → Bool → Rule
+option name is_required = record (new_rule name) { long = Some name; required = is_required }
+
+-- the option may not be left out
+abbrev pub required : Text → Rule
+required name = option name true
+
+-- the option may be left out
+abbrev pub optional : Text → Rule
+optional name = option name false
+
+-- the input, which stands by itself and may not be left out
+abbrev pub input : Rule
+input = record (new_rule (codes "input")) { required = true }
+
+-- a command with these options and its input
+abbrev pub command : Text → List Rule → Shape
+command name options = record (new_shape name) { rules = options ++ input ∷ [] }
+
+-- `--header FILE`, for a header in a file of its own
+abbrev pub header_option : Rule
+header_option = optional (codes "header")
+
+-- `NAME [--header FILE] IMAGE`
+unfoldable pub header_command : Text → Shape
+header_command name = command name (header_option ∷ [])
+
+abbrev pub is_luks_shape : Shape
+is_luks_shape = header_command (codes "isLuks")
+
+abbrev pub luks_uuid_shape : Shape
+luks_uuid_shape = header_command (codes "luksUUID")
+
+abbrev pub luks_dump_shape : Shape
+luks_dump_shape = header_command (codes "luksDump")
+
+abbrev pub luks_check_shape : Shape
+luks_check_shape = header_command (codes "luksCheck")
+
+-- `NAME --key-file FILE [--key-slot N] [--max-iterations N] [--header FILE] IMAGE`
+unfoldable pub volume_command : Text → Shape
+volume_command name = command name (required (codes "key-file") ∷ optional (codes "key-slot")
+    ∷ optional (codes "max-iterations") ∷ header_option ∷ [])
+
+abbrev pub test_passphrase_shape : Shape
+test_passphrase_shape = volume_command (codes "testPassphrase")
+
+abbrev pub luks_cat_shape : Shape
+luks_cat_shape = volume_command (codes "luksCat")
+
+-- `afSplit --hash HASH --stripes N --random FILE KEY`
+abbrev pub af_split_shape : Shape
+af_split_shape = command (codes "afSplit")
+    (required (codes "hash") ∷ required (codes "stripes") ∷ required (codes "random") ∷ [])
+
+-- `afMerge --hash HASH --stripes N --key-bytes N STRIPES`
+abbrev pub af_merge_shape : Shape
+af_merge_shape = command (codes "afMerge")
+    (required (codes "hash") ∷ required (codes "stripes") ∷ required (codes "key-bytes") ∷ [])
+
+-- luksrd with no command yet: the words are those after the program's name, and a word that asks
+-- for help is a word like others
+abbrev pub program : Shape
+program = record (new_shape (codes "luksrd")) {
+  no_binary_name = true;
+  disable_help_flag = true;
+  disable_help_subcommand = true;
+}
+
+-- luksrd with its commands
+unfoldable pub luksrd : App
+luksrd = record {
+  top = record program { is_leaf = false };
+  subs = is_luks_shape ∷ luks_uuid_shape ∷ luks_dump_shape ∷ luks_check_shape ∷ test_passphrase_shape ∷ luks_cat_shape ∷ af_split_shape ∷ af_merge_shape ∷ [];
+}
+
+-- a command that stands by itself
+abbrev pub alone : Shape → App
+alone shape = record { top = shape; subs = [] }
+
+-- what `clap` reads of the command, of whose arguments none goes on to another command
+pub record IsReadAs (command : Command) (as_read : App) : Type 0 where
+  pub app : app_of command ≡ as_read
+  pub local : (out-Command command).has_globals ≡ false
+
+-- a command in the making is read so, where memory did not run out
+abbrev pub BuildsApp : {E : Type 0} → Result Command E → App → Type 0
+BuildsApp making as_read = IfOk making (λ command. IsReadAs command as_read)
+
+-- a program in the making holds these commands, where memory did not run out
+abbrev pub HasSubcommands : {E : Type 0} → Result Command E → App → Type 0
+HasSubcommands making as_read = IfOk making (λ command. app_of command ≡ as_read)

@@ -1,0 +1,162 @@
+//! How the words of a command line name a command.
+
+ghost use Rattle.std.specs.Prelude.{◌≡◌, IfOk, None, Some, map, option_map, option_and_then};
+ghost use Rattle.clap.specs.Words.{found_of, kind_of, rows_of, subcommand_rows_of};
+ghost use Rattle.luks_args.specs.Command.{command_of, fault_for, header_request_in, merging_in};
+ghost use Rattle.luks_args.specs.Command.{opening_in, reading_in, request_in, splitting_in};
+ghost use Rattle.luks_args.specs.Command.{subcommand_in};
+ghost use Rattle.luks_request.specs.Request.{merging_request, opening_request, reading_request};
+ghost use Rattle.luks_request.specs.Request.{request_of, splitting_request};
+
+use crate::grammar::grammar;
+use crate::options::{hash, key_bytes, key_slot, max_iterations, stripes, text};
+use clap::ArgMatches;
+use clap::error::ErrorKind;
+use luks_request::command::{Command, Merging, Opening, Reading, Splitting};
+use std::alloc::{AllocError, Global};
+use std::convert::AsStr;
+
+/// Why words give no command.
+#[derive(Clone, Copy, PartialEq, Eq, Debug)]
+pub enum PlanFault {
+    /// The words are no command line of luksrd.
+    Usage,
+    /// Memory ran out.
+    Memory,
+}
+
+impl From<AllocError> for PlanFault {
+    ghost use Rattle.luks_args.specs.declared.planning.PlanFault.{PlanFault};
+
+    ghost from_gives = { λ _ fault. fault ≡ PlanFault.Memory };
+
+    fn from(_error: AllocError) -> PlanFault {
+        PlanFault::Memory
+    }
+}
+
+impl From<clap::Error> for PlanFault {
+    ghost from_gives = { λ error fault. fault ≡ fault_for (kind_of error) };
+
+    fn from(error: clap::Error) -> PlanFault {
+        match error.kind() {
+            ErrorKind::OutOfMemory => PlanFault::Memory,
+            _ => PlanFault::Usage,
+        }
+    }
+}
+
+/// What the words after the program's name ask for.
+///
+/// # Errors
+///
+/// `Usage` where they are no command line of luksrd, as where there are none; `Memory` where memory
+/// ran out.
+pub fn plan<'a, S: AsStr>(alloc: Global, words: &'a [S]) -> Result<Command<'a>, PlanFault>
+    ensures ok { IfOk result (λ command.
+        command_of (map S.text words.entry.now) ≡ Some (request_of command)) }
+    ensures usage { result ≡ Err PlanFault.Usage → command_of (map S.text words.entry.now) ≡ None }
+{
+    let matches = matches_of(alloc, words)?;
+    match read(&matches) {
+        Some(command) if !command.reads_standard_twice() => Ok(command),
+        _ => Err(PlanFault::Usage),
+    }
+}
+
+// The words as `clap` takes them apart.
+fn matches_of<'a, S: AsStr>(alloc: Global, words: &'a [S]) -> Result<ArgMatches<'a>, PlanFault>
+    ensures ok { IfOk result (λ matches.
+        subcommand_in (map S.text words.entry.now) ≡ subcommand_rows_of matches) }
+    ensures usage { result ≡ Err PlanFault.Usage
+        → subcommand_in (map S.text words.entry.now) ≡ None }
+{
+    let program = grammar(alloc)?;
+    Ok(program.try_get_matches_from(words)?)
+}
+
+// The command that was named, with its options.
+fn read<'a>(matches: &ArgMatches<'a>) -> Option<Command<'a>>
+    ensures { option_map request_of result
+        ≡ option_and_then request_in (subcommand_rows_of matches.now) }
+{
+    let (name, options) = matches.subcommand()?;
+    read_named(name, options)
+}
+
+// The command of that name.
+fn read_named<'a>(name: &str, options: &ArgMatches<'a>) -> Option<Command<'a>>
+    ensures { option_map request_of result ≡ request_in (name.now, rows_of (found_of options.now)) }
+{
+    match name {
+        "testPassphrase" => opening(options).map(Command::TestPassphrase),
+        "luksCat" => opening(options).map(Command::LuksCat),
+        "afSplit" => splitting(options).map(Command::AfSplit),
+        "afMerge" => merging(options).map(Command::AfMerge),
+        _ => read_on_header(name, options),
+    }
+}
+
+// The command on headers of that name.
+#[tactic(auto, unfolding(crate::specs::Command::header_request_in))]
+fn read_on_header<'a>(name: &str, options: &ArgMatches<'a>) -> Option<Command<'a>>
+    ensures { option_map request_of result
+        ≡ header_request_in name.now (rows_of (found_of options.now)) }
+{
+    match name {
+        "isLuks" => reading(options).map(Command::IsLuks),
+        "luksUUID" => reading(options).map(Command::LuksUuid),
+        "luksDump" => reading(options).map(Command::LuksDump),
+        "luksCheck" => reading(options).map(Command::LuksCheck),
+        _ => None,
+    }
+}
+
+fn reading<'a>(options: &ArgMatches<'a>) -> Option<Reading<'a>>
+    ensures { option_map reading_request result ≡ reading_in (rows_of (found_of options.now)) }
+{
+    Some(Reading {
+        image: text(options, "input")?,
+        header: text(options, "header"),
+    })
+}
+
+fn opening<'a>(options: &ArgMatches<'a>) -> Option<Opening<'a>>
+    ensures { option_map opening_request result ≡ opening_in (rows_of (found_of options.now)) }
+{
+    let key_file = text(options, "key-file")?;
+    let key_slot = key_slot(options)?;
+    let max_iterations = max_iterations(options)?;
+    let header = text(options, "header");
+    let image = text(options, "input")?;
+    Some(Opening {
+        image,
+        header,
+        key_file,
+        key_slot,
+        max_iterations,
+    })
+}
+
+fn splitting<'a>(options: &ArgMatches<'a>) -> Option<Splitting<'a>>
+    ensures { option_map splitting_request result
+        ≡ splitting_in (rows_of (found_of options.now)) }
+{
+    Some(Splitting {
+        hash: hash(options)?,
+        stripes: stripes(options)?,
+        random: text(options, "random")?,
+        key: text(options, "input")?,
+    })
+}
+
+fn merging<'a>(options: &ArgMatches<'a>) -> Option<Merging<'a>>
+    ensures { option_map merging_request result ≡ merging_in (rows_of (found_of options.now)) }
+{
+    Some(Merging {
+        hash: hash(options)?,
+        stripes: stripes(options)?,
+        key_bytes: key_bytes(options)?,
+        stripes_file: text(options, "input")?,
+    })
+}

@@ -1,0 +1,356 @@
+//! What no clause says: that the definitions read command lines as they are meant, and that calls
+//! succeed.
+
+use luks_args::planning::{PlanFault, plan};
+use luks_args::usage::usage;
+use luks_kdf::Hash;
+use luks_request::command::{Command, Merging, Opening, Reading, Splitting};
+use luks_request::number::{IterationLimit, KeyBytes, SlotNumber, StripeCount};
+use std::process::Abort;
+
+mod memory;
+mod refusals;
+
+// Asserts what holds of a line.
+fn assert_of(rt: &impl Abort, line: &str, holds: bool) {
+    assert!(rt; holds, "{line}");
+}
+
+// The words of a line, which single spaces part.
+fn words_of<'a>(rt: &(impl Abort + AllocGlobal), line: &'a str) -> Vec<&'a str> {
+    line.split(' ').collect(rt.alloc()).expect(rt, "memory")
+}
+
+// The line of these parts.
+fn joined(rt: &(impl Abort + AllocGlobal), parts: &[&str]) -> String {
+    let mut line = String::new(rt.alloc());
+    for part in parts {
+        line.push_str(part).expect(rt, "memory");
+    }
+    line
+}
+
+// In place of the name of an input that the command does not have.
+const NONE: &str = "none at all";
+
+// The line is this command, which names these inputs: the image, the key file or random bytes, and
+// the detached header.
+fn check_line(
+    rt: &(impl Abort + AllocGlobal),
+    line: &str,
+    command: Command<'_>,
+    [image, secret, header]: [&str; 3],
+) {
+    assert_of(
+        rt,
+        line,
+        plan(rt.alloc(), &words_of(rt, line)) == Ok(command),
+    );
+    assert_of(rt, line, command.image() == image);
+    assert_of(rt, line, command.secret().unwrap_or(NONE) == secret);
+    assert_of(rt, line, command.header().unwrap_or(NONE) == header);
+    assert_of(rt, line, command.is_detached() == (header != NONE));
+}
+
+// The arguments of a command, its image, and its detached header, if any.
+static READINGS: [(&str, &str, Option<&str>); 16] = [
+    ("i", "i", None),
+    ("-", "-", None),
+    ("-- -", "-", None),
+    ("-- -h", "-h", None),
+    ("-- --header", "--header", None),
+    ("--header h i", "i", Some("h")),
+    ("--header=h i", "i", Some("h")),
+    ("i --header h", "i", Some("h")),
+    ("--header - i", "i", Some("-")),
+    ("--header=- i", "i", Some("-")),
+    ("--header h -", "-", Some("h")),
+    ("--header h -- -", "-", Some("h")),
+    ("--header h -- --header", "--header", Some("h")),
+    ("--header i i", "i", Some("i")),
+    ("--header= i", "i", Some("")),
+    ("--header=a=b i", "i", Some("a=b")),
+];
+
+// Each command that reads a header takes these arguments so.
+fn check_reading(rt: &(impl Abort + AllocGlobal), words: &str, reading: Reading<'_>) {
+    let commands = [
+        ("isLuks ", Command::IsLuks(reading)),
+        ("luksUUID ", Command::LuksUuid(reading)),
+        ("luksDump ", Command::LuksDump(reading)),
+        ("luksCheck ", Command::LuksCheck(reading)),
+    ];
+    let inputs = [reading.image, NONE, reading.header.unwrap_or(NONE)];
+    for (name, command) in &commands {
+        check_line(rt, joined(rt, &[name, words]).as_str(), *command, inputs);
+    }
+}
+
+#[test]
+fn reads_headers(rt: HostRuntime) {
+    for (words, image, header) in &READINGS {
+        let reading = Reading {
+            image,
+            header: *header,
+        };
+        check_reading(&rt, words, reading);
+    }
+}
+
+// The arguments of a command, its image, its key file, and its detached header, if any.
+static OPENINGS: [(&str, &str, &str, Option<&str>); 11] = [
+    ("--key-file f i", "i", "f", None),
+    ("i --key-file=f", "i", "f", None),
+    ("--key-file f --header h i", "i", "f", Some("h")),
+    ("--header=h --key-file=f i", "i", "f", Some("h")),
+    ("i --header h --key-file f", "i", "f", Some("h")),
+    ("--key-file - --header h i", "i", "-", Some("h")),
+    ("--key-file f --header - i", "i", "f", Some("-")),
+    ("--key-file f --header=- i", "i", "f", Some("-")),
+    ("--key-file f --header h -", "-", "f", Some("h")),
+    ("--key-file f --header h -- -", "-", "f", Some("h")),
+    ("--key-file i --header i i", "i", "i", Some("i")),
+];
+
+// Both commands that open a volume take these arguments so.
+fn check_opening(rt: &(impl Abort + AllocGlobal), words: &str, opening: Opening<'_>) {
+    let commands = [
+        ("testPassphrase ", Command::TestPassphrase(opening)),
+        ("luksCat ", Command::LuksCat(opening)),
+    ];
+    let header = opening.header.unwrap_or(NONE);
+    let inputs = [opening.image, opening.key_file, header];
+    for (name, command) in &commands {
+        check_line(rt, joined(rt, &[name, words]).as_str(), *command, inputs);
+    }
+}
+
+#[test]
+fn opens_volumes(rt: HostRuntime) {
+    for (words, image, key_file, header) in &OPENINGS {
+        let opening = Opening {
+            image,
+            header: *header,
+            key_file,
+            key_slot: None,
+            max_iterations: None,
+        };
+        check_opening(&rt, words, opening);
+    }
+}
+
+// The arguments of a command, its detached header, its slot and its limit, if any.
+static LIMITED: [(&str, Option<&str>, Option<u64>, Option<u64>); 7] = [
+    ("--key-file f --key-slot 0 i", None, Some(0), None),
+    ("--key-file f --key-slot 31 i", None, Some(31), None),
+    ("--key-file f --max-iterations 1 i", None, None, Some(1)),
+    (
+        "--key-slot=007 --max-iterations=4294967295 --key-file=f i",
+        None,
+        Some(7),
+        Some(4_294_967_295),
+    ),
+    (
+        "--max-iterations 0000000009 --key-file f --key-slot 8 -- i",
+        None,
+        Some(8),
+        Some(9),
+    ),
+    (
+        "--key-file f --key-slot 3 --max-iterations 5 --header h i",
+        Some("h"),
+        Some(3),
+        Some(5),
+    ),
+    (
+        "--header h --max-iterations=5 --key-slot=3 --key-file=f i",
+        Some("h"),
+        Some(3),
+        Some(5),
+    ),
+];
+
+#[test]
+fn opens_volumes_with_limits(rt: HostRuntime) {
+    for (words, header, slot, limit) in &LIMITED {
+        let opening = Opening {
+            image: "i",
+            header: *header,
+            key_file: "f",
+            key_slot: slot.and_then(SlotNumber::new),
+            max_iterations: limit.and_then(IterationLimit::new),
+        };
+        assert_of(&rt, words, opening.key_slot.is_some() == slot.is_some());
+        assert_of(
+            &rt,
+            words,
+            opening.max_iterations.is_some() == limit.is_some(),
+        );
+        check_opening(&rt, words, opening);
+    }
+}
+
+fn splitting<'a>(
+    rt: &impl Abort,
+    hash: Hash,
+    stripes: u64,
+    random: &'a str,
+    key: &'a str,
+) -> Command<'a> {
+    Command::AfSplit(Splitting {
+        hash,
+        stripes: StripeCount::new(stripes).expect(rt, "a number of stripes"),
+        random,
+        key,
+    })
+}
+
+fn merging<'a>(rt: &impl Abort, hash: Hash, stripes: u64, key_bytes: u64) -> Command<'a> {
+    Command::AfMerge(Merging {
+        hash,
+        stripes: StripeCount::new(stripes).expect(rt, "a number of stripes"),
+        key_bytes: KeyBytes::new(key_bytes).expect(rt, "a length"),
+        stripes_file: "s",
+    })
+}
+
+static SPLITS: [&str; 4] = [
+    "afSplit --hash sha256 --stripes 2 --random r k",
+    "afSplit k --random r --stripes 0000000002 --hash SHA256",
+    "afSplit --hash=Sha256 --stripes=2 k --random=r",
+    "afSplit --hash sha256 --stripes 2 --random r -- k",
+];
+
+// Names of inputs that are unusual, and of standard input.
+static INPUTS: [(&str, &str, &str); 9] = [
+    ("--random - k", "-", "k"),
+    ("--random=- k", "-", "k"),
+    ("--random r -", "r", "-"),
+    ("--random r -- -", "r", "-"),
+    ("--random r -- --help", "r", "--help"),
+    ("--random= k", "", "k"),
+    ("--random=a=b k", "a=b", "k"),
+    ("--random r ", "r", ""),
+    ("--random afMerge é", "afMerge", "é"),
+];
+
+// Each line is this command.
+fn check_lines(
+    rt: &(impl Abort + AllocGlobal),
+    lines: &[&str],
+    command: Command<'_>,
+    inputs: [&str; 3],
+) {
+    for line in lines {
+        check_line(rt, line, command, inputs);
+    }
+}
+
+#[test]
+fn splits_keys(rt: HostRuntime) {
+    let command = splitting(&rt, Hash::Sha256, 2, "r", "k");
+    check_lines(&rt, &SPLITS, command, ["k", "r", NONE]);
+    for (inputs, random, key) in &INPUTS {
+        let line = joined(&rt, &["afSplit --hash sha1 --stripes 1 ", inputs]);
+        let command = splitting(&rt, Hash::Sha1, 1, random, key);
+        check_line(&rt, line.as_str(), command, [key, random, NONE]);
+    }
+}
+
+static MERGES: [&str; 2] = [
+    "afMerge --hash sha512 --stripes 4000 --key-bytes 64 s",
+    "afMerge s --key-bytes=64 --stripes 4000 --hash=sha512",
+];
+
+static NAMES: [(&str, Hash); 5] = [
+    ("sha1", Hash::Sha1),
+    ("SHA224", Hash::Sha224),
+    ("Sha256", Hash::Sha256),
+    ("sHA384", Hash::Sha384),
+    ("shA512", Hash::Sha512),
+];
+
+#[test]
+fn merges_stripes(rt: HostRuntime) {
+    let command = merging(&rt, Hash::Sha512, 4000, 64);
+    check_lines(&rt, &MERGES, command, ["s", NONE, NONE]);
+    for (name, hash) in &NAMES {
+        let line = joined(
+            &rt,
+            &["afMerge --hash ", name, " --stripes 1 --key-bytes 1 s"],
+        );
+        let command = merging(&rt, *hash, 1, 1);
+        check_line(&rt, line.as_str(), command, ["s", NONE, NONE]);
+    }
+}
+
+#[test]
+fn takes_words_as_strings(rt: HostRuntime) {
+    let mut words = Vec::new(rt.alloc());
+    for word in "afMerge --hash sha1 --stripes 1 --key-bytes 20 s".split(' ') {
+        words.push(joined(&rt, &[word])).expect(&rt, "memory");
+    }
+    let planned = plan(rt.alloc(), &words);
+    assert_of(
+        &rt,
+        "strings",
+        planned == Ok(merging(&rt, Hash::Sha1, 1, 20)),
+    );
+}
+
+// A number, and whether it is one of stripes, of bytes of a key, of a slot, of iterations.
+static NUMBERS: [(u64, [bool; 4]); 12] = [
+    (0, [false, false, true, false]),
+    (1, [true, true, true, true]),
+    (31, [true, true, true, true]),
+    (32, [true, true, false, true]),
+    (256, [true, true, false, true]),
+    (512, [true, true, false, true]),
+    (513, [true, false, false, true]),
+    (4000, [true, false, false, true]),
+    (4001, [false, false, false, true]),
+    (4_294_967_295, [false, false, false, true]),
+    (4_294_967_296, [false, false, false, false]),
+    (u64::MAX, [false, false, false, false]),
+];
+
+fn check_number(rt: &impl Abort, number: u64, fits: [bool; 4]) {
+    let numbers = [
+        StripeCount::new(number).map(|stripes| stripes.get() as u64),
+        KeyBytes::new(number).map(|bytes| bytes.get() as u64),
+        SlotNumber::new(number).map(|slot| slot.get() as u64),
+        IterationLimit::new(number).map(|limit| limit.get() as u64),
+    ];
+    let holds = numbers == fits.map(|fits| fits.then_some(number));
+    assert!(rt; holds, "{number}");
+}
+
+#[test]
+fn numbers_have_ranges(rt: HostRuntime) {
+    for (number, fits) in &NUMBERS {
+        check_number(&rt, *number, *fits);
+    }
+}
+
+static USAGE: [&str; 5] = [
+    "usage: luksrd isLuks [--header FILE] IMAGE",
+    "       luksrd luksUUID [--header FILE] IMAGE",
+    "       luksrd luksDump [--header FILE] IMAGE",
+    "       luksrd luksCheck [--header FILE] IMAGE",
+    "       luksrd testPassphrase --key-file FILE [--key-slot N] [--max-iterations N] \
+     [--header FILE] IMAGE",
+];
+
+#[test]
+fn usage_has_a_line_a_command(rt: HostRuntime) {
+    let mut lines = usage().lines();
+    for line in &USAGE {
+        assert_of(&rt, line, lines.next() == Some(*line));
+    }
+    assert_of(
+        &rt,
+        usage(),
+        usage().lines().count() == 8 && usage().len() <= 1000,
+    );
+    assert_of(&rt, usage(), usage().ends_with(" --key-bytes N STRIPES\n"));
+}

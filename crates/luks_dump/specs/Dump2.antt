@@ -1,0 +1,155 @@
+-- What is printed of a LUKS2 header: the fields of its binary header, its key slots, its segment and its digests.
+use Rattle.std.specs.Prelude.{ℕ, ◌∷◌, ◌++◌, [], zero, suc, List, Option, Some, None, Result, Ok, Err, codes, flat_map}
+use Rattle.std.specs.Prelude.{length}
+use Rattle.std.specs.Fmt.{decimal}
+use Rattle.luks_cipher.specs.Sector.{mode_name}
+use Rattle.luks_kdf.specs.Hash.{hash_name}
+use Rattle.luks_kdf.specs.declared.hash.Hash.{Hash}
+use Rattle.luks_verdict.specs.Rule.{max_slots}
+use Rattle.luks_verdict.specs.SectorSize.{bytes_of}
+use Rattle.luks_verdict.specs.SegmentFault.{fault_text}
+use Rattle.luks_verdict.specs.SkipReason.{reason_text}
+use Rattle.luks_verdict.specs.declared.refusal.SegmentFault.{SegmentFault}
+use Rattle.luks_verdict.specs.declared.segment.Segment.{Segment}
+use Rattle.luks_verdict.specs.declared.slot.SlotParts.{SlotParts}
+use Rattle.luks_verdict.specs.declared.slot.Verdict.{Verdict}
+use Rattle.luks_verdict.specs.declared.slot.Verdict.TheVariants.{Usable, Disabled, Skipped}
+use Rattle.luks2_binary.specs.declared.header.Header2.{Header2}
+use Rattle.luks2_binary.specs.declared.header.Place.{Place}
+use Rattle.luks2_binary.specs.declared.header.Place.TheVariants.{Primary, Secondary}
+use Rattle.luks2_metadata.specs.Digest2.{digests2_of}
+use Rattle.luks2_segment.specs.Segment2.{segment2_of}
+use Rattle.luks2_metadata.specs.Slot2.{verdict2_at}
+use Rattle.luks2_segment.specs.declared.bounds.Bounds.{Bounds}
+use Rattle.luks2_metadata.specs.declared.digest.Digest.{Digest}
+use Rattle.luks_header.specs.Header.{bounds2_of}
+use Rattle.serde_json.specs.Data.{Data}
+use Rattle.luks_dump.specs.Escaping.{escaped}
+use Rattle.luks_dump.specs.Field.{field}
+
+-- ---- the binary header
+
+-- which of the two headers it is
+abbrev pub place_text : Place → List ℕ
+place_text Primary = codes "primary"
+place_text Secondary = codes "secondary"
+
+-- the lines from the version to the header's length in bytes
+unfoldable pub place_lines : Header2 → List ℕ
+place_lines h =
+    field (codes "Version") (codes "2")
+    ++ field (codes "Header") (place_text h.place)
+    ++ field (codes "Sequence") (decimal h.sequence)
+    ++ field (codes "Header size") (decimal h.size)
+
+-- the lines from the UUID to the hash function of the checksum
+unfoldable pub text_lines : Header2 → List ℕ
+text_lines h =
+    field (codes "UUID") (escaped h.uuid)
+    ++ field (codes "Label") (escaped h.label)
+    ++ field (codes "Subsystem") (escaped h.subsystem)
+    ++ field (codes "Checksum") (hash_name h.hash)
+
+-- ---- key slots
+
+-- the name of a hash function. (That of a LUKS2 key slot or digest that can be used is always known.)
+abbrev pub hash_text : Option Hash → List ℕ
+hash_text None = []
+hash_text (Some hash) = hash_name hash
+
+-- what is said of a key slot that can be tried: the hash function and the iterations of its key, and where its area
+-- lies in bytes
+unfoldable pub usable_text : SlotParts → List ℕ
+usable_text parts =
+    codes "USABLE priority=" ++ decimal parts.priority ++ codes " kdf=pbkdf2 hash=" ++ hash_text parts.kdf_hash
+    ++ codes " iterations=" ++ decimal parts.iterations ++ codes " offset=" ++ decimal parts.area_offset
+    ++ codes " size=" ++ decimal parts.area_size
+
+-- what is said of a key slot. (None of LUKS2 is disabled.)
+abbrev pub verdict_text : Verdict → List ℕ
+verdict_text (Usable slot) = usable_text slot.parts
+verdict_text Disabled = codes "DISABLED"
+verdict_text (Skipped reason) = codes "SKIPPED " ++ reason_text reason
+
+-- the line of the key slot of a number, where there is one
+abbrev pub slot2_line : ℕ → Option Verdict → List ℕ
+slot2_line number None = []
+slot2_line number (Some verdict) = field (codes "Slot " ++ decimal number) (verdict_text verdict)
+
+-- what is said of the numbers below n, by rising number
+unfoldable pub lines_below : (ℕ → List ℕ) → ℕ → List ℕ
+lines_below line zero = []
+lines_below line (suc n) = lines_below line n ++ line n
+
+-- the line of the key slot of a number, in a header with these bounds. Iterations have no limit here
+abbrev pub slot_line_at : Data → Bounds → ℕ → List ℕ
+slot_line_at tree bounds number = slot2_line number (verdict2_at tree bounds None number)
+
+-- the lines of the key slots
+unfoldable pub slot2_lines : Data → Bounds → List ℕ
+slot2_lines tree bounds = lines_below (slot_line_at tree bounds) max_slots
+
+-- ---- the segment
+
+-- its length in bytes, where it has one
+abbrev pub size_text : Option ℕ → List ℕ
+size_text None = codes "dynamic"
+size_text (Some bytes) = decimal bytes
+
+-- what is said of a segment
+unfoldable pub segment_text : Segment → List ℕ
+segment_text segment =
+    codes "offset=" ++ decimal segment.offset ++ codes " size=" ++ size_text segment.size
+    ++ codes " iv=" ++ decimal segment.iv_tweak ++ codes " encryption=aes-" ++ mode_name segment.mode
+    ++ codes " sector=" ++ decimal (bytes_of segment.sector_size)
+
+-- the line of the segment, or of its fault
+abbrev pub segment_line : Result Segment SegmentFault → List ℕ
+segment_line (Ok segment) = field (codes "Segment 0") (segment_text segment)
+segment_line (Err fault) = field (codes "Segment") (codes "REFUSED " ++ fault_text fault)
+
+-- ---- digests
+
+-- names behind another
+abbrev pub more_names : List (List ℕ) → List ℕ
+more_names names = flat_map (λ name. codes "," ++ escaped name) names
+
+-- names in their order, with commas between them
+abbrev pub names_text : List (List ℕ) → List ℕ
+names_text [] = []
+names_text (name ∷ names) = escaped name ++ more_names names
+
+-- what is said of a digest that can be used: how many bytes it has, and the names that it lists
+unfoldable pub digest_text : Digest → List ℕ
+digest_text digest =
+    codes "USABLE hash=" ++ hash_text digest.key.hash ++ codes " iterations=" ++ decimal digest.key.iterations
+    ++ codes " bytes=" ++ decimal (length digest.key.value) ++ codes " keyslots=" ++ names_text digest.keyslots
+    ++ codes " segments=" ++ names_text digest.segments
+
+-- what is said of a digest
+abbrev pub listed_text : Option Digest → List ℕ
+listed_text None = codes "REFUSED"
+listed_text (Some digest) = digest_text digest
+
+-- the line of a digest with its number
+abbrev pub digest_line : ℕ × Option Digest → List ℕ
+digest_line (number, digest) = field (codes "Digest " ++ decimal number) (listed_text digest)
+
+-- the lines of digests
+abbrev pub digest_lines : List (ℕ × Option Digest) → List ℕ
+digest_lines digests = flat_map digest_line digests
+
+-- ---- pages
+
+-- the dump of a header
+unfoldable pub dump2_of : Header2 → Data → List ℕ
+dump2_of h tree =
+    place_lines h
+    ++ text_lines h
+    ++ slot2_lines tree (bounds2_of h)
+    ++ segment_line (segment2_of tree (bounds2_of h))
+    ++ digest_lines (digests2_of tree)
+
+-- the line with the UUID alone
+unfoldable pub uuid2_line : Header2 → List ℕ
+uuid2_line h = escaped h.uuid ++ 10 ∷ []

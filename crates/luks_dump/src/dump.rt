@@ -1,0 +1,30 @@
+//! What is printed of a header.
+
+ghost use Rattle.std.specs.Prelude.{◌≡◌, IfOk, string_bytes};
+ghost use Rattle.luks_dump.specs.Dump.{dump_of, uuid_of};
+
+use luks_header::header::Header;
+use std::alloc::{AllocError, Global};
+
+mod luks1;
+pub(crate) mod luks2;
+
+/// What `luksUUID` prints.
+pub fn uuid_page(alloc: Global, header: &Header) -> Result<String, AllocError>
+    ensures { IfOk result (λ page. string_bytes page ≡ uuid_of header.now) }
+{
+    match header {
+        Header::V1(header) => luks1::uuid_page(alloc, header),
+        Header::V2(header, _) => luks2::uuid_page(alloc, header),
+    }
+}
+
+/// What `luksDump` prints.
+pub fn dump_page(alloc: Global, header: &Header) -> Result<String, AllocError>
+    ensures { IfOk result (λ page. string_bytes page ≡ dump_of header.now) }
+{
+    match header {
+        Header::V1(header) => luks1::dump_page(alloc, header),
+        Header::V2(header, metadata) => luks2::dump_page(alloc, header, metadata),
+    }
+}

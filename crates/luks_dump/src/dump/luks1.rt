@@ -1,0 +1,136 @@
+//! What is printed of a LUKS1 header.
+
+ghost use Rattle.std.specs.Prelude.{◌≡◌, ◌++◌, IfOk, OnOk, length, string_bytes, ◌≤◌};
+ghost use Rattle.luks_dump.specs.Dump1.{dump1_of, enabled_text, number_lines, slot1_line};
+ghost use Rattle.luks_dump.specs.Dump1.{slot1_lines};
+ghost use Rattle.luks_dump.specs.Dump1.{slot_text, text_lines, uuid_line};
+
+use crate::escaping::escape;
+use crate::field::{push_bytes, push_field, push_number, push_text};
+use luks_header::header::{Header1, KeySlot, SlotState};
+use std::alloc::{AllocError, Global};
+
+/// The line with the UUID alone.
+#[tactic(auto, unfolding(crate::specs::Dump1::uuid_line))]
+pub(super) fn uuid_page(alloc: Global, header: &Header1) -> Result<String, AllocError>
+    ensures { IfOk result (λ page. string_bytes page ≡ uuid_line header.now) }
+{
+    let mut page = escape(alloc, header.uuid.as_bytes())?;
+    page.push('\n')?;
+    Ok(page)
+}
+
+/// The dump of a header.
+#[tactic(auto, unfolding(crate::specs::Dump1::dump1_of))]
+pub(super) fn dump_page(alloc: Global, header: &Header1) -> Result<String, AllocError>
+    ensures { IfOk result (λ page. string_bytes page ≡ dump1_of header.now) }
+{
+    let mut page = String::new(alloc);
+    push_texts(alloc, &mut page, header)?;
+    push_numbers(alloc, &mut page, header)?;
+    push_slots(alloc, &mut page, &header.slots)?;
+    Ok(page)
+}
+
+/// Adds the lines from the version to the hash.
+#[tactic(auto, unfolding(crate::specs::Dump1::text_lines))]
+fn push_texts(alloc: Global, page: &mut String, header: &Header1) -> Result<(), AllocError>
+    ensures { OnOk result (string_bytes page.new ≡ string_bytes page.old ++ text_lines header.now) }
+{
+    let name = escape(alloc, header.cipher_name.as_bytes())?;
+    let mode = escape(alloc, header.cipher_mode.as_bytes())?;
+    let cipher = format!(in alloc; "{name}-{mode}")?;
+    push_field(page, "Version", "1")?;
+    push_text(alloc, page, "UUID", header.uuid.as_bytes())?;
+    push_field(page, "Cipher", cipher.as_str())?;
+    push_text(alloc, page, "Hash", header.hash_spec.as_bytes())?;
+    Ok(())
+}
+
+/// Adds the lines from the payload's offset to the iterations of the digest.
+#[tactic(auto, unfolding(crate::specs::Dump1::number_lines))]
+fn push_numbers(alloc: Global, page: &mut String, header: &Header1) -> Result<(), AllocError>
+    ensures { OnOk result
+        (string_bytes page.new ≡ string_bytes page.old ++ number_lines header.now) }
+{
+    push_number(alloc, page, "Payload offset", header.payload_offset as u64)?;
+    push_number(alloc, page, "Key bytes", header.key_bytes as u64)?;
+    push_bytes(alloc, page, "MK digest", &header.digest)?;
+    push_bytes(alloc, page, "MK salt", &header.digest_salt)?;
+    push_number(
+        alloc,
+        page,
+        "MK iterations",
+        header.digest_iterations as u64,
+    )?;
+    Ok(())
+}
+
+/// Adds a line for each key slot.
+#[tactic(auto, unfolding(crate::specs::Dump1::slot1_lines))]
+fn push_slots(alloc: Global, page: &mut String, slots: &[KeySlot]) -> Result<(), AllocError>
+    requires { length slots.now ≤ 8 }
+    ensures { OnOk result
+        (string_bytes page.new ≡ string_bytes page.old ++ slot1_lines 0 slots.now) }
+{
+    for (number, slot) in slots.iter().enumerate() {
+        push_slot(alloc, page, number, slot)?;
+    }
+    Ok(())
+}
+
+/// Adds the line of one key slot.
+#[tactic(auto, unfolding(crate::specs::Dump1::slot1_line))]
+fn push_slot(
+    alloc: Global,
+    page: &mut String,
+    number: usize,
+    slot: &KeySlot,
+) -> Result<(), AllocError>
+    ensures { OnOk result
+        (string_bytes page.new ≡ string_bytes page.old ++ slot1_line number slot.now) }
+{
+    let name = format!(in alloc; "Slot {number}")?;
+    let text = describe_slot(alloc, slot)?;
+    push_field(page, name.as_str(), text.as_str())
+}
+
+/// What is said of a key slot.
+#[tactic(auto, unfolding(crate::specs::Dump1::state_text))]
+fn describe_slot(alloc: Global, slot: &KeySlot) -> Result<String, AllocError>
+    ensures { IfOk result (λ text. string_bytes text ≡ slot_text slot.now) }
+{
+    match slot.state {
+        SlotState::Enabled => {
+            let salt = hex::encode(alloc, slot.salt.as_slice())?;
+            describe_enabled(
+                alloc,
+                slot.iterations,
+                salt.as_str(),
+                slot.offset,
+                slot.stripes,
+            )
+        }
+        SlotState::Disabled => String::from_str(alloc, "DISABLED"),
+        SlotState::Damaged(number) => {
+            let digits = hex::encode(alloc, number.to_be_bytes().as_slice())?;
+            format!(in alloc; "DAMAGED state={digits}")
+        }
+    }
+}
+
+/// What is said of a key slot that is in use.
+fn describe_enabled(
+    alloc: Global,
+    iterations: u32,
+    salt: &str,
+    offset: u32,
+    stripes: u32,
+) -> Result<String, AllocError>
+    ensures { IfOk result
+        (λ text. string_bytes text ≡ enabled_text iterations salt.now offset stripes) }
+{
+    let mut text = format!(in alloc; "ENABLED iterations={iterations} salt={salt}")?;
+    write!(text, " offset={offset} stripes={stripes}")?;
+    Ok(text)
+}

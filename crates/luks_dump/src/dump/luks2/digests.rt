@@ -1,0 +1,120 @@
+//! The lines of digests.
+
+ghost use Rattle.std.specs.Prelude.{◌≡◌, ◌++◌, IfOk, OnOk, codes, map, string_bytes};
+ghost use Rattle.luks_dump.specs.Dump2.{digest_line, digest_lines, digest_text, listed_text};
+ghost use Rattle.luks_dump.specs.Dump2.{more_names, names_text};
+ghost use Rattle.luks_dump.specs.Escaping.{escaped};
+ghost use Rattle.luks2_metadata.specs.Digest2.{digests2_of};
+
+use super::slots::hash_text;
+use crate::escaping::escape;
+use crate::field::push_field;
+use luks2_json::tree::Metadata;
+use luks2_metadata::digest::{Digest, digests};
+use std::alloc::{AllocError, Global};
+
+/// Adds a line for each digest.
+pub(super) fn push_digests(
+    alloc: Global,
+    page: &mut String,
+    metadata: &Metadata,
+) -> Result<(), AllocError>
+    ensures { OnOk result (string_bytes page.new
+        ≡ string_bytes page.old ++ digest_lines (digests2_of metadata.now)) }
+{
+    let digests = digests(alloc, metadata)?;
+    push_all(alloc, page, digests.as_slice())
+}
+
+// Adds a line for each of these digests.
+fn push_all(
+    alloc: Global,
+    page: &mut String,
+    digests: &[(u8, Option<Digest>)],
+) -> Result<(), AllocError>
+    ensures { OnOk result
+        (string_bytes page.new ≡ string_bytes page.old ++ digest_lines digests.now) }
+{
+    for digest in digests {
+        push_digest(alloc, page, digest)?;
+    }
+    Ok(())
+}
+
+// Adds the line of a digest.
+fn push_digest(
+    alloc: Global,
+    page: &mut String,
+    digest: &(u8, Option<Digest>),
+) -> Result<(), AllocError>
+    ensures { OnOk result
+        (string_bytes page.new ≡ string_bytes page.old ++ digest_line digest.now) }
+{
+    let (number, digest) = digest;
+    let name = format!(in alloc; "Digest {number}")?;
+    let text = describe(alloc, digest)?;
+    push_field(page, name.as_str(), text.as_str())
+}
+
+// What is said of a digest.
+fn describe(alloc: Global, digest: &Option<Digest>) -> Result<String, AllocError>
+    ensures { IfOk result (λ text. string_bytes text ≡ listed_text digest.now) }
+{
+    match digest {
+        Some(digest) => describe_usable(alloc, digest),
+        None => String::from_str(alloc, "REFUSED"),
+    }
+}
+
+// What is said of a digest that can be used.
+#[tactic(auto, unfolding(crate::specs::Dump2::digest_text))]
+fn describe_usable(alloc: Global, digest: &Digest) -> Result<String, AllocError>
+    ensures { IfOk result (λ text. string_bytes text ≡ digest_text digest.now) }
+{
+    let hash = hash_text(digest.key.hash);
+    let iterations = digest.key.iterations;
+    let bytes = digest.key.value.as_slice().len();
+    let keyslots = join(alloc, digest.keyslots.as_slice())?;
+    let segments = join(alloc, digest.segments.as_slice())?;
+    let mut text = format!(in alloc; "USABLE hash={hash} iterations={iterations}")?;
+    write!(
+        text,
+        " bytes={bytes} keyslots={keyslots} segments={segments}"
+    )?;
+    Ok(text)
+}
+
+// Names in their order, with commas between them.
+fn join(alloc: Global, names: &[String]) -> Result<String, AllocError>
+    ensures { IfOk result (λ text. string_bytes text ≡ names_text (map string_bytes names.now)) }
+{
+    match names {
+        [] => Ok(String::new(alloc)),
+        [first, rest @ ..] => {
+            let mut text = escape(alloc, first.as_bytes())?;
+            push_more(alloc, &mut text, rest)?;
+            Ok(text)
+        }
+    }
+}
+
+// Adds names behind another.
+fn push_more(alloc: Global, text: &mut String, names: &[String]) -> Result<(), AllocError>
+    ensures { OnOk result (string_bytes text.new
+        ≡ string_bytes text.old ++ more_names (map string_bytes names.now)) }
+{
+    for name in names {
+        push_name(alloc, text, name.as_str())?;
+    }
+    Ok(())
+}
+
+// Adds a name behind another.
+fn push_name(alloc: Global, text: &mut String, name: &str) -> Result<(), AllocError>
+    ensures { OnOk result
+        (string_bytes text.new ≡ string_bytes text.old ++ codes "," ++ escaped name.now) }
+{
+    let name = escape(alloc, name.as_bytes())?;
+    text.push(',')?;
+    text.push_str(name.as_str())
+}

@@ -1,0 +1,43 @@
+//! Texts of a header, which come from outside, as they can be printed on a terminal.
+
+ghost use Rattle.std.specs.Prelude.{◌≡◌, ◌++◌, ◌∷◌, [], IfOk, OnOk, string_bytes, ◌≤◌};
+ghost use Rattle.hex.specs.Hex.{encode_lower};
+ghost use Rattle.luks_dump.specs.Escaping.{escaped, escaped_byte};
+
+use std::alloc::{AllocError, Global};
+
+/// A text of a header as it is printed: bytes that are no visible ASCII, and the backslash, as
+/// `\xHH`.
+#[tactic(auto, unfolding(crate::specs::Escaping::escaped))]
+pub(crate) fn escape(alloc: Global, text: &[u8]) -> Result<String, AllocError>
+    ensures { IfOk result (λ printed. string_bytes printed ≡ escaped text.now) }
+{
+    let mut printed = String::new(alloc);
+    for byte in text {
+        push_escaped(alloc, &mut printed, *byte)?;
+    }
+    Ok(printed)
+}
+
+/// Adds one byte of a header's text.
+#[tactic(auto, unfolding(crate::specs::Escaping::escaped_byte))]
+fn push_escaped(alloc: Global, printed: &mut String, byte: u8) -> Result<(), AllocError>
+    ensures { OnOk result
+        (string_bytes printed.new ≡ string_bytes printed.old ++ escaped_byte byte) }
+{
+    if b' ' <= byte && byte <= b'~' && byte != b'\\' {
+        printed.push(char::from(byte))
+    } else {
+        push_digits(alloc, printed, byte)
+    }
+}
+
+/// Adds a byte as a backslash, an x and two digits.
+fn push_digits(alloc: Global, printed: &mut String, byte: u8) -> Result<(), AllocError>
+    ensures { OnOk result (string_bytes printed.new
+        ≡ string_bytes printed.old ++ 0x5c ∷ 0x78 ∷ encode_lower (byte ∷ [])) }
+{
+    let digits = hex::encode(alloc, [byte].as_slice())?;
+    printed.push_str("\\x")?;
+    printed.push_str(digits.as_str())
+}

@@ -1,8 +1,0 @@
-use Rattle.std.proofs.Common.{◌≡◌, ◌++◌, take, string_bytes}
-use Rattle.luks_findings.specs.Check.{overlaps_with}
-use Rattle.luks_findings.proofs.check.push_overlaps_with.Given as goal
-
--- the findings so far
-abbrev pub invariant-loop-second : goal.invariant-loop-second
-invariant-loop-second l =
-    string_bytes l.page ≡ string_bytes l.initial.page ++ overlaps_with l.first (take l.second-index l.rest)

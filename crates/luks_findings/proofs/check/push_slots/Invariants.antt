@@ -1,8 +1,0 @@
-use Rattle.std.proofs.Common.{◌≡◌, ◌++◌, take, string_bytes}
-use Rattle.luks_findings.specs.Check.{slot_findings}
-use Rattle.luks_findings.proofs.check.push_slots.Given as goal
-
--- the findings so far
-abbrev pub invariant-loop-verdict : goal.invariant-loop-verdict
-invariant-loop-verdict l =
-    string_bytes l.page ≡ string_bytes l.initial.page ++ slot_findings (take l.verdict-index l.verdicts)

@@ -1,9 +1,0 @@
-use Rattle.std.proofs.Common.{◌≡◌, ◌++◌, drop, string_bytes}
-use Rattle.luks_pages.specs.Dump1.{slot1_lines}
-use Rattle.luks_pages.proofs.dump.luks1.push_slots.Given as goal
-
--- the lines so far and those of the slots that are left are those of all
-abbrev pub invariant-loop-number : goal.invariant-loop-number
-invariant-loop-number l =
-    string_bytes l.page ++ slot1_lines l.number (drop l.number l.slots) ≡ string_bytes l.initial.page
-    ++ slot1_lines 0 l.slots

@@ -1,8 +1,0 @@
-use Rattle.std.proofs.Common.{◌≡◌, ◌++◌, take, string_bytes}
-use Rattle.luks_pages.specs.Dump2.{digest_lines}
-use Rattle.luks_pages.proofs.dump.luks2.digests.push_all.Given as goal
-
--- the lines so far
-abbrev pub invariant-loop-digest : goal.invariant-loop-digest
-invariant-loop-digest l =
-    string_bytes l.page ≡ string_bytes l.initial.page ++ digest_lines (take l.digest-index l.digests)

@@ -1,0 +1,146 @@
+-- Sectors of a payload: which are whole, and how it ends.
+use Rattle.std.proofs.Common.{◌≡◌, ℕ, ◌+◌, ◌-◌, ◌*◌, ◌/◌, ◌%◌, ◌^◌, ◌<◌, ◌≤◌, Option, None, Some, Result, Ok, Err, Bool}
+use Rattle.std.proofs.Common.{true, false, ap, sym, refl, min, arith}
+use Rattle.std.specs.Prelude.{nat_lt, ◌==◌, if◌then◌else◌}
+use Rattle.std.specs.Option.{ForSome}
+use Rattle.std.proofs.lemmas.Bool.{le-ltb}
+use Rattle.std.proofs.lemmas.Nat.{div-mul-add}
+use Rattle.std.proofs.Math.Nat.{div-mul-le_self, mod-eq-sub-div-mul, le-div_iff_mul-le, mul-le-mul_right}
+use Rattle.std.proofs.Math.Nat.{mul-le-mul_left, zero-div}
+use Rattle.luks_header.specs.SectorSize.{bytes_of}
+use Rattle.luks_verdict.specs.declared.sector_size.SectorSize.{SectorSize}
+use Rattle.luks_verdict.specs.declared.sector_size.SectorSize.TheVariants.{B512, B1024, B2048, B4096}
+use Rattle.luks_payload.specs.Passing.{limit_within}
+use Rattle.luks_payload.specs.Plain.{end_within, ending_within, within_size}
+use Rattle.luks_payload.specs.declared.fault.VolumeFault.{VolumeFault}
+use Rattle.luks_payload.specs.declared.fault.VolumeFault.TheVariants.{CutBeforePayload, Tail, Short, Read, Write}
+use Rattle.luks_payload.specs.declared.state.Step.{Step}
+use Rattle.luks_payload.specs.declared.state.Step.TheVariants.{Sector, End}
+
+pub at_least_512 : (size : SectorSize) → 512 ≤ bytes_of size
+at_least_512 B512 = omega arith
+at_least_512 B1024 = omega arith
+at_least_512 B2048 = omega arith
+at_least_512 B4096 = omega arith
+
+pub at_most_4096 : (size : SectorSize) → bytes_of size ≤ 4096
+at_most_4096 B512 = omega arith
+at_most_4096 B1024 = omega arith
+at_most_4096 B2048 = omega arith
+at_most_4096 B4096 = omega arith
+
+-- below so many whole sectors there is one more
+pub one_more_fits : (n size z : ℕ) → n < size / z → n * z + z ≤ size
+one_more_fits n size z below =
+    let more : n + 1 ≤ size / z = omega arith in
+    let all = mul-le-mul_right z more in
+    omega (arith, div-mul-le_self size z, all)
+
+-- n whole sectors fit
+pub fit : (n len z : ℕ) → 0 < z → n * z ≤ len → n ≤ len / z
+fit n len z some all = (le-div_iff_mul-le {k = z} {x = n} {y = len} some).1 all
+
+-- a size of whole sectors is their length
+exact_sectors : (size z n : ℕ) → size % z ≡ 0 → n ≡ size / z → n * z ≡ size
+exact_sectors size z n exact is =
+    let product : n * z ≡ size / z * z = ap (λ k. k * z) is in
+    omega (arith, mod-eq-sub-div-mul size z, div-mul-le_self size z)
+
+module _ (z : ℕ) (some : 0 < z) where
+  -- sector n is one of the payload's where the limit is above it and its bytes are there
+  pub is_whole : (size : Option ℕ) (n len : ℕ) → n < limit_within size z → n * z + z ≤ len
+      → n < within_size size len / z
+  is_whole None n len below there = omega (arith, fit (n + 1) len z some (omega arith))
+  is_whole (Some size) n len below there =
+      let whole = one_more_fits n size z below in
+      omega (arith, fit (n + 1) (min size len) z some (omega arith))
+
+  -- its bytes are before the payload's end
+  pub is_within : (size : Option ℕ) (n offset len place : ℕ) → n < limit_within size z → place < offset + (n * z + z)
+      → place ≤ len → place ≤ end_within size offset len
+  is_within None n offset len place below before there = there
+  is_within (Some size) n offset len place below before there =
+      let whole = one_more_fits n size z below in
+      omega arith
+
+  -- where the next sector is torn, the sectors so far are all
+  pub all_whole : (size : Option ℕ) (n more : ℕ) → n < limit_within size z → more < z
+      → n ≡ within_size size (n * z + more) / z
+  all_whole None n more below torn = sym (div-mul-add n z more torn)
+  all_whole (Some size) n more below torn =
+      let whole = one_more_fits n size z below in
+      let least : min size (n * z + more) ≡ n * z + more = omega arith in
+      rw least (sym (div-mul-add n z more torn))
+
+  -- and the payload ends with the image
+  pub ends_at_end : (size : Option ℕ) (n more offset : ℕ) → n < limit_within size z → more < z
+      → end_within size offset (offset + (n * z + more)) ≡ offset + (n * z + more)
+  ends_at_end None n more offset below torn = refl
+  ends_at_end (Some size) n more offset below torn =
+      let whole = one_more_fits n size z below in
+      omega arith
+
+  -- at the limit of an image that can be, the payload has its fixed size and ends well
+  pub at_limit : (size : Option ℕ) (n len : ℕ) → 512 ≤ z → ForSome size (λ bytes. bytes % z ≡ 0)
+      → n ≡ limit_within size z → n * z ≤ len → len < 2 ^ 64
+      → (n ≡ within_size size len / z) × (ending_within size z len ≡ Ok End)
+  at_limit None n len least whole is there few =
+      let many : n * 512 ≤ n * z = mul-le-mul_left n least in
+      absurd (omega arith)
+  at_limit (Some size) n len least whole is there few =
+      let all = exact_sectors size z n (whole size refl) is in
+      let smaller : min size len ≡ size = omega arith in
+      let enough : nat_lt len size ≡ false = le-ltb len size (omega arith) in
+      (rw smaller is, rw enough refl)
+
+  -- and at its fixed end
+  pub at_limit_end : (size : Option ℕ) (n offset len : ℕ) → 512 ≤ z → ForSome size (λ bytes. bytes % z ≡ 0)
+      → n ≡ limit_within size z → offset + n * z ≤ len
+      → len < 2 ^ 64 → end_within size offset len ≡ offset + n * z
+  at_limit_end None n offset len least whole is there few =
+      let many : n * 512 ≤ n * z = mul-le-mul_left n least in
+      absurd (omega arith)
+  at_limit_end (Some size) n offset len least whole is there few =
+      let all = exact_sectors size z n (whole size refl) is in
+      omega arith
+
+-- of an image that ends before its payload, no sector is there and no byte is left
+pub none_whole : (size : Option ℕ) (z : ℕ) → within_size size 0 / z ≡ 0
+none_whole None z = zero-div z
+none_whole (Some size) z =
+    let none : min size 0 ≡ 0 = omega arith in
+    rw none (zero-div z)
+
+pub ends_before : (size : Option ℕ) (offset len : ℕ) → len < offset → end_within size offset len ≡ len
+ends_before None offset len before = refl
+ends_before (Some size) offset len before = omega arith
+
+-- a place up to the payload's start is not behind its end
+pub before_end : (size : Option ℕ) (offset len place : ℕ) → place ≤ offset → place ≤ len
+    → place ≤ end_within size offset len
+before_end None offset len place first there = there
+before_end (Some size) offset len place first there = omega arith
+
+-- how a payload may end whose image reaches it
+abbrev pub is_ending : Result Step VolumeFault → Bool
+is_ending (Ok Sector) = false
+is_ending (Ok End) = true
+is_ending (Err CutBeforePayload) = false
+is_ending (Err (Tail _)) = true
+is_ending (Err (Short _)) = true
+is_ending (Err Read) = false
+is_ending (Err Write) = false
+
+either : (b : Bool) (x y : Result Step VolumeFault) → is_ending x ≡ true → is_ending y ≡ true
+    → is_ending (if b then x else y) ≡ true
+either true x y p q = p
+either false x y p q = q
+
+pub ending_is_ending : (size : Option ℕ) (z len : ℕ) → is_ending (ending_within size z len) ≡ true
+ending_is_ending None z len = either (len % z == 0) (Ok End) (Err (Tail (len % z))) refl refl
+ending_is_ending (Some size) z len = either (nat_lt len size) (Err (Short (size - len))) (Ok End) refl refl
+
+-- a payload ends where its image does or before
+pub end_there : (size : Option ℕ) (offset len : ℕ) → end_within size offset len ≤ len
+end_there None offset len = omega arith
+end_there (Some size) offset len = omega arith

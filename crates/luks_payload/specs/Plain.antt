@@ -1,0 +1,68 @@
+-- The plain text of a payload, over the whole image as one list of bytes.
+use Rattle.std.specs.Prelude.{ℕ, ◌+◌, ◌-◌, ◌*◌, ◌/◌, ◌%◌, ◌^◌, ◌==◌, min, nat_lt, if◌then◌else◌, List, length, take}
+use Rattle.std.specs.Prelude.{drop, Option, None, Some, Result, Ok, Err}
+use Rattle.luks_cipher.specs.Sector.{Cipher, sector_decrypted}
+use Rattle.luks_cipher.specs.Xts.{joined}
+use Rattle.luks_header.specs.SectorSize.{bytes_of}
+use Rattle.luks_verdict.specs.declared.segment.Segment.{Segment}
+use Rattle.luks_payload.specs.declared.fault.VolumeFault.{VolumeFault}
+use Rattle.luks_payload.specs.declared.fault.VolumeFault.TheVariants.{CutBeforePayload, Tail, Short}
+use Rattle.luks_payload.specs.declared.state.Step.{Step}
+use Rattle.luks_payload.specs.declared.state.Step.TheVariants.{End}
+
+-- the length of a sector
+abbrev pub sector_len : Segment → ℕ
+sector_len s = bytes_of s.sector_size
+
+-- where sector i begins in the image
+abbrev pub sector_start : Segment → ℕ → ℕ
+sector_start s i = s.offset + i * sector_len s
+
+-- its unit number: those of LUKS count in steps of 512 bytes, whatever the sector's length, and wrap at 2^64
+abbrev pub unit_number : Segment → ℕ → ℕ
+unit_number s i = (s.iv_tweak + i * (sector_len s / 512)) % 2 ^ 64
+
+-- the plain bytes of a unit that is stored: the one place where the cipher enters
+unfoldable pub unit_plain : Cipher → ℕ → List ℕ → List ℕ
+unit_plain cipher number unit = sector_decrypted cipher.0 cipher.1 number unit
+
+-- the plain bytes of sector i
+abbrev pub sector_plaintext : Segment → Cipher → List ℕ → ℕ → List ℕ
+sector_plaintext s cipher image i = unit_plain cipher (unit_number s i) (take (sector_len s) (drop (sector_start s i) image))
+
+-- how many bytes of the image stand behind the payload's start
+abbrev pub payload_len : Segment → List ℕ → ℕ
+payload_len s image = length image - s.offset
+
+-- how many of so many bytes are the payload's
+abbrev pub within_size : Option ℕ → ℕ → ℕ
+within_size None len = len
+within_size (Some size) len = min size len
+
+-- how many whole sectors the payload has
+abbrev pub sectors_of : Segment → List ℕ → ℕ
+sectors_of s image = within_size s.size (payload_len s image) / sector_len s
+
+-- the plain text: all whole sectors, joined
+abbrev pub plain_of : Segment → Cipher → List ℕ → List ℕ
+plain_of s cipher image = joined (sector_plaintext s cipher image) (sectors_of s image)
+
+-- how a payload ends whose image has so many bytes behind its start
+abbrev pub ending_within : Option ℕ → ℕ → ℕ → Result Step VolumeFault
+ending_within None sector len = if len % sector == 0 then Ok End else Err (Tail (len % sector))
+ending_within (Some size) sector len = if nat_lt len size then Err (Short (size - len)) else Ok End
+
+-- how the payload ends
+abbrev pub ending_of : Segment → List ℕ → Result Step VolumeFault
+ending_of s image =
+    if nat_lt (length image) s.offset then Err CutBeforePayload else ending_within s.size (sector_len s)
+    (payload_len s image)
+
+-- where a payload of this size from this offset on ends in an image of so many bytes
+abbrev pub end_within : Option ℕ → ℕ → ℕ → ℕ
+end_within None offset len = len
+end_within (Some size) offset len = min len (offset + size)
+
+-- where the payload ends in the image
+abbrev pub payload_end_of : Segment → List ℕ → ℕ
+payload_end_of s image = end_within s.size s.offset (length image)

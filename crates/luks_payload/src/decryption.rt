@@ -1,0 +1,24 @@
+//! A sector's decryption where its bytes stand.
+
+use luks_cipher::SectorCipher;
+use luks_io::change::Change;
+
+/// What decrypts the sector of a unit number.
+#[derive(Drop)]
+pub(crate) struct Decryption<'a> {
+    pub(crate) cipher: &'a SectorCipher,
+    pub(crate) number: u64,
+}
+
+impl<'a> Change for Decryption<'a> {
+    ghost use Rattle.std.specs.Prelude.{◌≡◌, ◌≤◌, ◌%◌};
+    ghost use Rattle.luks_payload.specs.Plain.{unit_plain};
+
+    ghost takes = { λ _ count. (count % 16 ≡ 0) × (16 ≤ count) × (count ≤ 4096) };
+
+    ghost changed = { λ d unit. unit_plain d.cipher.now d.number unit };
+
+    fn change(&self, bytes: &mut [u8]) {
+        self.cipher.decrypt_unit(self.number, bytes);
+    }
+}

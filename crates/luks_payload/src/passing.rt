@@ -1,0 +1,106 @@
+//! Bytes on their way from a source: those before the payload, and those of one sector.
+
+ghost use Rattle.std.specs.Prelude.{◌≡◌, ◌-◌, ◌%◌, ◌<◌, ◌≤◌, ◌⊎◌, ◌++◌, List, ℕ, Some, IfOk, IfErr};
+ghost use Rattle.std.specs.Prelude.{OnOk, length, take, min};
+ghost use Rattle.luks_io.specs.Bytes.{Appended, ConsumedExactly, ConsumedFewer, IfKnown, counted, is_short_read};
+ghost use Rattle.luks_payload.specs.Passing.{AddsUnit, BeginsWith, FilledSector, StopsDiscarding};
+ghost use Rattle.luks_payload.specs.Passing.{SectorEffect};
+ghost use Rattle.luks_payload.specs.Passing.{is_cut, is_pump_read_failure, is_pump_write_failure};
+ghost use Rattle.luks_payload.specs.Plain.{unit_plain};
+
+use crate::decryption::Decryption;
+use crate::fault::VolumeFault;
+use luks_cipher::SectorCipher;
+use luks_io::sink::{Sink, put_all};
+use luks_io::source::{Source, fill};
+
+/// Takes so many bytes and lets them go. The piece is room for some of them at a time.
+pub(crate) fn discard<S: Source>(
+    source: &mut S,
+    count: u64,
+    piece: &mut [u8],
+) -> Result<(), VolumeFault>
+    requires { 0 < length piece.old }
+    ensures ok { OnOk result (IfKnown (S.to_come source.old)
+        (λ known. ConsumedExactly known (S.to_come source.new) count)) }
+    ensures err { IfErr result (λ fault. IfKnown (S.to_come source.old)
+        (λ known. StopsDiscarding count known (S.to_come source.new) fault)) }
+    ensures only { IfErr result
+        (λ fault. (fault ≡ VolumeFault.CutBeforePayload) ⊎ (fault ≡ VolumeFault.Read)) }
+    ensures reads { S.failures source.new ≡ counted (is_pump_read_failure result)
+        (S.failures source.old) }
+    ensures ends { S.ends source.new ≡ counted (is_cut result) (S.ends source.old) }
+{
+    let mut left = count;
+    'pieces: while left > 0 {
+        let size = left.min(piece.len() as u64);
+        if fill(source, &mut piece[..size as usize])? < size as usize {
+            return Err(VolumeFault::CutBeforePayload);
+        }
+        left -= size;
+    }
+    Ok(())
+}
+
+/// Fills a sector with the bytes in front, and then with the next ones of the source. Answers how
+/// many there were: fewer than the sector has only where the source is at its end.
+fn gather<S: Source>(front: &[u8], sector: &mut [u8], source: &mut S) -> Result<usize, VolumeFault>
+    ensures most { IfOk result (λ got. got ≤ length sector.old) }
+    ensures gathered { IfOk result (λ got. IfKnown (S.to_come source.old)
+        (λ known. FilledSector (length sector.old) front.now known (S.to_come source.new)
+        sector.new got)) }
+    ensures begins { IfOk result (λ got. BeginsWith front.now sector.new) }
+    ensures err { IfErr result (λ fault. IfKnown (S.to_come source.old)
+        (λ known. ConsumedFewer known (S.to_come source.new)
+        (length sector.old - length front.now))) }
+    ensures only { IfErr result (λ fault. fault ≡ VolumeFault.Read) }
+    ensures reads { S.failures source.new ≡ counted (is_pump_read_failure result)
+        (S.failures source.old) }
+    ensures ends { S.ends source.new ≡ counted (is_short_read result (length sector.old))
+        (S.ends source.old) }
+{
+    let held = front.len().min(sector.len());
+    sector[..held].copy_from_slice(&front[..held]);
+    let got = fill(source, &mut sector[held..])?;
+    Ok(held + got)
+}
+
+/// Takes the sector of this unit number, whose first bytes stand in front, and writes its plain
+/// bytes where it is whole. Where the source holds all of it, it is decrypted there, and else in
+/// `sector`. Answers how many bytes there were.
+pub(crate) fn pass_sector<S: Source, O: Sink>(
+    cipher: &SectorCipher,
+    number: u64,
+    front: &[u8],
+    sector: &mut [u8],
+    source: &mut S,
+    sink: &mut O,
+) -> Result<usize, VolumeFault>
+    requires whole_blocks { length sector.old % 16 ≡ 0 }
+    requires shortest { 16 ≤ length sector.old }
+    requires longest { length sector.old ≤ 4096 }
+    ensures passes { SectorEffect cipher.now number (length sector.old) front.now result
+        (S.to_come source.old) (S.to_come source.new) (O.written sink.old) (O.written sink.new)
+        (sink.new ≡ sink.old) }
+    ensures reads { S.failures source.new ≡ counted (is_pump_read_failure result)
+        (S.failures source.old) }
+    ensures ends { S.ends source.new ≡ counted (is_short_read result (length sector.old))
+        (S.ends source.old) }
+    ensures writes { O.failures sink.new ≡ counted (is_pump_write_failure result) (O.failures sink.old) }
+{
+    // Bytes in front are not the source's: a sector that begins with them is gathered.
+    if front.is_empty() {
+        let decryption = Decryption { cipher, number };
+        if let Some(answer) = source.pass_on(sector.len(), &decryption, sink) {
+            answer?;
+            return Ok(sector.len());
+        }
+    }
+    let got = gather(front, sector, source)?;
+    if got < sector.len() {
+        return Ok(got);
+    }
+    cipher.decrypt_unit(number, sector);
+    put_all(sink, sector)?;
+    Ok(got)
+}

@@ -1,0 +1,265 @@
+//! The sector stream: an image's payload in, its plain text out, one sector at a time.
+
+ghost use Rattle.std.specs.Prelude.{◌≡◌, ◌+◌, ◌^◌, ◌<◌, ◌≤◌, ◌⊎◌, List, [], ℕ, Some, Ok, IfErr};
+ghost use Rattle.std.specs.Prelude.{true, drop, length};
+ghost use Rattle.luks_io.specs.Bytes.{counted};
+ghost use Rattle.luks_payload.specs.Passing.{AddsUnit, PositionedAt, is_cut, is_pump_read_failure};
+ghost use Rattle.luks_payload.specs.Passing.{is_pump_write_failure, max_sectors};
+ghost use Rattle.luks_payload.specs.Plain.{sector_len, sector_start, unit_number};
+ghost use Rattle.luks_payload.specs.Pumped.{MayAnswer, SkipsAgain, SkipEffect, StandsIn, StepEffect};
+ghost use Rattle.luks_payload.specs.Pumped.{StepsAgain, WritesSectors};
+ghost use Rattle.luks_payload.specs.Pumped.{after_step, hits_eof_at, is_running, consumed_by};
+ghost use Rattle.luks_payload.specs.Pumped.{state_after_skip};
+
+use crate::fault::VolumeFault;
+use crate::passing::{discard, pass_sector};
+use crate::sector::{ending, limit, number};
+use crate::state::{State, Step};
+use luks_cipher::SectorCipher;
+use luks_header::segment::Segment;
+use luks_io::sink::Sink;
+use luks_io::source::Source;
+use std::marker::Model;
+
+/// Room for the longest sector.
+const ROOM: usize = 4096;
+
+/// Passes a payload on, sector by sector. It holds one sector and takes no memory.
+///
+/// A clause sees its segment, its cipher, how many bytes of the image were consumed before it was
+/// made, how many sectors it has passed on, where it stands, and which of the payload's next bytes
+/// were consumed before it was made.
+#[derive(Drop)]
+pub struct Pump<'a> {
+    segment: Segment,
+    cipher: SectorCipher,
+    consumed: u64,
+    count: u64,
+    state: State,
+    front: &'a [u8],
+    buffer: [u8; ROOM],
+}
+
+impl<'a> Model for Pump<'a> {
+    ghost use Rattle.std.specs.Prelude.{◌≡◌, ◌≤◌, []};
+    ghost use Rattle.luks_payload.specs.Passing.{max_sectors};
+    ghost use Rattle.luks_payload.specs.Pumped.{PumpModel};
+    ghost use Rattle.luks_payload.specs.declared.state.State.TheVariants.{BeforePayload};
+
+    ghost Value = { PumpModel };
+
+    ghost view = { λ p.
+        record {
+          segment = p.segment;
+          cipher = p.cipher;
+          consumed = p.consumed;
+          count = p.count;
+          state = p.state;
+          front = p.front.now;
+        } };
+
+    ghost invariant = { λ p. (p.consumed ≤ p.segment.offset) × (p.count ≤ max_sectors p.segment)
+        × (p.state ≡ BeforePayload → (p.count ≡ 0) × (p.front.now ≡ [])) };
+}
+
+/// Passes on the sector of this number, whose first bytes stand in front, or says how the payload
+/// ends before it. The buffer has room for it.
+fn next_sector<S: Source, O: Sink>(
+    segment: &Segment,
+    cipher: &SectorCipher,
+    count: u64,
+    front: &[u8],
+    buffer: &mut [u8],
+    source: &mut S,
+    sink: &mut O,
+) -> Result<Step, VolumeFault>
+    requires room { length buffer.old ≡ ROOM }
+    requires within { count ≤ max_sectors segment.now }
+    ensures limit { count ≡ max_sectors segment.now
+        → (result ≡ Ok Step.End) × (source.new ≡ source.old) × (sink.new ≡ sink.old) }
+    ensures below { result ≡ Ok Step.Sector → count < max_sectors segment.now }
+    ensures passed { result ≡ Ok Step.Sector → AddsUnit cipher.now (unit_number segment.now count)
+        (sector_len segment.now) front.now (O.written sink.old) (O.written sink.new) }
+    ensures only { MayAnswer State.InPayload segment.now count result }
+    ensures run { (image : List ℕ) → length image < 2 ^ 64
+        → PositionedAt image front.now (sector_start segment.now count) (S.to_come source.old)
+        → StepEffect segment.now cipher.now count (sector_start segment.now count + length front.now)
+        image result (S.to_come source.new) (O.written sink.old) (O.written sink.new) }
+    ensures writes_sectors { WritesSectors result (sink.new ≡ sink.old) }
+    ensures reads { S.failures source.new ≡ counted (is_pump_read_failure result)
+        (S.failures source.old) }
+    ensures ends { S.ends source.new ≡ counted (hits_eof_at segment.now count result)
+        (S.ends source.old) }
+    ensures writes { O.failures sink.new ≡ counted (is_pump_write_failure result) (O.failures sink.old) }
+{
+    if count == limit(segment) {
+        return Ok(Step::End);
+    }
+    let size = segment.sector_size.bytes();
+    let got = pass_sector(
+        cipher,
+        number(segment, count),
+        front,
+        &mut buffer[..size],
+        source,
+        sink,
+    )?;
+    if got < size {
+        return ending(segment, count, got);
+    }
+    Ok(Step::Sector)
+}
+
+impl<'a> Pump<'a> {
+    /// A pump of this payload under this cipher, for an image of which so many bytes are consumed
+    /// already, none of them the payload's.
+    pub fn new(segment: Segment, cipher: SectorCipher, consumed: u64) -> Pump<'a>
+        requires { consumed ≤ segment.offset }
+        ensures { result ≡ record {
+          segment = segment;
+          cipher = cipher;
+          consumed = consumed;
+          count = 0;
+          state = State.BeforePayload;
+          front = [];
+        } }
+    {
+        Pump {
+            segment,
+            cipher,
+            consumed,
+            count: 0,
+            state: State::BeforePayload,
+            front: &[],
+            buffer: [0; ROOM],
+        }
+    }
+
+    /// A pump of this payload under this cipher, for an image of which the payload's first bytes
+    /// are consumed already: they come before those that the source has left.
+    pub fn with_front(segment: Segment, cipher: SectorCipher, front: &'a [u8]) -> Pump<'a>
+        ensures { result ≡ record {
+          segment = segment;
+          cipher = cipher;
+          consumed = segment.offset;
+          count = 0;
+          state = State.InPayload;
+          front = front.now;
+        } }
+    {
+        Pump {
+            segment,
+            cipher,
+            consumed: segment.offset,
+            count: 0,
+            state: State::InPayload,
+            front,
+            buffer: [0; ROOM],
+        }
+    }
+
+    /// Takes the image's bytes up to the payload's start and no more. Once that is done, it touches
+    /// nothing.
+    ///
+    /// [`CutBeforePayload`](VolumeFault::CutBeforePayload) says that the image ends before,
+    /// [`Read`](VolumeFault::Read) that a read failed. A pump that has failed repeats its fault.
+    pub fn skip<S: Source>(&mut self, source: &mut S) -> Result<(), VolumeFault>
+        ensures pump { self.new
+            ≡ record self.old { state = state_after_skip self.old.state result } }
+        ensures again { SkipsAgain self.old.state result (source.new ≡ source.old) }
+        ensures run { (image : List ℕ) → self.old.state ≡ State.BeforePayload
+            → StandsIn image self.old (S.to_come source.old)
+            → SkipEffect self.old image result (S.to_come source.new) }
+        ensures only { self.old.state ≡ State.BeforePayload → IfErr result (λ fault.
+            (fault ≡ VolumeFault.CutBeforePayload) ⊎ (fault ≡ VolumeFault.Read)) }
+        ensures fresh { self.old.state ≡ State.BeforePayload
+            → (self.old.count ≡ 0) × (self.old.front ≡ []) }
+        ensures reads { is_running self.old.state ≡ true
+            → S.failures source.new ≡ counted (is_pump_read_failure result) (S.failures source.old) }
+        ensures ends { is_running self.old.state ≡ true
+            → S.ends source.new ≡ counted (is_cut result) (S.ends source.old) }
+    {
+        match self.state {
+            State::BeforePayload => {
+                let count = self.segment.offset - self.consumed;
+                let answer = discard(source, count, &mut self.buffer);
+                self.state = match answer {
+                    Ok(()) => State::InPayload,
+                    Err(fault) => State::Faulted(fault),
+                };
+                answer
+            }
+            State::InPayload | State::Ended => Ok(()),
+            State::Faulted(fault) => Err(fault),
+        }
+    }
+
+    /// Remembers what a step in the payload answered.
+    fn remember(&mut self, answer: Result<Step, VolumeFault>)
+        requires running { self.old.state ≡ State.InPayload }
+        requires below { answer ≡ Ok Step.Sector → self.old.count < max_sectors self.old.segment }
+        ensures { self.new ≡ after_step self.old answer }
+    {
+        match answer {
+            Ok(Step::Sector) => {
+                let size = self.segment.sector_size.bytes();
+                let held = size.min(self.front.len());
+                self.front = &self.front[held..];
+                self.count += 1;
+            }
+            Ok(Step::End) => self.state = State::Ended,
+            Err(fault) => self.state = State::Faulted(fault),
+        }
+    }
+
+    /// Passes the next sector on, or ends. The first step skips to the payload if no skip came
+    /// before.
+    ///
+    /// A sector that is torn is not written. A pump that has ended or failed gives its last answer
+    /// again, and touches nothing.
+    pub fn step<S: Source, O: Sink>(
+        &mut self,
+        source: &mut S,
+        sink: &mut O,
+    ) -> Result<Step, VolumeFault>
+        ensures pump { self.new ≡ after_step self.old result }
+        ensures again { StepsAgain self.old.state result ((source.new ≡ source.old)
+            × (sink.new ≡ sink.old)) }
+        ensures limit { self.old.state ≡ State.InPayload
+            → self.old.count ≡ max_sectors self.old.segment
+            → (result ≡ Ok Step.End) × (source.new ≡ source.old) × (sink.new ≡ sink.old) }
+        ensures run { (image : List ℕ) → length image < 2 ^ 64
+            → StandsIn image self.old (S.to_come source.old)
+            → StepEffect self.old.segment self.old.cipher self.old.count (consumed_by self.old) image result
+            (S.to_come source.new) (O.written sink.old) (O.written sink.new) }
+        ensures passed { result ≡ Ok Step.Sector
+            → AddsUnit self.old.cipher (unit_number self.old.segment self.old.count)
+            (sector_len self.old.segment) self.old.front
+            (O.written sink.old) (O.written sink.new) }
+        ensures only { is_running self.old.state ≡ true
+            → MayAnswer self.old.state self.old.segment self.old.count result }
+        ensures writes_sectors { WritesSectors result (sink.new ≡ sink.old) }
+        ensures reads { is_running self.old.state ≡ true
+            → S.failures source.new ≡ counted (is_pump_read_failure result) (S.failures source.old) }
+        ensures ends { is_running self.old.state ≡ true → S.ends source.new
+            ≡ counted (hits_eof_at self.old.segment self.old.count result) (S.ends source.old) }
+        ensures writes { is_running self.old.state ≡ true
+            → O.failures sink.new ≡ counted (is_pump_write_failure result) (O.failures sink.old) }
+    {
+        self.skip(source)?;
+        if self.state == State::Ended {
+            return Ok(Step::End);
+        }
+        let answer = next_sector(
+            &self.segment,
+            &self.cipher,
+            self.count,
+            self.front,
+            &mut self.buffer,
+            source,
+            sink,
+        );
+        self.remember(answer);
+        answer
+    }
+}

@@ -1,0 +1,43 @@
+//! Numbers of a segment's sectors.
+
+ghost use Rattle.std.specs.Prelude.{◌≡◌, ◌+◌, ◌*◌, ◌<◌};
+ghost use Rattle.luks_payload.specs.Passing.{max_sectors};
+ghost use Rattle.luks_payload.specs.Plain.{ending_within, sector_len, unit_number};
+
+use crate::fault::VolumeFault;
+use crate::state::Step;
+use luks_header::segment::Segment;
+
+/// The most sectors that are passed on: those of a fixed size, and else as many as a count of them
+/// can say.
+pub(crate) fn limit(segment: &Segment) -> u64
+    ensures { result ≡ max_sectors segment.now }
+{
+    match segment.size {
+        Some(size) => size / segment.sector_size.bytes() as u64,
+        None => u64::MAX,
+    }
+}
+
+/// The unit number of a sector.
+pub(crate) fn number(segment: &Segment, sector: u64) -> u64
+    ensures { result ≡ unit_number segment.now sector }
+{
+    let units = (segment.sector_size.bytes() / 512) as u64;
+    segment.iv_tweak.wrapping_add(sector.wrapping_mul(units))
+}
+
+/// How the payload ends where the image has so many sectors of it and so many bytes more.
+pub(crate) fn ending(segment: &Segment, sectors: u64, more: usize) -> Result<Step, VolumeFault>
+    requires below { sectors < max_sectors segment.now }
+    requires torn { more < sector_len segment.now }
+    ensures { result ≡ ending_within segment.now.size (sector_len segment.now)
+        (sectors * sector_len segment.now + more) }
+{
+    let sector = segment.sector_size.bytes() as u64;
+    match segment.size {
+        Some(size) => Err(VolumeFault::Short(size - sectors * sector - more as u64)),
+        None if more == 0 => Ok(Step::End),
+        None => Err(VolumeFault::Tail(more as u64)),
+    }
+}

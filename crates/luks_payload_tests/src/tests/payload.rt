@@ -1,0 +1,323 @@
+//! Payloads of all endings, of which the source or the pump holds whole sectors, parts of them, or
+//! none.
+
+use super::fixture::{End, NEVER, Way, check_run, key, run, run_pump, segment_of, volume_of};
+use luks_header::sector_size::SectorSize;
+use luks_io::memory::{MemSink, MemSource};
+use luks_payload::fault::VolumeFault;
+use luks_payload::pump::Pump;
+use luks_payload::state::Step;
+use std::process::Abort;
+
+/// How a run over an image's first bytes ends: how many bytes these are, how many sectors are
+/// passed on, the answer that ends it, and how many bytes are taken.
+type Row = (usize, u32, Result<Step, VolumeFault>, usize);
+
+/// Sectors of a size, the unit number of the first one, the payload's size where it is fixed, the
+/// unit numbers of three sectors, and runs over them.
+type Payload = (SectorSize, u64, Option<u64>, [u64; 3], &'static [Row]);
+
+const DYNAMIC_512: [Row; 8] = [
+    (0, 0, Err(VolumeFault::CutBeforePayload), 0),
+    (999, 0, Err(VolumeFault::CutBeforePayload), 999),
+    (1000, 0, Ok(Step::End), 1000),
+    (1001, 0, Err(VolumeFault::Tail(1)), 1001),
+    (1511, 0, Err(VolumeFault::Tail(511)), 1511),
+    (1512, 1, Ok(Step::End), 1512),
+    (1513, 1, Err(VolumeFault::Tail(1)), 1513),
+    (2536, 3, Ok(Step::End), 2536),
+];
+
+const DYNAMIC_4096: [Row; 3] = [
+    (5095, 0, Err(VolumeFault::Tail(4095)), 5095),
+    (5096, 1, Ok(Step::End), 5096),
+    (13_288, 3, Ok(Step::End), 13_288),
+];
+
+const FIXED_512: [Row; 8] = [
+    (999, 0, Err(VolumeFault::CutBeforePayload), 999),
+    (1000, 0, Err(VolumeFault::Short(1024)), 1000),
+    (1001, 0, Err(VolumeFault::Short(1023)), 1001),
+    (1512, 1, Err(VolumeFault::Short(512)), 1512),
+    (2023, 1, Err(VolumeFault::Short(1)), 2023),
+    (2024, 2, Ok(Step::End), 2024),
+    (2025, 2, Ok(Step::End), 2024),
+    (2536, 2, Ok(Step::End), 2024),
+];
+
+const FIXED_EMPTY: [Row; 3] = [
+    (999, 0, Err(VolumeFault::CutBeforePayload), 999),
+    (1000, 0, Ok(Step::End), 1000),
+    (2536, 0, Ok(Step::End), 1000),
+];
+
+const FIXED_4096: [Row; 1] = [(13_288, 2, Ok(Step::End), 9192)];
+
+/// The unit numbers of three sectors from 5 on.
+const UNITS_512: [u64; 3] = [5, 6, 7];
+
+const UNITS_4096: [u64; 3] = [5, 13, 21];
+
+// Unit numbers wrap.
+const WRAPPED_512: Payload = (
+    SectorSize::B512,
+    u64::MAX,
+    None,
+    [18_446_744_073_709_551_615, 0, 1],
+    &[(2536, 3, Ok(Step::End), 2536)],
+);
+
+const WRAPPED_4096: Payload = (
+    SectorSize::B4096,
+    u64::MAX,
+    None,
+    [18_446_744_073_709_551_615, 7, 15],
+    &[(13_288, 3, Ok(Step::End), 13_288)],
+);
+
+static PAYLOADS: [Payload; 7] = [
+    (SectorSize::B512, 5, None, UNITS_512, &DYNAMIC_512),
+    (SectorSize::B4096, 5, None, UNITS_4096, &DYNAMIC_4096),
+    (SectorSize::B512, 5, Some(1024), UNITS_512, &FIXED_512),
+    (SectorSize::B512, 5, Some(0), UNITS_512, &FIXED_EMPTY),
+    (SectorSize::B4096, 5, Some(8192), UNITS_4096, &FIXED_4096),
+    WRAPPED_512,
+    WRAPPED_4096,
+];
+
+/// How many bytes a source may hold, how many the one below it gives at once, all where it is 0,
+/// and how many a sink takes at once.
+type Shape = (usize, usize, usize);
+
+// Pieces alone; and then none is held; less than a sector of 512 bytes, and one and a part; three,
+// and the whole image; and pieces that end within sectors.
+static SHAPES: [Shape; 13] = [
+    (0, 1, 700),
+    (0, 511, 1),
+    (0, 512, 700),
+    (0, 513, 512),
+    (0, 5000, 5000),
+    (0, 0, 200),
+    (300, 0, 200),
+    (700, 0, 200),
+    (1536, 0, 200),
+    (5000, 0, 200),
+    (65_536, 0, 200),
+    (65_536, 513, 200),
+    (65_536, 1700, 200),
+];
+
+// The way in which nothing fails.
+fn way_of((room, piece, sink_piece): Shape) -> Way {
+    Way {
+        held: 0,
+        room,
+        piece,
+        bad_read: NEVER,
+        sink_piece,
+        bad_write: NEVER,
+    }
+}
+
+// Each run of this payload, whatever the source holds.
+fn check_payload(
+    rt: &(impl Abort + AllocGlobal),
+    (sector_size, iv_tweak, size, units, rows): &Payload,
+) {
+    let volume = volume_of(rt, *sector_size, units);
+    let segment = segment_of(rt, *sector_size, *iv_tweak, *size);
+    for (len, sectors, last, taken) in *rows {
+        let image = &volume.image[..*len.min(&volume.image.len())];
+        let written = (*sectors as usize).saturating_mul(sector_size.bytes());
+        for shape in &SHAPES {
+            let end = (*sectors, *last, *taken, written);
+            check_run(rt, segment, (image, &volume.plain), way_of(*shape), end);
+        }
+    }
+}
+
+#[test]
+fn payloads_end_as_they_are_cut(rt: HostRuntime) {
+    for payload in &PAYLOADS {
+        check_payload(&rt, payload);
+    }
+}
+
+/// Sectors of a size, the payload's size where it is fixed, and a run over an image's first bytes:
+/// how many bytes these are, how many sectors are passed on, the answer that ends it, and where the
+/// source is left if that is not behind the bytes that are held. It ends so if so many are held.
+type Front = (SectorSize, Option<u64>, [u64; 3], Row, &'static [usize]);
+
+static FRONTS: [Front; 5] = [
+    (
+        SectorSize::B512,
+        None,
+        UNITS_512,
+        (2536, 3, Ok(Step::End), 2536),
+        &[1000, 1001, 1511, 1512, 1513, 2000, 2024, 2025, 2535, 2536],
+    ),
+    (
+        SectorSize::B512,
+        None,
+        UNITS_512,
+        (2535, 2, Err(VolumeFault::Tail(511)), 2535),
+        &[1000, 1512, 2024, 2025, 2535],
+    ),
+    (
+        SectorSize::B4096,
+        None,
+        UNITS_4096,
+        (13_288, 3, Ok(Step::End), 13_288),
+        &[1000, 1512, 5095, 5096, 5097, 9192, 13_288],
+    ),
+    (
+        SectorSize::B512,
+        Some(1024),
+        UNITS_512,
+        (2536, 2, Ok(Step::End), 2024),
+        &[1000, 1600, 2023, 2024, 2025, 2536],
+    ),
+    (
+        SectorSize::B512,
+        Some(1024),
+        UNITS_512,
+        (1999, 1, Err(VolumeFault::Short(25)), 1999),
+        &[1000, 1512, 1600, 1999],
+    ),
+];
+
+fn check_front(rt: &(impl Abort + AllocGlobal), (sector_size, size, units, row, helds): &Front) {
+    let volume = volume_of(rt, *sector_size, units);
+    let segment = segment_of(rt, *sector_size, 5, *size);
+    let (len, sectors, last, taken) = *row;
+    let image = &volume.image[..len.min(volume.image.len())];
+    let written = (sectors as usize).saturating_mul(sector_size.bytes());
+    for held in *helds {
+        let way = Way {
+            held: *held,
+            ..way_of((0, 513, 700))
+        };
+        let end = (sectors, last, taken.max(*held), written);
+        check_run(rt, segment, (image, &volume.plain), way, end);
+    }
+}
+
+#[test]
+fn what_is_held_is_passed_on_first(rt: HostRuntime) {
+    for front in &FRONTS {
+        check_front(&rt, front);
+    }
+}
+
+// Reads are of 200 bytes: five before the payload, then 200, 200 and 112 for each sector, and one
+// at the end.
+static BAD_READS: [(u64, End); 8] = [
+    (0, (0, Err(VolumeFault::Read), 0, 0)),
+    (4, (0, Err(VolumeFault::Read), 800, 0)),
+    (5, (0, Err(VolumeFault::Read), 1000, 0)),
+    (7, (0, Err(VolumeFault::Read), 1400, 0)),
+    (8, (1, Err(VolumeFault::Read), 1512, 512)),
+    (13, (2, Err(VolumeFault::Read), 2424, 1024)),
+    (14, (3, Err(VolumeFault::Read), 2536, 1536)),
+    (15, (3, Ok(Step::End), 2536, 1536)),
+];
+
+#[test]
+fn failed_reads_are_told_for_good(rt: HostRuntime) {
+    let volume = volume_of(&rt, SectorSize::B512, &UNITS_512);
+    let parts = (volume.image.as_slice(), volume.plain.as_slice());
+    let segment = segment_of(&rt, SectorSize::B512, 5, None);
+    for (bad_read, end) in &BAD_READS {
+        let way = Way {
+            bad_read: *bad_read,
+            ..way_of((0, 200, 200))
+        };
+        check_run(&rt, segment, parts, way, *end);
+    }
+    // Behind what is held.
+    let way = Way {
+        held: 1600,
+        bad_read: 0,
+        ..way_of((0, 513, 700))
+    };
+    check_run(
+        &rt,
+        segment,
+        parts,
+        way,
+        (1, Err(VolumeFault::Read), 1600, 512),
+    );
+}
+
+// So are writes. What was taken is the same whatever the source holds.
+static BAD_WRITES: [(u64, End); 5] = [
+    (0, (0, Err(VolumeFault::Write), 1512, 0)),
+    (2, (0, Err(VolumeFault::Write), 1512, 400)),
+    (3, (1, Err(VolumeFault::Write), 2024, 512)),
+    (8, (2, Err(VolumeFault::Write), 2536, 1424)),
+    (9, (3, Ok(Step::End), 2536, 1536)),
+];
+
+#[test]
+fn failed_writes_are_told_for_good(rt: HostRuntime) {
+    let volume = volume_of(&rt, SectorSize::B512, &UNITS_512);
+    let segment = segment_of(&rt, SectorSize::B512, 5, None);
+    for (bad_write, end) in &BAD_WRITES {
+        for (room, piece, _) in &SHAPES {
+            let way = Way {
+                bad_write: *bad_write,
+                ..way_of((*room, *piece, 200))
+            };
+            check_run(&rt, segment, (&volume.image, &volume.plain), way, *end);
+        }
+    }
+}
+
+// A sector is passed on exactly where it lies whole in what one call brought.
+static PASSED: [(usize, usize, u32); 8] = [
+    (0, 0, 0),
+    (700, 0, 0),
+    (1536, 0, 2),
+    (2024, 0, 2),
+    (5000, 0, 3),
+    (65_536, 513, 0),
+    (65_536, 1512, 2),
+    (65_536, 1700, 2),
+];
+
+#[test]
+fn sectors_that_are_held_are_passed_on(rt: HostRuntime) {
+    let volume = volume_of(&rt, SectorSize::B512, &UNITS_512);
+    let segment = segment_of(&rt, SectorSize::B512, 5, None);
+    for (room, piece, passed) in &PASSED {
+        let way = way_of((*room, *piece, 200));
+        let outcome = run(&rt, segment, (&volume.image, &volume.plain), way);
+        let is_whole = outcome.end == (3, Ok(Step::End), 2536, 1536);
+        assert!(rt;
+            is_whole && outcome.passed == *passed,
+            "{way:?}: {outcome:?}"
+        );
+    }
+}
+
+// The source stands behind the header's 592 bytes. A second skip takes nothing, and after the end
+// neither a step nor a skip takes or writes anything.
+#[test]
+fn a_second_skip_and_a_step_after_the_end_touch_nothing(rt: HostRuntime) {
+    let volume = volume_of(&rt, SectorSize::B512, &UNITS_512);
+    let segment = segment_of(&rt, SectorSize::B512, 5, None);
+    assert!(rt; 592 <= segment.offset && volume.image.len() == 2536);
+    let mut pump = Pump::new(segment, key(&rt), 592);
+    let mut source = MemSource::new(&volume.image[592..]);
+    for _ in 0..2 {
+        assert!(rt; pump.skip(&mut source) == Ok(()) && source.left().len() == 1536);
+    }
+    let mut sink = MemSink::new(rt.alloc(), 4096).expect(&rt, "memory");
+    let end = run_pump(&mut pump, &mut source, &mut sink);
+    assert!(rt; end == (3, Ok(Step::End)) && source.left().is_empty());
+    assert!(rt; sink.as_slice() == volume.plain.as_slice());
+    let mut more = MemSource::new(&volume.image);
+    assert!(rt; pump.step(&mut more, &mut sink) == Ok(Step::End));
+    assert!(rt; pump.skip(&mut more) == Ok(()) && more.left().len() == 2536);
+    assert!(rt; sink.as_slice().len() == 1536);
+}

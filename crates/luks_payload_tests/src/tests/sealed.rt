@@ -1,0 +1,101 @@
+//! Sealed volumes, read by the places of the LUKS1 On-Disk Format Specification.
+
+ghost use Rattle.std.specs.Prelude.{◌≡◌, length};
+
+use luks_cipher::{Mode, SectorCipher};
+use luks_kdf::{Hash, Work, pbkdf2};
+use luks_seal_fixtures::bytes::{at, counted};
+use luks_seal_fixtures::parameters::{KEY, SALT, parameters1, slot1};
+use luks_stripes::af_merge;
+use luks1_seal::seal1;
+use std::process::Abort;
+
+/// PBKDF2 of the key with SHA-256, 32 bytes 5a as salt and 3 iterations: Python's
+/// hashlib.pbkdf2_hmac.
+const DIGEST: &[u8] = &[
+    0xad, 0xb4, 0xdc, 0x9a, 0xfc, 0x19, 0x7c, 0xd7, 0xd4, 0xb5, 0x85, 0x3d, 0x2c, 0x1a, 0xd4, 0x54,
+    0x5a, 0xf1, 0x34, 0xdb,
+];
+
+const FIRST_SALT: [u8; 32] = [0x11; 32];
+
+const SIXTH_SALT: [u8; 32] = [0x66; 32];
+
+// The key of four stripes.
+fn merge(stripes: &[u8], key: &mut [u8])
+    requires stripes { length stripes.now ≡ 128 }
+    requires key { length key.old ≡ 32 }
+{
+    af_merge(Hash::Sha256, stripes, key);
+}
+
+// Decrypts an area of one sector.
+fn decrypt(area_key: &[u8], area: &mut [u8])
+    requires { length area.old ≡ 512 }
+{
+    if let Some(cipher) = SectorCipher::new(Mode::XtsPlain64, area_key) {
+        cipher.decrypt_unit(0, area);
+    }
+}
+
+// The key of the stripes in an area of one sector.
+fn open_area(area_key: &[u8], area: &mut [u8], key: &mut [u8])
+    requires area { length area.old ≡ 512 }
+    requires key { length key.old ≡ 32 }
+{
+    decrypt(area_key, area);
+    merge(&area[..128], key);
+}
+
+// Whether the stripes at this place hold the key for a passphrase, after two iterations.
+fn opens(rt: &impl Abort, image: &[u8], place: usize, salt: &[u8], pass: &[u8]) -> bool {
+    let mut area_key = [0; 32];
+    let mut work = Work::new(0);
+    pbkdf2(Hash::Sha256, pass, salt, 2, &mut area_key, &mut work);
+    let mut area = [0; 512];
+    let found = at(image, place, 512);
+    assert!(rt; found.len() == 512);
+    area.copy_from_slice(found);
+    let mut key = [0; 32];
+    open_area(&area_key, &mut area, &mut key);
+    key.as_slice() == KEY
+}
+
+// Texts and numbers of the header, each with its place.
+static HEADER: [(usize, &[u8]); 16] = [
+    (0, b"LUKS\xba\xbe\x00\x01aes"),
+    (40, b"xts-plain64\x00"),
+    (72, b"sha256\x00"),
+    (104, b"\x00\x00\x00\x48\x00\x00\x00\x20"),
+    (112, DIGEST),
+    (132, &SALT),
+    (164, b"\x00\x00\x00\x03"),
+    (168, b"a-uuid\x00"),
+    // The slots: state and iterations, then salt, place and stripes.
+    (208, b"\x00\xac\x71\xf3\x00\x00\x00\x02"),
+    (216, &FIRST_SALT),
+    (248, b"\x00\x00\x00\x08\x00\x00\x00\x04"),
+    (256, b"\x00\x00\xde\xad\x00\x00\x00\x00"),
+    (296, b"\x00\x00\x00\x10\x00\x00\x00\x04"),
+    (448, b"\x00\xac\x71\xf3\x00\x00\x00\x02"),
+    (488, b"\x00\x00\x00\x30\x00\x00\x00\x04"),
+    (584, b"\x00\x00\x00\x40\x00\x00\x00\x04\x00\x00\x00\x00"),
+];
+
+// Its payload is read in `sealed_both`.
+#[test]
+fn a_sealed_volume_has_the_stated_places(rt: HostRuntime) {
+    let plain = counted(rt.alloc(), 1024).expect(&rt, "memory");
+    let slots = [
+        slot1(5, SIXTH_SALT, b"sixth"),
+        slot1(0, FIRST_SALT, b"first"),
+    ];
+    let image = seal1(rt.alloc(), &parameters1(&slots, &plain)).expect(&rt, "a volume");
+    assert!(rt; image.len() == 37_888);
+    for (place, bytes) in &HEADER {
+        assert!(rt; at(&image, *place, bytes.len()) == *bytes, "{place}");
+    }
+    assert!(rt; opens(&rt, &image, 4096, &FIRST_SALT, b"first"));
+    assert!(rt; opens(&rt, &image, 24_576, &SIXTH_SALT, b"sixth"));
+    assert!(rt; !opens(&rt, &image, 4096, &FIRST_SALT, b"sixth"));
+}

@@ -1,0 +1,300 @@
+//! Sealed volumes of both formats, opened by the header's reader, by what tries passphrases, and by
+//! a pump.
+
+use super::fixture::{NEVER, run_pump};
+use luks_cipher::{Mode, SectorCipher};
+use luks_header::area::HeaderArea;
+use luks_header::header::{Header, read_header};
+use luks_header::payload::segment;
+use luks_header::sector_size::SectorSize;
+use luks_io::memory::MemSource;
+use luks_kdf::{Hash, Work};
+use luks_open::fault::OpenFault;
+use luks_open::opening::{Opened, open};
+use luks_open::order::order;
+use luks_open::tries::held_end;
+use luks_seal::parameters::{Seal1, Seal2, Slot1, Slot2};
+use luks_seal_fixtures::bytes::{at, counted};
+use luks_seal_fixtures::parameters::{self, parameters1, parameters2};
+use luks_test_support::devices::{Flaky, Leaky};
+use luks_payload::pump::Pump;
+use luks_payload::state::Step;
+use luks1_seal::seal1;
+use luks2_seal::seal2;
+use std::process::Abort;
+
+const MODES: [(Mode, usize); 8] = [
+    (Mode::XtsPlain64, 32),
+    (Mode::XtsPlain64, 64),
+    (Mode::XtsPlain, 32),
+    (Mode::XtsPlain, 64),
+    (Mode::CbcEssivSha256, 16),
+    (Mode::CbcEssivSha256, 32),
+    (Mode::CbcPlain64, 16),
+    (Mode::CbcPlain64, 32),
+];
+
+const SIZES: [SectorSize; 4] = [
+    SectorSize::B512,
+    SectorSize::B1024,
+    SectorSize::B2048,
+    SectorSize::B4096,
+];
+
+const FIRST: &[u8] = b"first";
+
+const SECOND: &[u8] = b"";
+
+const UNRANKED: &[u8] = b"by its number alone";
+
+/// Bytes of keys.
+const KEY: &[u8] = b"a volume key of AES-256 has two halves, thirty-two bytes in each";
+
+/// How many stripes there are.
+const STRIPES: u32 = 3;
+
+// So many bytes that count up.
+fn bytes(rt: &(impl Abort + AllocGlobal), len: usize) -> Vec<u8> {
+    counted(rt.alloc(), len).expect(rt, "memory")
+}
+
+// What a passphrase opens of a header's image, whether or not a slot is named.
+fn opened(
+    rt: &(impl Abort + AllocGlobal),
+    header: &Header,
+    area: &mut HeaderArea,
+    source: &mut MemSource<'_>,
+    named: Option<u8>,
+    pass: &[u8],
+) -> Result<Opened, OpenFault> {
+    let Ok(_) = segment(header) else {
+        panic!(rt; "the segment is refused");
+    };
+    let Ok(order) = order(rt.alloc(), header, named, None) else {
+        panic!(rt; "nothing is tried");
+    };
+    let Ok(true) = area.extend_to(source, held_end(&order)) else {
+        panic!(rt; "the image is cut");
+    };
+    open(header, area, &order, pass, &mut Work::new(0))
+}
+
+// The payload under this key is this plain text.
+fn check_payload(
+    rt: &(impl Abort + AllocGlobal),
+    header: &Header,
+    key: &[u8],
+    image: &[u8],
+    plain: &[u8],
+) {
+    let payload = segment(header).expect(rt, "a segment");
+    let cipher = SectorCipher::new(payload.mode, key).expect(rt, "a key of the mode");
+    let mut source = Flaky::new(image, 0, NEVER);
+    let mut sink = Leaky::new(rt.alloc(), 65_536, 65_536, NEVER).expect(rt, "memory");
+    let (_, last) = run_pump(&mut Pump::new(payload, cipher, 0), &mut source, &mut sink);
+    assert!(rt; last == Ok(Step::End) && sink.as_slice() == plain);
+}
+
+// The passphrase opens this slot of the image, and the payload is this plain text. Or it opens
+// none, or not the named one.
+fn check_opens(
+    rt: &(impl Abort + AllocGlobal),
+    (image, plain): (&[u8], &[u8]),
+    named: Option<u8>,
+    pass: &[u8],
+    slot: Option<u8>,
+) {
+    let mut source = MemSource::new(image);
+    let (header, mut area) = read_header(rt.alloc(), &mut source).expect(rt, "a header");
+    match opened(rt, &header, &mut area, &mut source, named, pass) {
+        Ok(opened) => {
+            assert!(rt;
+                slot == Some(opened.slot),
+                "{pass:?}, {named:?}: {}",
+                opened.slot
+            );
+            check_payload(rt, &header, opened.key.as_slice(), image, plain);
+        }
+        Err(_) => assert!(rt; slot.is_none(), "{pass:?}, {named:?}"),
+    }
+}
+
+// A volume of LUKS1 with two slots.
+fn check_volume1(rt: &(impl Abort + AllocGlobal), mode: Mode, key: &[u8], plain: &[u8]) {
+    let random = bytes(rt, key.len().saturating_mul(2));
+    let second = Slot1 {
+        random: &random,
+        ..parameters::slot1(6, [0x41; 32], SECOND)
+    };
+    let first = Slot1 {
+        random: &random,
+        ..parameters::slot1(1, [0x41; 32], FIRST)
+    };
+    let slots = [second, first];
+    let seal = Seal1 {
+        hash: Hash::Sha384,
+        mode,
+        key,
+        stripes: STRIPES,
+        digest_iterations: 2,
+        ..parameters1(&slots, plain)
+    };
+    let image = seal1(rt.alloc(), &seal).expect(rt, "a volume");
+    check_opens(rt, (&image, plain), None, FIRST, Some(1));
+    check_opens(rt, (&image, plain), None, SECOND, Some(6));
+    check_opens(rt, (&image, plain), Some(6), SECOND, Some(6));
+    check_opens(rt, (&image, plain), Some(1), SECOND, None);
+}
+
+#[test]
+fn each_passphrase_opens_a_volume_of_luks1_in_each_mode(rt: HostRuntime) {
+    let plain = bytes(&rt, 1536);
+    for (mode, len) in MODES {
+        check_volume1(&rt, mode, at(KEY, 0, len), &plain);
+    }
+}
+
+fn slot2<'a>(
+    (number, priority): (u32, u32),
+    hash: Hash,
+    passphrase: &'static [u8],
+    random: &'a [u8],
+) -> Slot2<'a> {
+    Slot2 {
+        priority,
+        hash,
+        iterations: 3,
+        af_hash: hash,
+        stripes: STRIPES,
+        random,
+        ..parameters::slot2(number, [0x42; 32], passphrase)
+    }
+}
+
+fn volume2<'a>(mode: Mode, key: &'a [u8], plain: &'a [u8]) -> Seal2<'a> {
+    Seal2 {
+        mode,
+        key,
+        offset: 49_152,
+        digest_hash: Hash::Sha512,
+        digest_iterations: 2,
+        ..parameters2(&[], plain)
+    }
+}
+
+// A volume of LUKS2 with three slots, of which the one with priority 0 opens by its number alone.
+fn check_volume2(rt: &(impl Abort + AllocGlobal), seal: Seal2<'_>) {
+    let random = bytes(rt, seal.key.len().saturating_mul(2));
+    let slots = [
+        slot2((31, 2), Hash::Sha512, SECOND, &random),
+        slot2((2, 0), Hash::Sha256, UNRANKED, &random),
+        slot2((10, 1), Hash::Sha1, FIRST, &random),
+    ];
+    let seal = Seal2 {
+        slots: &slots,
+        ..seal
+    };
+    let image = seal2(rt.alloc(), &seal).expect(rt, "a volume");
+    check_opens(rt, (&image, seal.plain), None, FIRST, Some(10));
+    check_opens(rt, (&image, seal.plain), None, SECOND, Some(31));
+    check_opens(rt, (&image, seal.plain), Some(2), UNRANKED, Some(2));
+    check_opens(rt, (&image, seal.plain), None, UNRANKED, None);
+    check_opens(rt, (&image, seal.plain), Some(2), FIRST, None);
+}
+
+#[test]
+fn each_passphrase_opens_a_volume_of_luks2_in_each_mode(rt: HostRuntime) {
+    let plain = bytes(&rt, 8192);
+    for (mode, len) in MODES {
+        for sector_size in SIZES {
+            let seal = Seal2 {
+                sector_size,
+                ..volume2(mode, at(KEY, 0, len), &plain)
+            };
+            check_volume2(&rt, seal);
+        }
+    }
+}
+
+#[test]
+fn key_material_is_in_a_mode_of_its_own(rt: HostRuntime) {
+    let plain = bytes(&rt, 512);
+    for (area_mode, area_key_size) in MODES {
+        let seal = Seal2 {
+            area_mode,
+            area_key_size,
+            ..volume2(Mode::XtsPlain64, KEY, &plain)
+        };
+        check_volume2(&rt, seal);
+    }
+}
+
+/// Lengths of payloads, none among them, and whether they are fixed.
+const LENGTHS: [(usize, bool); 5] = [
+    (12_288, false),
+    (12_288, true),
+    (4096, true),
+    (0, true),
+    (0, false),
+];
+
+// Unit numbers that wrap at 2^64, and lengths that are fixed, none among them.
+#[test]
+fn unit_numbers_wrap_and_sizes_are_kept(rt: HostRuntime) {
+    let plain = bytes(&rt, 12_288);
+    for (len, fixed) in LENGTHS {
+        for sector_size in SIZES {
+            let seal = Seal2 {
+                sector_size,
+                fixed,
+                iv_tweak: u64::MAX - 7,
+                ..volume2(Mode::XtsPlain64, KEY, at(&plain, 0, len))
+            };
+            check_volume2(&rt, seal);
+        }
+    }
+}
+
+// A volume of LUKS2 with one slot.
+fn sealed_once(rt: &(impl Abort + AllocGlobal), seal: Seal2<'_>) -> Vec<u8> {
+    let random = bytes(rt, 128);
+    let seal = Seal2 {
+        slots: &[slot2((0, 1), Hash::Sha256, FIRST, &random)],
+        ..seal
+    };
+    seal2(rt.alloc(), &seal).expect(rt, "a volume")
+}
+
+// Bytes behind a fixed size are no part of the payload.
+#[test]
+fn a_fixed_size_ends_the_payload(rt: HostRuntime) {
+    let plain = bytes(&rt, 1024);
+    let seal = Seal2 {
+        fixed: true,
+        ..volume2(Mode::XtsPlain64, KEY, &plain)
+    };
+    let mut image = sealed_once(&rt, seal);
+    image.extend_from_slice(&plain).expect(&rt, "memory");
+    check_opens(&rt, (&image, &plain), None, FIRST, Some(0));
+}
+
+/// The sizes of headers.
+const HEADERS: [u64; 7] = [16_384, 32_768, 65_536, 131_072, 262_144, 524_288, 1_048_576];
+
+// The secondary header is chosen where the primary one is broken.
+#[test]
+fn both_headers_are_valid(rt: HostRuntime) {
+    let plain = bytes(&rt, 1024);
+    for hdr_size in HEADERS {
+        let seal = Seal2 {
+            hdr_size,
+            offset: hdr_size.saturating_mul(2).saturating_add(4096),
+            ..volume2(Mode::XtsPlain64, KEY, &plain)
+        };
+        let mut image = sealed_once(&rt, seal);
+        check_opens(&rt, (&image, &plain), None, FIRST, Some(0));
+        assert!(rt; 4096 < image.len());
+        image[4096] = b'}';
+        check_opens(&rt, (&image, &plain), None, FIRST, Some(0));
+    }
+}

@@ -1,5 +1,0 @@
-use Rattle.std.proofs.Common.{length, ◌≡◌}
-use Rattle.luks_seal_testing.proofs.bytes.counted.Given as goal
-
-abbrev pub invariant-loop-i : goal.invariant-loop-i
-invariant-loop-i l = length l.bytes.items ≡ l.i
