@@ -7,11 +7,11 @@ ghost use Rattle.luks_check.specs.Check.{name_finding, overlap, overlaps, overla
 ghost use Rattle.luks_check.specs.Check.{place_finding, segment_finding, skip_finding};
 ghost use Rattle.luks_check.specs.Check.{slot_finding, slot_findings};
 
+use luks_dump::field::push_field;
 use luks_header::header::Header;
 use luks_header::payload::segment;
 use luks_header::refusal::SkipReason;
 use luks_header::slot::{Slot, Verdict, has_name_out_of_range, slots};
-use luks_dump::field::push_field;
 use std::alloc::{AllocError, Global};
 
 pub(crate) mod luks2;

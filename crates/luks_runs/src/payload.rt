@@ -12,9 +12,9 @@ use luks_cipher::SectorCipher;
 use luks_header::segment::Segment;
 use luks_io::sink::Sink;
 use luks_io::source::Source;
-use luks_report::message::Message;
 use luks_payload::pump::Pump;
 use luks_payload::state::{State, Step};
+use luks_report::message::Message;
 
 /// A pump of the payload of an image whose first bytes are held: those of the payload among them
 /// are passed on first.

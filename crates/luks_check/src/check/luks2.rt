@@ -3,8 +3,8 @@
 ghost use Rattle.std.specs.Prelude.{◌≡◌, ◌++◌, OnOk, string_bytes};
 ghost use Rattle.luks_check.specs.Check2.{header_finding};
 
-use luks_header::header::Finding;
 use luks_dump::field::push_field;
+use luks_header::header::Finding;
 use std::alloc::AllocError;
 
 /// Adds what is found in the two headers beside one another.

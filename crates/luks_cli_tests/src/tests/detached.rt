@@ -7,9 +7,9 @@ use super::runs::{Ends, check_beginning, check_run, check_told, first_of, sink, 
 use super::volume::{KEY, PASSPHRASE, PLAIN_LEN, USUAL, changed, followed, plain_bytes, sealed_in};
 use super::volume2::header2;
 use crate::tests::same::{assert_in, assert_same_in};
+use luks_args::planning::plan;
 use luks_cipher::Mode;
 use luks_cli::execute::execute_detached;
-use luks_args::planning::plan;
 use luks_io::memory::{MemSink, MemSource};
 use luks_report::report::Report;
 use luks_request::command::Command;

@@ -5,8 +5,8 @@ ghost use Rattle.std.specs.Prelude.{◌≡◌, false};
 ghost use Rattle.luks_request.specs.Request.{has_header_file, request_of};
 
 use crate::tests::same::{assert_in, assert_same_in};
-use luks_cli::execute::execute;
 use luks_args::planning::plan;
+use luks_cli::execute::execute;
 use luks_io::memory::{MemSink, MemSource};
 use luks_io::sink::Sink;
 use luks_io::source::Source;

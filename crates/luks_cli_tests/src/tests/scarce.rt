@@ -2,8 +2,8 @@
 
 use super::runs::{sink, words_of};
 use crate::tests::same::{assert_in, assert_same_in};
-use luks_cli::execute::{execute, execute_detached};
 use luks_args::planning::plan;
+use luks_cli::execute::{execute, execute_detached};
 use luks_io::memory::{MemSink, MemSource};
 use luks_report::message::Message;
 use luks_report::report::Report;

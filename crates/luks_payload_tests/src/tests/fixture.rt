@@ -8,10 +8,10 @@ use luks_io::ahead::AheadSource;
 use luks_io::change::Change;
 use luks_io::sink::{Sink, WriteFault};
 use luks_io::source::{Source, fill};
-use luks_test_support::devices::{Flaky, Leaky};
 use luks_payload::fault::VolumeFault;
 use luks_payload::pump::Pump;
 use luks_payload::state::Step;
+use luks_test_support::devices::{Flaky, Leaky};
 use std::process::Abort;
 
 /// An image, and the plain bytes of its sectors.

@@ -1,8 +1,8 @@
 //! What is printed of LUKS2 headers.
 
 use super::fixture::{assert_page, check_findings, read};
-use luks_header::header::Header;
 use luks_dump::dump::{dump_page, uuid_page};
+use luks_header::header::Header;
 use luks_test_support::header2::{SIZE, empty_image, image_of, write_header};
 use std::process::Abort;
 
