@@ -67,7 +67,8 @@ module _ (held : List ℕ) (ended : Bool) (image : List ℕ) (front : IsPrefixOf
       ) refl
 
   -- what is held of the two headers says which is chosen
-  pub beside_same : (ended ≡ false → 2 * size_at image 0 ≤ length held) → with_valid_primary held ≡ with_valid_primary image
+  pub beside_same : (ended ≡ false → 2 * size_at image 0 ≤ length held)
+      → with_valid_primary held ≡ with_valid_primary image
   beside_same whole = by ended refl where
     by : (b : Bool) → ended ≡ b → with_valid_primary held ≡ with_valid_primary image
     by true e = ap with_valid_primary (sym (front.ends e))

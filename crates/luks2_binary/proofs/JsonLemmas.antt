@@ -91,7 +91,8 @@ module _ (image : List ℕ) (header : Header2) where
       }
 
   -- the header of an image with a valid primary one
-  beside_stands : is_valid image 0 ≡ true → with_valid_primary image ≡ Some header → (place : ℕ) × Stands image header place
+  beside_stands : is_valid image 0 ≡ true → with_valid_primary image ≡ Some header
+      → (place : ℕ) × Stands image header place
   unfolding with_valid_primary
   beside_stands valid is = by (is_valid image (size_at image 0)) refl where
     earlier : is_valid image (size_at image 0) ≡ true
@@ -182,4 +183,5 @@ pub json_beginning : (image : List ℕ) (header : Header2) → header2_of image 
 unfolding json_text_of json_area_of
 json_beginning image header is =
     let place = header_offset header.place header.size + binary_len in
-    ap text_of (at_beginning place (header.size - binary_len) (header2_read_len image) image (json_within image header is))
+    ap text_of (at_beginning place (header.size - binary_len) (header2_read_len image) image
+    (json_within image header is))

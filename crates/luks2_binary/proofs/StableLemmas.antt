@@ -145,7 +145,8 @@ module _ (image : List ℕ) where
   unfolding header2_read_len
   is_stable = elim (cases_lt (length image) (reach2_of image)) [
     | inl short ↦
-        (let all : take (header2_read_len image) image ≡ image = take_all (header2_read_len image) image (omega arith) in
+        (let all : take (header2_read_len image) image ≡ image = take_all (header2_read_len image) image
+        (omega arith) in
         (ap chosen2_of all, ap header2_read_len all))
     | inr enough ↦
         (let long = length-take-le (header2_read_len image) image (omega arith) in
@@ -164,12 +165,14 @@ module _ (image : List ℕ) where
   cost2_of-take = is_stable.1
 
   -- and end before all that is looked at where it does
-  pub falls_short-take : nat_lt (length (take (header2_read_len image) image)) (reach2_of (take (header2_read_len image) image))
+  pub falls_short-take : nat_lt (length (take (header2_read_len image) image)) (reach2_of (take
+      (header2_read_len image) image))
       ≡ nat_lt (length image) (reach2_of image)
   unfolding header2_read_len
   falls_short-take = elim (cases_lt (length image) (reach2_of image)) [
     | inl short ↦
-        (let all : take (header2_read_len image) image ≡ image = take_all (header2_read_len image) image (omega arith) in
+        (let all : take (header2_read_len image) image ≡ image = take_all (header2_read_len image) image
+        (omega arith) in
         ap (λ l. nat_lt (length l) (reach2_of l)) all)
     | inr enough ↦
         (let long = length-take-le (header2_read_len image) image (omega arith) in

@@ -65,7 +65,8 @@ with_valid_primary image =
     if not (is_valid image (size_at image 0)) then header2_from Primary (Some SecondaryNotValid) primary
     else if nat_lt (sequence_in primary) (sequence_in secondary)
     then header2_from Secondary (Some SequencesDiffer) secondary
-    else if nat_lt (sequence_in secondary) (sequence_in primary) then header2_from Primary (Some SequencesDiffer) primary
+    else if nat_lt (sequence_in secondary) (sequence_in primary)
+    then header2_from Primary (Some SequencesDiffer) primary
     else header2_from Primary None primary
 
 -- the header that is found at a place by the search

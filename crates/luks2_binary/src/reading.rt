@@ -164,7 +164,8 @@ pub fn read_header2<S: Source>(
     ensures held { IfOk result (λ header. header2_of area.new ≡ Ok header) }
     ensures only { IfOk result (λ header. length area.new ≡ header2_read_len area.new) }
     ensures none { result ≡ Err HeaderFault.NotLuks
-        → (header2_of area.new ≡ Err HeaderFault.NotLuks) × (length area.new ≡ header2_read_len area.new) }
+        → (header2_of area.new ≡ Err HeaderFault.NotLuks)
+        × (length area.new ≡ header2_read_len area.new) }
     ensures early { IfErr result (λ fault. fault ≡ HeaderFault.Memory
         → StaysBelow area.new false reach2_of) }
     ensures kept { take (length area.old) area.new ≡ area.old }

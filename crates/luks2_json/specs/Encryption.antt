@@ -6,7 +6,8 @@ use Rattle.luks_cipher.specs.declared.mode.Mode.{Mode}
 
 -- the mode that a text names behind `aes-`, where it is a known one
 unfoldable pub encryption_mode : List ℕ → Option Mode
-encryption_mode encryption = if bytes_eq (take 4 encryption) (codes "aes-") then mode_named (drop 4 encryption) else None
+encryption_mode encryption =
+    if bytes_eq (take 4 encryption) (codes "aes-") then mode_named (drop 4 encryption) else None
 
 -- a key of the mode can have this many bytes; where the mode is not known, a key of some mode can
 unfoldable pub is_length_for : Option Mode → ℕ → Bool

@@ -10,7 +10,8 @@ use Rattle.serde_json.specs.Find.{as_object, get}
 
 -- what the object of these names, `keyslots` or `digests`, has for a number
 unfoldable pub object_numbered : List ℕ → Data → ℕ → Option Data
-object_numbered names tree number = if nat_lt number max_slots then in_member names (get (decimal number)) tree else None
+object_numbered names tree number =
+    if nat_lt number max_slots then in_member names (get (decimal number)) tree else None
 
 -- the name is that of a number below n
 unfoldable pub is_number_below : ℕ → List ℕ → Bool

@@ -124,7 +124,8 @@ are_key_sizes payload_mode slot =
 -- the key material does not fit
 unfoldable pub is_misplaced2 : ℕ → Option ℕ → Data → Bool
 is_misplaced2 end payload slot =
-    is_misplaced end payload (area_offset_of slot) (area_size_of slot) (need_of (key_size_of slot) (stripes_member slot))
+    is_misplaced end payload (area_offset_of slot) (area_size_of slot)
+    (need_of (key_size_of slot) (stripes_member slot))
 
 -- the reasons to skip the slot of this number, in a header with these bounds
 abbrev pub slot_reasons : Data → Bounds → Option ℕ → ℕ → Data → List (Bool × SkipReason)
@@ -182,4 +183,5 @@ verdict2_at tree bounds limit number =
 
 -- what it takes to open it
 unfoldable pub slot2_at : Data → Bounds → ℕ → Option Slot
-slot2_at tree bounds number = option_and_then (slot2_of tree bounds number) (object_numbered (codes "keyslots") tree number)
+slot2_at tree bounds number =
+    option_and_then (slot2_of tree bounds number) (object_numbered (codes "keyslots") tree number)

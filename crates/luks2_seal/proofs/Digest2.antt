@@ -78,7 +78,8 @@ module _ (p : Seal2) (fits : AreParameters2 p) (typed : AreTyped2 p) where
 
   pub usable : is_usable (digest_parts p) ≡ true
   usable =
-      let len = length-derived_key p.digest_hash p.key.now p.digest_salt p.digest_iterations (digest_len p.digest_hash) in
+      let len = length-derived_key p.digest_hash p.key.now p.digest_salt p.digest_iterations
+      (digest_len p.digest_hash) in
       let size = sizes p.digest_hash in
       in_range p.digest_iterations _ fits.turns typed.digest_iterations (omega (arith, len, size.least))
       (omega (arith, len, size.greatest))

@@ -168,7 +168,8 @@ module _ (p : Seal2) (fits : AreParameters2 p) (json : FitsJson p) (magic salt :
       let long : length uuid ≡ 40 = length-padded 40 p.uuid.now fits.texts.0.0 in
       let longer : length subsystem ≡ 48 = length-padded 48 p.subsystem.now fits.texts.2.0 in
       in_fields 256 8 (omega arith)
-      ∙ at_behind 256 88 8 (start_of p magic ++ middle_of p salt) (fields_end_bytes p place) (omega (arith, length-before))
+      ∙ at_behind 256 88 8 (start_of p magic ++ middle_of p salt) (fields_end_bytes p place) (omega
+      (arith, length-before))
       ∙ at_behind 88 0 8 (uuid ++ subsystem) (padded 192 (to_be_bytes w64 place))
       (omega (arith, length-append uuid subsystem, long, longer))
 
@@ -255,7 +256,8 @@ module _ (p : Seal2) (fits : AreParameters2 p) (json : FitsJson p) (magic salt :
 
   -- ---- the JSON area
 
-  pub json_there : at 4096 (p.hdr_size - 4096) (header2_bytes p magic salt place) ≡ padded (p.hdr_size - 4096) (json_of p)
+  pub json_there : at 4096 (p.hdr_size - 4096) (header2_bytes p magic salt place)
+      ≡ padded (p.hdr_size - 4096) (json_of p)
   unfolding header2_bytes body_bytes
   json_there =
       let fields = fields_of p magic salt place in

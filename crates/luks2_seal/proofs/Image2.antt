@@ -46,7 +46,8 @@ numbered_fits P number (other ∷ slots) slot all is =
 -- the key material of a slot
 abbrev pub material2_of : Seal2 → Slot2 → List ℕ
 material2_of p slot =
-    encrypted_material (p.area_mode, area_key_of p slot) (stripes_of slot.af_hash p.key.now slot.stripes slot.random.now)
+    encrypted_material (p.area_mode, area_key_of p slot)
+    (stripes_of slot.af_hash p.key.now slot.stripes slot.random.now)
 
 -- each sector has whole blocks
 pub whole_blocks : (size : SectorSize) → bytes_of size % 16 ≡ 0

@@ -47,7 +47,8 @@ header2_bytes p magic salt place =
 
 -- both headers
 unfoldable pub headers_of : Seal2 → List ℕ
-headers_of p = header2_bytes p primary_magic p.primary_salt 0 ++ header2_bytes p secondary_magic p.secondary_salt p.hdr_size
+headers_of p =
+    header2_bytes p primary_magic p.primary_salt 0 ++ header2_bytes p secondary_magic p.secondary_salt p.hdr_size
 
 -- the key that encrypts a slot's area: PBKDF2 of the passphrase
 unfoldable pub area_key_of : Seal2 → Slot2 → List ℕ

@@ -107,7 +107,8 @@ has_segment_members segment =
 -- its type is a string_member, and a segment of type crypt has its members
 unfoldable pub is_segment : Data → Bool
 is_segment segment =
-    is_some (string_member (codes "type") segment) && (not (is_type (codes "crypt") segment) || has_segment_members segment)
+    is_some (string_member (codes "type") segment)
+    && (not (is_type (codes "crypt") segment) || has_segment_members segment)
 
 -- ---- the table of faults
 

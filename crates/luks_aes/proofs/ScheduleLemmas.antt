@@ -95,7 +95,8 @@ expanded_is key schedule inv_mixed is bytes products expanded =
     }
 
 -- the words of the key that a schedule begins with
-words_of_schedule : (words : ℕ) (schedule inv_mixed : List ℕ) → length schedule ≡ 240 → IsSchedule words schedule inv_mixed
+words_of_schedule : (words : ℕ) (schedule inv_mixed : List ℕ) → length schedule ≡ 240
+    → IsSchedule words schedule inv_mixed
     → words_of (take (4 * words) schedule) ≡ words
 words_of_schedule words schedule inv_mixed len is =
     let lengths = key_length (4 * words) is.key_length in
@@ -103,7 +104,8 @@ words_of_schedule words schedule inv_mixed len is =
     let most = lengths.most in
     rw (length-take-le (4 * words) schedule (omega arith)) (omega arith)
 
-pub rounds_are : (words : ℕ) (schedule inv_mixed key : List ℕ) → length schedule ≡ 240 → IsSchedule words schedule inv_mixed
+pub rounds_are : (words : ℕ) (schedule inv_mixed key : List ℕ) → length schedule ≡ 240
+    → IsSchedule words schedule inv_mixed
     → take (4 * words) schedule ≡ key → words + 6 ≡ rounds_of key
 rounds_are words schedule inv_mixed key len is view =
     let nk = words_of_schedule words schedule inv_mixed len is in

@@ -88,7 +88,8 @@ pub fn mixed_columns(s: [u32; 4]) -> [u32; 4]
 /// InvShiftRows, InvSubBytes and InvMixColumns (5.3.1 to 5.3.3).
 #[inline(always)]
 pub fn inv_mixed_columns(s: [u32; 4]) -> [u32; 4]
-    ensures { bytes_of_words result ≡ inv_mix_columns (inv_sub_bytes (inv_shift_rows (bytes_of_words s))) }
+    ensures { bytes_of_words result ≡ inv_mix_columns (inv_sub_bytes (inv_shift_rows
+        (bytes_of_words s))) }
 {
     let a = s[0].to_le_bytes();
     let b = s[1].to_le_bytes();

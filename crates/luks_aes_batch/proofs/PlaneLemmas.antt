@@ -158,7 +158,8 @@ all_bytes y rows is = record { at = λ r q low. (is.at r low).bytes q }
 pub row_byte : (y z : ℕ → ℕ → ℕ) → AreBytes y → AreBytes z → (r q : ℕ) → r < 4 → inv_mixed_row y r q ⊕ z r q < 256
 row_byte y z all keys r q low =
     xor_byte _ _
-    (inv_mixed_byte _ _ _ _ (all.at r q low) (all.at ((r + 1) % 4) q (omega arith)) (all.at ((r + 2) % 4) q (omega arith))
+    (inv_mixed_byte _ _ _ _ (all.at r q low) (all.at ((r + 1) % 4) q (omega arith)) (all.at
+    ((r + 2) % 4) q (omega arith))
     (all.at ((r + 3) % 4) q (omega arith)))
     (keys.at r q low)
 

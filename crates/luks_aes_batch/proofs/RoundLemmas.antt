@@ -120,7 +120,8 @@ laid_inv_mixed : (t : ℕ → List ℕ) (w : List ℕ) (n r q : ℕ) → ((m : �
 laid_inv_mixed t w n r q all keys low =
     sym (xor_assoc _ _ 0x63)
     ∙ ap (λ x. x ⊕ 0x63)
-    (sym (inv_mixed_cell (t (block_index q)) w n r (column_index q) (all (block_index q)) keys low (ordered_below (q / 8 % 4))))
+    (sym (inv_mixed_cell (t (block_index q)) w n r (column_index q) (all (block_index q)) keys low (ordered_below
+    (q / 8 % 4))))
 
 pub rows_inv_mixed : (t : ℕ → List ℕ) (w : List ℕ) (n : ℕ) (rows : List (List (List ℕ))) → ((m : ℕ) → IsBytes (t m))
     → IsBytes w
@@ -131,10 +132,12 @@ pub rows_inv_mixed : (t : ℕ → List ℕ) (w : List ℕ) (n : ℕ) (rows : Lis
     rows
     → RepresentRotated (λ m. inv_mix_columns (add_round_key (t m) w n)) rows
 rows_inv_mixed t w n rows all keys is = record {
-  stand = all_also _ (λ r q. state_byte (λ m. inv_mix_columns (add_round_key (t m) w n)) 0x63 r (rotated_index r q)) rows is
+  stand = all_also _ (λ r q. state_byte (λ m. inv_mix_columns (add_round_key (t m) w n)) 0x63 r
+      (rotated_index r q)) rows is
       (λ r q low.
       let p = rotated_index r q in
-      let state = columns_state (14 ∷ 11 ∷ 13 ∷ 9 ∷ []) _ (added_state (t (block_index p)) w n (all (block_index p)) keys) in
+      let state = columns_state (14 ∷ 11 ∷ 13 ∷ 9 ∷ []) _ (added_state (t (block_index p)) w n (all
+      (block_index p)) keys) in
       xor_byte _ 0x63 (state.bytes.each (r + 4 * column_index p)) (omega arith))
       (λ r q low inside. laid_inv_mixed t w n r (rotated_index r q) all keys low);
 }
@@ -160,7 +163,8 @@ rows_plain t rows hold all =
     all_also _ (cells t) rows hold.stand (λ r q low. (all (block_index q)).each (r + 4 * column_index q))
     (λ r q low inside. xor_zero_r (cells t r q))
 
-pub hold_same : (s t : ℕ → List ℕ) (k : ℕ) (rows : List (List (List ℕ))) → ((m : ℕ) → s m ≡ t m) → RepresentStates s k rows
+pub hold_same : (s t : ℕ → List ℕ) (k : ℕ) (rows : List (List (List ℕ))) → ((m : ℕ) → s m ≡ t m)
+    → RepresentStates s k rows
     → RepresentStates t k rows
 hold_same s t k rows same hold = subst (λ (f : ℕ → List ℕ). RepresentStates f k rows) (λ i m. same m i) hold
 

@@ -7,7 +7,8 @@ use Rattle.luks_bitslice.proofs.Tables.{eight}
 use Rattle.luks_aes_batch.specs.States.{RepresentRows}
 
 -- what stands for bytes stands for equal ones
-pub plane_also : (y z : ℕ → ℕ) (j : ℕ) (v : List ℕ) → IsBitPlane y j v → ((q : ℕ) → q < 128 → y q ≡ z q) → IsBitPlane z j v
+pub plane_also : (y z : ℕ → ℕ) (j : ℕ) (v : List ℕ) → IsBitPlane y j v → ((q : ℕ) → q < 128 → y q ≡ z q)
+    → IsBitPlane z j v
 plane_also y z j v is same = record { len = is.len; at = λ q low. is.at q low ∙ ap (λ b. bit_at b j) (same q low) }
 
 pub stands_also : (y z : ℕ → ℕ) (x : List (List ℕ)) → Represents y x → ((q : ℕ) → z q < 256)
@@ -17,7 +18,8 @@ stands_also y z x is bytes same = record { bytes = bytes; at = λ j low. plane_a
 pub stands_equal : (y z : ℕ → ℕ) (x : List (List ℕ)) → Represents y x → ((q : ℕ) → y q ≡ z q) → Represents z x
 stands_equal y z x is same = stands_also y z x is (λ q. omega (arith, is.bytes q, same q)) (λ q low. same q)
 
-pub all_also : (y z : ℕ → ℕ → ℕ) (rows : List (List (List ℕ))) → RepresentRows y rows → ((r q : ℕ) → r < 4 → z r q < 256)
+pub all_also : (y z : ℕ → ℕ → ℕ) (rows : List (List (List ℕ))) → RepresentRows y rows → ((r q : ℕ) → r < 4
+    → z r q < 256)
     → ((r q : ℕ) → r < 4 → q < 128 → y r q ≡ z r q) → RepresentRows z rows
 all_also y z rows is bytes same = record {
   at = λ r low. stands_also (y r) (z r) _ (is.at r low) (λ q. bytes r q low) (λ q below. same r q low below);
@@ -32,7 +34,8 @@ four_rows z a b c d p q r s (suc (suc zero)) low = r
 four_rows z a b c d p q r s (suc (suc (suc zero))) low = s
 four_rows z a b c d p q r s (suc (suc (suc (suc n)))) low = absurd (omega arith)
 
-pub four : (z : ℕ → ℕ → ℕ) (a b c d : List (List ℕ)) → Represents (z 0) a → Represents (z 1) b → Represents (z 2) c → Represents (z 3) d
+pub four : (z : ℕ → ℕ → ℕ) (a b c d : List (List ℕ)) → Represents (z 0) a → Represents (z 1) b → Represents (z 2) c
+    → Represents (z 3) d
     → RepresentRows z (a ∷ b ∷ c ∷ d ∷ [])
 four z a b c d p q r s = record { at = four_rows z a b c d p q r s }
 

@@ -19,12 +19,14 @@ ordered_below (suc (suc zero)) = omega arith
 ordered_below (suc (suc (suc zero))) = omega arith
 ordered_below (suc (suc (suc (suc i)))) = omega arith
 
-pub shows_same : (f g : ℕ → ℕ → ℕ) (v : List ℕ) → HasBits f v → ((p k : ℕ) → p < 16 → k < 8 → f p k ≡ g p k) → HasBits g v
+pub shows_same : (f g : ℕ → ℕ → ℕ) (v : List ℕ) → HasBits f v → ((p k : ℕ) → p < 16 → k < 8 → f p k ≡ g p k)
+    → HasBits g v
 shows_same f g v is same = record { len = is.len; at = λ p k low small. is.at p k low small ∙ same p k low small }
 
 -- eight planes that show the bits of the bytes e k p
 pub planes_stand : (e : ℕ → ℕ → ℕ) (x : List (List ℕ)) → ((g p : ℕ) → e g p < 256)
-    → ((j : ℕ) → j < 8 → HasBits (λ p k. bit_at (e k p) j) (slice_index_or x j [])) → Represents (λ q. e (q % 8) (q / 8)) x
+    → ((j : ℕ) → j < 8 → HasBits (λ p k. bit_at (e k p) j) (slice_index_or x j []))
+    → Represents (λ q. e (q % 8) (q / 8)) x
 planes_stand e x bytes shown = record {
   bytes = λ q. bytes (q % 8) (q / 8);
   at = λ j low. record {
@@ -58,7 +60,8 @@ in_block s n i low = get_or-take 16 (drop (16 * n) s) i 0 low ∙ get_or-drop (1
 
 -- the bytes of a row by groups and lanes are those of the blocks' states
 pub laid_row : (s : List ℕ) (r q : ℕ) → r < 4 → q < 128
-    → slice_index s (16 * (4 * (q % 8) + q / 8 / 4) + (r + 4 * column_order (q / 8 % 4))) ≡ state_byte (block_in s) 0 r q
+    → slice_index s (16 * (4 * (q % 8) + q / 8 / 4) + (r + 4 * column_order (q / 8 % 4)))
+    ≡ state_byte (block_in s) 0 r q
 laid_row s r q low inside =
     let place : 4 * (q % 8) + q / 8 / 4 ≡ block_index q = omega arith in
     let small : r + 4 * column_index q < 16 = omega (arith, ordered_below (q / 8 % 4)) in
@@ -73,7 +76,8 @@ laid_byte s r q low =
 
 -- a byte of four blocks that are the same
 pub of_one : (s : List ℕ) (r : ℕ) (v : List ℕ)
-    → HasBits (λ p k. bit_at (slice_index (slice_index_or (s ∷ s ∷ s ∷ s ∷ []) (p / 4) []) (r + 4 * column_order (p % 4))) k) v
+    → HasBits (λ p k. bit_at (slice_index (slice_index_or (s ∷ s ∷ s ∷ s ∷ []) (p / 4) []) (r + 4 * column_order
+    (p % 4))) k) v
     → HasBits (λ p k. bit_at (slice_index s (r + 4 * column_order (p % 4))) k) v
 of_one s r v is =
     shows_same _ (λ p k. bit_at (slice_index s (r + 4 * column_order (p % 4))) k) v is

@@ -1,7 +1,6 @@
--- InvMixColumns (FIPS 197, 5.3.3) by doublings and XORs, plane by plane.
--- The four products of a column a, b, c, d share three values: all = a + b + c + d, even = 2 * all + (a + c) and
--- step = 2 * even + a + b. Row 0, 14a + 11b + 13c + 9d, is 2 * step + all + a; the other rows follow from it by the bytes
--- and by even and step.
+-- InvMixColumns (FIPS 197, 5.3.3) by doublings and XORs, plane by plane. The four products of a column a, b, c, d share
+-- three values: all = a + b + c + d, even = 2 * all + (a + c) and step = 2 * even + a + b. Row 0, 14a + 11b + 13c + 9d,
+-- is 2 * step + all + a; the other rows follow from it by the bytes and by even and step.
 use Rattle.std.specs.Prelude.{ℕ, ◌+◌, ◌%◌, ◌<◌}
 use Rattle.luks_aes.specs.Field.{◌⊕◌, ◌•◌, times_x}
 use Rattle.luks_bitslice.specs.BitPlanes.{IsBitPlane}

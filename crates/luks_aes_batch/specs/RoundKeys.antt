@@ -45,7 +45,8 @@ pub record HasInvMixedKeys (w : List ℕ) (all : List BitslicedState) (end : ℕ
       → HasInvMixedKey w (n + 1) 0x63 (rows_of key)
 
 -- these are the round keys of the key
-pub record IsBatchKey (key : List ℕ) (first : BitslicedState) (between : List BitslicedState) (last : BitslicedState) : Type 0 where
+pub record IsBatchKey (key : List ℕ) (first : BitslicedState) (between : List BitslicedState)
+    (last : BitslicedState) : Type 0 where
   pub first_key : HasRoundKey (key_expansion key) (rounds_of key) 0x63 (rows_of first)
   pub between_keys : HasInvMixedKeys (key_expansion key) between (rounds_of key)
   pub last_key : HasRoundKey (key_expansion key) 0 0 (rows_of last)

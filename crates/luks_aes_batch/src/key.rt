@@ -121,7 +121,8 @@ fn decrypted_rows(rows: [[u8x16; 8]; 4], rounds: usize, keys: &RoundKeys) -> [[u
     requires most { rounds ≤ 14 }
     ensures { (key : List ℕ) (s : ℕ → List ℕ)
         → IsBatchKey key keys.now.first keys.now.between keys.now.last
-        → rounds ≡ rounds_of key → IsBytes key → ((n : ℕ) → IsBytes (s n)) → RepresentStates s 0 rows
+        → rounds ≡ rounds_of key → IsBytes key → ((n : ℕ) → IsBytes (s n))
+        → RepresentStates s 0 rows
         → RepresentStates (λ n. decrypted key (s n)) 0 result }
 {
     let mut state = BitslicedState::new(inv_shift_rows_batch(add_round_key_batch(

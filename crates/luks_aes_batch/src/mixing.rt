@@ -12,9 +12,9 @@ use crate::rows::{BitslicedState, FourPlanes};
 use luks_bitslice::{Columns, plane_rotated, xor};
 use std::simd::prelude::*;
 
-/// One plane of the values that the rows after InvMixColumns share: `all` is the XOR of a column's four
-/// bytes, `even` is `all` doubled plus the bytes of the even rows, and `step` is `even` doubled plus
-/// the first two bytes.
+/// One plane of the values that the rows after InvMixColumns share: `all` is the XOR of a column's
+/// four bytes, `even` is `all` doubled plus the bytes of the even rows, and `step` is `even`
+/// doubled plus the first two bytes.
 #[derive(Clone, Copy, Drop)]
 struct Sums {
     all: u8x16,
@@ -104,7 +104,8 @@ fn top_sums(rows: &BitslicedState) -> Sums
 /// InvMixColumns (FIPS 197, 5.3.3), AddRoundKey with a round key after InvMixColumns, InvShiftRows.
 #[inline(never)]
 pub fn inv_mix_columns_batch(rows: &mut BitslicedState, key: &BitslicedState)
-    ensures { (y z : ℕ → ℕ → ℕ) → RepresentRows y (rows_of rows.old) → RepresentRows z (rows_of key.now)
+    ensures { (y z : ℕ → ℕ → ℕ) → RepresentRows y (rows_of rows.old)
+        → RepresentRows z (rows_of key.now)
         → RepresentRows (λ r q. inv_mixed_row y r (rotated_index r q) ⊕ z r (rotated_index r q))
         (rows_of rows.new) }
 {

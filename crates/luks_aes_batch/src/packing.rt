@@ -26,7 +26,8 @@ fn group(batch: &[u8], g: usize) -> [u8x16; 4]
     requires { 64 * g + 64 ≤ length batch.now }
     ensures { (r : ℕ) → r < 4
         → HasBits
-        (λ p k. bit_at (slice_index batch.now (16 * (4 * g + p / 4) + (r + 4 * column_order (p % 4)))) k)
+        (λ p k. bit_at (slice_index batch.now (16 * (4 * g + p / 4) + (r + 4 * column_order
+        (p % 4)))) k)
         (slice_index_or result r []) }
 {
     let n = 4 * g;
@@ -110,7 +111,8 @@ fn put_group(batch: &mut [u8], g: usize, a: u8x16, b: u8x16, c: u8x16, d: u8x16)
     requires { 64 * g + 64 ≤ length batch.old }
     ensures written { (m i : ℕ) → m < 4 → i < 16
         → slice_index batch.new (16 * (4 * g + m) + i)
-        ≡ slice_index (slice_index_or (a ∷ b ∷ c ∷ d ∷ []) (i % 4) []) (4 * m + column_order (i / 4)) }
+        ≡ slice_index (slice_index_or (a ∷ b ∷ c ∷ d ∷ []) (i % 4) []) (4 * m + column_order
+        (i / 4)) }
     ensures kept { (k : ℕ) → k < 64 * g → slice_index batch.new k ≡ slice_index batch.old k }
 {
     let blocks = rows_to_blocks(a, b, c, d);

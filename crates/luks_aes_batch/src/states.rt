@@ -18,7 +18,8 @@ use std::simd::prelude::*;
 /// InvShiftRows (FIPS 197, 5.3.1).
 #[inline(always)]
 pub fn inv_shift_rows_batch(s: [[u8x16; 8]; 4]) -> [[u8x16; 8]; 4]
-    ensures { (y : ℕ → ℕ → ℕ) → RepresentRows y s → RepresentRows (λ r q. y r (rotated_index r q)) result }
+    ensures { (y : ℕ → ℕ → ℕ) → RepresentRows y s
+        → RepresentRows (λ r q. y r (rotated_index r q)) result }
 {
     [
         s[0],
@@ -42,9 +43,9 @@ pub fn add_round_key_batch(s: [[u8x16; 8]; 4], key: [[u8x16; 8]; 4]) -> [[u8x16;
     ]
 }
 
-/// One of the equal rounds of the equivalent inverse cipher (5.3.5), on bytes with 0x63 XORed to them,
-/// as to those of the round key. InvShiftRows of this round is done before, that of the next in this
-/// call.
+/// One of the equal rounds of the equivalent inverse cipher (5.3.5), on bytes with 0x63 XORed to
+/// them, as to those of the round key. InvShiftRows of this round is done before, that of the next
+/// in this call.
 #[inline(always)]
 pub fn inv_round_batch(state: &mut BitslicedState, key: &BitslicedState)
     ensures { (t : ℕ → List ℕ) (w : List ℕ) (n : ℕ) → ((m : ℕ) → IsBytes (t m)) → IsBytes w

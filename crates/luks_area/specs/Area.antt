@@ -15,7 +15,8 @@ ConsumedOnto held held' known left count = ConsumedExactly known left count × (
 -- taking up to `most` bytes was broken off: by a failed read before the last of them, or at the start for want of
 -- memory
 abbrev pub AbortsConsuming : ℕ → List ℕ → List ℕ → List ℕ → Option (List ℕ) → HeaderFault → Type 0
-AbortsConsuming most held held' known left Read = (count : ℕ) × (count < most) × ConsumedOnto held held' known left count
+AbortsConsuming most held held' known left Read = (count : ℕ) × (count < most)
+    × ConsumedOnto held held' known left count
 AbortsConsuming most held held' known left Memory = ConsumedOnto held held' known left 0
 AbortsConsuming most held held' known left _ = ⊥
 

@@ -80,7 +80,8 @@ program = record (new_shape (codes "luksrd")) {
 unfoldable pub luksrd : App
 luksrd = record {
   top = record program { is_leaf = false };
-  subs = is_luks_shape ∷ luks_uuid_shape ∷ luks_dump_shape ∷ luks_check_shape ∷ test_passphrase_shape ∷ luks_cat_shape ∷ af_split_shape ∷ af_merge_shape ∷ [];
+  subs = is_luks_shape ∷ luks_uuid_shape ∷ luks_dump_shape ∷ luks_check_shape ∷ test_passphrase_shape ∷ luks_cat_shape ∷
+      af_split_shape ∷ af_merge_shape ∷ [];
 }
 
 -- a command that stands by itself

@@ -50,7 +50,8 @@ fn with_header_commands<'a>(alloc: Global, program: Making<'a>) -> Making<'a>
 // The program with the commands on volumes as well.
 fn with_volume_commands<'a>(alloc: Global, program: Making<'a>) -> Making<'a>
     ensures { (as_read : App) → HasSubcommands program.entry as_read
-        → HasSubcommands result (with_subcommand (with_subcommand as_read test_passphrase_shape) luks_cat_shape) }
+        → HasSubcommands result (with_subcommand
+        (with_subcommand as_read test_passphrase_shape) luks_cat_shape) }
 {
     let program = with_command(program, volume_command(alloc, "testPassphrase"));
     with_command(program, volume_command(alloc, "luksCat"))
@@ -59,7 +60,8 @@ fn with_volume_commands<'a>(alloc: Global, program: Making<'a>) -> Making<'a>
 // The program with the commands on stripes as well.
 fn with_stripe_commands<'a>(alloc: Global, program: Making<'a>) -> Making<'a>
     ensures { (as_read : App) → HasSubcommands program.entry as_read
-        → HasSubcommands result (with_subcommand (with_subcommand as_read af_split_shape) af_merge_shape) }
+        → HasSubcommands result (with_subcommand
+        (with_subcommand as_read af_split_shape) af_merge_shape) }
 {
     let program = with_command(program, af_split(alloc));
     with_command(program, af_merge(alloc))
@@ -68,7 +70,8 @@ fn with_stripe_commands<'a>(alloc: Global, program: Making<'a>) -> Making<'a>
 // The program with the command as well.
 fn with_command<'a>(program: Making<'a>, command: Making<'a>) -> Making<'a>
     ensures { (as_read : App) (shape : Shape) → HasSubcommands program.entry as_read
-        → BuildsApp command.entry (alone shape) → HasSubcommands result (with_subcommand as_read shape) }
+        → BuildsApp command.entry (alone shape)
+        → HasSubcommands result (with_subcommand as_read shape) }
 {
     let command = command?;
     program?.subcommand(command)

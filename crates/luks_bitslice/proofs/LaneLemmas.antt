@@ -61,7 +61,8 @@ pub row_0 : (a b c d : List ℕ) → length a ≡ 16 → length b ≡ 16 → len
     → slice_index (low_halves (low_words (by_rows a) (by_rows b)) (low_words (by_rows c) (by_rows d))) p
     ≡ slice_index (slice_index_or (a ∷ b ∷ c ∷ d ∷ []) (p / 4) []) (0 + 4 * column_order (p % 4))
 row_0 a b c d k l m n =
-    each_below_16 (λ p. slice_index (low_halves (low_words (by_rows a) (by_rows b)) (low_words (by_rows c) (by_rows d))) p)
+    each_below_16 (λ p. slice_index (low_halves (low_words (by_rows a) (by_rows b)) (low_words (by_rows c)
+    (by_rows d))) p)
     (λ p. slice_index (slice_index_or (a ∷ b ∷ c ∷ d ∷ []) (p / 4) []) (0 + 4 * column_order (p % 4)))
     (left a 0 k (omega arith))
     (left a 4 k (omega arith))
@@ -84,7 +85,8 @@ pub row_1 : (a b c d : List ℕ) → length a ≡ 16 → length b ≡ 16 → len
     → slice_index (high_halves (low_words (by_rows a) (by_rows b)) (low_words (by_rows c) (by_rows d))) p
     ≡ slice_index (slice_index_or (a ∷ b ∷ c ∷ d ∷ []) (p / 4) []) (1 + 4 * column_order (p % 4))
 row_1 a b c d k l m n =
-    each_below_16 (λ p. slice_index (high_halves (low_words (by_rows a) (by_rows b)) (low_words (by_rows c) (by_rows d))) p)
+    each_below_16 (λ p. slice_index (high_halves (low_words (by_rows a) (by_rows b)) (low_words (by_rows c)
+    (by_rows d))) p)
     (λ p. slice_index (slice_index_or (a ∷ b ∷ c ∷ d ∷ []) (p / 4) []) (1 + 4 * column_order (p % 4)))
     (left a 1 k (omega arith))
     (left a 5 k (omega arith))
@@ -107,7 +109,8 @@ pub row_2 : (a b c d : List ℕ) → length a ≡ 16 → length b ≡ 16 → len
     → slice_index (low_halves (high_words (by_rows a) (by_rows b)) (high_words (by_rows c) (by_rows d))) p
     ≡ slice_index (slice_index_or (a ∷ b ∷ c ∷ d ∷ []) (p / 4) []) (2 + 4 * column_order (p % 4))
 row_2 a b c d k l m n =
-    each_below_16 (λ p. slice_index (low_halves (high_words (by_rows a) (by_rows b)) (high_words (by_rows c) (by_rows d)))
+    each_below_16 (λ p. slice_index (low_halves (high_words (by_rows a) (by_rows b)) (high_words (by_rows c)
+    (by_rows d)))
     p)
     (λ p. slice_index (slice_index_or (a ∷ b ∷ c ∷ d ∷ []) (p / 4) []) (2 + 4 * column_order (p % 4)))
     (left a 2 k (omega arith))
@@ -131,7 +134,8 @@ pub row_3 : (a b c d : List ℕ) → length a ≡ 16 → length b ≡ 16 → len
     → slice_index (high_halves (high_words (by_rows a) (by_rows b)) (high_words (by_rows c) (by_rows d))) p
     ≡ slice_index (slice_index_or (a ∷ b ∷ c ∷ d ∷ []) (p / 4) []) (3 + 4 * column_order (p % 4))
 row_3 a b c d k l m n =
-    each_below_16 (λ p. slice_index (high_halves (high_words (by_rows a) (by_rows b)) (high_words (by_rows c) (by_rows d))) p)
+    each_below_16 (λ p. slice_index (high_halves (high_words (by_rows a) (by_rows b)) (high_words (by_rows c)
+    (by_rows d))) p)
     (λ p. slice_index (slice_index_or (a ∷ b ∷ c ∷ d ∷ []) (p / 4) []) (3 + 4 * column_order (p % 4)))
     (left a 3 k (omega arith))
     (left a 7 k (omega arith))

@@ -25,15 +25,18 @@ carried op bit law {y} {v} {w} {r} {f} {g} first second is = record {
       ∙ sym (law f g (y q));
 }
 
-pub sum_carried : {y : ℕ → ℕ} {v w r : List ℕ} {f g : ℕ} → HasTruthTable y v f → HasTruthTable y w g → r ≡ zip2 bit_xor v w
+pub sum_carried : {y : ℕ → ℕ} {v w r : List ℕ} {f g : ℕ} → HasTruthTable y v f → HasTruthTable y w g
+    → r ≡ zip2 bit_xor v w
     → HasTruthTable y r (bit_xor f g)
 sum_carried = carried bit_xor (λ a b. (a + b) % 2) bit_at_xor
 
-pub both_carried : {y : ℕ → ℕ} {v w r : List ℕ} {f g : ℕ} → HasTruthTable y v f → HasTruthTable y w g → r ≡ zip2 bit_and v w
+pub both_carried : {y : ℕ → ℕ} {v w r : List ℕ} {f g : ℕ} → HasTruthTable y v f → HasTruthTable y w g
+    → r ≡ zip2 bit_and v w
     → HasTruthTable y r (bit_and f g)
 both_carried = carried bit_and min bit_at_and
 
-pub either_carried : {y : ℕ → ℕ} {v w r : List ℕ} {f g : ℕ} → HasTruthTable y v f → HasTruthTable y w g → r ≡ zip2 bit_or v w
+pub either_carried : {y : ℕ → ℕ} {v w r : List ℕ} {f g : ℕ} → HasTruthTable y v f → HasTruthTable y w g
+    → r ≡ zip2 bit_or v w
     → HasTruthTable y r (bit_or f g)
 either_carried = carried bit_or max bit_at_or
 
@@ -154,7 +157,8 @@ value_plane y g v j f bytes carried same = record {
 inv_sbox_bit : (j b : ℕ) → b < 256 → bit_at (inv_sbox_in_table (b ⊕ 0x63)) j ≡ bit_at (inv_sbox (b ⊕ 0x63)) j
 inv_sbox_bit j b low = ap (λ n. bit_at n j) (inv_sbox_entry (b ⊕ 0x63) (xor_byte b 0x63 low (omega arith)))
 
-pub eight : (z : ℕ → ℕ) (a b c d e f g h : List ℕ) → IsBitPlane z 0 a → IsBitPlane z 1 b → IsBitPlane z 2 c → IsBitPlane z 3 d
+pub eight : (z : ℕ → ℕ) (a b c d e f g h : List ℕ) → IsBitPlane z 0 a → IsBitPlane z 1 b → IsBitPlane z 2 c
+    → IsBitPlane z 3 d
     → IsBitPlane z 4 e → IsBitPlane z 5 f → IsBitPlane z 6 g → IsBitPlane z 7 h
     → (j : ℕ) → j < 8 → IsBitPlane z j (slice_index_or (a ∷ b ∷ c ∷ d ∷ e ∷ f ∷ g ∷ h ∷ []) j [])
 eight z a b c d e f g h p0 p1 p2 p3 p4 p5 p6 p7 zero low = p0

@@ -70,7 +70,8 @@ pub fn blocks_to_rows(a: u8x16, b: u8x16, c: u8x16, d: u8x16) -> [u8x16; 4]
     ensures { (r : ℕ) → r < 4
         → HasBits
         (λ p k. bit_at
-        (slice_index (slice_index_or (a ∷ b ∷ c ∷ d ∷ []) (p / 4) []) (r + 4 * column_order (p % 4))) k)
+        (slice_index (slice_index_or (a ∷ b ∷ c ∷ d ∷ []) (p / 4) []) (r + 4 * column_order
+        (p % 4))) k)
         (slice_index_or result r []) }
 {
     let first = by_rows(a);
@@ -94,7 +95,8 @@ pub fn blocks_to_rows(a: u8x16, b: u8x16, c: u8x16, d: u8x16) -> [u8x16; 4]
 pub fn rows_to_blocks(a: u8x16, b: u8x16, c: u8x16, d: u8x16) -> [u8x16; 4]
     ensures { (m i : ℕ) → m < 4 → i < 16
         → slice_index (slice_index_or result m []) i
-        ≡ slice_index (slice_index_or (a ∷ b ∷ c ∷ d ∷ []) (i % 4) []) (4 * m + column_order (i / 4)) }
+        ≡ slice_index (slice_index_or (a ∷ b ∷ c ∷ d ∷ []) (i % 4) []) (4 * m + column_order
+        (i / 4)) }
 {
     let low = low_words(a, b);
     let high = high_words(a, b);

@@ -7,8 +7,8 @@ ghost use Rattle.luks_bitslice.specs.Runs.{run_bits, low_mask, high_mask};
 use crate::gates::{masked, shl, shr, xor};
 use std::simd::prelude::*;
 
-/// The runs of bits that two vectors exchange in one step: the upper runs of the first for the lower
-/// runs of the second.
+/// The runs of bits that two vectors exchange in one step: the upper runs of the first for the
+/// lower runs of the second.
 #[derive(Clone, Copy, Drop)]
 enum Run {
     Bit,

@@ -105,8 +105,8 @@ impl SectorCipher {
         Some(SectorCipher { keys })
     }
 
-    /// The cipher of this mode and key: 32 or 64 bytes for XTS, 16 or 32 for CBC; `None` for any other
-    /// length.
+    /// The cipher of this mode and key: 32 or 64 bytes for XTS, 16 or 32 for CBC; `None` for any
+    /// other length.
     pub fn new(mode: Mode, key: &[u8]) -> Option<SectorCipher>
         ensures { result
             ≡ (if is_mode_key_length mode (length key.now) then Some (mode, key.now) else None) }

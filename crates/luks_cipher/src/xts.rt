@@ -15,8 +15,8 @@ use luks_aes_batch::BatchKey;
 use std::marker::Model;
 use std::simd::prelude::*;
 
-// The tweak times the primitive element (5.2): both halves are doubled, the carry of the low half goes
-// into the high one, and the carry of the high half reduces to 0x87 in the low one.
+// The tweak times the primitive element (5.2): both halves are doubled, the carry of the low half
+// goes into the high one, and the carry of the high half reduces to 0x87 in the low one.
 #[inline(always)]
 fn doubled(tweak: u8x16) -> u8x16
     ensures { result ≡ doubled tweak }

@@ -60,7 +60,8 @@ module _ (Q : Outcome → Type 0) (on_opened : OnOpened) (named : Option ℕ) (f
       let tried = opened_outcome on_opened named v file pass (opening_of v.tries file pass) in
       let cut = no_output Cut (length file) (length pass) in
       let is_cut = nat_lt (length file) (key_areas_end v.tries.slots) in
-      either (nat_lt longest_key_file (length pass)) (no_output KeyFileLength (header_read_len file) (longest_key_file + 1))
+      either (nat_lt longest_key_file (length pass)) (no_output KeyFileLength (header_read_len file)
+      (longest_key_file + 1))
       (if is_cut then cut else tried) (none KeyFileLength (header_read_len file) (longest_key_file + 1))
       (either is_cut cut tried (none Cut (length file) (length pass)) (of_opened v (opening_of v.tries file pass)))
 
@@ -197,7 +198,8 @@ module _ (o : OpeningRequest) (file image pass : List ℕ) (segment : Segment) (
   pub runs_passed_apart : (message : Message) → message ≢ OutOfMemory
       → PassesPayload segment (segment.mode, opened.key) image 0 i' w w' message
       → DetachedRunMatches (detached_cat_promptly file)
-      (volume_outcome_by detached_header_of (detached_payload_outcome image pass) o file pass) message (ConsumedExactly file h)
+      (volume_outcome_by detached_header_of (detached_payload_outcome image pass) o file pass) message
+      (ConsumedExactly file h)
       (ConsumedExactly image i') (ConsumedExactly pass s) (Appended w w')
   runs_passed_apart OutOfMemory never passed = absurd (never refl)
   runs_passed_apart ReadFailed never passed =

@@ -48,7 +48,8 @@ module _ (segment : Segment) (image key plain : List ℕ) (seals : SealsPlain se
       ap (λ n. joined (sector_plaintext segment (segment.mode, key) image) (n / sector_len segment))
       (all_plain segment.offset plain image seals.stands.there segment.size seals.ends)
       ∙ units_undone (segment.mode, key) (unit_number segment) (sector_len segment) segment.offset plain image
-      seals.stands keys (whole_blocks segment.sector_size) (sector_plaintext segment (segment.mode, key) image) (λ i. refl)
+      seals.stands keys (whole_blocks segment.sector_size) (sector_plaintext segment (segment.mode, key) image)
+      (λ i. refl)
 
   pub ending_again : ending_of segment image ≡ Ok End
   ending_again =

@@ -83,7 +83,8 @@ unfolding first_opening
 first_again [] entry after image passphrase key no_other gives =
     (entry.number, ap (λ (k : Option (List ℕ)). opened_or entry.number k (first_opening after image passphrase)) gives)
 first_again (other ∷ before) entry after image passphrase key no_other gives =
-    of_first (first_again before entry after image passphrase key no_other.1 gives) (slot_key other image passphrase) refl
+    of_first (first_again before entry after image passphrase key no_other.1 gives)
+    (slot_key other image passphrase) refl
   where
     of_first : ((number : ℕ) × (first_opening (before ++ entry ∷ after) image passphrase
         ≡ Some (record { slot = number; key = key })))

@@ -39,7 +39,8 @@ takes_payload image secret = record { held = λ segment opened held. omega arith
 -- a run that is prompt has the outcome that is stated
 pub runs_at_any_pace : (is_prompt : Promptness) (out : Outcome) (message : Message) (TookImage TookSecret : ℕ → Type 0)
     (Wrote : List ℕ → Type 0)
-    → RunMatches is_prompt out message TookImage TookSecret Wrote → RunMatches at_any_pace out message TookImage TookSecret Wrote
+    → RunMatches is_prompt out message TookImage TookSecret Wrote
+    → RunMatches at_any_pace out message TookImage TookSecret Wrote
 runs_at_any_pace is_prompt out message TookImage TookSecret Wrote = either (breaks_off message)
   where
     either : (b : Bool)
@@ -171,7 +172,8 @@ module _ (o : OpeningRequest) (image pass : List ℕ) (segment : Segment) (opene
     -- the payload was passed on, to its end or not
     pub runs_passed : (message : Message) → message ≢ OutOfMemory
         → PassesPayload segment (segment.mode, opened.key) image (length held) i' w w' message
-        → RunMatches (cat_promptly image) (volume_outcome (payload_outcome image pass) o image pass) message (ConsumedExactly image i')
+        → RunMatches (cat_promptly image) (volume_outcome (payload_outcome image pass) o image pass) message
+        (ConsumedExactly image i')
         (ConsumedExactly pass s) (Appended w w')
     runs_passed OutOfMemory never passed = absurd (never refl)
     runs_passed ReadFailed never passed =

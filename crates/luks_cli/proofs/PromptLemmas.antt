@@ -35,7 +35,8 @@ no_sectors_before segment a few =
     let none : a - segment.offset ≡ 0 = omega arith in rw (none, zero-div (sector_len segment)) (omega arith)
 
 -- nothing past the header was taken
-cat_in_header : (image : List ℕ) (message : Message) (a b : ℕ) → a ≤ header_read_len image → cat_promptly image message a b 0
+cat_in_header : (image : List ℕ) (message : Message) (a b : ℕ) → a ≤ header_read_len image
+    → cat_promptly image message a b 0
 cat_in_header image ReadFailed a b few segment has = λ passes.
     elim passes [
       | inl before ↦ no_sectors_before segment a (omega arith)

@@ -71,7 +71,8 @@ ends_unwritten : (stand : Standing) (image pass : List ℕ) (message : Message) 
     → message ≢ WriteFailed
     → opens_promptly stand image message a b 0
     → ConsumedExactly image i a → ConsumedExactly pass s b
-    → RunMatches (opens_promptly stand image) (no_output message a b) message (ConsumedExactly image i) (ConsumedExactly pass s) (Appended w w)
+    → RunMatches (opens_promptly stand image) (no_output message a b) message (ConsumedExactly image i)
+    (ConsumedExactly pass s) (Appended w w)
 ends_unwritten stand image pass OutOfMemory i s w a b other prompt ti ts =
     early stand _ image pass OutOfMemory i s w a b refl (omega arith) prompt (omega arith) (omega arith) ti ts
 ends_unwritten stand image pass ReadFailed i s w a b other prompt ti ts =
@@ -93,7 +94,8 @@ no_write_told named Memory h = cc
 
 module _ (on_opened : OnOpened) (named : Option ℕ) (v : Volume) (image secret : List ℕ) where
   found_long : longest_key_file < length secret
-      → found_outcome on_opened named v image secret ≡ no_output KeyFileLength (header_read_len image) (longest_key_file + 1)
+      → found_outcome on_opened named v image secret ≡ no_output KeyFileLength (header_read_len image)
+      (longest_key_file + 1)
   unfolding found_outcome
   found_long long = let yes : nat_lt longest_key_file (length secret) ≡ true = grind (arith, nat_tests) in rw yes refl
 
@@ -145,7 +147,8 @@ module _ (on_opened : OnOpened) (named : Option ℕ) (v : Volume) (image secret 
 
 -- ---- the area that is held
 
-module _ (image area area' : List ℕ) (i : Option (List ℕ)) (held : ℕ) (front : area ≡ take (header_read_len image) image) where
+module _ (image area area' : List ℕ) (i : Option (List ℕ)) (held : ℕ) (front : area
+    ≡ take (header_read_len image) image) where
   front_len : length area ≡ header_read_len image
   front_len = cost_held image area front
 
@@ -153,7 +156,8 @@ module _ (image area area' : List ℕ) (i : Option (List ℕ)) (held : ℕ) (fro
   area_more : (n : ℕ) → ConsumedOnto area area' (drop (header_read_len image) image) i n
       → (area' ≡ take (header_read_len image + n) image) × ConsumedExactly image i (header_read_len image + n)
   area_more n grows = (
-    grows.1 ∙ ap (λ l. l ++ take n (drop (header_read_len image) image)) front ∙ sym (take-add (header_read_len image) n image),
+    grows.1 ∙ ap (λ l. l ++ take n (drop (header_read_len image) image)) front
+        ∙ sym (take-add (header_read_len image) n image),
     record {
       within = omega (arith, grows.0.within, length-drop (header_read_len image) image, cost_there image);
       left = grows.0.left ∙ ap Some (drop-drop n (header_read_len image) image);
@@ -184,7 +188,8 @@ module _ (image area area' : List ℕ) (i : Option (List ℕ)) (held : ℕ) (fro
 
     -- the area is held
     pub area_held : held ≤ length area' → (held ≤ length image) × (length area' ≡ max (header_read_len image) held)
-        × (area' ≡ take (max (header_read_len image) held) image) × ConsumedExactly image i (max (header_read_len image) held)
+        × (area' ≡ take (max (header_read_len image) held) image)
+        × ConsumedExactly image i (max (header_read_len image) held)
     unfolding reached
     area_held enough =
         let more = area_more _ grows in
@@ -262,7 +267,8 @@ module _ (stand : Standing) (o : OpeningRequest) (image pass : List ℕ) (i s w 
     runs_without_secret on_opened takes KeyFileLength stop rest =
         rw (outcome_found on_opened, found_long on_opened o.key_slot volume image pass stop.0)
         (ends_unwritten stand image pass KeyFileLength i s w (header_read_len image) (longest_key_file + 1) (λ h. cc)
-        (prompt_in_header stand image KeyFileLength (header_read_len image) (longest_key_file + 1) (omega arith)) rest stop.1)
+        (prompt_in_header stand image KeyFileLength (header_read_len image) (longest_key_file + 1)
+        (omega arith)) rest stop.1)
     runs_without_secret on_opened takes OutOfMemory stop rest =
         let within = found_within on_opened o.key_slot volume image pass takes in
         rw (outcome_found on_opened)
@@ -278,11 +284,13 @@ module _ (stand : Standing) (o : OpeningRequest) (image pass : List ℕ) (i s w 
     runs_without_secret on_opened takes _ stop rest = absurd stop
 
     -- the key file was read
-    module _ (short : length pass ≤ longest_key_file) (gone : ConsumedExactly pass s (length pass)) (area area' : List ℕ)
+    module _ (short : length pass ≤ longest_key_file) (gone : ConsumedExactly pass s (length pass))
+        (area area' : List ℕ)
         (front : area ≡ take (header_read_len image) image) where
       -- the key areas were not taken
       runs_without_area : (on_opened : OnOpened) (takes : TakesHeld pass on_opened) (fault : HeaderFault)
-          → AbortsConsuming (key_areas_end tries.slots - length area) area area' (drop (header_read_len image) image) i fault
+          → AbortsConsuming (key_areas_end tries.slots - length area) area area' (drop
+          (header_read_len image) image) i fault
           → RunMatches (opens_promptly stand image) (volume_outcome_by (reading_of stand) on_opened o image pass)
           (message_for_header fault) (ConsumedExactly image i)
           (ConsumedExactly pass s) (Appended w w)
@@ -330,7 +338,8 @@ module _ (stand : Standing) (o : OpeningRequest) (image pass : List ℕ) (i s w 
           outcome_tried on_opened =
               let held = area_held image area area' i (key_areas_end tries.slots) front grows enough in
               let whole : opening_of tries image pass ≡ r =
-              sym (opening_beginning tries (max (header_read_len image) (key_areas_end tries.slots)) image pass (omega arith))
+              sym (opening_beginning tries (max (header_read_len image) (key_areas_end tries.slots)) image pass
+              (omega arith))
               ∙ ap (λ l. opening_of tries l pass) (sym held.2) ∙ tried in
               outcome_found on_opened ∙ found_whole on_opened o.key_slot volume image pass short held.0
               ∙ ap (opened_outcome on_opened o.key_slot volume image pass) whole
@@ -390,8 +399,10 @@ module _ (stand : Standing) (o : OpeningRequest) (image pass : List ℕ) (i s w 
         rw none.1 (runs_unopened short gone area area' front grows none.2 none.0 none.3 on_opened)
 
     -- the volume was not opened
-    pub runs_without_key : (area area' : List ℕ) (front : area ≡ take (header_read_len image) image) (on_opened : OnOpened)
-        (takes : TakesHeld pass on_opened) (left : ConsumedExactly image (Some (drop (header_read_len image) image)) (header_read_len image))
+    pub runs_without_key : (area area' : List ℕ) (front : area
+        ≡ take (header_read_len image) image) (on_opened : OnOpened)
+        (takes : TakesHeld pass on_opened) (left : ConsumedExactly image (Some (drop (header_read_len image) image))
+        (header_read_len image))
         (message : Message)
         → OpensVolume o.key_slot tries pass area area' (drop (header_read_len image) image) i s (Err message)
         → RunMatches (opens_promptly stand image) (volume_outcome_by (reading_of stand) on_opened o image pass) message

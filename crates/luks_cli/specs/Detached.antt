@@ -55,7 +55,8 @@ RunsDetached request message header header' image image' secret secret' written 
     IfKnown header
     (λ file. (known : List ℕ) → KnowsPayload request image known → (known_secret : List ℕ)
     → KnowsSecret request secret known_secret → IsCounted request known
-    → DetachedRunMatches (detached_promptness_of request file) (detached_outcome_of request file known known_secret) message
+    → DetachedRunMatches (detached_promptness_of request file)
+    (detached_outcome_of request file known known_secret) message
     (ConsumedExactly file header') (TookPayload request known image') (TookSecret request known_secret secret')
     (Appended written written'))
 

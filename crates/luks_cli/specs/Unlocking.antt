@@ -49,7 +49,8 @@ TookAreas tries area area' rest left =
 -- the key slots of a volume that was found were tried, whose header is held: the key areas are taken, and those slots
 -- answer for this passphrase. Else a read of the key areas failed, or memory for them was refused, or the image ended
 -- within them
-abbrev pub TriesSlots : Option ℕ → OrderModel → List ℕ → List ℕ → List ℕ → List ℕ → Option (List ℕ) → Result Opened Message
+abbrev pub TriesSlots : Option ℕ → OrderModel → List ℕ → List ℕ → List ℕ → List ℕ → Option (List ℕ)
+    → Result Opened Message
     → Type 0
 TriesSlots named tries pass area area' rest left (Ok opened) = TookAreas tries area area' rest left
     × (key_areas_end tries.slots ≤ length area') × (opening_of tries area' pass ≡ Ok opened)

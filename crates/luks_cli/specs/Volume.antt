@@ -103,7 +103,8 @@ opened_outcome on_opened named volume image secret (Err fault) =
 -- tried
 unfoldable pub found_outcome : OnOpened → Option ℕ → Volume → List ℕ → List ℕ → Outcome
 found_outcome on_opened named volume image secret =
-    if nat_lt longest_key_file (length secret) then no_output KeyFileLength (header_read_len image) (longest_key_file + 1)
+    if nat_lt longest_key_file (length secret) then no_output KeyFileLength (header_read_len image)
+    (longest_key_file + 1)
     else (if nat_lt (length image) (key_areas_end volume.tries.slots) then no_output Cut (length image) (length secret)
     else opened_outcome on_opened named volume image secret (opening_of volume.tries image secret))
 

@@ -27,7 +27,8 @@ HasSegment = HasSegmentBy header_of
 abbrev pub AbortsFinding : Reading → OpeningRequest → List ℕ → Option (List ℕ) → Message → Type 0
 AbortsFinding read o image left ReadFailed = ConsumedAtMost image left (header_read_len image)
 AbortsFinding read o image left OutOfMemory = ConsumedAtMost image left (header_read_len image)
-AbortsFinding read o image left message = (volume_by read o image ≡ Err message) × ConsumedExactly image left (header_read_len image)
+AbortsFinding read o image left message = (volume_by read o image ≡ Err message)
+    × ConsumedExactly image left (header_read_len image)
 
 -- ---- opening
 
@@ -55,7 +56,8 @@ passed_promptly s cost _ taken output = Unit {0}
 -- `luksCat` is broken off: it owes this of the image's payload
 abbrev pub cat_promptly : List ℕ → Message → ℕ → ℕ → ℕ → Type 0
 cat_promptly image message image_taken secret_taken output =
-    (segment : Segment) → HasSegment image segment → passed_promptly segment (header_read_len image) message image_taken output
+    (segment : Segment) → HasSegment image segment → passed_promptly segment
+    (header_read_len image) message image_taken output
 
 -- `luksCat` is broken off whose header stands in a file of its own: it owes the same of the payload's image, of which
 -- nothing is taken for a header

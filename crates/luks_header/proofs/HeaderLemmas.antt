@@ -115,7 +115,8 @@ unfolding probe_len
 whole_falls area is all = rw is (le-ltb (length area) 592 all)
 
 module _ (area image : List ℕ) (left : Option (List ℕ))
-    (taken : (area ≡ take 592 image) × ConsumedExactly image left (min 592 (length image))) (begins : is_luks1 area ≡ true) where
+    (taken : (area ≡ take 592 image) × ConsumedExactly image left (min 592 (length image))) (begins : is_luks1 area
+    ≡ true) where
   image_begins : is_luks1 image ≡ true
   image_begins = sym (begins_taken image) ∙ (ap is_luks1 (sym taken.0) ∙ begins)
 
@@ -145,7 +146,8 @@ module _ (area image : List ℕ) (left : Option (List ℕ))
 
   -- an image whose first bytes have a header has it
   pub one_read : (header : Header) → header_of area ≡ Ok header
-      → (header_of image ≡ Ok header) × (area ≡ take (header_read_len image) image) × ConsumedExactly image left (header_read_len image)
+      → (header_of image ≡ Ok header) × (area ≡ take (header_read_len image) image)
+      × ConsumedExactly image left (header_read_len image)
   one_read header one = (
     sym header_is ∙ one,
     taken.0 ∙ (sym (take_min 592 image) ∙ ap (λ n. take n image) (sym cost_is)),
@@ -155,7 +157,8 @@ module _ (area image : List ℕ) (left : Option (List ℕ))
 -- ---- LUKS2
 
 module _ (area image : List ℕ) (left : Option (List ℕ))
-    (taken : (area ≡ take 592 image) × ConsumedExactly image left (min 592 (length image))) (other : is_luks1 area ≡ false) where
+    (taken : (area ≡ take 592 image) × ConsumedExactly image left (min 592 (length image))) (other : is_luks1 area
+    ≡ false) where
   pub image_other : is_luks1 image ≡ false
   image_other = sym (begins_taken image) ∙ (ap is_luks1 (sym taken.0) ∙ other)
 
@@ -168,7 +171,11 @@ module _ (area image : List ℕ) (left : Option (List ℕ))
       cost_other image image_other
       ∙ (cost_short image short ∙ omega (arith, ap length taken.0, length-take 592 image)) in (
         header_missing image image_other (none_short image short),
-        (subst (ConsumedExactly image left) (sym cost) taken.1, ended_within area image left taken few ends ends' found),
+        (
+          subst (ConsumedExactly image left) (sym cost) taken.1,
+          ended_within area image left taken few ends ends'
+              found,
+        ),
       )
 
   -- what is left of it behind its first bytes
@@ -186,12 +193,14 @@ module _ (area image : List ℕ) (left : Option (List ℕ))
         let count : min 592 (length image) ≡ 592 = omega (arith, ap length taken.0, length-take 592 image, long) in
         subst (ConsumedExactly image left) count taken.1
 
-    took_cost : ConsumedExactly (drop 592 image) left' (header2_read_len image - length area) → ConsumedExactly image left' (header_read_len image)
+    took_cost : ConsumedExactly (drop 592 image) left' (header2_read_len image - length area)
+        → ConsumedExactly image left' (header_read_len image)
     took_cost took =
         let first = took_first in
         let sum : 592 + (header2_read_len image - length area) ≡ header_read_len image =
         omega (arith, cost_other image image_other, cost_least image, first.within, long) in
-        subst (ConsumedExactly image left') sum (took_behind image left left' 592 (header2_read_len image - length area) first took)
+        subst (ConsumedExactly image left') sum (took_behind image left left' 592
+        (header2_read_len image - length area) first took)
 
     took_below : TookBelow image area area' (drop 592 image) left' → ConsumedAtMost image left' (header_read_len image)
     took_below (count, few, took) =
@@ -204,7 +213,8 @@ module _ (area image : List ℕ) (left : Option (List ℕ))
     -- what was read of it behind its first bytes
     pub rest_read : (header : Header) → (header_of (area ++ drop 592 image) ≡ Ok header)
         × TookCost (area ++ drop 592 image) area area' (drop 592 image) left'
-        → (header_of image ≡ Ok header) × (area' ≡ take (header_read_len image) image) × ConsumedExactly image left' (header_read_len image)
+        → (header_of image ≡ Ok header) × (area' ≡ take (header_read_len image) image)
+        × ConsumedExactly image left' (header_read_len image)
     rest_read header read =
         let all : (header_of image ≡ Ok header) × TookCost image area area' (drop 592 image) left' =
         subst (λ l. (header_of l ≡ Ok header) × TookCost l area area' (drop 592 image) left') whole read in (
@@ -260,7 +270,8 @@ cost_first image header found = by (is_luks1 image) refl
     by true is = rw is (omega arith)
     by false is = absurd (not_first image (header2_of image) header (rw is at found))
 
-below_cost2 : (image : List ℕ) (count : ℕ) → count < reach2_of image → count ≤ length image → count ≤ header2_read_len image
+below_cost2 : (image : List ℕ) (count : ℕ) → count < reach2_of image → count ≤ length image
+    → count ≤ header2_read_len image
 unfolding header2_read_len
 below_cost2 image count few within = omega (arith, few, within)
 

@@ -63,7 +63,8 @@ falls_short image = nat_lt (length image) (probe_len image)
 
 -- as many of its bytes were taken as the header costs, and its end was found where it falls short
 abbrev pub TookCostly : List ℕ → Option (List ℕ) → ℕ → ℕ → Type 0
-TookCostly image left ends ends' = ConsumedExactly image left (header_read_len image) × (ends' ≡ counted (falls_short image) ends)
+TookCostly image left ends ends' = ConsumedExactly image left (header_read_len image)
+    × (ends' ≡ counted (falls_short image) ends)
 
 -- some of its bytes were taken, of LUKS1 none, and its end was not found: more was still to be looked at
 abbrev pub TookEarlier : List ℕ → Option (List ℕ) → ℕ → ℕ → Type 0

@@ -99,13 +99,16 @@ pub passes_on : (items buf : List ℕ) (len start end count : ℕ) (below before
     → IfErr answer (λ fault. (fault.written < count)
     × Appended before after (take fault.written (changed (take count (drop start items)))))
     → ForwardEffect (Some answer) untouched count changed (prepend_known (take (end - start) (drop start items)) below)
-    (prepend_known (take (end - (start + count)) (drop (start + count) (take len (buf ++ drop (length buf) items)))) below)
+    (prepend_known (take (end - (start + count)) (drop (start + count) (take len (buf ++ drop
+    (length buf) items)))) below)
     before after
-passes_on items buf len start end count below before after changed answer untouched few inside long long' behind ok err =
+passes_on items buf len start end count below before after changed answer untouched few inside long long' behind ok err
+    =
     let whole = all_of items buf len long' in
     let piece = take count (drop start items) in
     let sized = piece_length items len start end count few inside long in
     let rest = take (end - (start + count)) (drop (start + count) buf) in
-    let taken : Consumes (prepend_known (take (end - start) (drop start items)) below) (prepend_known rest below) piece =
+    let taken : Consumes (prepend_known (take (end - start) (drop start items)) below)
+    (prepend_known rest below) piece =
     rw (piece_first items buf start end count few behind) (consumes_first piece rest below) in
     rw whole (passes piece count _ _ before after changed answer untouched sized taken ok err)

@@ -7,14 +7,16 @@ use Rattle.luks_io.specs.Bytes.{Appended, ConsumedExactly, IfKnown, counted, sat
 
 module _ (known : List ℕ) (r r' : Option (List ℕ)) where
   -- m bytes were taken, and then n more of those behind them
-  pub took_behind : (m n : ℕ) → ConsumedExactly known r m → ConsumedExactly (drop m known) r' n → ConsumedExactly known r' (m + n)
+  pub took_behind : (m n : ℕ) → ConsumedExactly known r m → ConsumedExactly (drop m known) r' n
+      → ConsumedExactly known r' (m + n)
   took_behind m n before then = record {
     within = omega (arith, length-drop m known, then.within, before.within);
     left = then.left ∙ ap Some (drop-drop n m known);
   }
 
   -- m bytes were taken, and then n more
-  pub took_more : (m n : ℕ) → ConsumedExactly known r m → IfKnown r (λ rest. ConsumedExactly rest r' n) → ConsumedExactly known r' (m + n)
+  pub took_more : (m n : ℕ) → ConsumedExactly known r m → IfKnown r (λ rest. ConsumedExactly rest r' n)
+      → ConsumedExactly known r' (m + n)
   took_more m n before next = took_behind m n before (next (drop m known) before.left)
 
   -- the same, of a sum that is told

@@ -91,7 +91,8 @@ tries-unless_none : (entries : List Entry) (skipped : List (ℕ × SkipReason)) 
     → unless_none entries skipped ≡ Ok tries → entries ≡ tries.slots
 tries-unless_none [] skipped tries is = absurd cc
 tries-unless_none (entry ∷ entries) skipped tries is =
-    let same : record { slots = entry ∷ entries; skipped = skipped } ≡ tries = cc in ap (λ (t : OrderModel). t.slots) same
+    let same : record { slots = entry ∷ entries; skipped = skipped }
+    ≡ tries = cc in ap (λ (t : OrderModel). t.slots) same
 
 -- all that is tried is of the header
 pub All-tries : (header : Header) (named limit : Option ℕ) (tries : OrderModel) → order_of header named limit ≡ Ok tries
@@ -156,7 +157,8 @@ named_open header limit priority number is =
     named_tried header limit number usable.0 usable.1
 
 -- and it alone is tried
-pub named_alone : (entry : Option Entry) (verdict : Option Verdict) (priority : ℕ) (answer : Result OrderModel OpenFault)
+pub named_alone : (entry : Option Entry) (verdict : Option Verdict) (priority : ℕ)
+    (answer : Result OrderModel OpenFault)
     → option_map judgement_of verdict ≡ Some (Open priority)
     → IsOrMemory (tried_alone entry) answer → IsOrMemory (tries_of_named entry verdict) answer
 named_alone entry verdict priority answer is alone =
@@ -189,7 +191,8 @@ pub held_of-drop : (entries : List Entry) (i : ℕ) (entry : Entry) → i < leng
     → key_areas_end (drop i entries) ≡ max (material_end entry.slot) (key_areas_end (drop (i + 1) entries))
 unfolding key_areas_end
 held_of-drop entries i entry there is =
-    ap key_areas_end (drop_more entries i entry there) ∙ ap (λ (e : Entry). key_areas_end (e ∷ drop (i + 1) entries)) (sym is)
+    ap key_areas_end (drop_more entries i entry there) ∙ ap (λ (e : Entry). key_areas_end (e ∷ drop (i + 1) entries))
+    (sym is)
 
 pub held_of-nil : key_areas_end [] ≡ 0
 unfolding key_areas_end

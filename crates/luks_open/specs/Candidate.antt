@@ -25,7 +25,8 @@ decrypted_material cipher image offset need = joined (material_sector cipher ima
 -- the key that key material holds: its first stripes, of `key_bytes` bytes each, merged
 unfoldable pub unlocked : Hash → Cipher → List ℕ → ℕ → ℕ → ℕ → List ℕ
 unlocked af cipher image offset key_bytes stripes =
-    merged af key_bytes (take (key_bytes * stripes) (decrypted_material cipher image offset (need_of key_bytes stripes)))
+    merged af key_bytes (take (key_bytes * stripes) (decrypted_material cipher image offset
+    (need_of key_bytes stripes)))
 
 -- the key that a key slot's material holds under a passphrase, by these hash functions and in this mode
 abbrev pub candidate_by : Option Hash → Option Hash → Option Mode → SlotParts → List ℕ → List ℕ → Option (List ℕ)
@@ -35,8 +36,7 @@ candidate_by (Some kdf) (Some af) (Some mode) parts image pass =
 candidate_by _ _ _ parts image pass = None
 
 -- the key that a key slot's material holds under a passphrase. There is none where the name of a hash function or of
--- the
--- mode is not known
+-- the mode is not known
 unfoldable pub candidate_of : Slot → List ℕ → List ℕ → Option (List ℕ)
 candidate_of slot image pass =
     candidate_by slot.parts.kdf_hash slot.parts.af_hash slot.parts.area_mode slot.parts image pass

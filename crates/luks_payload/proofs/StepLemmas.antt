@@ -38,7 +38,8 @@ module _ (s : Segment) (image : List ℕ) (count : ℕ) where
   steps_from_end cipher reach l b a (Err Read) not e = cc
   steps_from_end cipher reach l b a (Err Write) not e = cc
 
-  module _ (front : List ℕ) (left : Option (List ℕ)) (stands : PositionedAt image front (sector_start s count) left) where
+  module _ (front : List ℕ) (left : Option (List ℕ)) (stands : PositionedAt image front
+      (sector_start s count) left) where
     there : sector_start s count + length front ≤ length image
     there = stands.took.within
 
@@ -135,7 +136,8 @@ module _ (s : Segment) (image : List ℕ) (count : ℕ) where
         })
 
     -- the limit is reached
-    pub steps_at_limit : (cipher : Cipher) (before after : Option (List ℕ)) → count ≡ max_sectors s → length image < 2 ^ 64
+    pub steps_at_limit : (cipher : Cipher) (before after : Option (List ℕ)) → count ≡ max_sectors s
+        → length image < 2 ^ 64
         → StepEffect s cipher count (sector_start s count + length front) image (Ok End) left before after
     steps_at_limit cipher b a is few =
         let least = at_least_512 s.sector_size in
@@ -273,7 +275,8 @@ module _ (s : Segment) (cipher : Cipher) (consumed count : ℕ) (front image : L
       → StandsIn image (pumped s cipher consumed count state front) r → SkipsAgain state (Err fault) T
       → (state ≡ BeforePayload → (count ≡ 0) × (front ≡ []))
       → (state ≡ BeforePayload → SkipEffect (pumped s cipher consumed count state front) image (Err fault) r')
-      → StepEffect s cipher count (consumed_by (pumped s cipher consumed count state front)) image (Err fault) r' before after
+      → StepEffect s cipher count (consumed_by (pumped s cipher consumed count state front)) image
+      (Err fault) r' before after
   steps_unskipped BeforePayload fault T stands again none stops =
       let from : consumed + length front ≡ consumed = rw (none refl).1 (omega arith) in
       let within = stands.stands.took.within in
@@ -343,7 +346,8 @@ module _ (s : Segment) (cipher : Cipher) (consumed count : ℕ) (front image : L
       → (state ≡ BeforePayload → SkipEffect (pumped s cipher consumed count state front) image (Ok tt) r')
       → (PositionedAt image front (sector_start s count) r'
       → StepEffect s cipher count (sector_start s count + length front) image answer r'' before after)
-      → StepEffect s cipher count (consumed_by (pumped s cipher consumed count state front)) image answer r'' before after
+      → StepEffect s cipher count (consumed_by (pumped s cipher consumed count state front)) image answer r'' before
+      after
   steps_skipped BeforePayload T stands early again same none skipped steps =
       let (first, bare) = none refl in
       let took = skipped refl in
@@ -369,9 +373,11 @@ module _ (s : Segment) (cipher : Cipher) (consumed count : ℕ) (front image : L
       → (state ≡ BeforePayload → (count ≡ 0) × (front ≡ []))
       → (state ≡ BeforePayload → SkipEffect (pumped s cipher consumed count state front) image (Ok tt) r')
       → (PositionedAt image now.front (sector_start now.segment now.count) r'
-      → StepEffect now.segment now.cipher now.count (sector_start now.segment now.count + length now.front) image answer r''
+      → StepEffect now.segment now.cipher now.count (sector_start now.segment now.count + length now.front) image answer
+      r''
       before after)
-      → StepEffect s cipher count (consumed_by (pumped s cipher consumed count state front)) image answer r'' before after
+      → StepEffect s cipher count (consumed_by (pumped s cipher consumed count state front)) image answer r'' before
+      after
   steps_resumed now skipped state state' T closed moved stands early again same none skips steps =
       let is : now ≡ pumped s cipher consumed count state' front = closed ∙ moved in
       steps_skipped state T stands (subst (λ (p : PumpModel). p.consumed ≤ p.segment.offset) is early) again same none

@@ -28,7 +28,8 @@ unit_plain cipher number unit = sector_decrypted cipher.0 cipher.1 number unit
 
 -- the plain bytes of sector i
 abbrev pub sector_plaintext : Segment → Cipher → List ℕ → ℕ → List ℕ
-sector_plaintext s cipher image i = unit_plain cipher (unit_number s i) (take (sector_len s) (drop (sector_start s i) image))
+sector_plaintext s cipher image i = unit_plain cipher (unit_number s i) (take (sector_len s) (drop
+    (sector_start s i) image))
 
 -- how many bytes of the image stand behind the payload's start
 abbrev pub payload_len : Segment → List ℕ → ℕ

@@ -68,7 +68,8 @@ SkipsAgain (Faulted fault) answer untouched = (answer ≡ Err fault) × untouche
 -- a skip took the image up to the payload's start, or was broken off
 abbrev pub SkipEffect : PumpModel → List ℕ → Result (Unit {0}) VolumeFault → Option (List ℕ) → Type 0
 SkipEffect p image (Ok _) left = ConsumedExactly image left p.segment.offset
-SkipEffect p image (Err CutBeforePayload) left = (length image < p.segment.offset) × ConsumedExactly image left (length image)
+SkipEffect p image (Err CutBeforePayload) left = (length image < p.segment.offset)
+    × ConsumedExactly image left (length image)
 SkipEffect p image (Err Read) left = ConsumedBetween image left p.consumed p.segment.offset
 SkipEffect p image (Err (Tail _)) left = ⊥
 SkipEffect p image (Err (Short _)) left = ⊥
@@ -147,11 +148,13 @@ StepEffect s cipher count reach image (Ok Sector) left before after =
 StepEffect s cipher count reach image (Ok End) left before after = EndEffect image s count reach (Ok End) left
 StepEffect s cipher count reach image (Err CutBeforePayload) left before after =
     EndEffect image s count reach (Err CutBeforePayload) left
-StepEffect s cipher count reach image (Err (Tail bytes)) left before after = EndEffect image s count reach (Err (Tail bytes)) left
+StepEffect s cipher count reach image (Err (Tail bytes)) left before after = EndEffect image s count reach (Err
+    (Tail bytes)) left
 StepEffect s cipher count reach image (Err (Short bytes)) left before after =
     EndEffect image s count reach (Err (Short bytes)) left
 StepEffect s cipher count reach image (Err Read) left before after =
     ConsumedBetween image left reach (min (sector_start s (count + 1)) (payload_end_of s image + 1))
 StepEffect s cipher count reach image (Err Write) left before after =
     TakesSector image s count reach left
-    × ((written : ℕ) × (written < sector_len s) × Appended before after (take written (sector_plaintext s cipher image count)))
+    × ((written : ℕ) × (written < sector_len s) × Appended before after (take written
+    (sector_plaintext s cipher image count)))

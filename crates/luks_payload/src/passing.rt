@@ -86,7 +86,8 @@ pub(crate) fn pass_sector<S: Source, O: Sink>(
         (S.failures source.old) }
     ensures ends { S.ends source.new ≡ counted (is_short_read result (length sector.old))
         (S.ends source.old) }
-    ensures writes { O.failures sink.new ≡ counted (is_pump_write_failure result) (O.failures sink.old) }
+    ensures writes { O.failures sink.new ≡ counted (is_pump_write_failure result)
+        (O.failures sink.old) }
 {
     // Bytes in front are not the source's: a sector that begins with them is gathered.
     if front.is_empty() {

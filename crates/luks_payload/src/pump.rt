@@ -83,14 +83,16 @@ fn next_sector<S: Source, O: Sink>(
     ensures only { MayAnswer State.InPayload segment.now count result }
     ensures run { (image : List ℕ) → length image < 2 ^ 64
         → PositionedAt image front.now (sector_start segment.now count) (S.to_come source.old)
-        → StepEffect segment.now cipher.now count (sector_start segment.now count + length front.now)
+        → StepEffect segment.now cipher.now count
+        (sector_start segment.now count + length front.now)
         image result (S.to_come source.new) (O.written sink.old) (O.written sink.new) }
     ensures writes_sectors { WritesSectors result (sink.new ≡ sink.old) }
     ensures reads { S.failures source.new ≡ counted (is_pump_read_failure result)
         (S.failures source.old) }
     ensures ends { S.ends source.new ≡ counted (hits_eof_at segment.now count result)
         (S.ends source.old) }
-    ensures writes { O.failures sink.new ≡ counted (is_pump_write_failure result) (O.failures sink.old) }
+    ensures writes { O.failures sink.new ≡ counted (is_pump_write_failure result)
+        (O.failures sink.old) }
 {
     if count == limit(segment) {
         return Ok(Step::End);
@@ -175,7 +177,8 @@ impl<'a> Pump<'a> {
         ensures fresh { self.old.state ≡ State.BeforePayload
             → (self.old.count ≡ 0) × (self.old.front ≡ []) }
         ensures reads { is_running self.old.state ≡ true
-            → S.failures source.new ≡ counted (is_pump_read_failure result) (S.failures source.old) }
+            → S.failures source.new ≡ counted (is_pump_read_failure result)
+            (S.failures source.old) }
         ensures ends { is_running self.old.state ≡ true
             → S.ends source.new ≡ counted (is_cut result) (S.ends source.old) }
     {
@@ -230,7 +233,8 @@ impl<'a> Pump<'a> {
             → (result ≡ Ok Step.End) × (source.new ≡ source.old) × (sink.new ≡ sink.old) }
         ensures run { (image : List ℕ) → length image < 2 ^ 64
             → StandsIn image self.old (S.to_come source.old)
-            → StepEffect self.old.segment self.old.cipher self.old.count (consumed_by self.old) image result
+            → StepEffect self.old.segment self.old.cipher self.old.count
+            (consumed_by self.old) image result
             (S.to_come source.new) (O.written sink.old) (O.written sink.new) }
         ensures passed { result ≡ Ok Step.Sector
             → AddsUnit self.old.cipher (unit_number self.old.segment self.old.count)
@@ -240,7 +244,8 @@ impl<'a> Pump<'a> {
             → MayAnswer self.old.state self.old.segment self.old.count result }
         ensures writes_sectors { WritesSectors result (sink.new ≡ sink.old) }
         ensures reads { is_running self.old.state ≡ true
-            → S.failures source.new ≡ counted (is_pump_read_failure result) (S.failures source.old) }
+            → S.failures source.new ≡ counted (is_pump_read_failure result)
+            (S.failures source.old) }
         ensures ends { is_running self.old.state ≡ true → S.ends source.new
             ≡ counted (hits_eof_at self.old.segment self.old.count result) (S.ends source.old) }
         ensures writes { is_running self.old.state ≡ true

@@ -17,7 +17,8 @@ impl Message {
     ///
     /// A [`WriteFault`] says how many of its bytes went out before a write failed.
     pub fn print<O: Sink>(&self, out: &mut O) -> Result<(), WriteFault>
-        ensures ok { OnOk result (Appended (O.written out.old) (O.written out.new) (line_of self.now)) }
+        ensures ok { OnOk result (Appended (O.written out.old) (O.written out.new)
+            (line_of self.now)) }
         ensures err { IfErr result (λ fault. (fault.written < length (line_of self.now))
             × Appended (O.written out.old) (O.written out.new)
             (take fault.written (line_of self.now))) }

@@ -89,7 +89,8 @@ printing_counts text told before after _ image secret written written' prints is
 module _ (stand : Standing) (text : Header → List ℕ) (told : Header → Message) (image : List ℕ)
     (i w : Option (List ℕ)) where
   -- the header was read
-  module _ (header : Header) (found : reading_of stand image ≡ Ok header) (left : ConsumedExactly image i (header_read_len image)) where
+  module _ (header : Header) (found : reading_of stand image
+      ≡ Ok header) (left : ConsumedExactly image i (header_read_len image)) where
     print_found : print_outcome_by (reading_of stand) text told image
         ≡ record {
           output = text header;
@@ -111,7 +112,8 @@ module _ (stand : Standing) (text : Header → List ℕ) (told : Header → Mess
 
     -- the page was printed, as far as it came
     pub runs_with_page : (message : Message) (w' : Option (List ℕ)) → Prints (text header) (told header) w w' message
-        → RunMatches at_any_pace (print_outcome_by (reading_of stand) text told image) message (ConsumedExactly image i) TookNone
+        → RunMatches at_any_pace (print_outcome_by (reading_of stand) text told image) message
+        (ConsumedExactly image i) TookNone
         (Appended w w')
     runs_with_page OutOfMemory w' same = rw same runs_without_text
     runs_with_page WriteFailed w' part = rw print_found (record {
@@ -136,7 +138,8 @@ module _ (stand : Standing) (text : Header → List ℕ) (told : Header → Mess
   print_cost = refl
 
   print_none : (fault : HeaderFault) → header_of image ≡ Err fault
-      → print_outcome_by (reading_of stand) text told image ≡ no_output (message_for_header fault) (header_read_len image) 0
+      → print_outcome_by (reading_of stand) text told image
+      ≡ no_output (message_for_header fault) (header_read_len image) 0
   unfolding print_outcome_by
   print_none fault found = rw (reading_fault stand image fault found) refl
 
@@ -180,7 +183,8 @@ module _ (image : List ℕ) (i w : Option (List ℕ)) where
 
   -- `isLuks` of one without a header that can be read
   pub is_luks_refused : (ends ends' : ℕ) (fault : HeaderFault) → BreaksReading image i ends ends' fault
-      → RunMatches at_any_pace (is_luks_outcome image) (answer_to_is_luks (Err fault)) (ConsumedExactly image i) TookNone (Appended w w)
+      → RunMatches at_any_pace (is_luks_outcome image) (answer_to_is_luks (Err fault))
+      (ConsumedExactly image i) TookNone (Appended w w)
   is_luks_refused ends ends' NoLuks stop =
       rw (asked (Err NoLuks) stop.0) (record
       { as_stated = refl; image = stop.1.0; secret = refl; output = adds-none w })

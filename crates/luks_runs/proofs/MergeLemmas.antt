@@ -108,13 +108,15 @@ module _ (h : Hash) (count len : ℕ) (bytes : List ℕ) (s w w' : Option (List 
     (p : ConsumedExactly bytes s (count * len))
     (key_is : key ≡ merged h len (take (count * len) bytes)) where
   -- the key was written
-  pub runs_to_end : Appended w w' key → Completed (merge_outcome h count len bytes) Done (ConsumedExactly bytes s) TookNone (Appended w w')
+  pub runs_to_end : Appended w w' key → Completed (merge_outcome h count len bytes) Done
+      (ConsumedExactly bytes s) TookNone (Appended w w')
   runs_to_end a = rw (stripes_enough h count len bytes p.within, ← key_is)
       (record { as_stated = refl; image = p; secret = refl; output = a })
 
   -- a write failed within it
   pub runs_without_key : (n : ℕ) → n < length key → Appended w w' (take n key)
-      → Aborted at_any_pace (merge_outcome h count len bytes) WriteFailed (ConsumedExactly bytes s) TookNone (Appended w w')
+      → Aborted at_any_pace (merge_outcome h count len bytes) WriteFailed (ConsumedExactly bytes s) TookNone
+      (Appended w w')
   runs_without_key n within a = rw (stripes_enough h count len bytes p.within, ← key_is) (record {
     image_taken = count * len;
     secret_taken = 0;
@@ -130,7 +132,8 @@ module _ (h : Hash) (count len : ℕ) (bytes : List ℕ) (s w w' : Option (List 
   })
 
 -- the key of stripes that were taken one at a time
-pub key_merged : (h : Hash) (count len : ℕ) (bytes : List ℕ) (splitter : AfSplitterModel) (stripe key : List ℕ) → 1 ≤ len
+pub key_merged : (h : Hash) (count len : ℕ) (bytes : List ℕ) (splitter : AfSplitterModel) (stripe key : List ℕ)
+    → 1 ≤ len
     → 1 ≤ count → count * len ≤ length bytes
     → splitter ≡ chain_after h len bytes (count - 1) → stripe ≡ stripe_at len bytes (count - 1)
     → key ≡ xor splitter.block stripe

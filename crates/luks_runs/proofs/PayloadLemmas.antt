@@ -132,7 +132,8 @@ module _ (s : Segment) (image : List ℕ) where
       ≤ sectors_of s image * sector_len s = mul-le-mul_left (sectors_of s image) z.long in
       omega arith
 
-  sector_size : (cipher : Cipher) (i : ℕ) → i < sectors_of s image → length (sector_plaintext s cipher image i) ≡ sector_len s
+  sector_size : (cipher : Cipher) (i : ℕ) → i < sectors_of s image
+      → length (sector_plaintext s cipher image i) ≡ sector_len s
   sector_size cipher i below =
       let z = sector_blocks s.sector_size in
       let there = sector_there i below in
@@ -142,7 +143,8 @@ module _ (s : Segment) (image : List ℕ) where
       unit_len cipher _ _ (ap (λ n. n % 16) unit ∙ z.blocks) ∙ unit
 
   pub plain_len : (cipher : Cipher) → length (plain_of s cipher image) ≡ sectors_of s image * sector_len s
-  plain_len cipher = joined_length (sector_plaintext s cipher image) (sector_len s) (sectors_of s image) (sector_size cipher)
+  plain_len cipher = joined_length (sector_plaintext s cipher image) (sector_len s) (sectors_of s image)
+      (sector_size cipher)
 
 -- ---- a pump on its way
 
@@ -190,7 +192,8 @@ passing_start p image held left w none early bare reach stands = record {
   wrote = rw none (adds-none w);
 }
 
-module _ (p : PumpModel) (image : List ℕ) (held : ℕ) (l b w l' w' : Option (List ℕ)) (so_far : Passing p image held l b w)
+module _ (p : PumpModel) (image : List ℕ) (held : ℕ) (l b w l' w' : Option (List ℕ))
+    (so_far : Passing p image held l b w)
   where
     -- a pump does not stand behind its next sector
     place : position p ≤ sector_start p.segment p.count
@@ -202,7 +205,8 @@ module _ (p : PumpModel) (image : List ℕ) (held : ℕ) (l b w l' w' : Option (
     next_start = omega arith
 
     -- as many bytes were taken as before, or more: up to the end of the next sector
-    reached : max (consumed_by p) (sector_start p.segment (p.count + 1)) ≡ max held (sector_start p.segment (p.count + 1))
+    reached : max (consumed_by p) (sector_start p.segment (p.count + 1))
+        ≡ max held (sector_start p.segment (p.count + 1))
     reached = omega (arith, so_far.reach, place, next_start)
 
     next_front : drop (sector_len p.segment) p.front
@@ -261,7 +265,8 @@ module _ (p : PumpModel) (image : List ℕ) (held : ℕ) (l b w l' w' : Option (
     -- the payload came to its stated end
     ended : (answer : Result Step VolumeFault) → EndEffect image p.segment p.count (consumed_by p) answer l' → w' ≡ w
         → (message_at_end answer ≡ message_at_end (ending_of p.segment image))
-        × ConsumedExactly image l' (max held (payload_end_of p.segment image)) × Appended b w' (plain_of p.segment p.cipher image)
+        × ConsumedExactly image l' (max held (payload_end_of p.segment image))
+        × Appended b w' (plain_of p.segment p.cipher image)
     ended answer end same =
         let all : max (consumed_by p) (payload_end_of p.segment image) ≡ max held (payload_end_of p.segment image) =
         omega (arith, so_far.reach, place_in_end) in
@@ -285,7 +290,8 @@ module _ (p : PumpModel) (image : List ℕ) (held : ℕ) (l b w l' w' : Option (
         ] in
         let row : (end - p.segment.offset) / sector_len p.segment
         ≡ p.count = div-eq_of_lt-le (sector_len p.segment) (omega arith) (omega (arith, step.2, z.long)) in
-        let whole = take_whole (sector_plaintext p.segment p.cipher image) (sector_len p.segment) (sectors_of p.segment image)
+        let whole = take_whole (sector_plaintext p.segment p.cipher image) (sector_len p.segment)
+        (sectors_of p.segment image)
         p.count (sector_size p.segment image p.cipher) so_far.few in (
           end,
           p.count,
@@ -303,7 +309,8 @@ module _ (p : PumpModel) (image : List ℕ) (held : ℕ) (l b w l' w' : Option (
         let taken = step.0 in
         let written = step.1 in
         let few = written.1 in
-        let part = take_joined (sector_plaintext p.segment p.cipher image) (sector_len p.segment) (sectors_of p.segment image)
+        let part = take_joined (sector_plaintext p.segment p.cipher image) (sector_len p.segment)
+        (sectors_of p.segment image)
         p.count written.0 (sector_size p.segment image p.cipher) taken.is_one (omega arith) in (
           p.count,
           written.0,

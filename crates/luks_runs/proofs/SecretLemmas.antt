@@ -11,7 +11,8 @@ use Rattle.luks_report.specs.declared.message.Message.TheVariants.{Done, OutOfMe
 
 module _ (known : List ℕ) (n : ℕ) (s s' : Option (List ℕ)) (took : ConsumedExactly known s n) where
   -- the next bytes stand behind those so far
-  pub piece_more : (items items' : List ℕ) (got : ℕ) → items ≡ take n known → IfKnown s (λ rest. ConsumedExactly rest s' got)
+  pub piece_more : (items items' : List ℕ) (got : ℕ) → items ≡ take n known
+      → IfKnown s (λ rest. ConsumedExactly rest s' got)
       → items' ≡ items ++ take got (drop n known) → (items' ≡ take (n + got) known) × ConsumedExactly known s' (n + got)
   piece_more items items' got so_far next is = (
     is ∙ ap (λ l. l ++ take got (drop n known)) so_far ∙ sym (take-add n got known),

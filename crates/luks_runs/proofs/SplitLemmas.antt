@@ -79,7 +79,8 @@ module _ (h : Hash) (count : ℕ) (key random : List ℕ) where
 -- the key was refused, or a read of it failed
 pub runs_without_key : (h : Hash) (count : ℕ) (key random : List ℕ) (message : Message) (k r w : Option (List ℕ))
     → NoKeyRead key k message → r ≡ Some random
-    → RunMatches (split_promptly (length key)) (split_outcome h count key random) message (ConsumedExactly key k) (ConsumedExactly random r)
+    → RunMatches (split_promptly (length key)) (split_outcome h count key random) message (ConsumedExactly key k)
+    (ConsumedExactly random r)
     (Appended w w)
 runs_without_key h count key random KeyLength k r w refused is =
     rw (key_refused h count key random refused.0) (record
@@ -150,7 +151,8 @@ module _ (h : Hash) (count : ℕ) (key random : List ℕ) (k r b w : Option (Lis
       → MayPass (split_key_outcome h count key random) random taken written
       → IsPrefixLen message written (length (split_key_outcome h count key random).output)
       → split_promptly (length key) message (length key) taken written → Passed random r b w taken written
-      → Aborted (split_promptly (length key)) (split_outcome h count key random) message (ConsumedExactly key k) (ConsumedExactly random r)
+      → Aborted (split_promptly (length key)) (split_outcome h count key random) message (ConsumedExactly key k)
+      (ConsumedExactly random r)
       (Appended b w)
   broken message taken written silent may begins prompt p = rw (key_allowed h count key random some room) (record {
     image_taken = length key;
@@ -168,7 +170,8 @@ module _ (h : Hash) (count : ℕ) (key random : List ℕ) (k r b w : Option (Lis
 
   -- the random stripes could not be passed on
   pub runs_without_stripes : (message : Message) → StopsAtStripe (count - 1) (length key) random r b w message
-      → RunMatches (split_promptly (length key)) (split_outcome h count key random) message (ConsumedExactly key k) (ConsumedExactly random r)
+      → RunMatches (split_promptly (length key)) (split_outcome h count key random) message (ConsumedExactly key k)
+      (ConsumedExactly random r)
       (Appended b w)
   runs_without_stripes FewRandomBytes stop =
       let below : stop.0 + 1 ≤ count - 1 = omega (arith, stop.1) in
@@ -204,7 +207,8 @@ module _ (h : Hash) (count : ℕ) (key random : List ℕ) (k r b w : Option (Lis
       (w' : Option (List ℕ)) where
     -- the last stripe was written
     pub runs_to_end : Appended w w' last
-        → Completed (split_outcome h count key random) Done (ConsumedExactly key k) (ConsumedExactly random r) (Appended b w')
+        → Completed (split_outcome h count key random) Done (ConsumedExactly key k) (ConsumedExactly random r)
+        (Appended b w')
     runs_to_end a =
         rw (key_allowed h count key random some room, random_enough h count key random p.took.within, ← last_is)
         (record {

@@ -21,7 +21,8 @@ unfolding stripe_at
 is_stripe random i len stripe is = is
 
 -- a whole stripe was taken
-module _ (random : List ℕ) (r : Option (List ℕ)) (stripe : List ℕ) (t : ConsumedInto random r stripe (length stripe)) where
+module _ (random : List ℕ) (r : Option (List ℕ)) (stripe : List ℕ) (t : ConsumedInto random r stripe
+    (length stripe)) where
   pub is_next : stripe ≡ take (length stripe) random
   is_next = sym (take_all (length stripe) stripe (omega arith)) ∙ t.1
 

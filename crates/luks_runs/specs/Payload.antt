@@ -36,7 +36,8 @@ PassesPayload s cipher image held left before after message =
 abbrev pub PassesHeld : Segment → Cipher → List ℕ → Option (List ℕ) → Option (List ℕ) → Option (List ℕ)
     → Option (List ℕ) → Message → Type 0
 PassesHeld s cipher held rest left before after message =
-    (image : List ℕ) → length image < 2 ^ 64 → held ≡ take (length held) image → ConsumedExactly image rest (length held)
+    (image : List ℕ) → length image < 2 ^ 64 → held ≡ take (length held) image
+    → ConsumedExactly image rest (length held)
     → PassesPayload s cipher image (length held) left before after message
 
 -- how often passing on a payload found the end of the image: once where it is told that the image ended, not where a

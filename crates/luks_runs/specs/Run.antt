@@ -112,6 +112,7 @@ failures_of image secret written = record { image = image; secret = secret; writ
 -- the counts after a run with this message: one of them rose by one where a read or a write failed, and else none did
 abbrev pub Counts : Message → Failures → Failures → Type 0
 Counts ReadFailed before after =
-    (after ≡ record before { image = saturating_inc before.image }) ⊎ (after ≡ record before { secret = saturating_inc before.secret })
+    (after ≡ record before { image = saturating_inc before.image }) ⊎ (after
+    ≡ record before { secret = saturating_inc before.secret })
 Counts WriteFailed before after = after ≡ record before { written = saturating_inc before.written }
 Counts _ before after = after ≡ before

@@ -11,7 +11,8 @@ longest_key_file = 8388608
 
 -- how reading a key file failed: of one that is too long one byte more is taken than the longest has
 abbrev pub NoSecretRead : List ℕ → Option (List ℕ) → Message → Type 0
-NoSecretRead secret left KeyFileLength = (longest_key_file < length secret) × ConsumedExactly secret left (longest_key_file + 1)
+NoSecretRead secret left KeyFileLength = (longest_key_file < length secret)
+    × ConsumedExactly secret left (longest_key_file + 1)
 NoSecretRead secret left OutOfMemory = ConsumedAtMost secret left (min (length secret) (longest_key_file + 1))
 NoSecretRead secret left ReadFailed = ConsumedAtMost secret left (min (length secret) (longest_key_file + 1))
 NoSecretRead secret left _ = ⊥

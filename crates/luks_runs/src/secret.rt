@@ -21,7 +21,8 @@ const PIECE: usize = 4096;
 pub fn read_secret<S: Source>(alloc: Global, source: &mut S) -> Result<Vec<u8>, Message>
     ensures few { IfOk result (λ secret. vec_len secret ≤ longest_key_file) }
     ensures ok { IfOk result (λ secret. IfKnown (S.to_come source.old)
-        (λ known. (secret.items ≡ known) × ConsumedExactly known (S.to_come source.new) (length known))) }
+        (λ known. (secret.items ≡ known) × ConsumedExactly known (S.to_come source.new)
+        (length known))) }
     ensures err { IfErr result (λ message. IfKnown (S.to_come source.old)
         (λ known. NoSecretRead known (S.to_come source.new) message)) }
     ensures only { IfErr result (λ message. (message ≡ Message.KeyFileLength)

@@ -30,7 +30,8 @@ fn read_key<S: Source>(source: &mut S, buf: &mut [u8]) -> Result<usize, Message>
     ensures fits { IfOk result
         (λ len. IfKnown (S.to_come source.old) (λ key. len ≡ length key)) }
     ensures key { IfOk result (λ len. IfKnown (S.to_come source.old)
-        (λ key. (take len buf.new ≡ key) × ConsumedExactly key (S.to_come source.new) (length key))) }
+        (λ key. (take len buf.new ≡ key) × ConsumedExactly key (S.to_come source.new)
+        (length key))) }
     ensures err { IfErr result (λ message. IfKnown (S.to_come source.old)
         (λ key. NoKeyRead key (S.to_come source.new) message)) }
     ensures only { IfErr result (λ message.
@@ -155,7 +156,8 @@ fn split_key<R: Source, O: Sink>(
         → IfKnown (R.to_come random.old) (λ bytes.
         RunMatches (split_promptly (length key.now))
         (split_outcome splitting.now.hash splitting.now.stripes.count key.now bytes)
-        (result_message result) (ConsumedExactly key.now left) (ConsumedExactly bytes (R.to_come random.new))
+        (result_message result) (ConsumedExactly key.now left) (ConsumedExactly bytes
+        (R.to_come random.new))
         (Appended (O.written out.old) (O.written out.new))) }
     ensures only { SplitMessage (result_message result) }
     ensures memory { IfErr result (λ message. message ≢ Message.OutOfMemory) }

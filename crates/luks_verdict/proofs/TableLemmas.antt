@@ -79,6 +79,7 @@ some_rising {X = X} f i (suc n) some below = of_place (cases_lt i n) (some_risin
     of_last None is = absurd cc
     of_last (Some x) is = omega (arith, length-append (ascending f n) (x ∷ []))
 
-    of_place : (i < n) ⊎ (n ≤ i) → (i < n → 1 ≤ length (ascending f n)) → 1 ≤ length (ascending f n ++ cons_option (f n) [])
+    of_place : (i < n) ⊎ (n ≤ i) → (i < n → 1 ≤ length (ascending f n))
+        → 1 ≤ length (ascending f n ++ cons_option (f n) [])
     of_place (inl earlier) before = omega (arith, length-append (ascending f n) (cons_option (f n) []), before earlier)
     of_place (inr last) before = let same : i ≡ n = omega arith in of_last (f n) (subst (λ k. IsSome (f k)) same some)

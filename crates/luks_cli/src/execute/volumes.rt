@@ -293,7 +293,8 @@ pub(super) fn test_passphrase<I: Source, K: Source, O: Sink>(
         (λ known. IfKnown (K.to_come secret.old) (λ pass.
         RunMatches at_any_pace (volume_outcome_by (reading_of standing) (slot_outcome pass)
         (opening_request opening.now) known pass)
-        (result_message result) (ConsumedExactly known (I.to_come image.new)) (ConsumedExactly pass (K.to_come secret.new))
+        (result_message result) (ConsumedExactly known (I.to_come image.new))
+        (ConsumedExactly pass (K.to_come secret.new))
         (Appended (O.written out.old) (O.written out.new)))) }
     ensures unneeded { IfKnown (I.to_come image.old) (λ known.
         is_err (volume_by (reading_of standing) (opening_request opening.now) known) ≡ true
@@ -352,7 +353,8 @@ pub(super) fn cat<I: Source, K: Source, O: Sink>(
         (λ known. IfKnown (K.to_come secret.old) (λ pass.
         length known < 2 ^ 64 → RunMatches (cat_promptly known)
         (volume_outcome (payload_outcome known pass) (opening_request opening.now) known pass)
-        (result_message result) (ConsumedExactly known (I.to_come image.new)) (ConsumedExactly pass (K.to_come secret.new))
+        (result_message result) (ConsumedExactly known (I.to_come image.new))
+        (ConsumedExactly pass (K.to_come secret.new))
         (Appended (O.written out.old) (O.written out.new)))) }
     ensures unneeded { IfKnown (I.to_come image.old) (λ known.
         is_err (volume_of (opening_request opening.now) known) ≡ true → secret.new ≡ secret.old) }
@@ -382,7 +384,8 @@ pub(super) fn cat_detached<H: Source, I: Source, K: Source, O: Sink>(
         (volume_outcome_by detached_header_of (detached_payload_outcome known pass)
         (opening_request opening.now) file pass) (result_message result)
         (ConsumedExactly file (H.to_come header.new)) (ConsumedExactly known (I.to_come image.new))
-        (ConsumedExactly pass (K.to_come secret.new)) (Appended (O.written out.old) (O.written out.new))))) }
+        (ConsumedExactly pass (K.to_come secret.new)) (Appended (O.written out.old)
+        (O.written out.new))))) }
     ensures unneeded { IfKnown (H.to_come header.old) (λ file.
         is_err (volume_by detached_header_of (opening_request opening.now) file) ≡ true
         → secret.new ≡ secret.old) }

@@ -44,7 +44,8 @@ fn read_counted<D: Reading>(
     failures: &mut u64,
     ends: &mut u64,
 ) -> Result<usize, DeviceFault>
-    ensures told { ReportsFirst read_result (D.answers device.old) REPEATS result (D.answers device.new) }
+    ensures told { ReportsFirst read_result (D.answers device.old) REPEATS result
+        (D.answers device.new) }
     ensures bound { ReadsAtMost result buf.new }
     ensures bytes { ReadConsumes (D.bytes device.old) (D.bytes device.new) result buf.new }
     ensures counts { failures.new ≡ counted (is_err result) failures.old }

@@ -21,7 +21,8 @@ loop-round-init c =
           let w = key_expansion key in
           let first = subst (λ (x : List (List (List ℕ))). HasRoundKey w (rounds_of key) 0x63 x) (sym c.rows.ensures)
           is.first_key in
-          let keyed = c.add_round_key_batch.ensures (cells s) (λ r q. key_byte w (rounds_of key) r (column_index q) ⊕ 0x63)
+          let keyed = c.add_round_key_batch.ensures (cells s) (λ r q. key_byte w (rounds_of key) r
+          (column_index q) ⊕ 0x63)
           (rows_plain s c.args.rows hold all) first.stand in
           let held = rows_keyed s w (rounds_of key) 0x63 _ (omega arith) all (expansion_bytes key bytes) keyed in
           let inv_shift_rows_batch = c.inv_shift_rows_batch.ensures _ held.stand in
@@ -62,4 +63,5 @@ returns c = λ key s is rounds bytes all hold.
     let before = c.loop-round.invariant.hold key s is rounds bytes all hold in
     hold_same _ _ 0 _
     (λ m i. add_round_key (inv_sub_bytes (inv_shift_rows (inv_state_after (s m) (rounds i) w (end i)))) w 0)
-    (c.last_inv_round_batch.ensures _ w 0 (λ m. after_bytes (s m) w nr (nr - round) (all m) words) words before is.last_key.stand)
+    (c.last_inv_round_batch.ensures _ w 0 (λ m. after_bytes (s m) w nr (nr - round)
+    (all m) words) words before is.last_key.stand)

@@ -11,5 +11,6 @@ invariant-loop-round l = record {
   some : 1 ≤ l.round;
   hold : (key : List ℕ) (s : ℕ → List ℕ) → IsBatchKey key l.keys.first l.keys.between l.keys.last
       → l.rounds ≡ rounds_of key → IsBytes key → ((n : ℕ) → IsBytes (s n)) → RepresentStates s 0 l.fn.rows
-      → RepresentRotated (λ n. inv_state_after (s n) l.rounds (key_expansion key) (l.rounds - l.round)) (rows_of l.state);
+      → RepresentRotated (λ n. inv_state_after (s n) l.rounds (key_expansion key) (l.rounds - l.round))
+      (rows_of l.state);
 }

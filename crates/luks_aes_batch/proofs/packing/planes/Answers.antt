@@ -3,5 +3,6 @@ use Rattle.luks_aes_batch.proofs.WayLemmas.{planes_stand}
 use Rattle.luks_aes_batch.proofs.packing.planes.Goals as goal
 
 pub returns : goal.returns
-returns c = λ e bytes shown. planes_stand e c.transposed_bits.result bytes (c.transposed_bits.ensures (λ g p k. bit_at (e g p) k)
+returns c = λ e bytes shown. planes_stand e c.transposed_bits.result bytes (c.transposed_bits.ensures
+    (λ g p k. bit_at (e g p) k)
     shown)

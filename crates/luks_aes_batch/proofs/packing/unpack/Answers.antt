@@ -43,7 +43,8 @@ returns c =
     same_bits _ _ (l.invariant.bytes.each (16 * n + i)) (omega (arith, byte, place))
     (λ k bit.
     ap (λ x. bit_at x k) (l.invariant.done n i (omega arith) inside)
-    ∙ placed_bits (state_byte s 0) c.groups-a.result c.groups-b.result c.groups-c.result c.groups-d.result (n / 4) (n % 4) i
+    ∙ placed_bits (state_byte s 0) c.groups-a.result c.groups-b.result c.groups-c.result c.groups-d.result (n / 4)
+    (n % 4) i
     (λ p k. (c.groups-a.ensures (state_byte s 0 0) (stand.at 0 (omega arith)) (n / 4) (omega arith)).at p k)
     (λ p k. (c.groups-b.ensures (state_byte s 0 1) (stand.at 1 (omega arith)) (n / 4) (omega arith)).at p k)
     (λ p k. (c.groups-c.ensures (state_byte s 0 2) (stand.at 2 (omega arith)) (n / 4) (omega arith)).at p k)

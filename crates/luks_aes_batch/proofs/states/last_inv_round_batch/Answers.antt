@@ -17,5 +17,6 @@ returns c = λ t w n all keys hold kept.
     (sym c.rows-2.ensures) kept in
     rows_keyed (λ m. inv_sub_bytes (inv_shift_rows (t m))) w n 0 _ (omega arith) (λ m. substituted_bytes (t m) (all m))
     keys
-    (c.add_round_key_batch.ensures (cells (λ m. inv_sub_bytes (inv_shift_rows (t m)))) (λ r q. key_byte w n r (column_index q) ⊕ 0)
+    (c.add_round_key_batch.ensures (cells (λ m. inv_sub_bytes (inv_shift_rows (t m)))) (λ r q. key_byte w n r
+    (column_index q) ⊕ 0)
     substituted key)

@@ -25,7 +25,8 @@ returns c =
     each_below_4
     (λ r. HasBits (λ p k. bit_at (slice_index (slice_index_or (a ∷ b ∷ third ∷ d ∷ []) (p / 4) [])
     (r + 4 * column_order (p % 4))) k)
-    (slice_index_or (c.low_halves.result ∷ c.high_halves.result ∷ c.low_halves-2.result ∷ c.high_halves-2.result ∷ []) r []))
+    (slice_index_or (c.low_halves.result ∷ c.high_halves.result ∷ c.low_halves-2.result ∷ c.high_halves-2.result ∷ []) r
+    []))
     (shown _ (λ p. slice_index (slice_index_or (a ∷ b ∷ third ∷ d ∷ []) (p / 4) []) (0 + 4 * column_order (p % 4)))
     (ap length row0)
     (λ p low. ap (λ l. slice_index l p) row0 ∙ row_0 a b third d c.fits-a.0 c.fits-b.0 c.fits-c.0 c.fits-d.0 p low))

@@ -15,10 +15,14 @@ returns c =
     let high = c.high_words-high.ensures in
     let other_low = c.low_words-other_low.ensures in
     let other_high = c.high_words-other_high.ensures in
-    let block0 = c.by_columns.ensures ∙ ap by_columns (c.low_halves.ensures ∙ (λ i. low_halves (low i) (other_low i))) in
-    let block1 = c.by_columns-2.ensures ∙ ap by_columns (c.high_halves.ensures ∙ (λ i. high_halves (low i) (other_low i))) in
-    let block2 = c.by_columns-3.ensures ∙ ap by_columns (c.low_halves-2.ensures ∙ (λ i. low_halves (high i) (other_high i))) in
-    let block3 = c.by_columns-4.ensures ∙ ap by_columns (c.high_halves-2.ensures ∙ (λ i. high_halves (high i) (other_high i))) in
+    let block0 = c.by_columns.ensures ∙ ap by_columns (c.low_halves.ensures
+    ∙ (λ i. low_halves (low i) (other_low i))) in
+    let block1 = c.by_columns-2.ensures ∙ ap by_columns (c.high_halves.ensures
+    ∙ (λ i. high_halves (low i) (other_low i))) in
+    let block2 = c.by_columns-3.ensures ∙ ap by_columns (c.low_halves-2.ensures
+    ∙ (λ i. low_halves (high i) (other_high i))) in
+    let block3 = c.by_columns-4.ensures ∙ ap by_columns (c.high_halves-2.ensures
+    ∙ (λ i. high_halves (high i) (other_high i))) in
     λ m k small.
     each_below_4
     (λ m. k < 16 → slice_index (slice_index_or (c.by_columns.result ∷ c.by_columns-2.result ∷ c.by_columns-3.result ∷

@@ -14,7 +14,8 @@ returns-in_err-header-clause-run g c =
 pub returns-clause-run : goal.returns-clause-run
 returns-clause-run g c known is =
     let read = c.in_ok-header.ensures.taken known is in
-    runs_with_page c.args.standing (printout_text c.args.page) (printout_message c.args.page) known _ _ _ read.0 read.2 _ _
+    runs_with_page c.args.standing (printout_text c.args.page)
+    (printout_message c.args.page) known _ _ _ read.0 read.2 _ _
     c.print_page.ensures.run
 
 pub returns-clause-reads_first : goal.returns-clause-reads_first

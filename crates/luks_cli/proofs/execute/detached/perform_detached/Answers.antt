@@ -12,17 +12,20 @@ returns-in-IsLuks-clause-run g c = rw c.in-IsLuks.is (λ file there known payloa
 
 pub returns-in-LuksUuid-clause-run : goal.returns-in-LuksUuid-clause-run
 returns-in-LuksUuid-clause-run g c = rw c.in-LuksUuid.is (λ file there known payload pass secret counted.
-    runs_apart at_any_pace _ _ _ _ _ (no_payload_for_page detached_header_of (printout_text Uuid) (printout_message Uuid) file)
+    runs_apart at_any_pace _ _ _ _ _ (no_payload_for_page detached_header_of (printout_text Uuid)
+    (printout_message Uuid) file)
     (c.print.ensures.run file there))
 
 pub returns-in-LuksDump-clause-run : goal.returns-in-LuksDump-clause-run
 returns-in-LuksDump-clause-run g c = rw c.in-LuksDump.is (λ file there known payload pass secret counted.
-    runs_apart at_any_pace _ _ _ _ _ (no_payload_for_page detached_header_of (printout_text Dump) (printout_message Dump) file)
+    runs_apart at_any_pace _ _ _ _ _ (no_payload_for_page detached_header_of (printout_text Dump)
+    (printout_message Dump) file)
     (c.print-in-LuksDump.ensures.run file there))
 
 pub returns-in-LuksCheck-clause-run : goal.returns-in-LuksCheck-clause-run
 returns-in-LuksCheck-clause-run g c = rw c.in-LuksCheck.is (λ file there known payload pass secret counted.
-    runs_apart at_any_pace _ _ _ _ _ (no_payload_for_page detached_header_of (printout_text Check) (printout_message Check) file)
+    runs_apart at_any_pace _ _ _ _ _ (no_payload_for_page detached_header_of (printout_text Check)
+    (printout_message Check) file)
     (c.print-in-LuksCheck.ensures.run file there))
 
 pub returns-in-TestPassphrase-clause-run : goal.returns-in-TestPassphrase-clause-run
