@@ -17,7 +17,7 @@ segment_with offset size iv_tweak sector_size mode whole = record {
   iv_tweak = iv_tweak;
   sector_size = sector_size;
   mode = mode;
-  are_whole = whole;
+  whole_sectors = whole;
 }
 
 -- the same, where a test found that the length is one of whole sectors
