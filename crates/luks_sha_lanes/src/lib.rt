@@ -10,6 +10,8 @@ mod block256;
 pub mod chains1;
 pub mod chains256;
 mod constants;
+mod lone256;
+pub mod lone_chain256;
 mod turns1;
 mod turns256;
 mod words;
