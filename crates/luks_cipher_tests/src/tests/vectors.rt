@@ -99,7 +99,7 @@ fn check_slice(rt: &(impl Abort + AllocGlobal), key: &[u8], encrypted: &str, pla
     hex::decode_to_slice(encrypted, &mut slice).expect(rt, "a slice");
     let mut block = [0; 16];
     block.copy_from_slice(&slice[..16]);
-    key.decrypt_slice(&mut slice);
+    key.decrypt_batch(&mut slice);
     assert_in(rt, encrypted, slice.as_slice() == plain);
     key.key().decrypt_block(&mut block);
     assert_in(rt, encrypted, plain.starts_with(&block));

@@ -1,5 +1,5 @@
 use Rattle.std.proofs.Common.{◌≡◌, ◌∙◌, ap, arith, length}
-use Rattle.luks_kdf.specs.Hash.{size_of}
+use Rattle.luks_kdf.specs.Hash.{digest_len}
 use Rattle.luks_kdf.proofs.LaneLemmas.{group_of_digests, has_lanes}
 use Rattle.luks_kdf.proofs.lanes.derive_group.Goals as goal
 
