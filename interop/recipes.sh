@@ -7,9 +7,12 @@ readme=$(realpath "$(dirname "$0")/../README.md")
 ln -s "$program" luksrd
 PATH=$work:$PATH
 
-# recipe TEXT: the lines of README's recipe that follows this text
+# recipe TEXT: the lines of README's recipe that follows this text; after a comment, up to the next comment
 recipe() {
-    awk -v text="$1" 'index($0, text) { found = 1 } found && /^    / { inside = 1; print substr($0, 5) } inside && !/^    / { exit }' "$readme"
+    awk -v text="$1" '
+        !found && index($0, text) { found = 1; comment = /^    # / }
+        found && /^    / && !(comment && /^    # /) { inside = 1; print substr($0, 5); next }
+        inside { exit }' "$readme"
 }
 
 # cooks FOLDER NEEDED TEXT..: runs these recipes in a folder with images, in each shell, with links to the other files that
@@ -87,20 +90,20 @@ cooks partition whole.img 'A partition of a whole disk'
 gives partition plain.img plain
 says partition 'start=        2048, size=       24576'
 
-# a header in a file of its own
+# a detached header
 mkdir detached
 cp plain detached/disk.img
 cryptsetup -q reencrypt --encrypt --type luks2 --force-offline-reencrypt --pbkdf pbkdf2 --pbkdf-force-iterations 1000 \
     --key-file pass --header detached/disk.header detached/disk.img >err 2>&1 || { cat err; exit 1; }
-cooks detached disk.header 'A header on another medium'
+cooks detached disk.header 'A detached header'
 gives detached plain.img plain
 
-# a damaged front, and a backup of the header
+# a damaged header, and a backup of it
 mkdir backup
 seal backup/disk.img aes-xts-plain64 512
 cryptsetup luksHeaderBackup --header-backup-file backup/backup backup/disk.img
 dd if=/dev/urandom of=backup/disk.img bs=1M count=1 conv=notrunc status=none
-cooks backup backup 'A damaged front and a header backup'
+cooks backup backup 'A damaged header'
 gives backup plain.img plain
 says backup "clean
 Key slot 0 opens the volume."
@@ -115,7 +118,7 @@ cryptsetup -q reencrypt --encrypt --type luks2 --reduce-device-size 4M --force-o
 damaged argon2/disk.img
 same 'a volume of Argon2' "$(told testPassphrase --key-file pass argon2/disk.img)" 'luksrd: no key slot can be tried; skipped: 0 (argon2id)
 1'
-cooks argon2 '' 'Key slots by Argon2 alone'
+cooks argon2 '' 'Argon2 key slots only'
 gives argon2 plain.img plain
 
 # images of all kinds
@@ -130,7 +133,7 @@ head -c 500 volume/disk.img >audit/5.img
 cp volume/disk.img audit/6.img
 printf '\377\377\377\377' | dd of=audit/6.img bs=1 seek=212 conv=notrunc status=none
 : >audit/disk.img
-cooks audit '' 'Audit: of the images'
+cooks audit '' 'Audit images'
 uuid1=$("$program" luksUUID audit/1.img)
 says audit "../1.img:
 Version: 1
@@ -165,7 +168,7 @@ head -c 64 /dev/urandom >stripes/key
 printf 'what follows' >stripes/more
 cooks stripes 'key more' 'Split a key of 64 bytes'
 gives stripes key.again stripes/key
-gives stripes key.piped stripes/key
+gives stripes key2 stripes/key
 gives stripes more.again stripes/more
 
 finish
