@@ -29,14 +29,18 @@ pub(crate) trait Lanes: Engine {
 
     ghost WIDTH: { ℕ };
 
-    /// Xors the next `count` digests of each chain into its sum. `last` holds the last digest of
-    /// each chain, one after the other, and `sums` their sums.
-    fn add_chains(inner: &[u8], outer: &[u8], count: u32, last: &[u8], sums: &mut [u8])
+    // Whether one chain that is alone goes faster by `add_chains` than by the hasher.
+    const LONE: bool;
+
+    /// Xors the next `count` digests of the first `used` chains into their sums. `last` holds the
+    /// last digest of each chain, one after the other, and `sums` their sums.
+    fn add_chains(inner: &[u8], outer: &[u8], used: usize, count: u32, last: &[u8], sums: &mut [u8])
         requires inner { length inner.now ≡ 64 }
         requires outer { length outer.now ≡ 64 }
+        requires used { used ≤ WIDTH }
         requires last { length last.now ≡ WIDTH * size_of Self.function }
         requires sums { length sums.old ≡ WIDTH * size_of Self.function }
-        ensures { (j : ℕ) → j < WIDTH → digest_at (size_of Self.function) j sums.new
+        ensures { (j : ℕ) → j < used → digest_at (size_of Self.function) j sums.new
             ≡ chain_sum (hash_of Self.function) inner.now outer.now
             (digest_at (size_of Self.function) j last.now)
             (digest_at (size_of Self.function) j sums.old) count };
@@ -50,8 +54,21 @@ impl Lanes for Sha1 {
 
     ghost WIDTH = { 4 };
 
-    fn add_chains(inner: &[u8], outer: &[u8], count: u32, last: &[u8], sums: &mut [u8]) {
-        chains1::add_chains(inner, outer, count, last, sums);
+    const LONE: bool = true;
+
+    fn add_chains(
+        inner: &[u8],
+        outer: &[u8],
+        used: usize,
+        count: u32,
+        last: &[u8],
+        sums: &mut [u8],
+    ) {
+        if used == 1 {
+            chains1::add_chains::<1>(inner, outer, count, &last[..20], &mut sums[..20]);
+        } else {
+            chains1::add_chains::<4>(inner, outer, count, last, sums);
+        }
     }
 
     ghost known = { inl (refl, refl) };
@@ -62,7 +79,16 @@ impl Lanes for Sha256 {
 
     ghost WIDTH = { 2 };
 
-    fn add_chains(inner: &[u8], outer: &[u8], count: u32, last: &[u8], sums: &mut [u8]) {
+    const LONE: bool = false;
+
+    fn add_chains(
+        inner: &[u8],
+        outer: &[u8],
+        _used: usize,
+        count: u32,
+        last: &[u8],
+        sums: &mut [u8],
+    ) {
         chains256::add_chains(inner, outer, count, last, sums);
     }
 
@@ -105,7 +131,7 @@ pub(crate) fn derive_in_lanes<E: Lanes>(
 }
 
 // Fills `out` with the first bytes of the blocks T from this number on, of which each lane has one.
-// A block that is alone goes by itself, which is faster.
+// A block that is alone goes by the hasher where that is faster.
 fn derive_group<E: Lanes>(
     keyed: &Keyed<E>,
     blocks: &KeyBlocks,
@@ -129,7 +155,7 @@ fn derive_group<E: Lanes>(
         ≡ capped (work.old + iterations * div_ceil (length out.old) (size_of E.function)) }
 {
     let size = E::hash().size();
-    if out.len() <= size {
+    if out.len() <= size && !E::LONE {
         derive_block(keyed, salt, number, iterations, out, work);
     } else {
         let mut t = [0; MAX_GROUP];
@@ -166,7 +192,7 @@ fn sum_group<E: Lanes>(
     let u = &mut u[..t.len()];
     first_turns(keyed, salt, number, count, u);
     t.copy_from_slice(u);
-    E::add_chains(&blocks.inner, &blocks.outer, iterations - 1, u, t);
+    E::add_chains(&blocks.inner, &blocks.outer, count, iterations - 1, u, t);
 }
 
 // Writes the first U of so many blocks from this number on.

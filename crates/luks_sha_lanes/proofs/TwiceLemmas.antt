@@ -1,15 +1,14 @@
 -- A word that stands twice in 64 bits, shifted to the right, has in its low half the word rotated.
 use Rattle.std.proofs.Common.{◌≡◌, ℕ, ◌+◌, ◌-◌, ◌*◌, ◌/◌, ◌%◌, ◌^◌, ◌<◌, List, [], ◌∷◌, length, bit_and}
-use Rattle.std.proofs.Common.{bit_or, bit_xor, ap, ap₂, sym, ◌∙◌, arith, refl, pow-add, add_comm, mod-lt, pow_pos}
-use Rattle.std.specs.Int.{w32}
+use Rattle.std.proofs.Common.{bit_or, bit_xor, ap, sym, ◌∙◌, arith, refl, pow-add, add_comm, mod-lt, pow_pos}
 use Rattle.std.specs.Int.Bits.{or_shifted_r}
 use Rattle.std.specs.Simd.Lanes.{zip2}
-use Rattle.std.proofs.lemmas.Nat.{and_mask, and_mod, mod-pow-add, mod_low, shr_below, shr_high, shr_split, shl-shr}
+use Rattle.std.proofs.lemmas.Nat.{and_mask, mod-pow-add, mod_low, shr_below, shr_high, shr_split, shl-shr}
 use Rattle.std.proofs.lemmas.Nat.{xor_mod}
-use Rattle.sha2.specs.Sha256.{ch, maj}
-use Rattle.luks_sha_lanes.proofs.ChMaj.{ch_short, maj_short}
+use Rattle.luks_sha_lanes.proofs.LaneLemmas.{half_lt}
 use Rattle.luks_sha_lanes.proofs.WordLemmas.{below_two}
-use Rattle.luks_sha_lanes.specs.Lanes256.{IsTwice, low}
+use Rattle.luks_sha_lanes.specs.Lanes.{word}
+use Rattle.luks_sha_lanes.specs.Lanes256.{IsTwice}
 
 -- what holds of each list of two elements
 pub two_lanes : (P : List ℕ → Type 0) → ((a b : ℕ) → P (a ∷ b ∷ [])) → (xs : List ℕ) → length xs ≡ 2 → P xs
@@ -44,9 +43,6 @@ twice_rotated x k j whole fits =
     rw (shifted, kept, high) (sym (or_shifted_r (x % 2 ^ k) j q small))
 
 -- the same of a lane
-pub half_lt : (a : ℕ) → a % 2 ^ 32 < 2 ^ 32
-half_lt a = omega arith
-
 lane_rotated : (a k j : ℕ) → k + j ≡ 32 → a ≡ a % 2 ^ 32 * 2 ^ 32 + a % 2 ^ 32
     → a / 2 ^ k % 2 ^ 32 ≡ bit_or (a % 2 ^ 32 / 2 ^ k) (a % 2 ^ 32 * 2 ^ j % 2 ^ 32)
 lane_rotated a k j whole is = ap (λ (n : ℕ). n / 2 ^ k % 2 ^ 32) is ∙ twice_rotated (a % 2 ^ 32) k j whole (half_lt a)
@@ -81,7 +77,7 @@ shifted x k = zip2 (λ (a n : ℕ). a / 2 ^ n) x (k ∷ k ∷ [])
 
 abbrev Sums : ℕ → ℕ → ℕ → (ℕ → ℕ) → List ℕ → Type 0
 Sums k m n f x = (j : ℕ) → j < 2 → IsTwice j x
-    → low j (zip2 bit_xor (zip2 bit_xor (shifted x k) (shifted x m)) (shifted x n)) ≡ f (low j x)
+    → word j (zip2 bit_xor (zip2 bit_xor (shifted x k) (shifted x m)) (shifted x n)) ≡ f (word j x)
 
 pub sum_of_shifts : (k m n : ℕ) (f : ℕ → ℕ)
     → ((a : ℕ) → a ≡ a % 2 ^ 32 * 2 ^ 32 + a % 2 ^ 32
@@ -114,43 +110,7 @@ unfolding doubled
 all_doubled = two_lanes (λ x. (j : ℕ) → j < 2 → IsTwice j (Doubled x))
     (λ a b. below_two _ (doubled_twice a) (doubled_twice b))
 
-pub low_doubled : (x : List ℕ) → length x ≡ 2 → (j : ℕ) → j < 2 → low j (Doubled x) ≡ low j x
+pub low_doubled : (x : List ℕ) → length x ≡ 2 → (j : ℕ) → j < 2 → word j (Doubled x) ≡ word j x
 unfolding doubled
-low_doubled = two_lanes (λ x. (j : ℕ) → j < 2 → low j (Doubled x) ≡ low j x)
+low_doubled = two_lanes (λ x. (j : ℕ) → j < 2 → word j (Doubled x) ≡ word j x)
     (λ a b. below_two _ (doubled_low a) (doubled_low b))
-
--- Ch and Maj of the low halves
-three_vectors : (P : List ℕ → List ℕ → List ℕ → Type 0)
-    → ((a b c d e f : ℕ) → P (a ∷ b ∷ []) (c ∷ d ∷ []) (e ∷ f ∷ []))
-    → (x : List ℕ) → length x ≡ 2 → (y : List ℕ) → length y ≡ 2 → (z : List ℕ) → length z ≡ 2 → P x y z
-three_vectors P p =
-    two_lanes (λ x. (y : List ℕ) → length y ≡ 2 → (z : List ℕ) → length z ≡ 2 → P x y z) (λ a b.
-    two_lanes (λ y. (z : List ℕ) → length z ≡ 2 → P (a ∷ b ∷ []) y z) (λ c d.
-    two_lanes (λ z. P (a ∷ b ∷ []) (c ∷ d ∷ []) z) (λ e f. p a b c d e f)))
-
-ch_low : (x y z : ℕ) → bit_xor z (bit_and x (bit_xor y z)) % 2 ^ 32 ≡ ch (x % 2 ^ 32) (y % 2 ^ 32) (z % 2 ^ 32)
-ch_low x y z =
-    xor_mod z (bit_and x (bit_xor y z)) 32
-    ∙ ap (bit_xor (z % 2 ^ 32)) (and_mod x (bit_xor y z) 32 ∙ ap (bit_and (x % 2 ^ 32)) (xor_mod y z 32))
-    ∙ ch_short w32 (x % 2 ^ 32) (y % 2 ^ 32) (z % 2 ^ 32) (half_lt x) (half_lt y) (half_lt z)
-
-maj_low : (x y z : ℕ) → bit_xor y (bit_and (bit_xor x y) (bit_xor y z)) % 2 ^ 32
-    ≡ maj (x % 2 ^ 32) (y % 2 ^ 32) (z % 2 ^ 32)
-maj_low x y z =
-    xor_mod y (bit_and (bit_xor x y) (bit_xor y z)) 32
-    ∙ ap (bit_xor (y % 2 ^ 32)) (and_mod (bit_xor x y) (bit_xor y z) 32 ∙ ap₂ bit_and (xor_mod x y 32) (xor_mod y z 32))
-    ∙ maj_short (x % 2 ^ 32) (y % 2 ^ 32) (z % 2 ^ 32)
-
-abbrev IsCh : List ℕ → List ℕ → List ℕ → Type 0
-IsCh x y z = (j : ℕ) → j < 2
-    → low j (zip2 bit_xor z (zip2 bit_and x (zip2 bit_xor y z))) ≡ ch (low j x) (low j y) (low j z)
-
-pub lanes_ch : (x : List ℕ) → length x ≡ 2 → (y : List ℕ) → length y ≡ 2 → (z : List ℕ) → length z ≡ 2 → IsCh x y z
-lanes_ch = three_vectors IsCh (λ a b c d e f. below_two _ (ch_low a c e) (ch_low b d f))
-
-abbrev IsMaj : List ℕ → List ℕ → List ℕ → Type 0
-IsMaj x y z = (j : ℕ) → j < 2
-    → low j (zip2 bit_xor y (zip2 bit_and (zip2 bit_xor x y) (zip2 bit_xor y z))) ≡ maj (low j x) (low j y) (low j z)
-
-pub lanes_maj : (x : List ℕ) → length x ≡ 2 → (y : List ℕ) → length y ≡ 2 → (z : List ℕ) → length z ≡ 2 → IsMaj x y z
-lanes_maj = three_vectors IsMaj (λ a b c d e f. below_two _ (maj_low a c e) (maj_low b d f))

@@ -1,3 +1,3 @@
 pub mod Chains
-pub mod Lanes1
+pub mod Lanes
 pub mod Lanes256

@@ -3,7 +3,8 @@
 ghost use Rattle.std.specs.Prelude.{◌≡◌, ℕ, ◌+◌, ◌*◌, ◌%◌, ◌^◌, ◌<◌, ◌≤◌, List, length};
 ghost use Rattle.sha2.specs.Sha256.{compress, digest_bytes, initial_hash_256, sha256, word_at};
 ghost use Rattle.luks_sha_lanes.specs.Chains.{chain_sum, digest_at};
-ghost use Rattle.luks_sha_lanes.specs.Lanes256.{AllTwice, IsBlock, IsTwice, lane, low};
+ghost use Rattle.luks_sha_lanes.specs.Lanes.{IsBlock, lane, word};
+ghost use Rattle.luks_sha_lanes.specs.Lanes256.{AllTwice, IsTwice};
 
 use crate::block256::compress;
 use crate::turns256::add_turns;
@@ -43,7 +44,7 @@ fn doubled(x: u32) -> u64
 fn load_pair(digests: &[u8], i: usize) -> u64x2
     requires { i + 36 ≤ length digests.now }
     ensures twice { (j : ℕ) → j < 2 → IsTwice j result }
-    ensures word { (j : ℕ) → j < 2 → low j result ≡ word_at digests.now (32 * j + i) }
+    ensures word { (j : ℕ) → j < 2 → word j result ≡ word_at digests.now (32 * j + i) }
 {
     u64x2::from_array([
         doubled(load_be(digests, i)),
@@ -73,7 +74,7 @@ fn load_digests(digests: &[u8]) -> [u64x2; 8]
 fn load_both(block: &[u8], i: usize) -> u64x2
     requires { i + 4 ≤ length block.now }
     ensures twice { (j : ℕ) → j < 2 → IsTwice j result }
-    ensures word { (j : ℕ) → j < 2 → low j result ≡ word_at block.now i }
+    ensures word { (j : ℕ) → j < 2 → word j result ≡ word_at block.now i }
 {
     u64x2::splat(doubled(load_be(block, i)))
 }
@@ -81,7 +82,8 @@ fn load_both(block: &[u8], i: usize) -> u64x2
 // The words of a block, in both lanes.
 fn load_block(block: &[u8]) -> [u64x2; 16]
     requires { length block.now ≡ 64 }
-    ensures { (j : ℕ) → j < 2 → IsBlock j result block.now }
+    ensures twice { (j : ℕ) → j < 2 → AllTwice j result }
+    ensures block { (j : ℕ) → j < 2 → IsBlock j result block.now }
 {
     [
         load_both(block, 0),
@@ -132,7 +134,7 @@ fn after_block(block: &[u8]) -> [u64x2; 8]
 // The word in lane `j`.
 fn lane_word(x: u64x2, j: usize) -> u32
     requires { j < 2 }
-    ensures { result ≡ low j x }
+    ensures { result ≡ word j x }
 {
     (x[j] & 0xFFFF_FFFF) as u32
 }

@@ -1,36 +1,29 @@
-//! The turns of four chains of SHA-1 digests, on their words.
+//! The turns of chains of SHA-1 digests, on their words, a chain in each of `N` lanes.
 
-ghost use Rattle.std.specs.Prelude.{◌≡◌, ℕ, ◌^◌, ◌<◌, ◌++◌};
-ghost use Rattle.sha1.specs.Sha1.{digest_bytes, padding};
+ghost use Rattle.std.specs.Prelude.{◌≡◌, ℕ, ◌<◌, ◌≤◌, ◌++◌};
+ghost use Rattle.sha1.specs.Sha1.{compress};
+ghost use Rattle.sha2.specs.Sha256.{digest_bytes, padding};
 ghost use Rattle.luks_sha_lanes.specs.Chains.{sums, turns, xor_words};
-ghost use Rattle.luks_sha_lanes.specs.Lanes1.{IsBlock, behind, lane, word};
+ghost use Rattle.luks_sha_lanes.specs.Lanes.{IsBlock, behind, lane};
 
 use crate::block1::{compress, xor};
+use crate::words::{five, sixteen};
 use std::simd::prelude::*;
-
-// The vector as it is: a vector that is passed by value is known to hold words.
-#[inline(always)]
-fn known(x: u32x4) -> u32x4
-    ensures same { result ≡ x }
-    ensures fits { (j : ℕ) → j < 4 → word j x < 2 ^ 32 }
-{
-    x
-}
 
 // The words of a digest and of its padding behind one block: a bit 1, zeros, and the length of both
 // in bits.
 #[inline(always)]
-fn digest_block(d: &[u32x4; 5]) -> [u32x4; 16]
-    ensures { (j : ℕ) → j < 4 → IsBlock j result (digest_bytes (lane j d.now) 5 ++ padding 84) }
+fn digest_block<const N: usize>(d: &[Simd<u32, N>; 5]) -> [Simd<u32, N>; 16]
+    ensures { (j : ℕ) → j < N → IsBlock j result (digest_bytes (lane j d.now) 5 ++ padding 84) }
 {
-    let none = u32x4::splat(0);
-    [
-        known(d[0]),
-        known(d[1]),
-        known(d[2]),
-        known(d[3]),
-        known(d[4]),
-        u32x4::splat(0x8000_0000),
+    let none = Simd::splat(0);
+    sixteen(
+        d[0],
+        d[1],
+        d[2],
+        d[3],
+        d[4],
+        Simd::splat(0x8000_0000),
         none,
         none,
         none,
@@ -40,41 +33,44 @@ fn digest_block(d: &[u32x4; 5]) -> [u32x4; 16]
         none,
         none,
         none,
-        u32x4::splat(0x2A0),
-    ]
+        Simd::splat(0x2A0),
+    )
 }
 
 // The hash value of a digest behind one block.
-fn behind(state: &[u32x4; 5], d: &[u32x4; 5]) -> [u32x4; 5]
-    ensures { (j : ℕ) → j < 4 → lane j result ≡ behind (lane j state.now) (lane j d.now) }
+fn behind<const N: usize>(state: &[Simd<u32, N>; 5], d: &[Simd<u32, N>; 5]) -> [Simd<u32, N>; 5]
+    requires { N ≤ 64 }
+    ensures { (j : ℕ) → j < N
+        → lane j result ≡ behind compress 5 (lane j state.now) (lane j d.now) }
 {
-    compress::<1>(state, &digest_block(d))
+    compress::<N, 1>(state, &digest_block(d))
 }
 
 #[inline(always)]
-fn xor_words(x: &[u32x4; 5], y: &[u32x4; 5]) -> [u32x4; 5]
-    ensures { (j : ℕ) → j < 4 → lane j result ≡ xor_words 5 (lane j x.now) (lane j y.now) }
+fn xor_words<const N: usize>(x: &[Simd<u32, N>; 5], y: &[Simd<u32, N>; 5]) -> [Simd<u32, N>; 5]
+    ensures { (j : ℕ) → j < N → lane j result ≡ xor_words 5 (lane j x.now) (lane j y.now) }
 {
-    [
+    five(
         xor(x[0], y[0]),
         xor(x[1], y[1]),
         xor(x[2], y[2]),
         xor(x[3], y[3]),
         xor(x[4], y[4]),
-    ]
+    )
 }
 
 /// The sums with the words of the next `count` turns xored into them, where `last` is the digest
 /// before those.
-pub(crate) fn add_turns(
-    inner: &[u32x4; 5],
-    outer: &[u32x4; 5],
-    last: &[u32x4; 5],
+pub(crate) fn add_turns<const N: usize>(
+    inner: &[Simd<u32, N>; 5],
+    outer: &[Simd<u32, N>; 5],
+    last: &[Simd<u32, N>; 5],
     count: u32,
-    sum: &[u32x4; 5],
-) -> [u32x4; 5]
-    ensures { (j : ℕ) → j < 4 → lane j result
-        ≡ sums 5 behind (lane j inner.now) (lane j outer.now) (lane j last.now)
+    sum: &[Simd<u32, N>; 5],
+) -> [Simd<u32, N>; 5]
+    requires { N ≤ 64 }
+    ensures { (j : ℕ) → j < N → lane j result
+        ≡ sums 5 (behind compress 5) (lane j inner.now) (lane j outer.now) (lane j last.now)
         (lane j sum.now) count }
 {
     let mut u = *last;

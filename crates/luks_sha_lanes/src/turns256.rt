@@ -1,9 +1,10 @@
 //! The turns of two chains of SHA-256 digests, on their words.
 
 ghost use Rattle.std.specs.Prelude.{◌≡◌, ℕ, ◌<◌, ◌++◌, List, bit_xor};
-ghost use Rattle.sha2.specs.Sha256.{digest_bytes, padding};
+ghost use Rattle.sha2.specs.Sha256.{compress, digest_bytes, padding};
 ghost use Rattle.luks_sha_lanes.specs.Chains.{sums, turns, xor_words};
-ghost use Rattle.luks_sha_lanes.specs.Lanes256.{AllTwice, IsBlock, behind, lane, low};
+ghost use Rattle.luks_sha_lanes.specs.Lanes.{IsBlock, behind, lane, word};
+ghost use Rattle.luks_sha_lanes.specs.Lanes256.{AllTwice};
 
 use crate::block256::compress;
 use std::simd::prelude::*;
@@ -12,7 +13,8 @@ use std::simd::prelude::*;
 // in bits.
 #[inline(always)]
 fn digest_block(d: &[u64x2; 8]) -> [u64x2; 16]
-    ensures { (j : ℕ) → j < 2 → AllTwice j d.now
+    ensures twice { (j : ℕ) → j < 2 → AllTwice j d.now → AllTwice j result }
+    ensures block { (j : ℕ) → j < 2
         → IsBlock j result (digest_bytes (lane j d.now) 8 ++ padding 96) }
 {
     let none = u64x2::splat(0);
@@ -39,7 +41,8 @@ fn digest_block(d: &[u64x2; 8]) -> [u64x2; 16]
 // The hash value of a digest behind one block.
 fn behind(state: &[u64x2; 8], d: &[u64x2; 8]) -> [u64x2; 8]
     ensures { (j : ℕ) → j < 2 → AllTwice j state.now → AllTwice j d.now
-        → AllTwice j result × (lane j result ≡ behind (lane j state.now) (lane j d.now)) }
+        → AllTwice j result
+        × (lane j result ≡ behind compress 8 (lane j state.now) (lane j d.now)) }
 {
     compress::<1>(state, &digest_block(d))
 }
@@ -62,7 +65,7 @@ fn xor_words(x: &[u64x2; 8], y: &[u64x2; 8]) -> [u64x2; 8]
 
 #[inline(always)]
 fn xor(a: u64x2, b: u64x2) -> u64x2
-    ensures { (j : ℕ) → j < 2 → low j result ≡ bit_xor (low j a) (low j b) }
+    ensures { (j : ℕ) → j < 2 → word j result ≡ bit_xor (word j a) (word j b) }
 {
     a ^ b
 }
@@ -77,8 +80,8 @@ pub(crate) fn add_turns(
     sum: &[u64x2; 8],
 ) -> [u64x2; 8]
     ensures { (j : ℕ) → j < 2 → AllTwice j inner.now → AllTwice j outer.now → AllTwice j last.now
-        → lane j result ≡ sums 8 behind (lane j inner.now) (lane j outer.now) (lane j last.now)
-        (lane j sum.now) count }
+        → lane j result ≡ sums 8 (behind compress 8) (lane j inner.now) (lane j outer.now)
+        (lane j last.now) (lane j sum.now) count }
 {
     let mut u = *last;
     let mut t = *sum;

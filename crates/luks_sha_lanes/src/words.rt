@@ -1,6 +1,6 @@
-//! Words in bytes, as both hash functions read them (FIPS 180-4, section 3.1).
+//! Words in bytes, as both hash functions read them (FIPS 180-4, section 3.1), and arrays of words.
 
-ghost use Rattle.std.specs.Prelude.{◌≡◌, ◌+◌, ◌≤◌, length};
+ghost use Rattle.std.specs.Prelude.{◌≡◌, ◌+◌, ◌≤◌, [], ◌∷◌, length};
 ghost use Rattle.sha2.specs.Sha256.{word_at};
 
 /// The word at byte `i`, whose first byte is its highest.
@@ -9,4 +9,38 @@ pub(crate) fn load_be(bytes: &[u8], i: usize) -> u32
     ensures { result ≡ word_at bytes.now i }
 {
     u32::from_be_bytes([bytes[i], bytes[i + 1], bytes[i + 2], bytes[i + 3]])
+}
+
+/// The array of these. An array of vectors of `N` lanes is made here, at any type: the prover does
+/// not cover one that is written out where the lanes are not yet counted.
+#[inline(always)]
+pub(crate) fn five<T: Copy>(a: T, b: T, c: T, d: T, e: T) -> [T; 5]
+    ensures { result ≡ a ∷ b ∷ c ∷ d ∷ e ∷ [] }
+{
+    [a, b, c, d, e]
+}
+
+/// The array of these, as `five`.
+#[inline(always)]
+pub(crate) fn sixteen<T: Copy>(
+    a: T,
+    b: T,
+    c: T,
+    d: T,
+    e: T,
+    f: T,
+    g: T,
+    h: T,
+    i: T,
+    j: T,
+    k: T,
+    l: T,
+    m: T,
+    n: T,
+    o: T,
+    p: T,
+) -> [T; 16]
+    ensures { result ≡ a ∷ b ∷ c ∷ d ∷ e ∷ f ∷ g ∷ h ∷ i ∷ j ∷ k ∷ l ∷ m ∷ n ∷ o ∷ p ∷ [] }
+{
+    [a, b, c, d, e, f, g, h, i, j, k, l, m, n, o, p]
 }

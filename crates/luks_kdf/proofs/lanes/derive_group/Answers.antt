@@ -3,8 +3,8 @@ use Rattle.luks_kdf.specs.Hash.{size_of}
 use Rattle.luks_kdf.proofs.LaneLemmas.{group_of_digests, group_of_one, has_lanes}
 use Rattle.luks_kdf.proofs.lanes.derive_group.Goals as goal
 
-pub returns-then-out-size-clause-key : goal.returns-then-out-size-clause-key
-returns-then-out-size-clause-key g c = λ pass holds_inner holds_outer is_inner is_outer.
+pub returns-then-not-LONE-clause-key : goal.returns-then-not-LONE-clause-key
+returns-then-not-LONE-clause-key g c = λ pass holds_inner holds_outer is_inner is_outer.
     let h = g.E.Engine.function in
     let is_size : c.size-size.result ≡ size_of h = c.size-size.ensures ∙ ap size_of c.hash.ensures in
     c.derive_block.ensures.key pass holds_inner holds_outer

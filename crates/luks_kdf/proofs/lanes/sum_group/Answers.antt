@@ -1,4 +1,4 @@
-use Rattle.std.proofs.Common.{◌-◌, ◌∙◌, List, ℕ, ap, arith}
+use Rattle.std.proofs.Common.{◌-◌, ◌∙◌, List, ℕ, ap}
 use Rattle.luks_sha_lanes.specs.Chains.{chain_sum, digest_at}
 use Rattle.luks_kdf.specs.Hash.{hash_of, size_of}
 use Rattle.luks_kdf.proofs.LaneLemmas.{sum_of_block}
@@ -11,7 +11,7 @@ returns g c = λ pass holds_inner holds_outer is_inner is_outer k below.
     let first = digest_at (size_of h) k c.first_turns.new.u in
     sum_of_block h pass c.args.salt.now blocks.inner blocks.outer first _ _ c.args.iterations is_inner is_outer
     (c.first_turns.ensures pass holds_inner holds_outer k below) c.requires.turns
-    (c.add_chains.ensures k (omega arith)
+    (c.add_chains.ensures k below
     ∙ ap (λ (t : List ℕ). chain_sum (hash_of h) blocks.inner blocks.outer first (digest_at (size_of h) k t)
     (c.args.iterations - 1))
     c.copy_from_slice.ensures.after)

@@ -1,12 +1,12 @@
 use Rattle.std.proofs.Common.{refl}
 use Rattle.sha1.specs.Sha1.{rounds}
-use Rattle.luks_sha_lanes.specs.Lanes1.{lane}
+use Rattle.luks_sha_lanes.specs.Lanes.{lane}
 use Rattle.luks_sha_lanes.proofs.Lane1Lemmas.{window_of_block}
 use Rattle.luks_sha_lanes.proofs.block1.choose.Goals as goal
 
 pub returns : goal.returns
 unfolding rounds
-returns c = λ j b in_lane block.
+returns g c = λ j b in_lane block.
     let h = lane j c.args.v in
     let s1 = c.first_four_steps-v.ensures j b h in_lane block refl in
     let s2 = c.first_four_steps-v-2.ensures j b h in_lane block s1 in

@@ -1,7 +1,7 @@
 use Rattle.std.proofs.Common.{◌∙◌, ap}
 use Rattle.sha1.specs.Sha1.{add_state, compress}
-use Rattle.luks_sha_lanes.specs.Lanes1.{lane}
-use Rattle.luks_sha_lanes.proofs.Lane1Lemmas.{add_of_lanes}
+use Rattle.luks_sha_lanes.specs.Lanes.{lane}
+use Rattle.luks_sha_lanes.proofs.LaneLemmas.{word_of_lane}
 use Rattle.luks_sha_lanes.proofs.block1.compress.Goals as goal
 
 pub returns : goal.returns
@@ -13,9 +13,10 @@ returns g c = λ j b in_lane block.
     let majorities = c.majorities-v.ensures j b h in_lane parities in
     let done = c.lasts-v.ensures j b h in_lane majorities in
     rw (
+      c.five.ensures,
       c.add.ensures j in_lane,
       c.add-2.ensures j in_lane,
       c.add-3.ensures j in_lane,
       c.add-4.ensures j in_lane,
       c.add-5.ensures j in_lane,
-    ) (add_of_lanes j c.args.state.now c.lasts-v.result ∙ ap (add_state h) done.1)
+    ) ((simp word_of_lane) ∙ ap (add_state h) done.1)

@@ -3,7 +3,7 @@ use Rattle.luks_sha_lanes.proofs.Lane1Lemmas.{rounds_at}
 use Rattle.luks_sha_lanes.proofs.block1.first_four_steps.Goals as goal
 
 pub returns : goal.returns
-returns c = λ j b h in_lane block held.
+returns g c = λ j b h in_lane block held.
     let at = rounds_at b h in
     let s1 = c.first_step-v.ensures j b h in_lane block held in
     let s2 = c.first_step-v-2.ensures j b h in_lane block s1 in

@@ -3,7 +3,7 @@ use Rattle.sha1.proofs.Schedule.{IsRoundsAt_at}
 use Rattle.luks_sha_lanes.proofs.block1.five_of_last.Goals as goal
 
 pub returns : goal.returns
-returns c = λ j b h in_lane held.
+returns g c = λ j b h in_lane held.
     let s1 = c.last_step-v.ensures j b h in_lane held in
     let s2 = c.last_step-v-2.ensures j b h in_lane s1 in
     let s3 = c.last_step-v-3.ensures j b h in_lane (IsRoundsAt_at b h _ _ _ _ (omega arith) s2) in

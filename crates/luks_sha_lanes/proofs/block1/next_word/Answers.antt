@@ -1,9 +1,9 @@
 use Rattle.std.proofs.Common.{◌+◌, ◌%◌, refl}
-use Rattle.luks_sha_lanes.proofs.Lane1Lemmas.{word_of_lane}
+use Rattle.luks_sha_lanes.proofs.LaneLemmas.{word_of_lane}
 use Rattle.luks_sha_lanes.proofs.block1.next_word.Goals as goal
 
 pub returns-clause-value : goal.returns-clause-value
-returns-clause-value c = λ j in_lane.
+returns-clause-value g c = λ j in_lane.
     let w = c.args.w.now in
     let t = c.args.t in
     rw (

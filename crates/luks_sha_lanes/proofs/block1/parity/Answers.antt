@@ -1,5 +1,5 @@
-use Rattle.luks_sha_lanes.proofs.Lane1Lemmas.{lanes_parity}
+use Rattle.std.proofs.Common.{refl}
 use Rattle.luks_sha_lanes.proofs.block1.parity.Goals as goal
 
 pub returns : goal.returns
-returns c = lanes_parity c.args.x c.fits-x.0 c.args.y c.fits-y.0 c.args.z c.fits-z.0
+returns g c = λ j in_lane. rw (c.xor-2.ensures j in_lane, c.xor.ensures j in_lane) refl

@@ -2,12 +2,12 @@ use Rattle.std.proofs.Common.{◌%◌, ◌∙◌, arith, ap, slice_index, sym}
 use Rattle.std.proofs.lemmas.List.{map-set}
 use Rattle.sha1.specs.Sha1.{parity}
 use Rattle.sha1.proofs.Schedule.{round_constant_parity, round_fn_parity, rounds_window}
-use Rattle.luks_sha_lanes.specs.Lanes1.{lane, word}
+use Rattle.luks_sha_lanes.specs.Lanes.{lane, word}
 use Rattle.luks_sha_lanes.proofs.Lane1Lemmas.{of_three}
 use Rattle.luks_sha_lanes.proofs.block1.parity_step.Goals as goal
 
 pub returns : goal.returns
-returns c = λ j b h in_lane held.
+returns g c = λ j b h in_lane held.
     let t = c.args.t in
     let v = lane j c.args.v in
     let next = c.next_word-next in

@@ -1,18 +1,19 @@
-use Rattle.std.proofs.Common.{refl}
-use Rattle.luks_sha_lanes.proofs.Lane1Lemmas.{word_of_lane, word_splat}
+use Rattle.std.proofs.Common.{arith, refl}
+use Rattle.luks_sha_lanes.proofs.LaneLemmas.{word_of_lane, word_splat_fits}
 use Rattle.luks_sha_lanes.proofs.block1.round.Goals as goal
 
 pub returns : goal.returns
-returns c = λ j in_lane.
+returns g c = λ j in_lane.
     let v = c.args.v in
     rw (
+      c.five.ensures,
       c.add-3.ensures j in_lane,
       c.add-so_far.ensures j in_lane,
       c.add-2.ensures j in_lane,
       c.add.ensures j in_lane,
       c.rotated.ensures j in_lane,
       c.rotated-2.ensures j in_lane,
-      word_splat c.args.k j in_lane,
+      word_splat_fits g.row.N c.args.k j in_lane (omega arith),
       word_of_lane j v 0,
       word_of_lane j v 1,
       word_of_lane j v 2,

@@ -1,19 +1,21 @@
 use Rattle.std.proofs.Common.{◌≡◌, ◌*◌, ◌∙◌, [], ap, arith, refl}
 use Rattle.sha2.specs.Sha256.{add_state, compress, rounds}
-use Rattle.luks_sha_lanes.specs.Lanes256.{IsPairAt, lane}
-use Rattle.luks_sha_lanes.proofs.Lane256Lemmas.{add_of_lanes, pair_at, twice_none, twice_of_eight, window_of_block}
+use Rattle.luks_sha_lanes.specs.Lanes.{lane}
+use Rattle.luks_sha_lanes.specs.Lanes256.{IsPairAt}
+use Rattle.luks_sha_lanes.proofs.Lane256Lemmas.{pair_at, twice_none, twice_of_eight, window_of_block}
+use Rattle.luks_sha_lanes.proofs.LaneLemmas.{word_of_lane}
 use Rattle.luks_sha_lanes.proofs.block256.compress.Goals as goal
 
 pub schedule-init : goal.schedule-init
 unfolding rounds
-schedule-init g c = λ j b in_lane twice block.
+schedule-init g c = λ j b in_lane twice words block.
     let h = lane j c.args.state.now in
     let s1 = c.first_four_steps-v.ensures j b h in_lane block (record { variables = twice; rounds = refl }) in
     let s2 = c.first_four_steps-v-2.ensures j b h in_lane block s1 in
     let s3 = c.first_four_steps-v-3.ensures j b h in_lane block s2 in
     let s4 = c.first_four_steps-v-4.ensures j b h in_lane block s3 in
     let filled : IsPairAt j b h c.args.words.now c.first_four_steps-v-4.result 16 = record {
-      window = block.twice;
+      window = words;
       variables = s4.variables;
       rounds = (window_of_block j c.args.words.now b block, s4.rounds);
     } in
@@ -23,10 +25,10 @@ schedule-init g c = λ j b in_lane twice block.
     c.four_steps-v-4.ensures j b h in_lane p3
 
 pub schedule-preserved : goal.schedule-preserved
-schedule-preserved g c = λ j b in_lane twice block.
+schedule-preserved g c = λ j b in_lane twice words block.
     let h = lane j c.args.state.now in
     let s1 = c.four_steps-v-in-schedule.ensures j b h in_lane
-    (pair_at j b h _ _ _ _ (omega arith) (c.schedule.invariant j b in_lane twice block)) in
+    (pair_at j b h _ _ _ _ (omega arith) (c.schedule.invariant j b in_lane twice words block)) in
     let s2 = c.four_steps-v-in-schedule-2.ensures j b h in_lane s1 in
     let s3 = c.four_steps-v-in-schedule-3.ensures j b h in_lane s2 in
     let s4 = c.four_steps-v-in-schedule-4.ensures j b h in_lane s3 in
@@ -34,32 +36,31 @@ schedule-preserved g c = λ j b in_lane twice block.
 
 pub returns : goal.returns
 unfolding compress
-returns g c = λ j b in_lane twice block.
+returns g c = λ j b in_lane twice words block.
     let state = c.args.state.now in
-    let v = c.schedule.v in
     let done : 16 * c.schedule.turn ≡ 64 = omega (arith, c.schedule.auto.turn-end (omega arith)) in
-    let held = pair_at j b (lane j state) _ _ _ _ done (c.schedule.invariant j b in_lane twice block) in (
+    let held = pair_at j b (lane j state) _ _ _ _ done (c.schedule.invariant j b in_lane twice words block) in (
       twice_of_eight j c.twice.result c.twice-2.result c.twice-3.result c.twice-4.result c.twice-5.result
           c.twice-6.result c.twice-7.result c.twice-8.result [] (c.twice.ensures.twice j in_lane)
           (c.twice-2.ensures.twice j in_lane) (c.twice-3.ensures.twice j in_lane) (c.twice-4.ensures.twice j in_lane)
           (c.twice-5.ensures.twice j in_lane) (c.twice-6.ensures.twice j in_lane) (c.twice-7.ensures.twice j in_lane)
           (c.twice-8.ensures.twice j in_lane) (twice_none j),
       rw (
-        c.twice.ensures.low j in_lane,
+        c.twice.ensures.word j in_lane,
         c.add.ensures j in_lane,
-        c.twice-2.ensures.low j in_lane,
+        c.twice-2.ensures.word j in_lane,
         c.add-2.ensures j in_lane,
-        c.twice-3.ensures.low j in_lane,
+        c.twice-3.ensures.word j in_lane,
         c.add-3.ensures j in_lane,
-        c.twice-4.ensures.low j in_lane,
+        c.twice-4.ensures.word j in_lane,
         c.add-4.ensures j in_lane,
-        c.twice-5.ensures.low j in_lane,
+        c.twice-5.ensures.word j in_lane,
         c.add-5.ensures j in_lane,
-        c.twice-6.ensures.low j in_lane,
+        c.twice-6.ensures.word j in_lane,
         c.add-6.ensures j in_lane,
-        c.twice-7.ensures.low j in_lane,
+        c.twice-7.ensures.word j in_lane,
         c.add-7.ensures j in_lane,
-        c.twice-8.ensures.low j in_lane,
+        c.twice-8.ensures.word j in_lane,
         c.add-8.ensures j in_lane,
-      ) (add_of_lanes j state v ∙ ap (add_state (lane j state)) held.rounds.1),
+      ) ((simp word_of_lane) ∙ ap (add_state (lane j state)) held.rounds.1),
     )

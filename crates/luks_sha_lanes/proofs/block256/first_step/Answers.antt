@@ -1,7 +1,8 @@
 use Rattle.std.proofs.Common.{refl, sym}
 use Rattle.sha2.proofs.Schedule256.{rounds_first}
-use Rattle.luks_sha_lanes.specs.Lanes256.{lane}
-use Rattle.luks_sha_lanes.proofs.Lane256Lemmas.{window_of_block, word_of_lane}
+use Rattle.luks_sha_lanes.specs.Lanes.{lane}
+use Rattle.luks_sha_lanes.proofs.Lane256Lemmas.{window_of_block}
+use Rattle.luks_sha_lanes.proofs.LaneLemmas.{word_of_lane}
 use Rattle.luks_sha_lanes.proofs.block256.first_step.Goals as goal
 
 pub returns : goal.returns

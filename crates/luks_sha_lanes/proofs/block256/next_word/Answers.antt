@@ -1,5 +1,5 @@
 use Rattle.std.proofs.Common.{◌≡◌, ◌+◌, ◌%◌, refl, arith}
-use Rattle.luks_sha_lanes.proofs.Lane256Lemmas.{word_of_lane}
+use Rattle.luks_sha_lanes.proofs.LaneLemmas.{word_of_lane}
 use Rattle.luks_sha_lanes.proofs.block256.next_word.Goals as goal
 
 pub returns-clause-value : goal.returns-clause-value
@@ -8,7 +8,7 @@ returns-clause-value c = λ j lane twice.
     let p = c.args.place in
     let at : p % 16 ≡ p = omega arith in
     rw (
-      c.twice-word.ensures.low j lane,
+      c.twice-next.ensures.word j lane,
       c.add-2.ensures j lane,
       c.add.ensures j lane,
       c.add-third.ensures j lane,

@@ -1,17 +1,17 @@
 use Rattle.std.proofs.Common.{refl, arith}
-use Rattle.luks_sha_lanes.proofs.Lane256Lemmas.{low_splat, word_of_lane}
+use Rattle.luks_sha_lanes.proofs.LaneLemmas.{word_of_lane, word_splat_fits}
 use Rattle.luks_sha_lanes.proofs.block256.round.Goals as goal
 
 pub returns-clause-value : goal.returns-clause-value
 returns-clause-value c = λ j lane twice.
     let v = c.args.v in
     rw (
-      c.twice.ensures.low j lane,
+      c.twice.ensures.word j lane,
       c.add-3.ensures j lane,
       c.add-temp2.ensures j lane,
       c.maj.ensures j lane,
       c.big_sigma0.ensures j lane (twice 0),
-      c.twice-2.ensures.low j lane,
+      c.twice-2.ensures.word j lane,
       c.add-4.ensures j lane,
       c.add-temp1.ensures j lane,
       c.add-2.ensures j lane,
@@ -19,7 +19,7 @@ returns-clause-value c = λ j lane twice.
       c.add.ensures j lane,
       c.ch.ensures j lane,
       c.big_sigma1.ensures j lane (twice 4),
-      low_splat c.args.k (omega arith) j lane,
+      word_splat_fits 2 c.args.k j lane (omega arith),
       word_of_lane j v 0,
       word_of_lane j v 1,
       word_of_lane j v 2,

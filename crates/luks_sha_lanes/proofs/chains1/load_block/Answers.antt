@@ -3,7 +3,7 @@ use Rattle.luks_sha_lanes.proofs.WordLemmas.{below_sixteen}
 use Rattle.luks_sha_lanes.proofs.chains1.load_block.Goals as goal
 
 pub returns : goal.returns
-returns c = λ j in_lane. record {
+returns g c = λ j in_lane. rw c.sixteen.ensures (record {
   long = refl;
   words = below_sixteen _
       (c.load_all.ensures j in_lane) (c.load_all-2.ensures j in_lane)
@@ -14,4 +14,4 @@ returns c = λ j in_lane. record {
       (c.load_all-11.ensures j in_lane) (c.load_all-12.ensures j in_lane)
       (c.load_all-13.ensures j in_lane) (c.load_all-14.ensures j in_lane)
       (c.load_all-15.ensures j in_lane) (c.load_all-16.ensures j in_lane);
-}
+})

@@ -1,5 +1,5 @@
 use Rattle.std.proofs.Common.{[], ◌∷◌, arith}
-use Rattle.luks_sha_lanes.specs.Lanes256.{lane}
+use Rattle.luks_sha_lanes.specs.Lanes.{lane}
 use Rattle.luks_sha_lanes.proofs.WordLemmas.{below_eight, words_of_digest}
 use Rattle.luks_sha_lanes.proofs.chains256.load_digests.Goals as goal
 

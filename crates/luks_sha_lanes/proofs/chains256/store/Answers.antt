@@ -4,8 +4,8 @@ use Rattle.std.proofs.lemmas.List.{take_all}
 use Rattle.std.proofs.lemmas.Slice.{overwrites}
 use Rattle.sha2.specs.Sha256.{digest_bytes}
 use Rattle.sha2.proofs.Absorbing256.{digest_more}
-use Rattle.luks_sha_lanes.specs.Lanes256.{lane}
-use Rattle.luks_sha_lanes.proofs.Lane256Lemmas.{word_of_lane}
+use Rattle.luks_sha_lanes.specs.Lanes.{lane}
+use Rattle.luks_sha_lanes.proofs.LaneLemmas.{word_of_lane}
 use Rattle.luks_sha_lanes.proofs.chains256.store.Goals as goal
 
 pub words-init : goal.words-init

@@ -1,6 +1,6 @@
 use Rattle.std.proofs.Common.{◌≡◌, ◌*◌, length, take}
 use Rattle.sha2.specs.Sha256.{digest_bytes}
-use Rattle.luks_sha_lanes.specs.Lanes256.{lane}
+use Rattle.luks_sha_lanes.specs.Lanes.{lane}
 use Rattle.luks_sha_lanes.proofs.chains256.store.Given as goal
 
 -- the words before number i are written

@@ -1,10 +1,14 @@
 use Rattle.std.proofs.Common.{◌≡◌, ℕ, ◌<◌}
+use Rattle.sha2.specs.Sha256.{compress}
 use Rattle.luks_sha_lanes.specs.Chains.{sums, turns}
-use Rattle.luks_sha_lanes.specs.Lanes256.{AllTwice, behind, lane}
+use Rattle.luks_sha_lanes.specs.Lanes.{behind, lane}
+use Rattle.luks_sha_lanes.specs.Lanes256.{AllTwice}
 use Rattle.luks_sha_lanes.proofs.turns256.add_turns.Given as goal
 
 -- in each lane `u` is the digest `counter` turns on, and `t` the sum with as many in it
 abbrev pub invariant-turns : goal.invariant-turns
 invariant-turns l = (j : ℕ) → j < 2 → AllTwice j l.inner → AllTwice j l.outer → AllTwice j l.last
-    → AllTwice j l.u × (lane j l.u ≡ turns behind (lane j l.inner) (lane j l.outer) (lane j l.last) l.counter)
-    × (lane j l.t ≡ sums 8 behind (lane j l.inner) (lane j l.outer) (lane j l.last) (lane j l.sum) l.counter)
+    → AllTwice j l.u
+    × (lane j l.u ≡ turns (behind compress 8) (lane j l.inner) (lane j l.outer) (lane j l.last) l.counter)
+    × (lane j l.t
+    ≡ sums 8 (behind compress 8) (lane j l.inner) (lane j l.outer) (lane j l.last) (lane j l.sum) l.counter)

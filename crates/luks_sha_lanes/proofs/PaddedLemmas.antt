@@ -1,0 +1,35 @@
+-- A digest behind one block, and the padding that ends its block.
+use Rattle.std.proofs.Common.{◌≡◌, ℕ, ◌+◌, ◌/◌, ◌^◌, ◌<◌, List, ◌++◌, length, drop, take, arith, refl, sym}
+use Rattle.std.proofs.Common.{append_assoc, length-append}
+use Rattle.std.specs.Prelude.{slice_index}
+use Rattle.std.specs.Int.{from_be_bytes, to_be_bytes, w32}
+use Rattle.std.proofs.lemmas.List.{take_all}
+use Rattle.std.proofs.lemmas.Nat.{from_be_bytes-to_be_bytes_4}
+use Rattle.sha2.specs.Sha256.{padded_message, padding}
+use Rattle.luks_sha_lanes.proofs.WordLemmas.{drop_front, take_front}
+
+-- the message p is the blocks b and c
+pub record IsTwoBlocks (p b c : List ℕ) : Type 0 where
+  pub count : length p / 64 ≡ 2
+  pub first : take 64 p ≡ b
+  pub second : take 64 (drop 64 p) ≡ c
+
+-- a block and a digest of n bytes behind it, padded
+pub two_blocks : (b d : List ℕ) (n : ℕ) → length b ≡ 64 → length d ≡ n → length (d ++ padding (64 + n)) ≡ 64
+    → IsTwoBlocks (padded_message (b ++ d)) b (d ++ padding (64 + n))
+two_blocks b d n whole size rest =
+    let long : length (b ++ d) ≡ 64 + n = omega (arith, length-append b d) in
+    let tail = d ++ padding (64 + n) in
+    let padded : padded_message (b ++ d) ≡ b ++ tail =
+    rw long (append_assoc b d (padding (64 + n))) in
+    let count : length (b ++ tail) ≡ 128 = omega (arith, length-append b tail) in
+    rw padded (record {
+      count = rw count refl;
+      first = take_front 64 b tail whole;
+      second = rw (drop_front 64 b tail whole) (take_all 64 tail (omega arith));
+    })
+
+-- a word is that of its bytes
+pub word_back : (h : List ℕ) → ((k : ℕ) → slice_index h k < 2 ^ 32) → (k : ℕ)
+    → slice_index h k ≡ from_be_bytes w32 (to_be_bytes w32 (slice_index h k))
+word_back h fits k = sym (from_be_bytes-to_be_bytes_4 (slice_index h k) (fits k))
