@@ -149,6 +149,7 @@ bench: all
 	bench/pbkdf2
 	bench/xts
 	bench/volume
+	bench/nbd
 	bench/plot
 
 # What is built already is installed as it is, so that this needs no toolchain.

@@ -2,6 +2,7 @@
 # Serves volumes by the plugin for nbdkit (the second argument), and compares what clients read of them with what luksCat writes and with what went into them: all of it,
 # and ranges from many connections at once. Then what the plugin refuses, how it ends without memory, an image that is cut while it is served, and the plugin's C under
 # valgrind and AddressSanitizer, for which it is built again with the library (the third argument).
+# shellcheck disable=SC2016 # nbdkit's commands find the address in $uri
 plugin=$(realpath "${2:?the built plugin}")
 library=$(realpath "${3:?the built library}")
 here=$(realpath "$(dirname "$0")")

@@ -7,13 +7,14 @@ plugin=$(realpath "${2:?the built plugin}")
 # shellcheck source=interop/common.sh
 . "$(dirname "$0")/common.sh"
 ln -s "$program" luksrd
+theirs=$(command -v nbdkit)
 cat >nbdkit <<TEXT
 #!/usr/bin/env bash
 for word; do
     [ "\$word" != luksrd ] || word=$plugin
     words+=("\$word")
 done
-exec $(command -v nbdkit) "\${words[@]}"
+exec $theirs "\${words[@]}"
 TEXT
 chmod +x nbdkit
 PATH=$work:$PATH

@@ -7,12 +7,17 @@ shared=$(realpath "${3:?the same as a shared one}")
 # shellcheck source=tests/common.sh
 . "$(dirname "$0")/common.sh"
 
+# compiled NAME WORD..: the program in C, with these words for the compiler
 compiled() {
-    gcc -std=c11 -D_GNU_SOURCE -Wall -Wextra -Werror -g -I"$sources/c" "${@:2}" -o "$1" "$sources/tests/library.c" "$library" -lpthread $LDLIBS || exit 1
+    gcc -std=c11 -D_GNU_SOURCE -Wall -Wextra -Werror -O1 -g -o "$1" "$sources/tests/library.c" "${@:2}" -lpthread || exit 1
 }
-LDLIBS=${LDLIBS-}
-compiled checked -O1
-compiled sanitized -O1 -fsanitize=address,undefined -fno-sanitize-recover=all
+compiled checked -I"$sources/c" "$library"
+compiled sanitized -I"$sources/c" "$library" -fsanitize=address,undefined -fno-sanitize-recover=all
+# as it is installed, with the shared library and the words of pkg-config
+make -s -C "$sources" install-library LIBRARY="$library" SHARED="$shared" PREFIX="$work/installed" >log 2>&1 || { cat log; exit 1; }
+export PKG_CONFIG_PATH=$work/installed/lib/pkgconfig LD_LIBRARY_PATH=$work/installed/lib
+read -ra words <<<"$(pkg-config --cflags --libs luksrd)"
+compiled shared "${words[@]}"
 
 # reads NAME IMAGE HEADER KEY WORD..: the program of these words writes and says what luksCat does
 reads() {
@@ -32,6 +37,7 @@ agree() {
     wanted="$status $(cat said)"
     reads "$1, AddressSanitizer" "${@:2}" ./sanitized
     reads "$1, valgrind" "${@:2}" valgrind -q --error-exitcode=98 --leak-check=full --errors-for-leak-kinds=definite ./checked
+    reads "$1, shared" "${@:2}" ./shared
     reads "$1, Python" "${@:2}" python3 "$sources/tests/library.py" "$shared"
 }
 
@@ -62,10 +68,14 @@ agree 'nothing' empty - pass
 head -c 20000 volume >shorter
 agree 'truncated inside a key area' shorter - pass
 
-# the names that it gives, and the words of pkg-config
+# it bears the version of the program, and gives the names of luksrd.h alone
+same 'its version' "$(pkg-config --modversion luksrd)" "$(make -s -C "$sources" -f Makefile -f - version <<<$'version:\n\t@echo $(VERSION)')"
 same 'what the library exports' "$(nm -D --defined-only "$shared" | awk '{ print $3 }' | sort | tr '\n' ' ')" \
     'luksrd_decrypt luksrd_ending luksrd_len luksrd_open luksrd_status_text luksrd_version '
 same 'the same of the archive' "$(nm -g --defined-only "$library" 2>&1 | awk 'NF == 3 { print $3 }' | sort | tr '\n' ' ')" \
     'luksrd_decrypt luksrd_ending luksrd_len luksrd_open luksrd_status_text luksrd_version '
 same 'text that is moved' "$(readelf -d "$shared" | grep -c TEXTREL)" 0
+same 'its name' "$(readelf -d "$shared" | sed -n 's/.*soname: \[\(.*\)\]/\1/p')" libluksrd.so.1
+make -s -C "$sources" uninstall PREFIX="$work/installed" PLUGINS= >log 2>&1
+same 'what is left of it' "$(find installed ! -type d)" ''
 finish

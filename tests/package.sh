@@ -108,12 +108,14 @@ serves() {
 serves "$work/nbdkit-plugin-luksrd$plugins/nbdkit-luksrd-plugin.so"
 
 # what `make install` puts below a folder of its own, `make uninstall` takes away; what is not built is left out
-there() { (cd "$work/there" && find . ! -type d | LC_ALL=C sort | tr '\n' ' '); }
-installed='./usr/local/bin/luksrd ./usr/local/share/bash-completion/completions/luksrd ./usr/local/share/man/man1/luksrd.1 ./usr/local/share/zsh/site-functions/_luksrd '
+there() { (cd "$work/there" && find . ! -type d | sort); }
+program_files=(./usr/local/bin/luksrd ./usr/local/share/bash-completion/completions/luksrd
+    ./usr/local/share/man/man1/luksrd.1 ./usr/local/share/zsh/site-functions/_luksrd)
+plugin_files=(./usr/local/share/man/man1/nbdkit-luksrd-plugin.1 ./usr/plugins/nbdkit-luksrd-plugin.so)
 make -s -C "$sources" install PROGRAM="$program" LIBRARY=absent PLUGIN=absent DESTDIR="$work/there" >log 2>&1
-same 'make install of the program alone' "$(there)" "$installed"
+same 'make install of the program alone' "$(there)" "$(printf '%s\n' "${program_files[@]}" | sort)"
 make -s -C "$sources" install PROGRAM="$program" LIBRARY=absent PLUGIN="$plugin" DESTDIR="$work/there" PLUGINS=/usr/plugins >log 2>&1
-same 'make install of the plugin too' "$(there)" "$(printf '%s\n' $installed ./usr/local/share/man/man1/nbdkit-luksrd-plugin.1 ./usr/plugins/nbdkit-luksrd-plugin.so | LC_ALL=C sort | tr '\n' ' ')"
+same 'make install of the plugin too' "$(there)" "$(printf '%s\n' "${program_files[@]}" "${plugin_files[@]}" | sort)"
 make -s -C "$sources" uninstall DESTDIR="$work/there" PLUGINS=/usr/plugins >log 2>&1
 same 'make uninstall' "$(there)" ''
 
