@@ -4,6 +4,7 @@
     clients.py ranges URI TEXT SEED     reads 2,000 ranges from 8 connections at once, and compares them with the text
     clients.py shrinks URI TEXT IMAGE   the same while the image becomes shorter, piece by piece
     clients.py asks ANSWER COMMAND..    runs a command on a terminal of its own, and types an answer
+    clients.py finds TEXT PID..         how often the text lies in the memory of these processes
 """
 
 import concurrent.futures
@@ -117,10 +118,28 @@ def ask(answer, command):
     return os.waitstatus_to_exitcode(os.waitpid(child, 0)[1])
 
 
+def find(text, process):
+    """How often the text lies in what the process may write to."""
+    count = 0
+    with open(f"/proc/{process}/maps") as maps, open(f"/proc/{process}/mem", "rb", 0) as memory:
+        for line in maps:
+            place, rights, *_ = line.split()
+            if rights.startswith("rw"):
+                start, end = (int(digits, 16) for digits in place.split("-"))
+                memory.seek(start)
+                count += memory.read(end - start).count(text)
+    return count
+
+
 def main():
     what, *words = sys.argv[1:]
     if what == "asks":
         sys.exit(ask(words[0], words[1:]))
+    if what == "finds":
+        with open(words[0], "rb") as file:
+            text = file.read()
+        print(*(find(text, process) for process in words[1:]))
+        return
     with open(words[1], "rb") as file:
         text = file.read()
     amiss = read_ranges(words[0], text, words[2]) if what == "ranges" else read_shrinking(words[0], text, words[2])

@@ -259,6 +259,19 @@ printf x | dd of=plain1 bs=1 seek=300031 conv=notrunc status=none
 served 'qemu-img compare -f raw -F raw "$uri" plain1' "$volume1" key-file=pass
 same 'qemu-img compares with another' $? 1
 
+# While the volume is served, its passphrase is not in memory; the volume key is, which shows that it would be found.
+head -c 40 /dev/urandom | od -An -v -tx1 | tr -d ' \n' >secret
+cp "$volume1" remembered
+quietly luksAddKey --pbkdf-force-iterations 1000 --key-file pass remembered secret
+quietly luksDump --dump-volume-key --volume-key-file volume_key --key-file pass remembered
+for parameter in key-file=secret passphrase=+secret; do
+    nbdkit -U socket -P pid "$plugin" remembered $parameter
+    same "$parameter: the passphrase in memory" "$(/usr/bin/python3 "$here/clients.py" finds secret "$(cat pid)")" 0
+    same "$parameter: the volume key in memory" "$(/usr/bin/python3 "$here/clients.py" finds volume_key "$(cat pid)" | grep -cv '^0$')" 1
+    kill "$(cat pid)"
+    rm -f pid socket
+done
+
 # a block device
 if device=$(losetup -f --show "$volume1" 2>err); then
     text "$volume1" pass

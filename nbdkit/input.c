@@ -67,7 +67,7 @@ ssize_t read_next(int fd, uint8_t *to, size_t size)
   return (ssize_t)got;
 }
 
-/* Whether a file still has so many bytes. A file that is cut while it is read may give zeros from its
+/* Whether a file still has so many bytes. One that is cut while it is read may give zeros from its
  * last page, so that its length is asked for after the read. A block device has no length here. */
 static bool reaches(int fd, uint64_t end)
 {

@@ -13,6 +13,10 @@
 /* The longest sector. */
 #define MOST_SECTOR 4096
 
+/* How many bytes are read and decrypted at once, whole sectors of any size: more would leave the
+ * processor's cache before they are decrypted. */
+#define PIECE 262144
+
 /* Bytes that were read from a file, all of them or its first ones. */
 struct bytes {
   uint8_t *at;
@@ -154,7 +158,8 @@ static int read_sectors(const struct volume *volume, uint64_t first, uint8_t *to
     return -1;
   }
   if (luksrd_decrypt(&volume->opened, first, to, len) != LUKSRD_OK) {
-    nbdkit_error("%s: decrypting %zu bytes at offset %" PRIu64 " failed", volume->name, len, offset);
+    nbdkit_error("%s: decrypting %zu bytes at offset %" PRIu64 " failed", volume->name, len,
+                 offset);
     return -1;
   }
   return 0;
@@ -184,7 +189,7 @@ int read_plain(const struct volume *volume, uint8_t *to, uint32_t count, uint64_
       len = left < size - skip ? left : size - skip;
       status = read_part(volume, sector, skip, to + done, len);
     } else {
-      len = left - left % size;
+      len = left < PIECE ? left - left % size : PIECE;
       status = read_sectors(volume, sector, to + done, len);
     }
     if (status < 0) {
