@@ -266,6 +266,7 @@ quietly luksAddKey --pbkdf-force-iterations 1000 --key-file pass remembered secr
 quietly luksDump --dump-volume-key --volume-key-file volume_key --key-file pass remembered
 for parameter in key-file=secret passphrase=+secret; do
     nbdkit -U socket -P pid "$plugin" remembered $parameter
+    until [ -s pid ]; do sleep 0.1; done
     same "$parameter: the passphrase in memory" "$(/usr/bin/python3 "$here/clients.py" finds secret "$(cat pid)")" 0
     same "$parameter: the volume key in memory" "$(/usr/bin/python3 "$here/clients.py" finds volume_key "$(cat pid)" | grep -cv '^0$')" 1
     kill "$(cat pid)"
@@ -300,10 +301,10 @@ same 'with more memory' $((mib < 300)) 1
 same 'memory that is refused' $((refusals > 0)) 1
 
 # The plugin's C under valgrind, and under AddressSanitizer with undefined behaviour: whole reads, ranges, an image that ends and refusals.
-# instrumented NAME PLUGIN REFUSED WORD..: nbdkit by these words, with the plugin of this build; one of the parameters that are refused is REFUSED
+# instrumented NAME PLUGIN WORD..: nbdkit by these words, with the plugin of this build
 instrumented() {
-    local name=$1 plugin=$2 refused=$3 key
-    shift 3
+    local name=$1 plugin=$2 key
+    shift 2
     for sealed in "$volume1" "$volume2"; do
         text "$sealed" pass
         timeout 60 "$@" nbdkit -U - "$plugin" "$sealed" key-file=pass --run "unset LD_PRELOAD; /usr/bin/python3 '$here/clients.py' ranges \"\$uri\" text 4 >answer" >said 2>&1
@@ -314,7 +315,7 @@ instrumented() {
     text image pass
     timeout 60 "$@" nbdkit -U - "$plugin" image key-file=pass --run "unset LD_PRELOAD; /usr/bin/python3 '$here/clients.py' shrinks \"\$uri\" text image >answer" >said 2>&1
     same "$name: truncated while it is served" "$? $(cat answer)" '0 all the same'
-    for key in key-file=wrong key-file=long passphrase=+wrong key-slot=x "$refused"; do
+    for key in key-file=wrong key-file=long passphrase=+wrong key-file=absent key-slot=x; do
         timeout 60 "$@" nbdkit -U - "$plugin" "$volume1" "$key" --run true >said 2>&1
         same "$name, $key" $? 1
     done
@@ -332,10 +333,11 @@ cat >suppressed <<'TEXT'
 }
 TEXT
 built checked.so '-O1 -g'
-instrumented valgrind "$work/checked.so" key-file=absent valgrind -q --leak-check=full --suppressions=suppressed --log-file=valgrind.%p
+instrumented valgrind "$work/checked.so" valgrind -q --leak-check=full --suppressions=suppressed --log-file=valgrind.%p
 same 'what valgrind says' "$(cat valgrind.*)" ''
 built sanitized.so '-O1 -g -fsanitize=address,undefined -fno-sanitize-recover=all'
-# (under it the C library's strerror, which reports a file that is absent, leaves a lock that nbdkit's own libraries wait for at the end)
-instrumented AddressSanitizer "$work/sanitized.so" file=again env ASAN_OPTIONS=log_path=sanitizer LD_PRELOAD="$(gcc -print-file-name=libasan.so) $(gcc -print-file-name=libubsan.so)"
+# (under it the C library's strerror leaves a lock that libraries of nbdkit wait for at the end, to free a locale; here they leave that be)
+printf 'void freelocale(void *locale) { (void)locale; }' | gcc -shared -fPIC -x c - -o left.so
+instrumented AddressSanitizer "$work/sanitized.so" env ASAN_OPTIONS=log_path=sanitizer LD_PRELOAD="$(gcc -print-file-name=libasan.so) $(gcc -print-file-name=libubsan.so) $work/left.so"
 same 'what AddressSanitizer says' "$(cat sanitizer.* 2>/dev/null)" ''
 finish

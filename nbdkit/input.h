@@ -15,7 +15,8 @@ int open_stream(const char *name);
  * and puts its length in bytes there, or -1 and reports why. */
 int open_image(const char *name, uint64_t *len);
 
-/* Reads the next `size` bytes, or fewer only if the file ends. Answers how many; or -1, errno. */
+/* Reads the next `size` bytes, or fewer only if the file ends. Answers how many; or -1, and errno
+ * says why. */
 ssize_t read_next(int fd, uint8_t *to, size_t size);
 
 /* Reads exactly `size` bytes from `offset` on. Answers whether it did; if not, errno says why, and
