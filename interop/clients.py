@@ -1,7 +1,7 @@
 #!/usr/bin/python3
 """Clients of a volume that is served, for interop/nbd.sh; Debian's python3-libnbd is for Debian's own Python.
 
-    clients.py ranges URI TEXT SEED     reads 2,000 ranges from 8 connections at once, and compares them with the text
+    clients.py ranges URI TEXT COUNT    reads so many ranges from 8 connections at once, and compares them with the text
     clients.py shrinks URI TEXT IMAGE   the same while the image becomes shorter, piece by piece
     clients.py asks ANSWER COMMAND..    runs a command on a terminal of its own, and types an answer
     clients.py finds TEXT PID..         how often the text lies in the memory of these processes
@@ -18,7 +18,6 @@ import time
 
 import nbd
 
-RANGES = 2000
 CONNECTIONS = 8
 LONGEST = 70000
 
@@ -53,17 +52,17 @@ def in_threads(work):
         return [line for lines in threads.map(lambda number: list(work(number)), range(CONNECTIONS)) for line in lines]
 
 
-def read_ranges(uri, text, seed):
+def read_ranges(uri, text, count):
     """Each range is the text's; one that passes its end is refused."""
     def work(number):
-        chance, handle = random.Random(f"{seed} {number}"), connected(uri)
+        chance, handle = random.Random(f"{count} {number}"), connected(uri)
         if handle.get_size() != len(text):
             yield f"{handle.get_size()} bytes are served, and {len(text)} written"
-        for _ in range(RANGES // CONNECTIONS):
-            count, offset = some_range(chance, len(text))
-            wanted = text[offset:offset + count] if offset + count <= len(text) else errno.EINVAL
-            if read(handle, count, offset) != wanted:
-                yield f"{count} bytes at {offset}"
+        for _ in range(count // CONNECTIONS):
+            size, offset = some_range(chance, len(text))
+            wanted = text[offset:offset + size] if offset + size <= len(text) else errno.EINVAL
+            if read(handle, size, offset) != wanted:
+                yield f"{size} bytes at {offset}"
     return in_threads(work)
 
 
@@ -142,7 +141,7 @@ def main():
         return
     with open(words[1], "rb") as file:
         text = file.read()
-    amiss = read_ranges(words[0], text, words[2]) if what == "ranges" else read_shrinking(words[0], text, words[2])
+    amiss = read_ranges(words[0], text, int(words[2])) if what == "ranges" else read_shrinking(words[0], text, words[2])
     print("\n".join(amiss[:5]) or "all the same")
 
 

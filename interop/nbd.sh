@@ -95,7 +95,7 @@ for sealed in 'xts-plain64 512' 'xts-plain64 256' 'xts-plain 512' 'cbc-essiv:sha
     serves "luks1 $sealed" "luks1 $sealed" pass2
 done
 volume1='luks1 xts-plain64 512'
-compared ranges "luks1 $sealed" 1 "luks1 $sealed" key-file=pass
+compared ranges "luks1 $sealed" 2000 "luks1 $sealed" key-file=pass
 
 truncate -s 303104 plain
 for sealed in 'xts-plain64 512 512' 'xts-plain64 256 1024' 'xts-plain64 512 2048' 'xts-plain64 512 4096' 'xts-plain 512 512' 'cbc-essiv:sha256 256 4096' 'cbc-plain64 128 512'; do
@@ -105,10 +105,10 @@ for sealed in 'xts-plain64 512 512' 'xts-plain64 256 1024' 'xts-plain64 512 2048
 done
 for sealed in 'xts-plain64 512 512' 'xts-plain64 256 1024' 'xts-plain64 512 2048' 'xts-plain64 512 4096'; do
     text "luks2 $sealed" pass
-    compared ranges "luks2 $sealed" 2 "luks2 $sealed" key-file=pass
+    compared ranges "luks2 $sealed" 2000 "luks2 $sealed" key-file=pass
 done
 volume2="luks2 $sealed"
-compared ranges 'one sector at once' 3 "$volume2" key-file=pass --filter=blocksize minblock=4096 maxdata=4096
+compared ranges 'one sector at once' 2001 "$volume2" key-file=pass --filter=blocksize minblock=4096 maxdata=4096
 
 # a payload of fixed size, and one whose unit numbers begin further on: the text from its second page on
 cp "$volume2" 'of fixed size'
@@ -307,16 +307,16 @@ instrumented() {
     shift 2
     for sealed in "$volume1" "$volume2"; do
         text "$sealed" pass
-        timeout 60 "$@" nbdkit -U - "$plugin" "$sealed" key-file=pass --run "unset LD_PRELOAD; /usr/bin/python3 '$here/clients.py' ranges \"\$uri\" text 4 >answer" >said 2>&1
+        timeout 100 "$@" nbdkit -U - "$plugin" "$sealed" key-file=pass --run "unset LD_PRELOAD; /usr/bin/python3 '$here/clients.py' ranges \"\$uri\" text 200 >answer" >said 2>&1
         same "$name, $sealed: status" $? 0
         same "$name, $sealed: ranges" "$(cat answer)" 'all the same'
     done
     cp "$volume1" image
     text image pass
-    timeout 60 "$@" nbdkit -U - "$plugin" image key-file=pass --run "unset LD_PRELOAD; /usr/bin/python3 '$here/clients.py' shrinks \"\$uri\" text image >answer" >said 2>&1
+    timeout 100 "$@" nbdkit -U - "$plugin" image key-file=pass --run "unset LD_PRELOAD; /usr/bin/python3 '$here/clients.py' shrinks \"\$uri\" text image >answer" >said 2>&1
     same "$name: truncated while it is served" "$? $(cat answer)" '0 all the same'
     for key in key-file=wrong key-file=long passphrase=+wrong key-file=absent key-slot=x; do
-        timeout 60 "$@" nbdkit -U - "$plugin" "$volume1" "$key" --run true >said 2>&1
+        timeout 100 "$@" nbdkit -U - "$plugin" "$volume1" "$key" --run true >said 2>&1
         same "$name, $key" $? 1
     done
 }
