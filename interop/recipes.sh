@@ -91,7 +91,16 @@ says volume ' inside'
 damaged_plain() {
     debugfs -w -R 'set_super_value free_blocks_count 1' plain >err 2>&1
 }
-if [ -w /dev/fuse ]; then
+# whether FUSE mounts a disk of nothing here
+has_fuse() {
+    mkdir tried
+    nbdfuse -r tried/disk --command nbdkit -s null 1M >err 2>&1 &
+    for _ in $(seq 100); do
+        [ -e tried/disk ] || ! kill -0 $! 2>err || sleep 0.1
+    done
+    [ -e tried/disk ] && fusermount3 -u tried
+}
+if has_fuse; then
     mkdir fuse
     cp plain whole_plain
     damaged_plain
