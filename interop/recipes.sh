@@ -1,10 +1,22 @@
 #!/usr/bin/env bash
 # Runs README's recipes as they are written there, in bash and in zsh, on volumes of cryptsetup and qemu-img: they
 # write the plain text, and no image changes, also not one with a damaged secondary header. Mounting is left out.
+# nbdkit takes its plugin from where that is built (the second argument).
 readme=$(realpath "$(dirname "$0")/../README.md")
+plugin=$(realpath "${2:?the built plugin}")
 # shellcheck source=interop/common.sh
 . "$(dirname "$0")/common.sh"
 ln -s "$program" luksrd
+theirs=$(command -v nbdkit)
+cat >nbdkit <<TEXT
+#!/usr/bin/env bash
+for word; do
+    [ "\$word" != luksrd ] || word=$plugin
+    words+=("\$word")
+done
+exec $theirs "\${words[@]}"
+TEXT
+chmod +x nbdkit
 PATH=$work:$PATH
 
 # recipe TEXT: the lines of README's recipe that follows this text; after a comment, up to the next comment
@@ -77,6 +89,58 @@ for image in plain.img plain2.img plain3.img; do gives volume $image plain; done
 says volume 'Key slot 0 opens the volume.'
 says volume 'TYPE="ext4"'
 says volume ' inside'
+
+# the same volume as a file, read-only and over a scratch copy, which is mended; its image is not
+damaged_plain() {
+    debugfs -w -R 'set_super_value free_blocks_count 1' plain >err 2>&1
+}
+# whether FUSE mounts a disk of nothing here
+has_fuse() {
+    mkdir tried
+    nbdfuse -r tried/disk --command nbdkit -s null 1M >err 2>&1 &
+    for _ in $(seq 100); do
+        [ -e tried/disk ] || ! kill -0 $! 2>err || sleep 0.1
+    done
+    [ -e tried/disk ] && fusermount3 -u tried
+}
+if has_fuse; then
+    mkdir fuse
+    cp plain whole_plain
+    damaged_plain
+    format1 fuse/disk.img aes-xts-plain64 sha256 512
+    fill fuse/disk.img
+    cp whole_plain plain
+    cooks fuse '' 'As a file, for tools' 'For a tool that has to write'
+    gives fuse inside inside
+    says fuse ' inside'
+    says fuse 'FILE SYSTEM WAS MODIFIED'
+else
+    echo 'there is no FUSE here: its recipes are left out'
+fi
+
+# any part of a volume
+mkdir any
+cp plain whole_plain
+truncate -s 16M plain
+printf 'start=2048, size=16384\nstart=18432, size=12288\n' | sfdisk -q plain
+mkdir -p files/etc
+echo '/dev/sda1 / ext4 defaults 0 1' >files/etc/fstab
+truncate -s 8M first_partition
+mke2fs -q -t ext4 -d files first_partition
+dd if=first_partition of=plain bs=512 seek=2048 conv=notrunc status=none
+format1 any/disk.img aes-xts-plain64 sha256 512
+fill any/disk.img
+cooks any '' 'Any part of a volume' 'A partition, a window of'
+gives any fstab files/etc/fstab
+gives any part.img first_partition
+tail -c +1048577 plain | head -c 4M >window
+gives any window window
+says any 'export-size: 16777216 (16M)'
+says any 'start=       18432, size=       12288'
+for shell in bash zsh; do
+    same "any in $shell: plain.qcow2" "$(qemu-img compare "rescue any, $shell/plain.qcow2" plain)" 'Images are identical.'
+done
+mv whole_plain plain
 
 # a partition of a whole disk, which is as long as README says
 mkdir partition
