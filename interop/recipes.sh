@@ -90,7 +90,7 @@ says volume 'Key slot 0 opens the volume.'
 says volume 'TYPE="ext4"'
 says volume ' inside'
 
-# the same volume as a file, read-only and over a scratch copy, which is mended; its image is not
+# the same volume as a file over a scratch copy, which is mended; its image is not
 damaged_plain() {
     debugfs -w -R 'set_super_value free_blocks_count 1' plain >err 2>&1
 }
@@ -110,8 +110,7 @@ if has_fuse; then
     format1 fuse/disk.img aes-xts-plain64 sha256 512
     fill fuse/disk.img
     cp whole_plain plain
-    cooks fuse '' 'As a file, for tools' 'For a tool that has to write'
-    gives fuse inside inside
+    cooks fuse '' 'As a file, by FUSE'
     says fuse ' inside'
     says fuse 'FILE SYSTEM WAS MODIFIED'
 else
