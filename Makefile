@@ -4,24 +4,41 @@
 # make test       what CI runs: the gate, which proves everything, tries each wrong body of must-fail/ and runs the tests, and beside it the same
 #                 scripts on the program that it builds; it prints the processor time that each crate took
 # make bench      measures key derivation, decryption and whole volumes beside other implementations
-# make install    puts the program, its man page and its completions below PREFIX (/usr/local where
-#                 it is not given), in DESTDIR where that is given
+# make library    builds the library for C: out/libluksrd.a, out/libluksrd.so and out/luksrd.pc
+# make nbdkit     builds the plugin for nbdkit, out/nbdkit-luksrd-plugin.so
+# make install    puts the program, its man page and its completions below PREFIX (/usr/local if it is
+#                 not given), in DESTDIR if that is given; the library too if it is built, and the
+#                 plugin if it is built, which goes into nbdkit's own folder (PLUGINS)
 # make uninstall  takes them away again
-# make deb        makes a Debian package of the program as it is built, in DEB
+# make deb        makes a Debian package of the program as it is built, in DEB, and if the plugin is
+#                 built, one of that in PLUGIN_DEB
 
 PROGRAM := crates/luksrd/out/luksrd
 SEALER := crates/sealed_image/out/sealed_image
 DERIVER := crates/bench_pbkdf2/out/bench_pbkdf2
+ARCHIVE := crates/luks_c/out/libluks_c.a
+LIBRARY := out/libluksrd.a
+SHARED := out/libluksrd.so
+PLUGIN := out/nbdkit-luksrd-plugin.so
 VERSION := 1.0.0
+INTERFACE := 1
 DEB ?= out/luksrd_$(VERSION)_amd64.deb
+PLUGIN_DEB ?= out/nbdkit-plugin-luksrd_$(VERSION)_amd64.deb
 PREFIX ?= /usr/local
 ZSH_FUNCTIONS ?= $(PREFIX)/share/zsh/site-functions
+PLUGINS ?= $(shell pkg-config nbdkit --variable=plugindir 2>/dev/null)
 BINARIES = $(DESTDIR)$(PREFIX)/bin
 PAGES = $(DESTDIR)$(PREFIX)/share/man/man1
 BASH_WORDS = $(DESTDIR)$(PREFIX)/share/bash-completion/completions
 ZSH_WORDS = $(DESTDIR)$(ZSH_FUNCTIONS)
+LIBRARIES = $(DESTDIR)$(PREFIX)/lib
+HEADERS = $(DESTDIR)$(PREFIX)/include
+CFLAGS ?= -O2
+# of the library: its file, and the two names that lead to it
+SHARED_NAMES = libluksrd.so.$(VERSION) libluksrd.so.$(INTERFACE) libluksrd.so
 
-.PHONY: all demo check scripts program-scripts test bench install uninstall deb toolchain built
+.PHONY: all demo check scripts program-scripts c-scripts test bench library nbdkit toolchain built
+.PHONY: install install-program install-library install-plugin uninstall deb
 
 all: $(PROGRAM)
 
@@ -40,25 +57,66 @@ $(SEALER): FORCE | toolchain
 $(DERIVER): FORCE | toolchain
 	cd crates/bench_pbkdf2 && rt run >/dev/null
 
+# `rt lib` proves and builds it; nothing of C is in it.
+crates/luks_c/out/libluks_c.a: FORCE | toolchain
+	cd crates/luks_c && rt lib >/dev/null
+
+library: $(LIBRARY) $(SHARED) out/luksrd.pc
+
+# One object with what it needs of the kit, in which only the names of luksrd.h are seen from outside.
+out/libluksrd.a: $(ARCHIVE)
+	mkdir -p out
+	ld -r -o out/luksrd.o --whole-archive $(ARCHIVE) "$$(dirname "$$(rt doc)")/c/liblibc_c.a"
+	objcopy --wildcard --keep-global-symbol='luksrd_*' out/luksrd.o
+	rm -f $@
+	ar rcsD $@ out/luksrd.o
+
+out/libluksrd.so: $(LIBRARY)
+	$(CC) -shared -o out/libluksrd.so.$(VERSION) -Wl,-soname,libluksrd.so.$(INTERFACE) \
+	    -Wl,-z,defs,-z,relro,-z,now,-z,noexecstack -Wl,--whole-archive $(LIBRARY) -Wl,--no-whole-archive $(LDLIBS)
+	cd out && ln -sf $(word 1,$(SHARED_NAMES)) $(word 2,$(SHARED_NAMES)) && ln -sf $(word 2,$(SHARED_NAMES)) $(word 3,$(SHARED_NAMES))
+
+# $(call package_config,FILE): what pkg-config says of the library below PREFIX
+package_config = sed -e 's|@PREFIX@|$(PREFIX)|' -e 's|@VERSION@|$(VERSION)|' c/luksrd.pc.in >"$(1)"
+
+out/luksrd.pc: c/luksrd.pc.in FORCE
+	mkdir -p out
+	$(call package_config,$@)
+
+nbdkit: $(PLUGIN)
+
+# The library is in it, and is not seen from outside.
+$(PLUGIN): $(wildcard nbdkit/*.[ch]) c/luksrd.h $(LIBRARY)
+	mkdir -p "$(dir $@)"
+	$(CC) $(CFLAGS) -std=c11 -D_GNU_SOURCE -DVERSION='"$(VERSION)"' -Wall -Wextra -Werror -fPIC -fvisibility=hidden -Ic \
+	    $$(pkg-config nbdkit --cflags) -shared -Wl,--exclude-libs,ALL,-z,relro,-z,now,-z,noexecstack $(LDFLAGS) \
+	    -o "$@" nbdkit/*.c $(LIBRARY) $(LDLIBS)
+
 demo: toolchain
 	@tests/demo
 
 toolchain:
 	@command -v rt >/dev/null || { echo "rt is missing: put the Rattle toolchain on the path" >&2; exit 1; }
 
-check: all $(SEALER) $(DERIVER) scripts
+check: all $(SEALER) $(DERIVER) library nbdkit scripts
 
-# The programs are taken as they are. Four scripts run side by side; what each prints comes when it
-# has ended. One of them asks for the sealer too, and one for the program that derives keys.
-TESTS := stripes volumes devices memory hostile completions package
-INTEROP := headers headers2 volumes volumes2 detached filesystems recipes
+# The programs, the library and the plugin are taken as they are. Four scripts run side by side; what
+# each prints comes when it has ended. Some ask for the sealer, the program that derives keys, or what
+# is built of C.
+TESTS := stripes volumes devices memory hostile completions
+INTEROP := headers headers2 volumes volumes2 detached filesystems
 PROGRAM_SCRIPTS := $(TESTS:%=test-%) $(INTEROP:%=interop-%)
+C_SCRIPTS := test-package test-library interop-nbd interop-recipes
+ALL_SCRIPTS := $(PROGRAM_SCRIPTS) $(C_SCRIPTS) interop-sealed interop-keys
 
-.PHONY: $(PROGRAM_SCRIPTS) interop-sealed interop-keys
+.PHONY: $(ALL_SCRIPTS)
 
-scripts program-scripts:
+scripts: ASKED = $(ALL_SCRIPTS)
+program-scripts: ASKED = $(PROGRAM_SCRIPTS)
+c-scripts: ASKED = $(C_SCRIPTS)
+scripts program-scripts c-scripts:
 	tests/packages
-	+$(MAKE) -k -j 4 --output-sync=target --no-print-directory $(PROGRAM_SCRIPTS) $(if $(filter scripts,$@),interop-sealed interop-keys)
+	+$(MAKE) -k -j 4 --output-sync=target --no-print-directory $(ASKED)
 
 $(TESTS:%=test-%): test-%:
 	tests/$*.sh $(PROGRAM)
@@ -72,6 +130,18 @@ interop-sealed:
 interop-keys:
 	interop/keys.sh $(PROGRAM) $(DERIVER)
 
+test-package:
+	tests/package.sh $(PROGRAM) $(PLUGIN)
+
+interop-nbd:
+	interop/nbd.sh $(PROGRAM) $(PLUGIN) $(LIBRARY)
+
+interop-recipes:
+	interop/recipes.sh $(PROGRAM) $(PLUGIN)
+
+test-library:
+	tests/library.sh $(PROGRAM) $(LIBRARY) $(SHARED)
+
 test: toolchain
 	tests/gate
 
@@ -79,23 +149,47 @@ bench: all
 	bench/pbkdf2
 	bench/xts
 	bench/volume
+	bench/nbd
 	bench/plot
 
 # What is built already is installed as it is, so that this needs no toolchain.
 built:
 	@test -f "$(PROGRAM)" -a -x "$(PROGRAM)" || { echo "luksrd is not built: run make first" >&2; exit 1; }
 
-install: built
+install: install-program $(if $(wildcard $(LIBRARY)),install-library) $(if $(wildcard $(PLUGIN)),install-plugin)
+
+install-program: built
 	install -d "$(BINARIES)" "$(PAGES)" "$(BASH_WORDS)" "$(ZSH_WORDS)"
 	install -m 755 "$(PROGRAM)" "$(BINARIES)/luksrd"
 	install -m 644 docs/luksrd.1 "$(PAGES)/luksrd.1"
 	install -m 644 completions/luksrd.bash "$(BASH_WORDS)/luksrd"
 	install -m 644 completions/_luksrd "$(ZSH_WORDS)/_luksrd"
 
+install-library:
+	@test -f "$(LIBRARY)" -a -f "$(SHARED)" || { echo "the library is not built: run make library first" >&2; exit 1; }
+	install -d "$(LIBRARIES)/pkgconfig" "$(HEADERS)"
+	install -m 644 c/luksrd.h "$(HEADERS)/luksrd.h"
+	install -m 644 "$(LIBRARY)" "$(LIBRARIES)/libluksrd.a"
+	install -m 644 "$(SHARED)" "$(LIBRARIES)/$(word 1,$(SHARED_NAMES))"
+	ln -sf $(word 1,$(SHARED_NAMES)) "$(LIBRARIES)/$(word 2,$(SHARED_NAMES))"
+	ln -sf $(word 2,$(SHARED_NAMES)) "$(LIBRARIES)/$(word 3,$(SHARED_NAMES))"
+	$(call package_config,$(LIBRARIES)/pkgconfig/luksrd.pc)
+
+install-plugin:
+	@test -f "$(PLUGIN)" || { echo "the plugin is not built: run make nbdkit first" >&2; exit 1; }
+	@test -n "$(PLUGINS)" || { echo "nbdkit's folder is not known: run apt-get install nbdkit-plugin-dev pkg-config" >&2; exit 1; }
+	install -d "$(DESTDIR)$(PLUGINS)" "$(PAGES)"
+	install -m 644 "$(PLUGIN)" "$(DESTDIR)$(PLUGINS)/nbdkit-luksrd-plugin.so"
+	install -m 644 docs/nbdkit-luksrd-plugin.1 "$(PAGES)/nbdkit-luksrd-plugin.1"
+
 uninstall:
 	rm -f "$(BINARIES)/luksrd" "$(PAGES)/luksrd.1" "$(BASH_WORDS)/luksrd" "$(ZSH_WORDS)/_luksrd"
+	rm -f "$(HEADERS)/luksrd.h" "$(LIBRARIES)/libluksrd.a" $(SHARED_NAMES:%="$(LIBRARIES)/%") "$(LIBRARIES)/pkgconfig/luksrd.pc"
+	rm -f "$(PAGES)/nbdkit-luksrd-plugin.1" $(if $(PLUGINS),"$(DESTDIR)$(PLUGINS)/nbdkit-luksrd-plugin.so")
 
-# This too takes the program as it is.
+# This too takes the program and the plugin as they are.
 deb: built
-	packaging/deb "$(PROGRAM)" "$(VERSION)" "$(DEB)"
+	packaging/deb luksrd "$(PROGRAM)" "$(VERSION)" "$(DEB)"
 	@echo "$(DEB)"
+	$(if $(wildcard $(PLUGIN)),packaging/deb nbdkit-plugin-luksrd "$(PLUGIN)" "$(VERSION)" "$(PLUGIN_DEB)")
+	@$(if $(wildcard $(PLUGIN)),echo "$(PLUGIN_DEB)")

@@ -51,3 +51,25 @@ def format_volume(folder, name, *options):
 
 def run_cryptsetup(folder, command, *words):
     subprocess.run(["cryptsetup", "-q", command, "--key-file", folder / "pass", *words], check=True, stdout=subprocess.DEVNULL)
+
+
+def volume(folder, name, iterations, payload, hash_name="sha256"):
+    """A volume whose payload is zeros as they are stored, which every reader has to decrypt to the same bytes."""
+    image = folder / name
+    with open(image, "wb") as file:
+        file.truncate(4 * MIB)
+    subprocess.run(
+        ["cryptsetup", "-q", "luksFormat", "--type", "luks1", "--hash", hash_name, "--key-size", "512", "--cipher", "aes-xts-plain64",
+         "--pbkdf-force-iterations", str(iterations), "--align-payload", "1", "--key-file", folder / "pass", image],
+        check=True)
+    start = start_of(image)
+    with open(image, "r+b") as file:
+        file.truncate(start)
+        file.truncate(start + payload)
+    return image
+
+
+def start_of(image):
+    """The place of the payload's first byte, as cryptsetup tells it."""
+    header = subprocess.run(["cryptsetup", "luksDump", image], check=True, capture_output=True, text=True).stdout
+    return next(int(line.split()[2]) for line in header.splitlines() if line.startswith("Payload offset:")) * 512

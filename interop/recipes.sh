@@ -1,15 +1,30 @@
 #!/usr/bin/env bash
 # Runs README's recipes as they are written there, in bash and in zsh, on volumes of cryptsetup and qemu-img: they
 # write the plain text, and no image changes, also not one with a damaged secondary header. Mounting is left out.
+# nbdkit takes its plugin from where that is built (the second argument).
 readme=$(realpath "$(dirname "$0")/../README.md")
+plugin=$(realpath "${2:?the built plugin}")
 # shellcheck source=interop/common.sh
 . "$(dirname "$0")/common.sh"
 ln -s "$program" luksrd
+theirs=$(command -v nbdkit)
+cat >nbdkit <<TEXT
+#!/usr/bin/env bash
+for word; do
+    [ "\$word" != luksrd ] || word=$plugin
+    words+=("\$word")
+done
+exec $theirs "\${words[@]}"
+TEXT
+chmod +x nbdkit
 PATH=$work:$PATH
 
-# recipe TEXT: the lines of README's recipe that follows this text
+# recipe TEXT: the lines of README's recipe that follows this text; after a comment, up to the next comment
 recipe() {
-    awk -v text="$1" 'index($0, text) { found = 1 } found && /^    / { inside = 1; print substr($0, 5) } inside && !/^    / { exit }' "$readme"
+    awk -v text="$1" '
+        !found && index($0, text) { found = 1; comment = /^    # / }
+        found && /^    / && !(comment && /^    # /) { inside = 1; print substr($0, 5); next }
+        inside { exit }' "$readme"
 }
 
 # cooks FOLDER NEEDED TEXT..: runs these recipes in a folder with images, in each shell, with links to the other files that
@@ -75,6 +90,57 @@ says volume 'Key slot 0 opens the volume.'
 says volume 'TYPE="ext4"'
 says volume ' inside'
 
+# the same volume as a file over a scratch copy, which is mended; its image is not
+damaged_plain() {
+    debugfs -w -R 'set_super_value free_blocks_count 1' plain >err 2>&1
+}
+# whether FUSE mounts a disk of nothing here
+has_fuse() {
+    mkdir tried
+    nbdfuse -r tried/disk --command nbdkit -s null 1M >err 2>&1 &
+    for _ in $(seq 100); do
+        [ -e tried/disk ] || ! kill -0 $! 2>err || sleep 0.1
+    done
+    [ -e tried/disk ] && fusermount3 -u tried
+}
+if has_fuse; then
+    mkdir fuse
+    cp plain whole_plain
+    damaged_plain
+    format1 fuse/disk.img aes-xts-plain64 sha256 512
+    fill fuse/disk.img
+    cp whole_plain plain
+    cooks fuse '' 'As a file, by FUSE'
+    says fuse ' inside'
+    says fuse 'FILE SYSTEM WAS MODIFIED'
+else
+    echo 'there is no FUSE here: its recipes are left out'
+fi
+
+# any part of a volume
+mkdir any
+cp plain whole_plain
+truncate -s 16M plain
+printf 'start=2048, size=16384\nstart=18432, size=12288\n' | sfdisk -q plain
+mkdir -p files/etc
+echo '/dev/sda1 / ext4 defaults 0 1' >files/etc/fstab
+truncate -s 8M first_partition
+mke2fs -q -t ext4 -d files first_partition
+dd if=first_partition of=plain bs=512 seek=2048 conv=notrunc status=none
+format1 any/disk.img aes-xts-plain64 sha256 512
+fill any/disk.img
+cooks any '' 'Any part of a volume' 'A partition, a window of'
+gives any fstab files/etc/fstab
+gives any part.img first_partition
+tail -c +1048577 plain | head -c 4M >window
+gives any window window
+says any 'export-size: 16777216 (16M)'
+says any 'start=       18432, size=       12288'
+for shell in bash zsh; do
+    same "any in $shell: plain.qcow2" "$(qemu-img compare "rescue any, $shell/plain.qcow2" plain)" 'Images are identical.'
+done
+mv whole_plain plain
+
 # a partition of a whole disk, which is as long as README says
 mkdir partition
 seal partition/disk.img aes-xts-plain64 512
@@ -87,20 +153,20 @@ cooks partition whole.img 'A partition of a whole disk'
 gives partition plain.img plain
 says partition 'start=        2048, size=       24576'
 
-# a header in a file of its own
+# a detached header
 mkdir detached
 cp plain detached/disk.img
 cryptsetup -q reencrypt --encrypt --type luks2 --force-offline-reencrypt --pbkdf pbkdf2 --pbkdf-force-iterations 1000 \
     --key-file pass --header detached/disk.header detached/disk.img >err 2>&1 || { cat err; exit 1; }
-cooks detached disk.header 'A header on another medium'
+cooks detached disk.header 'A detached header'
 gives detached plain.img plain
 
-# a damaged front, and a backup of the header
+# a damaged header, and a backup of it
 mkdir backup
 seal backup/disk.img aes-xts-plain64 512
 cryptsetup luksHeaderBackup --header-backup-file backup/backup backup/disk.img
 dd if=/dev/urandom of=backup/disk.img bs=1M count=1 conv=notrunc status=none
-cooks backup backup 'A damaged front and a header backup'
+cooks backup backup 'A damaged header'
 gives backup plain.img plain
 says backup "clean
 Key slot 0 opens the volume."
@@ -115,7 +181,7 @@ cryptsetup -q reencrypt --encrypt --type luks2 --reduce-device-size 4M --force-o
 damaged argon2/disk.img
 same 'a volume of Argon2' "$(told testPassphrase --key-file pass argon2/disk.img)" 'luksrd: no key slot can be tried; skipped: 0 (argon2id)
 1'
-cooks argon2 '' 'Key slots by Argon2 alone'
+cooks argon2 '' 'Argon2 key slots only'
 gives argon2 plain.img plain
 
 # images of all kinds
@@ -130,7 +196,7 @@ head -c 500 volume/disk.img >audit/5.img
 cp volume/disk.img audit/6.img
 printf '\377\377\377\377' | dd of=audit/6.img bs=1 seek=212 conv=notrunc status=none
 : >audit/disk.img
-cooks audit '' 'Audit: of the images'
+cooks audit '' 'Audit images'
 uuid1=$("$program" luksUUID audit/1.img)
 says audit "../1.img:
 Version: 1
@@ -165,7 +231,7 @@ head -c 64 /dev/urandom >stripes/key
 printf 'what follows' >stripes/more
 cooks stripes 'key more' 'Split a key of 64 bytes'
 gives stripes key.again stripes/key
-gives stripes key.piped stripes/key
+gives stripes key2 stripes/key
 gives stripes more.again stripes/more
 
 finish

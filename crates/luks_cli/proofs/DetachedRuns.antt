@@ -27,14 +27,14 @@ use Rattle.luks_cli.proofs.PromptLemmas.{no_sectors_before, same_segment_by}
 use Rattle.luks_cli.specs.Detached.{CountsDetached, EndsWithoutKey}
 use Rattle.luks_runs.specs.Ending.{Outcome, no_output}
 use Rattle.luks_runs.specs.Header.{is_luks_outcome, print_outcome_by}
-use Rattle.luks_cli.specs.MayEnd.{OpeningMessage}
+use Rattle.luks_unlock.specs.MayEnd.{OpeningMessage}
 use Rattle.luks_runs.specs.MayEnd.{PayloadMessage}
 use Rattle.luks_runs.specs.Reading.{Reading, detached_header_of}
 use Rattle.luks_runs.specs.Run.{Aborted, Completed, Counts, Failures, Promptness, RunMatches, DetachedRunMatches, TookNone}
 use Rattle.luks_runs.specs.Run.{breaks_off, failures_of, is_run_read_failure, is_run_write_failure}
 use Rattle.luks_cli.specs.Unlocking.{Unlocks, opens_promptly}
-use Rattle.luks_cli.specs.Volume.{OnOpened, Volume, detached_payload_outcome, found_outcome, opened_outcome}
-use Rattle.luks_cli.specs.Volume.{outcome_after, slot_outcome, volume_by, volume_outcome_by}
+use Rattle.luks_unlock.specs.Volume.{OnOpened, Volume, detached_payload_outcome, found_outcome, opened_outcome}
+use Rattle.luks_unlock.specs.Volume.{outcome_after, slot_outcome, volume_by, volume_outcome_by}
 use Rattle.luks_runs.specs.Secret.{longest_key_file}
 use Rattle.luks_runs.specs.Payload.{PassesPayload}
 use Rattle.luks_cli.specs.VolumeParts.{TakesHeld, detached_cat_promptly}

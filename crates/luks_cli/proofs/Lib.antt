@@ -1,10 +1,5 @@
 pub mod DetachedRuns
-pub mod HonestPayload
-pub mod HonestSlots
 pub mod HonestVolumes
 pub mod OpenedRuns
 pub mod PromptLemmas
-pub mod SealedUnits
-pub mod SectorsUndone
-pub mod VolumeLemmas
 pub mod VolumeRuns

@@ -2,9 +2,7 @@
 use Rattle.std.proofs.Common.{◌≡◌, ◌≢◌, ℕ, ◌+◌, ◌*◌, ◌/◌, ◌<◌, ◌≤◌, List, Option, None, Some, Result, Ok, Err}
 use Rattle.std.proofs.Common.{◌⊎◌, inl, inr, IfErr, Bool, true, false, ◌∙◌, ap, refl, take, length, max, arith}
 use Rattle.std.proofs.Math.Nat.{div-eq_of_lt-le, mul-le-mul_right}
-use Rattle.std.specs.Prelude.{MatchBool, if◌then◌else◌}
-use Rattle.luks_cipher.specs.Sector.{Cipher, is_mode_key_length}
-use Rattle.luks_cipher.specs.declared.mode.Mode.{Mode}
+use Rattle.std.specs.Prelude.{MatchBool}
 use Rattle.luks_header.specs.Header.{header_of}
 use Rattle.luks_verdict.specs.declared.segment.Segment.{Segment}
 use Rattle.luks_io.proofs.Taking.{adds-none}
@@ -14,7 +12,7 @@ use Rattle.luks_payload.specs.Plain.{sector_len, sector_start, sectors_of}
 use Rattle.luks_runs.proofs.PayloadLemmas.{plain_len}
 use Rattle.luks_cli.proofs.PromptLemmas.{same_segment_by}
 use Rattle.luks_runs.specs.Ending.{Outcome}
-use Rattle.luks_cli.specs.Volume.{payload_outcome, slot_outcome, volume_outcome, volume_outcome_by}
+use Rattle.luks_unlock.specs.Volume.{payload_outcome, slot_outcome, volume_outcome, volume_outcome_by}
 use Rattle.luks_runs.specs.Standing.{reading_of}
 use Rattle.luks_runs.specs.declared.standing.Standing.{Standing}
 use Rattle.luks_runs.specs.declared.standing.Standing.TheVariants.{Attached}
@@ -24,7 +22,7 @@ use Rattle.luks_request.specs.Request.{OpeningRequest}
 use Rattle.luks_runs.specs.Run.{Aborted, Completed, Counts, Failures, Promptness, RunMatches, at_any_pace, breaks_off}
 use Rattle.luks_runs.specs.Run.{is_run_read_failure, is_run_write_failure, result_message}
 use Rattle.luks_cli.specs.VolumeParts.{TakesHeld}
-use Rattle.luks_cli.specs.MayEnd.{OpeningMessage}
+use Rattle.luks_unlock.specs.MayEnd.{OpeningMessage}
 use Rattle.luks_cli.specs.Unlocking.{TellsSlot, Unlocks}
 use Rattle.luks_report.specs.Texts.{opened_line}
 use Rattle.luks_report.specs.declared.message.Message.{Message}
@@ -217,11 +215,6 @@ module _ (o : OpeningRequest) (image pass : List ℕ) (segment : Segment) (opene
     runs_passed message never passed =
         rw (u.outcome (payload_outcome image pass)) (record
         { as_stated = passed.0; image = passed.1; secret = u.secret_taken; output = passed.2 })
-
--- the cipher of the volume has the key that was found
-pub cipher_is : (cipher : Cipher) (mode : Mode) (key : List ℕ) → is_mode_key_length mode (length key) ≡ true
-    → Some cipher ≡ (if is_mode_key_length mode (length key) then Some (mode, key) else None) → cipher ≡ (mode, key)
-cipher_is cipher mode key long is = let made : Some cipher ≡ Some (mode, key) = is ∙ (rw long refl) in cc
 
 -- ---- counts of failures
 

@@ -15,7 +15,8 @@ use Rattle.luks_report.specs.declared.message.Message.TheVariants.{Cut, ReadFail
 use Rattle.luks_runs.specs.Reading.{Reading}
 use Rattle.luks_runs.specs.Standing.{reading_of}
 use Rattle.luks_cli.specs.Unlocking.{opens_promptly}
-use Rattle.luks_cli.specs.VolumeParts.{HasSegment, HasSegmentBy, cat_promptly}
+use Rattle.luks_unlock.specs.Finding.{HasSegment, HasSegmentBy}
+use Rattle.luks_cli.specs.VolumeParts.{cat_promptly}
 use Rattle.luks_runs.specs.declared.standing.Standing.{Standing}
 use Rattle.luks_runs.specs.declared.standing.Standing.TheVariants.{Attached, Detached}
 

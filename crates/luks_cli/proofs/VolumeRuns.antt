@@ -21,10 +21,11 @@ use Rattle.luks_open.specs.declared.fault.OpenFault.TheVariants.{NoSuchSlot as N
 use Rattle.luks_open.specs.declared.fault.OpenFault.TheVariants.{NothingTried as NoneTried, NoKey as NoneOpens, Memory}
 use Rattle.luks_open.specs.declared.opening.Opened.{Opened}
 use Rattle.luks_cli.proofs.PromptLemmas.{held_early, prompt_before_payload, prompt_in_header, prompt_refused}
-use Rattle.luks_cli.proofs.VolumeLemmas.{cost_held, volume_is}
+use Rattle.luks_unlock.proofs.OutcomeLemmas.{area_cut, area_held, area_more, found_cut, found_is, found_long, found_whole}
+use Rattle.luks_unlock.proofs.OutcomeLemmas.{front_len, outcome_is, tried_is}
 use Rattle.luks_report.specs.Faults.{message_for_header}
-use Rattle.luks_cli.specs.Volume.{OnOpened, found_outcome, opened_outcome, outcome_after, volume_outcome_by}
-use Rattle.luks_runs.specs.Ending.{Outcome, no_output}
+use Rattle.luks_unlock.specs.Volume.{OnOpened, found_outcome, opened_outcome, outcome_after, volume_outcome_by}
+use Rattle.luks_runs.specs.Ending.{Outcome, unwritten}
 use Rattle.luks_request.specs.Request.{OpeningRequest}
 use Rattle.luks_runs.specs.Run.{Aborted, IsPrefixLen, IsSilent, RunMatches}
 use Rattle.luks_io.proofs.Taking.{adds-none, took-none}
@@ -33,9 +34,10 @@ use Rattle.luks_runs.proofs.HeaderTaking.{cost_there, took_header}
 use Rattle.luks_runs.specs.Secret.{NoSecretRead}
 use Rattle.luks_runs.specs.Secret.{longest_key_file}
 use Rattle.luks_cli.specs.VolumeParts.{TakesHeld}
-use Rattle.luks_cli.specs.Unlocking.{OpensVolume, TriesSlots, Unlocks, opens_promptly}
-use Rattle.luks_cli.specs.VolumeParts.{AbortsFinding}
-use Rattle.luks_cli.specs.Volume.{Volume, held_for, volume_by}
+use Rattle.luks_unlock.specs.Trying.{TriesSlots}
+use Rattle.luks_cli.specs.Unlocking.{OpensVolume, Unlocks, opens_promptly}
+use Rattle.luks_unlock.specs.Finding.{StopsFinding}
+use Rattle.luks_unlock.specs.Volume.{Volume, held_for, volume_by}
 use Rattle.luks_runs.specs.Standing.{reading_of}
 use Rattle.luks_runs.specs.declared.standing.Standing.{Standing}
 use Rattle.luks_runs.specs.declared.standing.Standing.TheVariants.{Attached}
@@ -90,121 +92,41 @@ no_write_told named (NoneTried skipped) h = cc
 no_write_told named (NoneOpens skipped) h = cc
 no_write_told named Memory h = cc
 
--- ---- the outcome of a volume that was found
+-- ---- how much is taken of a volume that was found
 
-module _ (on_opened : OnOpened) (named : Option ℕ) (v : Volume) (image secret : List ℕ) where
-  found_long : longest_key_file < length secret
-      → found_outcome on_opened named v image secret ≡ no_output KeyFileLength (header_read_len image)
-      (longest_key_file + 1)
-  unfolding found_outcome
-  found_long long = let yes : nat_lt longest_key_file (length secret) ≡ true = grind (arith, nat_tests) in rw yes refl
+module _ (on_opened : OnOpened) (named : Option ℕ) (v : Volume) (image secret : List ℕ)
+    (takes : TakesHeld secret on_opened) where
+  opened_within : (r : Result Opened OpenFault)
+      → (held_for image v ≤ (opened_outcome on_opened named v image secret r).image_taken)
+      × (length secret ≤ (opened_outcome on_opened named v image secret r).secret_taken)
+  opened_within (Ok opened) =
+      (takes.held v.segment opened (held_for image v), omega (arith, takes.whole v.segment opened (held_for image v)))
+  opened_within (Err fault) = (omega arith, omega arith)
 
-  found_cut : length secret ≤ longest_key_file → length image < key_areas_end v.tries.slots
-      → found_outcome on_opened named v image secret ≡ no_output Cut (length image) (length secret)
-  unfolding found_outcome
-  found_cut short few =
-      let no : nat_lt longest_key_file (length secret) ≡ false = grind (arith, nat_tests) in
-      let yes : nat_lt (length image) (key_areas_end v.tries.slots) ≡ true = grind (arith, nat_tests) in
-      rw (no, yes) refl
+  -- a key file that is not too long is taken whole, and the image as far as it is held
+  area_within : length secret ≤ longest_key_file
+      → (min (length image) (held_for image v) ≤ (found_outcome on_opened named v image secret).image_taken)
+      × (length secret ≤ (found_outcome on_opened named v image secret).secret_taken)
+  area_within short = elim (cases_lt (length image) (held_of v.tries.slots)) [
+    | inl few ↦ rw (found_cut on_opened named v image secret short few) (omega arith, omega arith)
+    | inr enough ↦
+        let all = opened_within (opening_of v.tries image secret) in
+        rw (found_whole on_opened named v image secret short enough) (omega (arith, all.0), all.1)
+  ]
 
-  pub found_whole : length secret ≤ longest_key_file → key_areas_end v.tries.slots ≤ length image
-      → found_outcome on_opened named v image secret
-      ≡ opened_outcome on_opened named v image secret (opening_of v.tries image secret)
-  unfolding found_outcome
-  found_whole short enough =
-      let no : nat_lt longest_key_file (length secret) ≡ false = grind (arith, nat_tests) in
-      let none : nat_lt (length image) (key_areas_end v.tries.slots) ≡ false = grind (arith, nat_tests) in
-      rw (no, none) refl
-
-  module _ (takes : TakesHeld secret on_opened) where
-    opened_within : (r : Result Opened OpenFault)
-        → (held_for image v ≤ (opened_outcome on_opened named v image secret r).image_taken)
-        × (length secret ≤ (opened_outcome on_opened named v image secret r).secret_taken)
-    opened_within (Ok opened) =
-        (takes.held v.segment opened (held_for image v), omega (arith, takes.whole v.segment opened (held_for image v)))
-    opened_within (Err fault) = (omega arith, omega arith)
-
-    -- a key file that is not too long is taken whole, and the image as far as it is held
-    area_within : length secret ≤ longest_key_file
-        → (min (length image) (held_for image v) ≤ (found_outcome on_opened named v image secret).image_taken)
-        × (length secret ≤ (found_outcome on_opened named v image secret).secret_taken)
-    area_within short = elim (cases_lt (length image) (key_areas_end v.tries.slots)) [
-      | inl few ↦ rw (found_cut short few) (omega arith, omega arith)
-      | inr enough ↦
-          let all = opened_within (opening_of v.tries image secret) in
-          rw (found_whole short enough) (omega (arith, all.0), all.1)
-    ]
-
-    -- the header is taken, and of the key file as much as is read at most
-    found_within : (header_read_len image ≤ (found_outcome on_opened named v image secret).image_taken)
-        × (min (length secret) (longest_key_file + 1) ≤ (found_outcome on_opened named v image secret).secret_taken)
-    found_within = elim (cases_lt longest_key_file (length secret)) [
-      | inl long ↦ rw (found_long long) (omega arith, omega arith)
-      | inr short ↦
-          let all = area_within short in
-          (omega (arith, all.0, cost_there image), omega (arith, all.1))
-    ]
-
--- ---- the area that is held
-
-module _ (image area area' : List ℕ) (i : Option (List ℕ)) (held : ℕ) (front : area
-    ≡ take (header_read_len image) image) where
-  front_len : length area ≡ header_read_len image
-  front_len = cost_held image area front
-
-  -- so many bytes more are held
-  area_more : (n : ℕ) → ConsumedOnto area area' (drop (header_read_len image) image) i n
-      → (area' ≡ take (header_read_len image + n) image) × ConsumedExactly image i (header_read_len image + n)
-  area_more n grows = (
-    grows.1 ∙ ap (λ l. l ++ take n (drop (header_read_len image) image)) front
-        ∙ sym (take-add (header_read_len image) n image),
-    record {
-      within = omega (arith, grows.0.within, length-drop (header_read_len image) image, cost_there image);
-      left = grows.0.left ∙ ap Some (drop-drop n (header_read_len image) image);
-    },
-  )
-
-  module _ (grows : ConsumedOnto area area' (drop (header_read_len image) image) i
-      (min (held - length area) (length (drop (header_read_len image) image)))) where
-    reached : ℕ
-    reached = header_read_len image + min (held - length area) (length (drop (header_read_len image) image))
-
-    grown : (length area' ≡ reached) × (reached ≡ max (header_read_len image) (min held (length image)))
-    unfolding reached
-    grown =
-        let more = area_more _ grows in (
-          ap length more.0
-              ∙ length-take-le _ image more.1.within,
-          omega (arith, front_len, length-drop (header_read_len image) image, cost_there image),
-        )
-
-    -- the image ended before the area was held
-    pub area_cut : length area' < held → (length image < held) × ConsumedExactly image i (length image)
-    unfolding reached
-    area_cut short =
-        let more = area_more _ grows in
-        let all : reached ≡ length image = omega (arith, grown.0, grown.1, cost_there image) in
-        (omega (arith, grown.0, grown.1, cost_there image), rw all at more.1)
-
-    -- the area is held
-    pub area_held : held ≤ length area' → (held ≤ length image) × (length area' ≡ max (header_read_len image) held)
-        × (area' ≡ take (max (header_read_len image) held) image)
-        × ConsumedExactly image i (max (header_read_len image) held)
-    unfolding reached
-    area_held enough =
-        let more = area_more _ grows in
-        let there : held ≤ length image = omega (arith, grown.0, grown.1, cost_there image, more.1.within) in
-        let all : reached ≡ max (header_read_len image) held = omega (arith, grown.1) in
-        (there, grown.0 ∙ all, rw all at more.0, rw all at more.1)
+  -- the header is taken, and of the key file as much as is read at most
+  found_within : (cost_of image ≤ (found_outcome on_opened named v image secret).image_taken)
+      × (min (length secret) (longest_key_file + 1) ≤ (found_outcome on_opened named v image secret).secret_taken)
+  found_within = elim (cases_lt longest_key_file (length secret)) [
+    | inl long ↦ rw (found_long on_opened named v image secret long) (omega arith, omega arith)
+    | inr short ↦
+        let all = area_within short in
+        (omega (arith, all.0, cost_there image), omega (arith, all.1))
+  ]
 
 -- ---- runs that open no volume
 
 module _ (stand : Standing) (o : OpeningRequest) (image pass : List ℕ) (i s w : Option (List ℕ)) where
-  outcome_is : (on_opened : OnOpened) (r : Result Volume Message) → volume_by (reading_of stand) o image ≡ r
-      → volume_outcome_by (reading_of stand) on_opened o image pass ≡ outcome_after on_opened o.key_slot image pass r
-  unfolding volume_outcome_by
-  outcome_is on_opened r is = rw is refl
-
   module _ (on_opened : OnOpened) (takes : TakesHeld pass on_opened) where
     cost_taken : header_read_len image ≤ (volume_outcome_by (reading_of stand) on_opened o image pass).image_taken
     unfolding volume_outcome_by
@@ -232,9 +154,9 @@ module _ (stand : Standing) (o : OpeningRequest) (image pass : List ℕ) (i s w 
         stop.2 (took-none pass s whole)
     runs_without_volume WriteFailed other stop whole = absurd (other refl)
     runs_without_volume message other stop whole =
-        rw (outcome_is on_opened (Err message) stop.0)
-        (ends_unwritten stand image pass message i s w (header_read_len image) 0 other
-        (prompt_in_header stand image message (header_read_len image) 0 (omega arith)) stop.1 (took-none pass s whole))
+        rw (outcome_is stand o image pass on_opened (Err message) stop.0)
+        (ends_unwritten stand image pass message i s w (cost_of image) 0 other
+        (prompt_in_header stand image message (cost_of image) 0 (omega arith)) stop.1 (took-none pass s whole))
 
   -- the header names this segment and these key slots to be tried
   module _ (header : Header) (segment : Segment) (tries : OrderModel) (found : reading_of stand image ≡ Ok header)
@@ -248,7 +170,7 @@ module _ (stand : Standing) (o : OpeningRequest) (image pass : List ℕ) (i s w 
         ≡ found_outcome on_opened o.key_slot volume image pass
     unfolding volume
     outcome_found on_opened =
-        outcome_is on_opened (Ok volume) (volume_is stand o image i header found segment is_segment tries ordered)
+        found_is stand o image pass header segment tries found is_segment ordered on_opened
 
     held_before : stand ≡ Attached → held_for image volume ≤ max (header_read_len image) segment.offset
     unfolding volume
@@ -336,13 +258,8 @@ module _ (stand : Standing) (o : OpeningRequest) (image pass : List ℕ) (i s w 
               ≡ opened_outcome on_opened o.key_slot volume image pass r
           unfolding volume
           outcome_tried on_opened =
-              let held = area_held image area area' i (key_areas_end tries.slots) front grows enough in
-              let whole : opening_of tries image pass ≡ r =
-              sym (opening_beginning tries (max (header_read_len image) (key_areas_end tries.slots)) image pass
-              (omega arith))
-              ∙ ap (λ l. opening_of tries l pass) (sym held.2) ∙ tried in
-              outcome_found on_opened ∙ found_whole on_opened o.key_slot volume image pass short held.0
-              ∙ ap (opened_outcome on_opened o.key_slot volume image pass) whole
+              tried_is stand o image pass header segment tries found is_segment ordered short area area' i front grows
+              enough r tried on_opened
 
       -- no key slot opens
       runs_unopened : (grows : ConsumedOnto area area' (drop (header_read_len image) image) i

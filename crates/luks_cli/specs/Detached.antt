@@ -16,7 +16,7 @@ use Rattle.luks_cli.specs.Outcome.{outcome_of}
 use Rattle.luks_runs.specs.Reading.{detached_header_of}
 use Rattle.luks_runs.specs.Run.{Counts, Failures, Promptness, DetachedRunMatches, TookNone, at_any_pace}
 use Rattle.luks_cli.specs.Run.{IsCounted, KnowsSecret, TookSecret}
-use Rattle.luks_cli.specs.Volume.{detached_payload_outcome, slot_outcome, volume_by, volume_outcome_by}
+use Rattle.luks_unlock.specs.Volume.{detached_payload_outcome, slot_outcome, volume_by, volume_outcome_by}
 use Rattle.luks_cli.specs.VolumeParts.{detached_cat_promptly}
 
 -- what a command does with the bytes of the file with the header, of the image and of the second input

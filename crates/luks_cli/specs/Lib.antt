@@ -4,5 +4,4 @@ pub mod MayEnd
 pub mod Outcome
 pub mod Run
 pub mod Unlocking
-pub mod Volume
 pub mod VolumeParts

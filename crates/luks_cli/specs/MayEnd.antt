@@ -5,27 +5,8 @@ use Rattle.luks_request.specs.Request.{af_split, af_merge}
 use Rattle.luks_runs.specs.MayEnd.{CheckMessage, IsLuksMessage, MergeMessage, PayloadMessage, PrintMessage}
 use Rattle.luks_runs.specs.MayEnd.{SplitMessage}
 use Rattle.luks_report.specs.declared.message.Message.{Message}
-use Rattle.luks_report.specs.declared.message.Message.TheVariants.{Done, NotLuks, Cut, Json, OutOfMemory, ReadFailed}
-use Rattle.luks_report.specs.declared.message.Message.TheVariants.{WriteFailed}
-use Rattle.luks_report.specs.declared.message.Message.TheVariants.{SegmentRefused, NoSuchSlot, SlotDisabled}
-use Rattle.luks_report.specs.declared.message.Message.TheVariants.{SlotSkipped, NothingTried}
-use Rattle.luks_report.specs.declared.message.Message.TheVariants.{KeyFileLength, NoKey}
-
--- opening a volume
-abbrev pub OpeningMessage : Message → Type 0
-OpeningMessage NotLuks = Unit {0}
-OpeningMessage Cut = Unit {0}
-OpeningMessage Json = Unit {0}
-OpeningMessage (SegmentRefused _) = Unit {0}
-OpeningMessage (NoSuchSlot _) = Unit {0}
-OpeningMessage (SlotDisabled _) = Unit {0}
-OpeningMessage (SlotSkipped _ _) = Unit {0}
-OpeningMessage (NothingTried _) = Unit {0}
-OpeningMessage KeyFileLength = Unit {0}
-OpeningMessage (NoKey _) = Unit {0}
-OpeningMessage OutOfMemory = Unit {0}
-OpeningMessage ReadFailed = Unit {0}
-OpeningMessage _ = ⊥
+use Rattle.luks_report.specs.declared.message.Message.TheVariants.{Done, WriteFailed}
+use Rattle.luks_unlock.specs.MayEnd.{OpeningMessage}
 
 -- the messages that a command may end with, whatever its devices do
 abbrev pub MayReport : Request → Message → Type 0

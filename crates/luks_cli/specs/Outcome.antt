@@ -7,7 +7,7 @@ use Rattle.luks_report.specs.Dump.{dump_of, uuid_of}
 use Rattle.luks_runs.specs.Ending.{Outcome}
 use Rattle.luks_runs.specs.Header.{is_luks_outcome, print_outcome, always_done}
 use Rattle.luks_runs.specs.Stripe.{merge_outcome, split_outcome}
-use Rattle.luks_cli.specs.Volume.{payload_outcome, slot_outcome, volume_outcome}
+use Rattle.luks_unlock.specs.Volume.{payload_outcome, slot_outcome, volume_outcome}
 
 -- what a command does with the bytes that its inputs give
 abbrev pub outcome_of : Request → List ℕ → List ℕ → Outcome

@@ -8,7 +8,7 @@ use Rattle.luks_cli.specs.Outcome.{outcome_of}
 use Rattle.luks_runs.specs.Run.{HitsEofOnce, HitsEofTwice, Promptness, RunMatches, TookNone, at_any_pace}
 use Rattle.luks_runs.specs.Stripe.{longest_key}
 use Rattle.luks_runs.specs.StripeParts.{split_promptly}
-use Rattle.luks_cli.specs.Volume.{volume_of}
+use Rattle.luks_unlock.specs.Volume.{volume_of}
 use Rattle.luks_report.specs.declared.message.Message.{Message}
 
 -- how prompt a command is with this image

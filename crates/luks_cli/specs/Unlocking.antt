@@ -1,24 +1,21 @@
 -- What opening a volume leaves in its devices, wherever its header stands.
-use Rattle.std.specs.Prelude.{◌≡◌, ℕ, ◌-◌, ◌<◌, ◌≤◌, ◌⊎◌, List, length, max, min, take, Option, Some}
+use Rattle.std.specs.Prelude.{◌≡◌, ℕ, ◌<◌, ◌≤◌, ◌⊎◌, List, length, max, take, Option, Some}
 use Rattle.std.specs.Prelude.{Result, Ok, Err}
-use Rattle.luks_io.specs.Bytes.{Appended, ConsumedExactly}
-use Rattle.luks_header.specs.Area.{AbortsConsuming, ConsumedOnto}
-use Rattle.luks_header.specs.Header.{header_read_len}
-use Rattle.luks_area.specs.declared.fault.HeaderFault.{HeaderFault}
+use Rattle.luks_io.specs.Bytes.{Adds, Took}
+use Rattle.luks_header.specs.Header.{cost_of}
 use Rattle.luks_verdict.specs.declared.segment.Segment.{Segment}
-use Rattle.luks_open.specs.Opening.{opening_of}
-use Rattle.luks_open.specs.Order.{OrderModel, key_areas_end}
-use Rattle.luks_open.specs.declared.fault.OpenFault.{OpenFault}
+use Rattle.luks_open.specs.Order.{Tries}
 use Rattle.luks_open.specs.declared.opening.Opened.{Opened}
-use Rattle.luks_report.specs.Faults.{message_for_header, message_for_opening}
 use Rattle.luks_report.specs.Texts.{opened_line}
 use Rattle.luks_request.specs.Request.{OpeningRequest}
 use Rattle.luks_report.specs.declared.message.Message.{Message}
-use Rattle.luks_report.specs.declared.message.Message.TheVariants.{Cut, Done, OutOfMemory, WriteFailed}
+use Rattle.luks_report.specs.declared.message.Message.TheVariants.{Done, OutOfMemory, WriteFailed}
 use Rattle.luks_runs.specs.Secret.{NoSecretRead, longest_key_file}
 use Rattle.luks_runs.specs.Standing.{reading_of}
-use Rattle.luks_cli.specs.Volume.{OnOpened, volume_outcome_by}
-use Rattle.luks_cli.specs.VolumeParts.{HasSegmentBy, cat_promptly}
+use Rattle.luks_unlock.specs.Finding.{HasSegmentBy}
+use Rattle.luks_unlock.specs.Trying.{TriesSlots}
+use Rattle.luks_unlock.specs.Volume.{OnOpened, volume_outcome_by}
+use Rattle.luks_cli.specs.VolumeParts.{cat_promptly}
 use Rattle.luks_runs.specs.declared.standing.Standing.{Standing}
 use Rattle.luks_runs.specs.declared.standing.Standing.TheVariants.{Attached, Detached}
 
@@ -40,26 +37,6 @@ pub record Unlocks (standing : Standing) (o : OpeningRequest) (image secret : Li
   pub front : held ≡ take (length held) image
   pub image_taken : ConsumedExactly image image' (length held)
   pub secret_taken : ConsumedExactly secret secret' (length secret)
-
--- the image was taken up to the end of the key areas, or up to its own end if that comes first
-abbrev pub TookAreas : OrderModel → List ℕ → List ℕ → List ℕ → Option (List ℕ) → Type 0
-TookAreas tries area area' rest left =
-    ConsumedOnto area area' rest left (min (key_areas_end tries.slots - length area) (length rest))
-
--- the key slots of a volume that was found were tried, whose header is held: the key areas are taken, and those slots
--- answer for this passphrase. Else a read of the key areas failed, or memory for them was refused, or the image ended
--- within them
-abbrev pub TriesSlots : Option ℕ → OrderModel → List ℕ → List ℕ → List ℕ → List ℕ → Option (List ℕ)
-    → Result Opened Message
-    → Type 0
-TriesSlots named tries pass area area' rest left (Ok opened) = TookAreas tries area area' rest left
-    × (key_areas_end tries.slots ≤ length area') × (opening_of tries area' pass ≡ Ok opened)
-TriesSlots named tries pass area area' rest left (Err message) =
-    ((fault : HeaderFault) × (message ≡ message_for_header fault)
-    × AbortsConsuming (key_areas_end tries.slots - length area) area area' rest left fault)
-    ⊎ (TookAreas tries area area' rest left × ((message ≡ Cut × (length area' < key_areas_end tries.slots))
-    ⊎ ((fault : OpenFault) × (message ≡ message_for_opening named fault) × (key_areas_end tries.slots ≤ length area')
-    × (opening_of tries area' pass ≡ Err fault))))
 
 -- a volume that was found was opened by the passphrase that the key file has, or was not: that is read whole before
 -- the key slots are tried. Else nothing more was taken of the image

@@ -1,34 +1,14 @@
 -- What the parts of the commands on volumes leave in their devices.
-use Rattle.std.specs.Prelude.{◌≡◌, ◌⊎◌, ℕ, ◌+◌, ◌-◌, ◌*◌, ◌/◌, ◌<◌, ◌≤◌, List, length, max, Option, Ok, Err}
-use Rattle.luks_io.specs.Bytes.{ConsumedExactly, ConsumedAtMost}
-use Rattle.luks_header.specs.Header.{header_read_len, header_of}
-use Rattle.luks_header.specs.Segment.{segment_of}
-use Rattle.luks_header.specs.declared.header.Header.{Header}
+use Rattle.std.specs.Prelude.{◌≡◌, ◌⊎◌, ℕ, ◌+◌, ◌-◌, ◌*◌, ◌/◌, ◌<◌, ◌≤◌, List, length, max}
+use Rattle.luks_header.specs.Header.{cost_of}
 use Rattle.luks_verdict.specs.declared.segment.Segment.{Segment}
 use Rattle.luks_open.specs.declared.opening.Opened.{Opened}
-use Rattle.luks_payload.specs.Plain.{sector_len, sector_start}
-use Rattle.luks_request.specs.Request.{OpeningRequest}
+use Rattle.luks_volume.specs.Plain.{sector_len, sector_start}
 use Rattle.luks_report.specs.declared.message.Message.{Message}
-use Rattle.luks_report.specs.declared.message.Message.TheVariants.{OutOfMemory, ReadFailed, WriteFailed}
-use Rattle.luks_runs.specs.Reading.{Reading, detached_header_of}
-use Rattle.luks_cli.specs.Volume.{OnOpened, volume_by}
-
--- ---- the header
-
--- a header is read, and it has this segment
-abbrev pub HasSegmentBy : Reading → List ℕ → Segment → Type 0
-HasSegmentBy read image segment = (header : Header) × (read image ≡ Ok header) × (segment_of header ≡ Ok segment)
-
--- the image has a header with this segment
-abbrev pub HasSegment : List ℕ → Segment → Type 0
-HasSegment = HasSegmentBy header_of
-
--- finding the volume whose header is read so ended without one
-abbrev pub AbortsFinding : Reading → OpeningRequest → List ℕ → Option (List ℕ) → Message → Type 0
-AbortsFinding read o image left ReadFailed = ConsumedAtMost image left (header_read_len image)
-AbortsFinding read o image left OutOfMemory = ConsumedAtMost image left (header_read_len image)
-AbortsFinding read o image left message = (volume_by read o image ≡ Err message)
-    × ConsumedExactly image left (header_read_len image)
+use Rattle.luks_report.specs.declared.message.Message.TheVariants.{ReadFailed, WriteFailed}
+use Rattle.luks_runs.specs.Reading.{detached_header_of}
+use Rattle.luks_unlock.specs.Finding.{HasSegment, HasSegmentBy}
+use Rattle.luks_unlock.specs.Volume.{OnOpened}
 
 -- ---- opening
 

@@ -5,7 +5,7 @@
 pub mod check;
 mod faults;
 pub mod input;
-mod line;
+pub mod line;
 pub mod message;
 pub mod opened;
 pub mod report;

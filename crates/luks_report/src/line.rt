@@ -10,7 +10,7 @@ const ROOM: usize = 2048;
 
 /// A line that is put together piece by piece. A clause sees its bytes.
 #[derive(Drop)]
-pub(crate) struct Line {
+pub struct Line {
     places: [u8; ROOM],
     taken: usize,
 }
@@ -57,7 +57,7 @@ impl Line {
     }
 
     /// The bytes of the line.
-    pub(crate) fn as_slice(&self) -> &[u8]
+    pub fn as_slice(&self) -> &[u8]
         ensures { result.now ≡ self.now }
     {
         &self.places[..self.taken]

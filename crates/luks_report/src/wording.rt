@@ -27,9 +27,9 @@ impl Message {
         put_all(out, self.line().as_slice())
     }
 
-    // The line, or nothing.
+    /// The line of the message, newline included, or nothing where it has none.
     #[tactic(auto, using(crate::proofs::Lengths::reason_len, crate::proofs::Lengths::fault_len))]
-    fn line(&self) -> Line
+    pub fn line(&self) -> Line
         ensures { result ≡ line_of self.now }
     {
         match self {

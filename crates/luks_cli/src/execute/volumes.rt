@@ -1,59 +1,42 @@
 //! `testPassphrase` and `luksCat`: volumes that a passphrase opens.
 
-ghost use Rattle.std.specs.Prelude.{◌≡◌, ◌≢◌, ◌<◌, ◌≤◌, ◌⊎◌, ◌^◌, List, ℕ, Option, Ok, Err};
-ghost use Rattle.std.specs.Prelude.{IfOk, IfErr};
-ghost use Rattle.std.specs.Prelude.{false, is_err, length, take, true};
+ghost use Rattle.std.specs.Prelude.{◌≡◌, ◌≢◌, ◌<◌, ◌≤◌, ◌⊎◌, ◌^◌, List, ℕ, Option, Ok};
+ghost use Rattle.std.specs.Prelude.{IfOk, IfErr, is_err, length, true};
 ghost use Rattle.luks_cipher.specs.Sector.{is_mode_key_length};
-ghost use Rattle.luks_io.specs.Bytes.{Appended, ConsumedExactly, IfKnown, counted};
-ghost use Rattle.luks_header.specs.Header.{header_read_len, header_of};
+ghost use Rattle.luks_io.specs.Bytes.{Adds, Took, WhereKnown, counted};
 ghost use Rattle.luks_header.specs.Segment.{segment_of};
 ghost use Rattle.luks_open.specs.Order.{order_of};
-ghost use Rattle.luks_cli.specs.Volume.{OnOpened, detached_payload_outcome, payload_outcome};
-ghost use Rattle.luks_cli.specs.Volume.{slot_outcome, volume_by, volume_in_header};
-ghost use Rattle.luks_cli.specs.Volume.{volume_outcome, volume_outcome_by};
-ghost use Rattle.luks_cli.specs.VolumeParts.{cat_promptly};
+ghost use Rattle.luks_unlock.specs.MayEnd.{OpeningMessage};
+ghost use Rattle.luks_unlock.specs.Volume.{OnOpened, detached_payload_outcome, payload_outcome};
+ghost use Rattle.luks_unlock.specs.Volume.{slot_outcome, volume_by, volume_of};
+ghost use Rattle.luks_unlock.specs.Volume.{volume_outcome, volume_outcome_by};
 ghost use Rattle.luks_request.specs.Request.{opening_request};
-ghost use Rattle.luks_cli.specs.Detached.{CountsDetached, EndsWithoutKey};
-ghost use Rattle.luks_runs.specs.Run.{Counts, failures_of, HitsEofOnce, HitsEofTwice};
-ghost use Rattle.luks_runs.specs.Run.{RunMatches, DetachedRunMatches, at_any_pace};
-ghost use Rattle.luks_runs.specs.Run.{is_run_read_failure, is_run_write_failure, result_message};
-ghost use Rattle.luks_cli.specs.MayEnd.{OpeningMessage};
 ghost use Rattle.luks_runs.specs.MayEnd.{PayloadMessage};
-ghost use Rattle.luks_runs.specs.Reading.{detached_header_of};
-ghost use Rattle.luks_runs.specs.Standing.{reading_of};
-ghost use Rattle.luks_cli.specs.Unlocking.{OpensVolume, TellsSlot, TriesSlots, Unlocks};
-ghost use Rattle.luks_cli.specs.Unlocking.{opens_promptly};
-ghost use Rattle.luks_cli.specs.Volume.{volume_of};
 ghost use Rattle.luks_runs.specs.Payload.{FindsPayloadEnd, PassesHeld};
-ghost use Rattle.luks_cli.specs.VolumeParts.{AbortsFinding, TakesHeld, detached_cat_promptly};
+ghost use Rattle.luks_runs.specs.Reading.{detached_header_of};
+ghost use Rattle.luks_runs.specs.Run.{Counts, failures_of, FindsEndOnce, FindsEndTwice};
+ghost use Rattle.luks_runs.specs.Run.{Runs, RunsApart, at_any_pace};
+ghost use Rattle.luks_runs.specs.Run.{is_failed_read, is_failed_write, message_of};
+ghost use Rattle.luks_runs.specs.Standing.{reading_of};
+ghost use Rattle.luks_cli.specs.Detached.{CountsDetached, EndsWithoutKey};
+ghost use Rattle.luks_cli.specs.Unlocking.{OpensVolume, TellsSlot, Unlocks, opens_promptly};
+ghost use Rattle.luks_cli.specs.VolumeParts.{TakesHeld, cat_promptly, detached_cat_promptly};
 
 use luks_cipher::SectorCipher;
 use luks_header::area::HeaderArea;
-use luks_header::header::Header;
-use luks_header::payload::segment;
 use luks_header::segment::Segment;
 use luks_io::sink::{Sink, put_all};
 use luks_io::source::Source;
-use luks_kdf::Work;
-use luks_open::opening::{Opened, open};
-use luks_open::order::order;
-use luks_open::tries::{Order, held_end};
+use luks_open::opening::Opened;
 use luks_report::message::Message;
 use luks_report::opened::opened_page;
 use luks_request::command::Opening;
 use luks_runs::payload::write_payload;
 use luks_runs::secret::read_secret;
-use luks_runs::standing::{Standing, find_header};
+use luks_runs::standing::Standing;
+use luks_unlock::finding::{FoundVolume, find_volume};
+use luks_unlock::trying::try_slots;
 use std::alloc::Global;
-
-/// A volume whose header is read: where its payload lies, and which key slots are tried.
-#[derive(Drop)]
-struct Volume {
-    header: Header,
-    area: HeaderArea,
-    segment: Segment,
-    order: Order,
-}
 
 /// A volume that is opened.
 #[derive(Drop)]
@@ -64,133 +47,11 @@ struct Unlocked {
     opened: Opened,
 }
 
-/// The number of the key slot that is named.
-fn named_slot(opening: &Opening<'_>) -> Option<u8>
-    ensures { result ≡ (opening_request opening.now).key_slot }
-{
-    match opening.key_slot {
-        Some(slot) => Some(slot.get()),
-        None => None,
-    }
-}
-
-/// The limit on iterations.
-fn limit(opening: &Opening<'_>) -> Option<u32>
-    ensures { result ≡ (opening_request opening.now).max_iterations }
-{
-    match opening.max_iterations {
-        Some(limit) => Some(limit.get()),
-        None => None,
-    }
-}
-
-/// Finds the segment of a header, and the key slots that are tried.
-fn find_slots(
-    alloc: Global,
-    opening: &Opening<'_>,
-    header: &Header,
-) -> Result<(Segment, Order), Message>
-    ensures segment { IfOk result (λ found. segment_of header.now ≡ Ok found.0) }
-    ensures order { IfOk result (λ found. let o = opening_request opening.now in
-        order_of header.now o.key_slot o.max_iterations ≡ Ok found.1) }
-    ensures err { IfErr result (λ message. (message ≡ Message.OutOfMemory)
-        ⊎ (volume_in_header (opening_request opening.now) (Ok header.now) ≡ Err message)) }
-    ensures only { IfErr result OpeningMessage }
-    ensures untouched { IfErr result
-        (λ message. (message ≢ Message.WriteFailed) × (message ≢ Message.ReadFailed)) }
-{
-    let segment = segment(header)?;
-    let named = named_slot(opening);
-    match order(alloc, header, named, limit(opening)) {
-        Ok(order) => Ok((segment, order)),
-        Err(fault) => Err(Message::of_opening(named, fault)),
-    }
-}
-
-/// Reads the header of an image, or of a file of its own, and finds its segment and the key slots
-/// that are tried.
-fn find_volume<I: Source>(
-    alloc: Global,
-    standing: Standing,
-    opening: &Opening<'_>,
-    image: &mut I,
-) -> Result<Volume, Message>
-    ensures ok { IfOk result (λ volume. IfKnown (I.to_come image.old)
-        (λ known. (reading_of standing known ≡ Ok volume.header)
-        × (volume.area ≡ take (header_read_len known) known)
-        × ConsumedExactly known (I.to_come image.new) (header_read_len known))) }
-    ensures err { IfErr result (λ message. IfKnown (I.to_come image.old)
-        (λ known. AbortsFinding (reading_of standing) (opening_request opening.now) known
-        (I.to_come image.new) message)) }
-    ensures only { IfErr result OpeningMessage }
-    ensures segment { IfOk result (λ volume. segment_of volume.header ≡ Ok volume.segment) }
-    ensures order { IfOk result (λ volume. let o = opening_request opening.now in
-        order_of volume.header o.key_slot o.max_iterations ≡ Ok volume.order) }
-    ensures volume { IfOk result (λ _. IfKnown (I.to_come image.old)
-        (λ known. is_err (volume_by (reading_of standing) (opening_request opening.now) known)
-        ≡ false)) }
-    ensures area { IfOk result (λ volume. length volume.area ≡ header_read_len volume.area) }
-    ensures front { IfOk result (λ volume. reading_of standing volume.area ≡ Ok volume.header) }
-    ensures writes { IfErr result (λ message. message ≢ Message.WriteFailed) }
-    ensures reads { I.failures image.new
-        ≡ counted (is_run_read_failure (result_message result)) (I.failures image.old) }
-    ensures end { HitsEofOnce (I.ends image.old) (I.ends image.new) }
-{
-    let (header, area) = find_header(alloc, standing, image)?;
-    match find_slots(alloc, opening, &header) {
-        Ok((segment, order)) => Ok(Volume {
-            header,
-            area,
-            segment,
-            order,
-        }),
-        Err(message) => Err(message),
-    }
-}
-
-/// Tries the key slots of a volume under a passphrase: takes the key areas behind its header first.
-fn try_slots<I: Source>(
-    opening: &Opening<'_>,
-    volume: &mut Volume,
-    image: &mut I,
-    pass: &[u8],
-) -> Result<Opened, Message>
-    requires segment { segment_of volume.old.header ≡ Ok volume.old.segment }
-    requires order { let o = opening_request opening.now in
-        order_of volume.old.header o.key_slot o.max_iterations ≡ Ok volume.old.order }
-    ensures run { IfKnown (I.to_come image.old) (λ rest.
-        TriesSlots (opening_request opening.now).key_slot volume.old.order pass.now
-        volume.old.area volume.new.area rest (I.to_come image.new) result) }
-    ensures kept { volume.new ≡ record volume.old { area = volume.new.area } }
-    ensures only { IfErr result OpeningMessage }
-    ensures writes { IfErr result (λ message. message ≢ Message.WriteFailed) }
-    ensures key { IfOk result (λ opened.
-        is_mode_key_length volume.old.segment.mode (length opened.key) ≡ true) }
-    ensures reads { I.failures image.new
-        ≡ counted (is_run_read_failure (result_message result)) (I.failures image.old) }
-    ensures image_end { HitsEofOnce (I.ends image.old) (I.ends image.new) }
-    ensures still { IfOk result (λ _. I.ends image.new ≡ I.ends image.old) }
-{
-    if !volume.area.extend_to(image, held_end(&volume.order))? {
-        return Err(Message::Cut);
-    }
-    let Volume {
-        header,
-        area,
-        order,
-        ..
-    } = volume;
-    match open(header, area, order, pass, &mut Work::new(0)) {
-        Ok(opened) => Ok(opened),
-        Err(fault) => Err(Message::of_opening(named_slot(opening), fault)),
-    }
-}
-
 /// Opens a volume that was found by the passphrase that the key file has.
 fn open_volume<I: Source, K: Source>(
     alloc: Global,
     opening: &Opening<'_>,
-    volume: &mut Volume,
+    volume: &mut FoundVolume,
     image: &mut I,
     secret: &mut K,
 ) -> Result<Opened, Message>
@@ -217,7 +78,7 @@ fn open_volume<I: Source, K: Source>(
 }
 
 /// What is kept of a volume that is opened: the bytes of its image that are held, and its segment.
-fn held_parts(volume: Volume) -> (HeaderArea, Segment)
+fn held_parts(volume: FoundVolume) -> (HeaderArea, Segment)
     ensures { result ≡ (volume.area, volume.segment) }
 {
     (volume.area, volume.segment)

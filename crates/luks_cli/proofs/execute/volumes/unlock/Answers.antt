@@ -1,7 +1,7 @@
 use Rattle.std.proofs.lemmas.Result.{err_from_is_err_and}
 use Rattle.std.proofs.Common.{[], Some, ap, refl}
 use Rattle.luks_request.specs.Request.{opening_request}
-use Rattle.luks_cli.specs.declared.execute.volumes.Volume.{Volume}
+use Rattle.luks_unlock.specs.declared.finding.FoundVolume.{FoundVolume}
 use Rattle.luks_cli.proofs.VolumeRuns.{runs_without_key, runs_without_volume, unlocks_volume}
 use Rattle.luks_runs.proofs.Counting.{ends_then, ends_twice}
 use Rattle.luks_cli.proofs.execute.volumes.unlock.Goals as goal
@@ -28,7 +28,7 @@ pub returns-clause-ok : goal.returns-clause-ok
 returns-clause-ok g c known is pass has =
     let volume = c.in_ok-volume.ensures in
     let read = volume.ok known is in
-    let kept = ap (λ (v : Volume). v.segment) c.open_volume-opened.ensures.kept in
+    let kept = ap (λ (v : FoundVolume). v.segment) c.open_volume-opened.ensures.kept in
     rw (c.held_parts-area.ensures, kept) (unlocks_volume c.args.standing (opening_request c.args.opening.now) known pass
     _ _ (Some []) _ _ _ read.0 volume.segment volume.order _ _ read.1 _
     (c.in_ok-opened.ensures.run _ read.2.left pass has))

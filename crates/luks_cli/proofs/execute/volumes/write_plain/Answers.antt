@@ -1,6 +1,6 @@
 use Rattle.std.proofs.Common.{ap, length, ◌∙◌}
 use Rattle.luks_cipher.specs.Sector.{is_mode_key_length}
-use Rattle.luks_cli.proofs.OpenedRuns.{cipher_is}
+use Rattle.luks_unlock.proofs.KeyLemmas.{cipher_is}
 use Rattle.luks_cli.proofs.execute.volumes.write_plain.Goals as goal
 
 pub returns-clause-run : goal.returns-clause-run

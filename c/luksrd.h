@@ -1,0 +1,147 @@
+/*
+ * luksrd.h: any part of the plain text of a LUKS1 or LUKS2 volume, from C.
+ *
+ * A volume is opened from the first bytes of its image, or of its detached header. After that the
+ * caller reads whole sectors of the payload, from byte `offset` of the image on, and decrypts them
+ * in place: sector n of the payload begins at byte `offset + n * sector_size` of the image, and
+ * becomes the bytes from `n * sector_size` on of what `luksrd luksCat` writes.
+ *
+ * What a caller must keep to, in every function:
+ *   - no pointer is NULL, not even one to no bytes;
+ *   - a pointer with a length is to that many bytes; another is to one whole value of its type,
+ *     aligned as its type is;
+ *   - what is passed does not overlap and is not changed by another thread until the call returns.
+ *
+ * No function keeps state, so threads may call all of them at once, with the same volume too. Only
+ * luksrd_open takes memory, by malloc, realloc and free. It may not be called from a signal
+ * handler, nor from the forked child of a process with threads.
+ */
+#ifndef LUKSRD_H
+#define LUKSRD_H
+
+#include <stddef.h>
+#include <stdint.h>
+
+#ifdef __cplusplus
+extern "C" {
+#endif
+
+/* The first bytes of an image or of a detached header that decide all of opening: with them the
+ * outcome is the same as with all its bytes. Of a shorter one, all its bytes do. */
+#define LUKSRD_HEADER_BYTES 33554432
+
+/* The longest passphrase in bytes, which is also that of a key file. */
+#define LUKSRD_PASSPHRASE_BYTES 8388608
+
+/* What a function answers. Those on opening are refusals of `luksrd luksCat`. */
+enum luksrd_code {
+  LUKSRD_OK = 0,
+  LUKSRD_NOT_LUKS = 1,        /* the image has no LUKS header */
+  LUKSRD_TRUNCATED = 2,       /* the image ends inside the header or a key area */
+  LUKSRD_JSON = 3,            /* the JSON area of a LUKS2 header is not readable */
+  LUKSRD_SEGMENT_REFUSED = 4, /* the payload cannot be read */
+  LUKSRD_NO_SUCH_SLOT = 5,    /* the named key slot is not there */
+  LUKSRD_SLOT_DISABLED = 6,   /* the named key slot is not in use */
+  LUKSRD_SLOT_SKIPPED = 7,    /* the named key slot cannot be tried */
+  LUKSRD_NOTHING_TRIED = 8,   /* no key slot can be tried */
+  LUKSRD_KEY_FILE_LENGTH = 9, /* the passphrase is longer than LUKSRD_PASSPHRASE_BYTES */
+  LUKSRD_NO_KEY = 10,         /* no key slot that was tried opens */
+  LUKSRD_OUT_OF_MEMORY = 11,
+
+  /* how an image ends that is not whole */
+  LUKSRD_ENDS_BEFORE_PAYLOAD = 12, /* before its payload begins */
+  LUKSRD_ENDS_INSIDE_SECTOR = 13,  /* inside a sector of the payload */
+  LUKSRD_ENDS_BEFORE_SEGMENT = 14, /* before the end of a payload of fixed size */
+
+  /* a call that no caller should make */
+  LUKSRD_BAD_OPTIONS = 15, /* a key slot number above 31 */
+  LUKSRD_BAD_VOLUME = 16,  /* a volume that luksrd_open did not fill */
+  LUKSRD_BAD_RANGE = 17    /* no whole sectors, or sector numbers above 2^64 - 1 */
+};
+
+/* How a volume is opened. All zero: an attached header, every key slot, no limit. */
+struct luksrd_options {
+  uint32_t detached;       /* not 0: the bytes are those of a detached header */
+  uint32_t has_key_slot;   /* not 0: only the key slot of number `key_slot` is tried */
+  uint32_t key_slot;       /* 0 to 31 */
+  uint32_t max_iterations; /* the most PBKDF2 iterations of a key slot or a digest; 0: no limit */
+};
+
+/* How a payload is encrypted: the last part of `aes-..` in a header. */
+enum luksrd_mode {
+  LUKSRD_XTS_PLAIN64 = 1,
+  LUKSRD_XTS_PLAIN = 2,
+  LUKSRD_CBC_ESSIV_SHA256 = 3,
+  LUKSRD_CBC_PLAIN64 = 4
+};
+
+/* A volume that is open. It belongs to the caller, holds no pointer and may be copied. It holds the
+ * volume key: wipe it (explicit_bzero) once it is not needed. */
+struct luksrd_volume {
+  uint64_t offset;      /* the first byte of the payload in its image */
+  uint64_t size;        /* the payload's length in bytes, if has_size is 1; else 0 */
+  uint64_t iv_tweak;    /* the data unit number of the first sector, in units of 512 bytes */
+  uint32_t has_size;    /* 1: the payload has a fixed size; 0: it ends with its image */
+  uint32_t sector_size; /* 512, 1024, 2048 or 4096 bytes */
+  uint32_t mode;        /* one of enum luksrd_mode */
+  uint32_t key_size;    /* the volume key's length in bytes: 16, 32 or 64 */
+  uint32_t key_slot;    /* the number of the key slot that opened */
+  uint32_t reserved;    /* 0 */
+  uint8_t key[64];      /* the volume key; the bytes past key_size are 0 */
+};
+
+/* What luksrd says: the exit status of `luksrd luksCat`, and the line that it prints on standard
+ * error, without its newline. The text is not ended by a zero byte: print it by "%.*s". */
+struct luksrd_message {
+  uint32_t status;    /* 0: all is well; 1: refused; 2: no key; 3: no memory; 4: the image is not as
+                       * it has to be */
+  uint32_t len;       /* how many bytes the text has, at most 1016; 0 if the status is 0 */
+  uint8_t text[1016]; /* it; the bytes past `len` are 0 */
+};
+
+/* Opens a volume by a passphrase.
+ *
+ * `header` is the image's first bytes, or those of the detached header if the options say so: the
+ * first LUKSRD_HEADER_BYTES of it, or all of it if it is shorter. The passphrase is taken as it is,
+ * a newline at its end too.
+ *
+ * Answers LUKSRD_OK, the volume is filled and the message is empty; or a refusal's code, the volume
+ * is all zero and the message is luksrd's own. Time is that of PBKDF2, which the header decides:
+ * seconds and more, if it asks for many iterations and no limit is given. */
+uint32_t luksrd_open(const uint8_t *header, size_t header_len, const uint8_t *passphrase,
+                     size_t passphrase_len, const struct luksrd_options *options,
+                     struct luksrd_volume *volume, struct luksrd_message *message);
+
+/* How many bytes of plain text a volume has whose payload's image has `image_len` bytes: its whole
+ * sectors, a multiple of the sector size. 0 if luksrd_open did not fill the volume. */
+uint64_t luksrd_len(const struct luksrd_volume *volume, uint64_t image_len);
+
+/* How the payload ends in an image of `image_len` bytes.
+ *
+ * Answers LUKSRD_OK, with 0 in `bytes`, if it is whole; LUKSRD_ENDS_BEFORE_PAYLOAD, with 0;
+ * LUKSRD_ENDS_INSIDE_SECTOR, with how many bytes of that sector there are; or
+ * LUKSRD_ENDS_BEFORE_SEGMENT, with how many bytes of the payload are missing. The message is
+ * that with which `luksrd luksCat` ends. LUKSRD_BAD_VOLUME if luksrd_open did not fill the volume. */
+uint32_t luksrd_ending(const struct luksrd_volume *volume, uint64_t image_len, uint64_t *bytes,
+                       struct luksrd_message *message);
+
+/* Decrypts whole sectors in place, the first of which is sector `first_sector` of the payload.
+ *
+ * `len` is a multiple of the sector size. The bytes are those of the image from byte
+ * `offset + first_sector * sector_size` on: a caller that read fewer must not pass the others.
+ * Answers LUKSRD_OK; or LUKSRD_BAD_RANGE or LUKSRD_BAD_VOLUME, and the bytes are as they were. */
+uint32_t luksrd_decrypt(const struct luksrd_volume *volume, uint64_t first_sector, uint8_t *bytes,
+                        size_t len);
+
+/* The status and the sentence of a code alone, without slot numbers, reasons and counts of bytes.
+ * Of a number that is no code: status 1 and "luksrd: no such code". */
+void luksrd_status_text(uint32_t code, struct luksrd_message *message);
+
+/* The version of this library: major * 65536 + minor * 256 + patch. */
+uint32_t luksrd_version(void);
+
+#ifdef __cplusplus
+}
+#endif
+
+#endif

@@ -1,0 +1,4 @@
+pub mod OpeningLemmas
+pub mod PartLemmas
+pub mod RangeLemmas
+pub mod SourceLemmas

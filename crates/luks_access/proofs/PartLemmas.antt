@@ -1,0 +1,217 @@
+-- Parts of what is joined, and sectors decrypted one after the other.
+use Rattle.std.proofs.Common.{◌≡◌, ℕ, zero, suc, ◌+◌, ◌-◌, ◌*◌, ◌/◌, ◌%◌, ◌<◌, ◌≤◌, List, [], ◌++◌, length, take, drop}
+use Rattle.std.proofs.Common.{length-append, length-drop, length-take-le, append-nil, append_assoc, add-one}
+use Rattle.std.proofs.Common.{arith, refl, sym, ap, ◌∙◌}
+use Rattle.std.proofs.lemmas.List.{drop-drop, drop-take, take-take, drop_all}
+use Rattle.std.proofs.Common.{Option, None, Some}
+use Rattle.std.proofs.Math.Nat.{div-mul-le_self, mod-eq-sub-div-mul, mul-le-mul_right}
+use Rattle.luks_cipher.proofs.ModeLemmas.{length-sector_decrypted}
+use Rattle.luks_cipher.specs.Sector.{Cipher, sector_decrypted}
+use Rattle.luks_cipher.specs.Xts.{joined}
+use Rattle.luks_kdf.proofs.BytesLemmas.{take_front, drop_front}
+use Rattle.luks_header.specs.SectorSize.{bytes_of}
+use Rattle.luks_verdict.specs.declared.sector_size.SectorSize.{SectorSize}
+use Rattle.luks_verdict.specs.declared.sector_size.SectorSize.TheVariants.{B512, B1024, B2048, B4096}
+use Rattle.luks_verdict.specs.declared.segment.Segment.{Segment}
+use Rattle.luks_volume.specs.Plain.{payload_len, plain_of, sector_len, sector_of, sector_start, sectors_of, unit_plain}
+use Rattle.luks_volume.specs.Plain.{unit_number, within_size}
+use Rattle.luks_access.specs.Sectors.{AreStored, plain_at, plain_in, sector_in}
+
+pub record IsSectorLen (z : ℕ) : Type 0 where
+  pub long : 512 ≤ z
+  pub short : z ≤ 4096
+  pub blocks : z % 16 ≡ 0
+
+pub sector_blocks : (size : SectorSize) → IsSectorLen (bytes_of size)
+sector_blocks B512 = record { long = omega arith; short = omega arith; blocks = refl }
+sector_blocks B1024 = record { long = omega arith; short = omega arith; blocks = refl }
+sector_blocks B2048 = record { long = omega arith; short = omega arith; blocks = refl }
+sector_blocks B4096 = record { long = omega arith; short = omega arith; blocks = refl }
+
+-- below so many whole sectors there is one more
+pub one_more_fits : (n size z : ℕ) → n < size / z → n * z + z ≤ size
+one_more_fits n size z below =
+    let more : n + 1 ≤ size / z = omega arith in
+    let all = mul-le-mul_right z more in
+    omega (arith, div-mul-le_self size z, all)
+
+-- ---- pieces joined
+
+joined_length : (f : ℕ → List ℕ) (z n : ℕ) → ((j : ℕ) → j < n → length (f j) ≡ z) → length (joined f n) ≡ n * z
+unfolding joined
+joined_length f z zero sizes = omega arith
+joined_length f z (suc n) sizes =
+    let before = joined_length f z n (λ j low. sizes j (omega arith)) in
+    rw (length-append (joined f n) (f n), before, sizes n (omega arith)) (omega arith)
+
+-- the pieces before number a, and then n more
+joined_both : (f : ℕ → List ℕ) (a n : ℕ) → joined f (a + n) ≡ joined f a ++ joined (λ j. f (a + j)) n
+unfolding joined
+joined_both f a zero =
+    let e : a + 0 ≡ a = omega arith in
+    rw e (sym (append-nil (joined f a)))
+joined_both f a (suc n) =
+    let e : a + suc n ≡ suc (a + n) = omega arith in
+    rw e
+    (ap (λ l. l ++ f (a + n)) (joined_both f a n)
+    ∙ append_assoc (joined f a) (joined (λ j. f (a + j)) n) (f (a + n)))
+
+joined_same : (f g : ℕ → List ℕ) (n : ℕ) → ((j : ℕ) → j < n → f j ≡ g j) → joined f n ≡ joined g n
+unfolding joined
+joined_same f g zero same = refl
+joined_same f g (suc n) same =
+    rw (joined_same f g n (λ j low. same j (omega arith)), same n (omega arith)) refl
+
+-- n pieces from number a on are a part of what is joined
+pub joined_part : (f : ℕ → List ℕ) (z a n total : ℕ) → ((j : ℕ) → j < total → length (f j) ≡ z) → a + n ≤ total
+    → take (n * z) (drop (a * z) (joined f total)) ≡ joined (λ j. f (a + j)) n
+joined_part f z a n total sizes few =
+    let rest = total - (a + n) in
+    let all : total ≡ a + (n + rest) = omega arith in
+    let g : ℕ → List ℕ = λ j. f (a + j) in
+    let front : length (joined f a) ≡ a * z = joined_length f z a (λ j low. sizes j (omega arith)) in
+    let middle : length (joined g n) ≡ n * z = joined_length g z n (λ j low. sizes (a + j) (omega arith)) in
+    ap (λ k. take (n * z) (drop (a * z) (joined f k))) all
+    ∙ (ap (λ l. take (n * z) (drop (a * z) l)) (joined_both f a (n + rest))
+    ∙ (ap (take (n * z)) (drop_front (a * z) (joined f a) (joined g (n + rest)) front)
+    ∙ (ap (take (n * z)) (joined_both g n rest)
+    ∙ take_front (n * z) (joined g n) (joined (λ j. g (n + j)) rest) middle)))
+
+-- ---- sectors decrypted in turn
+
+unit_len : (cipher : Cipher) (number : ℕ) (unit : List ℕ) → length unit % 16 ≡ 0
+    → length (unit_plain cipher number unit) ≡ length unit
+unfolding unit_plain
+unit_len cipher number unit whole = length-sector_decrypted cipher number unit whole
+
+-- a piece of a list that is there whole
+piece_len : (z j : ℕ) (l : List ℕ) → j * z + z ≤ length l → length (take z (drop (j * z) l)) ≡ z
+piece_len z j l there = length-take-le z (drop (j * z) l) (omega (arith, length-drop (j * z) l))
+
+module _ (s : Segment) (cipher : Cipher) (first : ℕ) (stored : List ℕ) where
+  z : ℕ
+  z = sector_len s
+
+  len_in : (j : ℕ) → j * sector_len s + sector_len s ≤ length stored
+      → length (sector_in s cipher first stored j) ≡ sector_len s
+  len_in j there =
+      let piece = piece_len (sector_len s) j stored there in
+      let blocks = (sector_blocks s.sector_size).blocks in
+      unit_len cipher (unit_number s (first + j)) (take (sector_len s) (drop (j * sector_len s) stored))
+      (rw piece blocks) ∙ piece
+
+  pub none_decrypted : (size : ℕ) → stored ≡ joined (sector_in s cipher first stored) 0 ++ drop (0 * size) stored
+  unfolding joined
+  none_decrypted size = ap (λ n. drop n stored) (no_sectors size)
+    where
+      no_sectors : (n : ℕ) → 0 ≡ 0 * n
+      no_sectors n = omega arith
+
+  -- one sector more is decrypted
+  pub one_decrypted : (now new : List ℕ) (size j : ℕ)
+      → size ≡ sector_len s
+      → j * size + size ≤ length stored
+      → now ≡ joined (sector_in s cipher first stored) j ++ drop (j * size) stored
+      → new ≡ sector_decrypted cipher.0 cipher.1 (unit_number s (first + j))
+      (take (j * size + size - j * size) (drop (j * size) now))
+      → take (j * size) now ++ (new ++ drop (j * size + size - j * size) (drop (j * size) now))
+      ≡ joined (sector_in s cipher first stored) (j + 1) ++ drop ((j + 1) * size) stored
+  unfolding joined unit_plain
+  one_decrypted now new size j is_size inside is_now is_new =
+      let f = sector_in s cipher first stored in
+      let a = j * size in
+      let width : a + size - a ≡ size = omega arith in
+      let each : (i : ℕ) → i < j → length (f i) ≡ size = λ i low.
+      let within : (i + 1) * size ≤ j * size = mul-le-mul_right size (omega arith) in
+      let there : i * sector_len s + sector_len s ≤ length stored =
+      rw (← is_size) (omega (arith, within, next_start i size, inside)) in
+      len_in i there ∙ sym is_size in
+      let long : length (joined f j) ≡ a = joined_length f size j each in
+      let front : take a now ≡ joined f j = rw is_now (take_front a (joined f j) (drop a stored) long) in
+      let back : drop a now ≡ drop a stored = rw is_now (drop_front a (joined f j) (drop a stored) long) in
+      let here : new ≡ f j = is_new ∙ rw (back, width, is_size) refl in
+      let rest : drop (a + size - a) (drop a now) ≡ drop ((j + 1) * size) stored =
+      rw (back, width) (drop-drop size a stored ∙ ap (λ n. drop n stored) (next_start j size)) in
+      rw (front, rest, here, add-one) (sym (append_assoc (joined f j) (f j) (drop (suc j * size) stored)))
+    where
+      next_start : (i size : ℕ) → i * size + size ≡ (i + 1) * size
+      next_start i size = omega arith
+
+  -- all are
+  pub all_decrypted : (now : List ℕ) (size count j : ℕ)
+      → size ≡ sector_len s → count ≡ length stored / size → length stored % size ≡ 0 → j ≡ count
+      → now ≡ joined (sector_in s cipher first stored) j ++ drop (j * size) stored
+      → now ≡ plain_in s cipher first stored
+  all_decrypted now size count j is_size is_count whole is_last is_now =
+      let nothing : drop (j * size) stored ≡ [] = drop_all (j * size) stored (covers size count j (length stored) is_count whole is_last) in
+      is_now ∙ rw (nothing, append-nil, is_last, is_count, is_size) refl
+    where
+      covers : (size count j len : ℕ) → count ≡ len / size → len % size ≡ 0 → j ≡ count → len ≤ j * size
+      covers size count j len is_count whole is_last =
+          let product : j * size ≡ len / size * size = ap (λ k. k * size) (is_last ∙ is_count) in
+          omega (arith, mod-eq-sub-div-mul len size, div-mul-le_self len size, product)
+
+-- ---- sectors of an image
+
+within_len : (size : Option ℕ) (len : ℕ) → within_size size len ≤ len
+within_len None len = omega arith
+within_len (Some size) len = omega arith
+
+module _ (s : Segment) (cipher : Cipher) (image : List ℕ) where
+  -- a sector of the payload has its length
+  len_of : (j : ℕ) → j < sectors_of s image → length (sector_of s cipher image j) ≡ sector_len s
+  len_of j low =
+      let all = one_more_fits j (within_size s.size (payload_len s image)) (sector_len s) low in
+      let within = within_len s.size (payload_len s image) in
+      let blocks = (sector_blocks s.sector_size).blocks in
+      let piece : length (take (sector_len s) (drop (sector_start s j) image)) ≡ sector_len s =
+      length-take-le (sector_len s) (drop (sector_start s j) image)
+      (there s.offset (j * sector_len s) (sector_len s) (within_size s.size (payload_len s image)) (length image)
+      (length (drop (sector_start s j) image)) (sector_blocks s.sector_size).long all within
+      (length-drop (sector_start s j) image)) in
+      unit_len cipher (unit_number s j) (take (sector_len s) (drop (sector_start s j) image))
+      (rw piece blocks) ∙ piece
+    where
+      there : (o p z w len d : ℕ) → 512 ≤ z → p + z ≤ w → w ≤ len - o → d ≡ len - (o + p) → z ≤ d
+      there o p z w len d some all within is = omega arith
+
+  -- sector j of those that are stored
+  same_sector : (first : ℕ) (stored : List ℕ) (n j : ℕ) → length stored ≡ n * sector_len s
+      → stored ≡ take (length stored) (drop (sector_start s first) image) → j < n
+      → sector_of s cipher image (first + j) ≡ sector_in s cipher first stored j
+  same_sector first stored n j len is low =
+      let z = sector_len s in
+      let inside : (j + 1) * sector_len s ≤ n * sector_len s = mul-le-mul_right (sector_len s) (omega arith) in
+      let room : j * sector_len s + sector_len s ≤ length stored = room_of j (sector_len s) n (length stored) len inside in
+      let m = length stored - j * sector_len s in
+      let split : length stored ≡ j * sector_len s + m = omega (arith, room) in
+      let here : drop (j * sector_len s) stored ≡ take m (drop (j * sector_len s) (drop (sector_start s first) image)) =
+      ap (drop (j * sector_len s)) (is ∙ ap (λ k. take k (drop (sector_start s first) image)) split)
+      ∙ drop-take (j * sector_len s) m (drop (sector_start s first) image) in
+      let cut : take (sector_len s) (drop (j * sector_len s) stored)
+      ≡ take (sector_len s) (drop (sector_start s (first + j)) image) =
+      ap (take (sector_len s)) here
+      ∙ (take-take (sector_len s) m (drop (j * sector_len s) (drop (sector_start s first) image)) (omega (arith, room))
+      ∙ ap (take (sector_len s)) (drop-drop (j * sector_len s) (sector_start s first) image
+      ∙ ap (λ k. drop k image) (place s.offset first j (sector_len s)))) in
+      ap (unit_plain cipher (unit_number s (first + j))) (sym cut)
+    where
+      room_of : (j z n len : ℕ) → len ≡ n * z → (j + 1) * z ≤ n * z → j * z + z ≤ len
+      room_of j z n len is inside = omega arith
+
+      place : (o first j z : ℕ) → o + first * z + j * z ≡ o + (first + j) * z
+      place o first j z = omega arith
+
+  -- what was stored in the image becomes that part of its plain text
+  pub part_of_plain : (first : ℕ) (stored : List ℕ) → length stored % sector_len s ≡ 0 → AreStored s image first stored
+      → plain_in s cipher first stored ≡ plain_at s cipher image (first * sector_len s) (length stored)
+  part_of_plain first stored whole are =
+      let n = length stored / sector_len s in
+      let len : length stored ≡ n * sector_len s = exactly (length stored) (sector_len s) whole in
+      sym (joined_same (λ j. sector_of s cipher image (first + j)) (sector_in s cipher first stored) n
+      (λ j low. same_sector first stored n j len are.there low))
+      ∙ (sym (joined_part (sector_of s cipher image) (sector_len s) first n (sectors_of s image) len_of are.within)
+      ∙ ap (λ k. take k (drop (first * sector_len s) (plain_of s cipher image))) (sym len))
+    where
+      exactly : (len z : ℕ) → len % z ≡ 0 → len ≡ len / z * z
+      exactly len z whole = omega (arith, mod-eq-sub-div-mul len z, div-mul-le_self len z)

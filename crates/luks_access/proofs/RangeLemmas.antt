@@ -1,0 +1,187 @@
+-- Ranges of a plain text, from those of its sectors.
+use Rattle.std.proofs.Common.{◌≡◌, ℕ, ◌+◌, ◌-◌, ◌*◌, ◌/◌, ◌%◌, ◌<◌, ◌≤◌, ◌^◌, List, ◌++◌, length, take, drop}
+use Rattle.std.proofs.Common.{[], append-nil, inl, inr, length-append, length-drop, Option, None, Some, Result, Ok, Err, arith, sym, ap, ◌∙◌}
+use Rattle.std.proofs.lemmas.Bool.{cases_lt}
+use Rattle.std.proofs.lemmas.List.{drop-drop, drop-take, drop_all, take-take}
+use Rattle.luks_kdf.proofs.BytesLemmas.{take_front}
+use Rattle.std.proofs.Math.Seq.{take-add}
+use Rattle.std.proofs.Math.Nat.{div-mul-le_self}
+use Rattle.luks_verdict.specs.SectorSize.{bytes_of}
+use Rattle.luks_verdict.specs.declared.sector_size.SectorSize.{SectorSize}
+use Rattle.luks_verdict.specs.declared.sector_size.SectorSize.TheVariants.{B512, B1024, B2048, B4096}
+use Rattle.luks_verdict.specs.declared.segment.Segment.{Segment}
+use Rattle.luks_cipher.specs.Sector.{Cipher}
+use Rattle.luks_volume.specs.Plain.{plain_of, sector_len, sectors_of, within_size}
+use Rattle.luks_access.specs.Image.{IsAt}
+use Rattle.luks_access.specs.Range.{IsRangeOf, ReadsRange, text_len}
+use Rattle.luks_access.specs.declared.fault.RangeFault.{RangeFault}
+use Rattle.luks_access.specs.declared.fault.RangeFault.TheVariants.{PastEnd, Read, Shorter}
+use Rattle.luks_access.specs.Sectors.{AreStored}
+
+-- ---- numbers of sectors, at each of their lengths
+
+-- from an offset at which a sector begins, so many bytes of whole sectors within a text of `len` bytes
+pub record AreSectors (z offset n total : ℕ) : Type 0 where
+  pub start : offset / z * z ≡ offset
+  pub within : offset / z + n / z ≤ total
+  pub few : offset / z + n / z ≤ offset + n
+
+pub are_sectors : (size : SectorSize) (offset n total : ℕ) → offset % bytes_of size ≡ 0 → n % bytes_of size ≡ 0
+    → offset + n ≤ total * bytes_of size → AreSectors (bytes_of size) offset n total
+are_sectors B512 offset n total start whole inside =
+    record { start = omega arith; within = omega arith; few = omega arith }
+are_sectors B1024 offset n total start whole inside =
+    record { start = omega arith; within = omega arith; few = omega arith }
+are_sectors B2048 offset n total start whole inside =
+    record { start = omega arith; within = omega arith; few = omega arith }
+are_sectors B4096 offset n total start whole inside =
+    record { start = omega arith; within = omega arith; few = omega arith }
+
+-- the sector that a byte is in, of a text of `len` bytes, which is whole sectors
+pub record IsSector (z offset len : ℕ) : Type 0 where
+  pub start : (offset - offset % z) % z ≡ 0
+  pub within : offset - offset % z + z ≤ len
+  pub skip : offset % z ≤ offset
+
+pub is_sector : (size : SectorSize) (offset len : ℕ) → len % bytes_of size ≡ 0 → offset < len
+    → IsSector (bytes_of size) offset len
+is_sector B512 offset len whole inside = record { start = omega arith; within = omega arith; skip = omega arith }
+is_sector B1024 offset len whole inside = record { start = omega arith; within = omega arith; skip = omega arith }
+is_sector B2048 offset len whole inside = record { start = omega arith; within = omega arith; skip = omega arith }
+is_sector B4096 offset len whole inside = record { start = omega arith; within = omega arith; skip = omega arith }
+
+-- a range that begins with a sector: whole ones, and then a part of one
+pub record IsSplit (z offset n : ℕ) : Type 0 where
+  pub most : n - n % z ≤ n
+  pub whole : (n - n % z) % z ≡ 0
+  pub part : (offset + (n - n % z)) % z + (n - (n - n % z)) ≤ z
+
+split_at : (size : SectorSize) (offset n : ℕ) → offset % bytes_of size ≡ 0 → IsSplit (bytes_of size) offset n
+split_at B512 offset n start = record { most = omega arith; whole = omega arith; part = omega arith }
+split_at B1024 offset n start = record { most = omega arith; whole = omega arith; part = omega arith }
+split_at B2048 offset n start = record { most = omega arith; whole = omega arith; part = omega arith }
+split_at B4096 offset n start = record { most = omega arith; whole = omega arith; part = omega arith }
+
+split_none : (size : SectorSize) (offset n : ℕ) → n ≤ 0 → IsSplit (bytes_of size) offset n
+split_none B512 offset n none = record { most = omega arith; whole = omega arith; part = omega arith }
+split_none B1024 offset n none = record { most = omega arith; whole = omega arith; part = omega arith }
+split_none B2048 offset n none = record { most = omega arith; whole = omega arith; part = omega arith }
+split_none B4096 offset n none = record { most = omega arith; whole = omega arith; part = omega arith }
+
+pub is_split : (size : SectorSize) (offset n : ℕ) → (0 < n → offset % bytes_of size ≡ 0)
+    → IsSplit (bytes_of size) offset n
+is_split size offset n start =
+    elim (cases_lt 0 n) [ inl some ↦ split_at size offset n (start some) | inr none ↦ split_none size offset n none ]
+
+-- the bytes of a range before the first sector that begins in it: to the end of the sector that it begins in
+pub record IsHead (z offset n : ℕ) : Type 0 where
+  pub skip : offset % z ≤ z
+  pub next : n ≡ z - offset % z → (offset + n) % z ≡ 0
+  pub none : offset % z ≡ 0 → (offset + 0) % z ≡ 0
+
+pub is_head : (size : SectorSize) (offset n : ℕ) → IsHead (bytes_of size) offset n
+is_head B512 offset n = record { skip = omega arith; next = λ is. omega arith; none = λ is. omega arith }
+is_head B1024 offset n = record { skip = omega arith; next = λ is. omega arith; none = λ is. omega arith }
+is_head B2048 offset n = record { skip = omega arith; next = λ is. omega arith; none = λ is. omega arith }
+is_head B4096 offset n = record { skip = omega arith; next = λ is. omega arith; none = λ is. omega arith }
+
+-- ---- parts of a text
+
+-- a part of a range is a range
+pub range_in : (text unit : List ℕ) (offset skip z n : ℕ) → unit ≡ take z (drop (offset - skip) text) → skip ≤ offset
+    → skip + n ≤ z → take n (drop skip unit) ≡ take n (drop offset text)
+range_in text unit offset skip z n is before inside =
+    let rest : z ≡ skip + (z - skip) = omega arith in
+    let same : skip + (offset - skip) ≡ offset = omega arith in
+    ap (λ l. take n (drop skip l)) is
+    ∙ (ap (λ k. take n (drop skip (take k (drop (offset - skip) text)))) rest
+    ∙ (ap (take n) (drop-take skip (z - skip) (drop (offset - skip) text))
+    ∙ (take-take n (z - skip) (drop skip (drop (offset - skip) text)) (omega arith)
+    ∙ ap (take n) (drop-drop skip (offset - skip) text ∙ ap (λ k. drop k text) (omega arith)))))
+
+-- two ranges, one right behind the other, are one
+pub range_joined : (text a b : List ℕ) (offset : ℕ) → IsRangeOf text offset a → IsRangeOf text (offset + length a) b
+    → IsRangeOf text offset (a ++ b)
+range_joined text a b offset first second =
+    let joined : take (length a + length b) (drop offset text) ≡ a ++ b =
+    take-add (length a) (length b) (drop offset text)
+    ∙ (ap (λ l. l ++ take (length b) (drop (length a) (drop offset text))) (sym first)
+    ∙ ap (λ l. a ++ l)
+    (ap (take (length b)) (drop-drop (length a) offset text ∙ ap (λ k. drop k text) (omega arith)) ∙ sym second)) in
+    sym (ap (λ k. take k (drop offset text)) (length-append a b) ∙ joined)
+
+-- ---- sectors of an image
+
+module _ (s : Segment) (known : List ℕ) (len : ℕ) (all : text_len s known ≡ len) where
+  -- stored bytes of whole sectors
+  pub stored_at : (offset : ℕ) (stored : List ℕ) → IsAt known (s.offset + offset) stored
+      → offset % sector_len s ≡ 0 → length stored % sector_len s ≡ 0 → offset + length stored ≤ len
+      → AreStored s known (offset / sector_len s) stored
+  stored_at offset stored at start whole inside =
+      let are = are_sectors s.sector_size offset (length stored) (sectors_of s known) start whole (rw all inside) in
+      record {
+        there = at.same
+            ∙ ap (λ k. take (length stored) (drop (s.offset + k) known)) (sym are.start);
+        within = are.within;
+      }
+
+-- of so many bytes no more are the payload's
+within_least : (size : Option ℕ) (n : ℕ) → within_size size n ≤ n
+within_least None n = omega arith
+within_least (Some size) n = omega arith
+
+-- a plain text is no longer than the image behind its payload's start
+pub text_within : (s : Segment) (image_len : ℕ)
+    → within_size s.size (image_len - s.offset) / sector_len s * sector_len s ≤ image_len - s.offset
+text_within s image_len =
+    omega (
+      arith,
+      div-mul-le_self (within_size s.size (image_len - s.offset)) (sector_len s),
+      within_least s.size (image_len - s.offset),
+    )
+
+-- an image with a plain text does not end before a range of it does
+pub image_reaches : (s : Segment) (known : List ℕ) (len offset n : ℕ) → text_len s known ≡ len → offset + n ≤ len
+    → 0 < n → length known < s.offset + offset + n → ⊥
+image_reaches s known len offset n all inside some short = omega (arith, text_within s (length known))
+
+-- ---- parts that were read
+
+-- the first part of a range was read, and then the rest, or that failed
+pub joins : (s : Segment) (cipher : Cipher) (len : ℕ) (image : Option (List ℕ)) (offset : ℕ) (a b : List ℕ)
+    (result : Result (Unit {0}) RangeFault) → ReadsRange s cipher len image offset (Ok tt) a
+    → ReadsRange s cipher len image (offset + length a) result b
+    → ReadsRange s cipher len image offset result (a ++ b)
+joins s cipher len image offset a b (Ok _) first second =
+    λ known there all. range_joined (plain_of s cipher known) a b offset (first known there all) (second known there all)
+joins s cipher len image offset a b (Err PastEnd) first second = second
+joins s cipher len image offset a b (Err Read) first second = second
+joins s cipher len image offset a b (Err Shorter) first second = second
+
+-- a list whose first n elements are these, with others in place of those behind them
+two_parts : (a rest b : List ℕ) (n : ℕ) → length a ≡ n
+    → take n (a ++ rest) ++ (b ++ drop (length (a ++ rest) - n) (drop n (a ++ rest))) ≡ a ++ b
+two_parts a rest b n long =
+    let none : drop (length (a ++ rest) - n) (drop n (a ++ rest)) ≡ [] =
+    drop_all (length (a ++ rest) - n) (drop n (a ++ rest)) (omega (arith, length-drop n (a ++ rest))) in
+    ap (λ l. l ++ (b ++ drop (length (a ++ rest) - n) (drop n (a ++ rest)))) (take_front n a rest long)
+    ∙ ap (λ l. a ++ l) (ap (λ l. b ++ l) none ∙ append-nil b)
+
+-- the first n bytes of a buffer were read, and then the rest of it, or that failed
+pub reads_rest : (s : Segment) (cipher : Cipher) (len : ℕ) (image : Option (List ℕ)) (offset n : ℕ) (a rest b : List ℕ)
+    (result : Result (Unit {0}) RangeFault) → length a ≡ n → ReadsRange s cipher len image offset (Ok tt) a
+    → ReadsRange s cipher len image (offset + n) result b
+    → ReadsRange s cipher len image offset result
+    (take n (a ++ rest) ++ (b ++ drop (length (a ++ rest) - n) (drop n (a ++ rest))))
+reads_rest s cipher len image offset n a rest b result long first second =
+    let behind : ReadsRange s cipher len image (offset + length a) result b = rw long second in
+    rw (two_parts a rest b n long) (joins s cipher len image offset a b result first behind)
+
+-- a part of a sector that was read whole
+pub part_read : (text unit bytes : List ℕ) (offset skip n : ℕ) → IsRangeOf text (offset - skip) unit → skip ≤ offset
+    → skip + n ≤ length unit → length bytes ≡ n → bytes ≡ take (skip + n - skip) (drop skip unit)
+    → IsRangeOf text offset bytes
+part_read text unit bytes offset skip n whole before inside long are =
+    let count : skip + n - skip ≡ length bytes = omega arith in
+    are ∙ (ap (λ k. take k (drop skip unit)) count
+    ∙ range_in text unit offset skip (length unit) (length bytes) whole before (omega arith))

@@ -1,0 +1,34 @@
+-- A source over an image gives the image's bytes.
+use Rattle.std.proofs.Common.{◌≡◌, ◌∙◌, ℕ, ◌+◌, ◌-◌, ◌<◌, ◌≤◌, List, ◌++◌, Option, None, Some, length, take, drop, min}
+use Rattle.std.proofs.Common.{arith, ap, sym, refl}
+use Rattle.std.proofs.lemmas.List.{drop-drop, drop_all, take-append-drop}
+use Rattle.std.specs.Io.KnownBytes.{Consumes, IsAtEnd}
+use Rattle.luks_io.specs.Bytes.{WhereKnown}
+use Rattle.luks_kdf.proofs.BytesLemmas.{take_front}
+use Rattle.luks_access.specs.Image.{IsAt, behind}
+
+-- the bytes that were read are the next ones
+pub gives_part : (image : Option (List ℕ)) (place count : ℕ) (buf rest : List ℕ) → length buf ≡ count
+    → WhereKnown image (λ known. IsAt known place buf)
+    → Consumes (behind place image) (behind (place + count) image) (take count (buf ++ rest))
+gives_part None place count buf rest long bytes = tt
+gives_part (Some known) place count buf rest long bytes =
+    let is : buf ≡ take count (drop place known) =
+    (bytes known refl).same ∙ ap (λ n. take n (drop place known)) long in
+    let later : drop count (drop place known) ≡ drop (place + count) known =
+    drop-drop count place known ∙ ap (λ n. drop n known) (omega arith) in
+    sym (ap (λ l. l ++ drop (place + count) known) (take_front count buf rest long ∙ is)
+    ∙ ap (λ l. take count (drop place known) ++ l) (sym later)
+    ∙ take-append-drop count (drop place known))
+
+-- where none were, none are left
+pub none_left : (image : Option (List ℕ)) (place count asked len : ℕ)
+    → WhereKnown image (λ known. len ≡ length known) → count ≡ min (len - place) asked → count ≡ 0 → 0 < asked
+    → IsAtEnd (behind (place + count) image)
+none_left None place count asked len is fits none some = tt
+none_left (Some known) place count asked len is fits none some =
+    drop_all (place + count) known (omega (arith, is known refl))
+
+-- an image that is read from its start gives all its bytes
+pub behind_none : (image : Option (List ℕ)) (known : List ℕ) → image ≡ Some known → behind 0 image ≡ Some known
+behind_none image known is = rw is refl

@@ -1,0 +1,5 @@
+pub mod Image
+pub mod Opens
+pub mod Range
+pub mod Sectors
+pub mod Unlocks

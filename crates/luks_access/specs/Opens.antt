@@ -1,0 +1,86 @@
+-- Which volume is opened, in the words of `luksCat`.
+use Rattle.std.specs.Prelude.{ℕ, ◌≡◌, List, Ok, false, option_map}
+use Rattle.luks_cipher.specs.Sector.{Cipher}
+use Rattle.luks_report.specs.Faults.{message_at_end}
+use Rattle.luks_report.specs.declared.message.Message.{Message}
+use Rattle.luks_request.specs.Request.{OpeningRequest}
+use Rattle.luks_runs.specs.Ending.{Outcome, unwritten}
+use Rattle.luks_runs.specs.Run.{breaks_off}
+use Rattle.luks_runs.specs.Reading.{detached_header_of}
+use Rattle.luks_runs.specs.Standing.{reading_of}
+use Rattle.luks_runs.specs.declared.standing.Standing.{Standing}
+use Rattle.luks_runs.specs.declared.standing.Standing.TheVariants.{Attached, Detached}
+use Rattle.luks_unlock.specs.Honest.{IsHonest}
+use Rattle.luks_unlock.specs.Volume.{OnOpened, detached_payload_outcome, payload_outcome, volume_outcome}
+use Rattle.luks_unlock.specs.Volume.{volume_outcome_by}
+use Rattle.luks_verdict.specs.declared.segment.Segment.{Segment}
+use Rattle.luks_volume.specs.Plain.{ending_of, plain_of}
+use Rattle.luks_volume.specs.declared.state.Step.TheVariants.{End}
+use Rattle.luks_access.specs.declared.options.Options.{Options}
+
+-- a volume that is open: where its payload lies, the key slot that opened, and the volume key
+pub record OpenVolume : Type 0 where
+  pub segment : Segment
+  pub slot : ℕ
+  pub key : List ℕ
+
+-- its cipher
+abbrev pub cipher_of : OpenVolume → Cipher
+cipher_of v = (v.segment.mode, v.key)
+
+-- its plain text in this image of its payload
+abbrev pub text_of : OpenVolume → List ℕ → List ℕ
+text_of v image = plain_of v.segment (cipher_of v) image
+
+-- `luksCat` is asked with these options, whatever its files are called
+abbrev pub HasOptions : OpeningRequest → Options → Type 0
+HasOptions o options = (o.key_slot ≡ option_map (λ slot. slot.number) options.key_slot)
+    × (o.max_iterations ≡ option_map (λ limit. limit.iterations) options.max_iterations)
+
+-- each command that opens a volume, with these options, this header or image that it is in front of, and this
+-- passphrase, opens this one
+pub record Opens (options : Options) (header pass : List ℕ) (v : OpenVolume) : Type 0 where
+  pub held : ℕ
+  pub outcome : (o : OpeningRequest) → HasOptions o options → (on_opened : OnOpened)
+      → volume_outcome_by (reading_of options.standing) on_opened o header pass
+      ≡ on_opened v.segment (record { slot = v.slot; key = v.key }) held
+
+-- each such command is refused with this message, or it was memory or a read that failed here
+pub record Refuses (options : Options) (header pass : List ℕ) (message : Message) : Type 0 where
+  pub header_taken : ℕ
+  pub secret_taken : ℕ
+  pub outcome : (o : OpeningRequest) → HasOptions o options → (on_opened : OnOpened)
+      → volume_outcome_by (reading_of options.standing) on_opened o header pass
+      ≡ unwritten message header_taken secret_taken
+
+-- the image of the payload: the one that the header is in front of, or another
+abbrev pub payload_image_of : Standing → List ℕ → List ℕ → List ℕ
+payload_image_of Attached header image = header
+payload_image_of Detached header image = image
+
+-- what `luksCat` comes to, with its header in front of the payload or in a file of its own beside this image
+abbrev pub cat_outcome_of : Standing → OpeningRequest → List ℕ → List ℕ → List ℕ → Outcome
+cat_outcome_of Attached o header image pass = volume_outcome (payload_outcome header pass) o header pass
+cat_outcome_of Detached o header image pass =
+    volume_outcome_by detached_header_of (detached_payload_outcome image pass) o header pass
+
+-- `luksCat` writes the volume's plain text, and ends as the payload does
+abbrev pub IsCatOf : Options → List ℕ → List ℕ → OpenVolume → Type 0
+IsCatOf options header pass v =
+    (o : OpeningRequest) (image : List ℕ) → HasOptions o options
+    → ((cat_outcome_of options.standing o header image pass).output
+    ≡ text_of v (payload_image_of options.standing header image))
+    × ((cat_outcome_of options.standing o header image pass).message
+    ≡ message_at_end (ending_of v.segment (payload_image_of options.standing header image)))
+
+-- of an honestly sealed volume the plain text is the one that was sealed, and it is whole
+abbrev pub IsPlainOf : Options → List ℕ → List ℕ → OpenVolume → Type 0
+IsPlainOf options image pass v =
+    (o : OpeningRequest) (plain : List ℕ) → options.standing ≡ Attached → HasOptions o options
+    → IsHonest o image pass plain → (text_of v image ≡ plain) × (ending_of v.segment image ≡ Ok End)
+
+-- and it is refused only if memory or a read failed
+abbrev pub IsOnlyAborted : Options → List ℕ → List ℕ → Message → Type 0
+IsOnlyAborted options image pass message =
+    (o : OpeningRequest) (plain : List ℕ) → options.standing ≡ Attached → HasOptions o options
+    → breaks_off message ≡ false → IsHonest o image pass plain → ⊥

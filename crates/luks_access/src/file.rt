@@ -1,0 +1,40 @@
+//! Images in files and on block devices.
+
+use crate::image::{ReadAt, ReadAtFault};
+use std::fs::File;
+use std::io::{self, ErrorKind, Seek, SeekFrom};
+use std::os::unix::fs::FileExt;
+
+/// An image in a file or on a block device, with the length that it had when it was opened. No
+/// clause says which bytes it has.
+#[derive(Drop)]
+pub struct FileImage {
+    file: File,
+    len: u64,
+}
+
+impl FileImage {
+    /// The image in this file. It fails if the file's end cannot be sought, as that of a pipe.
+    pub fn new(mut file: File) -> io::Result<FileImage> {
+        let len = file.seek(SeekFrom::End(0))?;
+        Ok(FileImage { file, len })
+    }
+}
+
+impl ReadAt for FileImage {
+    ghost use Rattle.std.specs.Prelude.{None};
+
+    ghost image = { λ _. None };
+
+    fn len(&self) -> u64 {
+        self.len
+    }
+
+    fn read_at(&self, offset: u64, buf: &mut [u8]) -> Result<(), ReadAtFault> {
+        match self.file.read_exact_at(buf, offset) {
+            Ok(()) => Ok(()),
+            Err(error) if error.kind() == ErrorKind::UnexpectedEof => Err(ReadAtFault::Ended),
+            Err(_) => Err(ReadAtFault::Failed),
+        }
+    }
+}

@@ -1,0 +1,31 @@
+//! Images that are read at offsets.
+
+ghost use Rattle.std.specs.Prelude.{◌≡◌, ◌+◌, ◌<◌, List, ℕ, Option, Err, OnOk, length};
+ghost use Rattle.luks_io.specs.Bytes.{WhereKnown};
+ghost use Rattle.luks_access.specs.Image.{IsAt};
+
+/// Why bytes of an image were not read.
+#[derive(Clone, Copy, PartialEq, Eq, Debug)]
+pub enum ReadAtFault {
+    /// A read failed.
+    Failed,
+    /// The image ends before the last of them.
+    Ended,
+}
+
+/// An image whose bytes can be read from any offset on.
+pub trait ReadAt {
+    /// Its bytes, where it knows them.
+    ghost image: { Self → Option (List ℕ) };
+
+    /// Its length in bytes.
+    fn len(&self) -> u64
+        ensures { WhereKnown (image self.now) (λ known. result ≡ length known) };
+
+    /// Fills the buffer with the bytes from this offset on. After a fault the buffer holds anything.
+    fn read_at(&self, offset: u64, buf: &mut [u8]) -> Result<(), ReadAtFault>
+        ensures bytes { OnOk result (WhereKnown (image self.now)
+            (λ known. IsAt known offset buf.new)) }
+        ensures ended { result ≡ Err ReadAtFault.Ended → WhereKnown (image self.now)
+            (λ known. length known < offset + length buf.new) };
+}

@@ -1,0 +1,28 @@
+//! Any part of a volume's plain text, from an image that is read at offsets.
+//!
+//! A [`Volume`](volume::Volume) is opened by a passphrase as `luksCat` opens it. Each range that it
+//! reads is that part of what `luksCat` writes.
+#![tactic(auto)]
+
+pub use luks_report::message::Message;
+pub use luks_request::number::{IterationLimit, SlotNumber};
+pub use luks_runs::standing::Standing;
+
+pub mod fault;
+pub mod file;
+pub mod image;
+pub mod memory;
+pub mod options;
+pub mod range;
+pub mod sectors;
+pub mod source;
+pub mod volume;
+
+ghost use Rattle.std.specs.Prelude.{◌≡◌};
+
+/// SCRATCH
+pub fn scratch(n: u8) -> u8
+    ensures { result ≡ n }
+{
+    n
+}

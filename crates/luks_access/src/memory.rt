@@ -1,0 +1,67 @@
+//! Images in memory.
+
+ghost use Rattle.std.specs.Prelude.{◌≡◌, ◌+◌, ◌<◌, ◌≤◌, List, ℕ, Some, Err};
+ghost use Rattle.std.specs.Prelude.{IfErr, MatchOption, OnOk, length};
+ghost use Rattle.luks_io.specs.Bytes.{WhereKnown};
+ghost use Rattle.luks_access.specs.Image.{IsAt};
+
+use crate::image::{ReadAt, ReadAtFault};
+use std::marker::Model;
+
+/// An image in memory. It knows its bytes, and no read of it fails. A clause sees them.
+#[derive(Drop)]
+pub struct MemImage<'a> {
+    bytes: &'a [u8],
+}
+
+impl<'a> Model for MemImage<'a> {
+    ghost use Rattle.std.specs.Prelude.{List, ℕ};
+
+    ghost Value = { List ℕ };
+
+    ghost view = { λ image. image.bytes.now };
+}
+
+impl<'a> MemImage<'a> {
+    /// The image of these bytes.
+    pub fn new(bytes: &'a [u8]) -> MemImage<'a>
+        ensures { result ≡ bytes.entry.now }
+    {
+        MemImage { bytes }
+    }
+}
+
+// Where so many bytes from this offset on begin and end, if there are so many.
+fn bounds(len: usize, offset: u64, count: usize) -> Option<(usize, usize)>
+    ensures { MatchOption result (len < offset + count)
+        (λ place. (place.0 ≡ offset) × (place.1 ≡ offset + count) × (offset + count ≤ len)) }
+{
+    let end = offset.checked_add(count as u64)?;
+    if end > len as u64 {
+        return None;
+    }
+    Some((offset as usize, end as usize))
+}
+
+impl<'a> ReadAt for MemImage<'a> {
+    ghost use Rattle.std.specs.Prelude.{Some};
+
+    ghost image = { λ image. Some image };
+
+    fn len(&self) -> u64 {
+        self.bytes.len() as u64
+    }
+
+    fn read_at(&self, offset: u64, buf: &mut [u8]) -> Result<(), ReadAtFault>
+        ensures bytes { OnOk result (WhereKnown (Some self.now) (λ known. IsAt known offset buf.new)) }
+        ensures ended { result ≡ Err ReadAtFault.Ended → WhereKnown (Some self.now)
+            (λ known. length known < offset + length buf.new) }
+        ensures only { IfErr result (λ fault. fault ≡ ReadAtFault.Ended) }
+    {
+        let Some((start, end)) = bounds(self.bytes.len(), offset, buf.len()) else {
+            return Err(ReadAtFault::Ended);
+        };
+        buf.copy_from_slice(&self.bytes[start..end]);
+        Ok(())
+    }
+}

@@ -1,0 +1,33 @@
+//! How a volume is opened.
+
+ghost use Rattle.std.specs.Prelude.{◌≡◌};
+ghost use Rattle.luks_request.specs.Request.{opening_request};
+ghost use Rattle.luks_access.specs.Opens.{HasOptions};
+
+use luks_request::command::Opening;
+use luks_request::number::{IterationLimit, SlotNumber};
+use luks_runs::standing::Standing;
+
+/// How a volume is opened, as `luksCat` has it from its command line.
+#[derive(Clone, Copy)]
+pub struct Options {
+    /// Whether the header is in front of the payload, or in an image of its own.
+    pub standing: Standing,
+    /// The one key slot to try. Without it all are tried that can be.
+    pub key_slot: Option<SlotNumber>,
+    /// The most iterations that a key slot or a digest may ask for.
+    pub max_iterations: Option<IterationLimit>,
+}
+
+/// What `luksCat` is asked for that has these options. It names no files.
+pub(crate) fn opening(options: &Options) -> Opening<'static>
+    ensures { HasOptions (opening_request result) options.now }
+{
+    Opening {
+        image: "",
+        header: None,
+        key_file: "",
+        key_slot: options.key_slot,
+        max_iterations: options.max_iterations,
+    }
+}

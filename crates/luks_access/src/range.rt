@@ -1,0 +1,150 @@
+//! Reading a range of a plain text: the sectors that overlap it, and no others.
+
+ghost use Rattle.std.specs.Prelude.{◌≡◌, ◌+◌, ◌-◌, ◌%◌, ◌<◌, ◌≤◌, ◌^◌, length};
+ghost use Rattle.luks_volume.specs.Plain.{sector_len};
+ghost use Rattle.luks_access.specs.Range.{ReadsRange};
+
+use crate::fault::RangeFault;
+use crate::image::ReadAt;
+use crate::sectors::decrypt_sectors;
+use luks_cipher::SectorCipher;
+use luks_header::segment::Segment;
+
+/// Room for the longest sector.
+const LONGEST: usize = 4096;
+
+/// Reads whole sectors into the buffer and decrypts them there. `len` is the plain text's length in
+/// the image, and `offset` that of the range in it.
+fn read_sectors<I: ReadAt>(
+    segment: &Segment,
+    cipher: &SectorCipher,
+    image: &I,
+    len: u64,
+    offset: u64,
+    buf: &mut [u8],
+) -> Result<(), RangeFault>
+    requires counted { segment.now.offset + len < 2 ^ 64 }
+    requires inside { offset + length buf.old ≤ len }
+    requires whole { length buf.old % sector_len segment.now ≡ 0 }
+    requires aligned { 0 < length buf.old → offset % sector_len segment.now ≡ 0 }
+    ensures { ReadsRange segment.now cipher.now len (I.image image.now) offset result buf.new }
+{
+    if buf.is_empty() {
+        return Ok(());
+    }
+    match image.read_at(segment.offset + offset, buf) {
+        Ok(()) => {
+            let first = offset / segment.sector_size.bytes() as u64;
+            decrypt_sectors(segment, cipher, first, buf);
+            Ok(())
+        }
+        Err(fault) => Err(RangeFault::from(fault)),
+    }
+}
+
+/// Reads a part of one sector, by a buffer for the whole of it.
+fn read_part<I: ReadAt>(
+    segment: &Segment,
+    cipher: &SectorCipher,
+    image: &I,
+    len: u64,
+    offset: u64,
+    sector: &mut [u8],
+    buf: &mut [u8],
+) -> Result<(), RangeFault>
+    requires counted { segment.now.offset + len < 2 ^ 64 }
+    requires multiple { len % sector_len segment.now ≡ 0 }
+    requires some { 0 < length buf.old }
+    requires inside { offset + length buf.old ≤ len }
+    requires part { offset % sector_len segment.now + length buf.old ≤ sector_len segment.now }
+    requires room { length sector.old ≡ LONGEST }
+    ensures { ReadsRange segment.now cipher.now len (I.image image.now) offset result buf.new }
+{
+    let size = segment.sector_size.bytes();
+    let skip = offset % size as u64;
+    let unit = &mut sector[..size];
+    read_sectors(segment, cipher, image, len, offset - skip, unit)?;
+    let skip = skip as usize;
+    buf.copy_from_slice(&unit[skip..skip + buf.len()]);
+    Ok(())
+}
+
+/// Reads a part of one sector, or nothing.
+fn read_inside<I: ReadAt>(
+    segment: &Segment,
+    cipher: &SectorCipher,
+    image: &I,
+    len: u64,
+    offset: u64,
+    buf: &mut [u8],
+) -> Result<(), RangeFault>
+    requires counted { segment.now.offset + len < 2 ^ 64 }
+    requires multiple { len % sector_len segment.now ≡ 0 }
+    requires inside { offset + length buf.old ≤ len }
+    requires part { offset % sector_len segment.now + length buf.old ≤ sector_len segment.now }
+    ensures { ReadsRange segment.now cipher.now len (I.image image.now) offset result buf.new }
+{
+    if buf.is_empty() {
+        return Ok(());
+    }
+    let mut sector = [0; LONGEST];
+    read_part(segment, cipher, image, len, offset, &mut sector, buf)
+}
+
+/// Reads a range that begins with a sector: the whole sectors in place, and then a part of one.
+fn read_aligned<I: ReadAt>(
+    segment: &Segment,
+    cipher: &SectorCipher,
+    image: &I,
+    len: u64,
+    offset: u64,
+    buf: &mut [u8],
+) -> Result<(), RangeFault>
+    requires counted { segment.now.offset + len < 2 ^ 64 }
+    requires multiple { len % sector_len segment.now ≡ 0 }
+    requires inside { offset + length buf.old ≤ len }
+    requires aligned { 0 < length buf.old → offset % sector_len segment.now ≡ 0 }
+    ensures { ReadsRange segment.now cipher.now len (I.image image.now) offset result buf.new }
+{
+    let size = segment.sector_size.bytes();
+    let whole = buf.len() - buf.len() % size;
+    read_sectors(segment, cipher, image, len, offset, &mut buf[..whole])?;
+    read_inside(segment, cipher, image, len, offset + whole as u64, &mut buf[whole..])
+}
+
+/// How many bytes of a range come before the first sector that begins in it.
+fn head_len(segment: &Segment, offset: u64, count: usize) -> usize
+    ensures most { result ≤ count }
+    ensures part { offset % sector_len segment.now + result ≤ sector_len segment.now }
+    ensures rest { result < count → (offset + result) % sector_len segment.now ≡ 0 }
+{
+    let size = segment.sector_size.bytes();
+    let skip = (offset % size as u64) as usize;
+    if skip == 0 {
+        return 0;
+    }
+    (size - skip).min(count)
+}
+
+/// Reads the range of the plain text from `offset` on that fills the buffer. `len` is the plain
+/// text's length in the image.
+///
+/// Only the sectors that overlap the range are read. Whole ones are decrypted in the buffer. After a
+/// fault it holds anything.
+pub(crate) fn read_range<I: ReadAt>(
+    segment: &Segment,
+    cipher: &SectorCipher,
+    image: &I,
+    len: u64,
+    offset: u64,
+    buf: &mut [u8],
+) -> Result<(), RangeFault>
+    requires counted { segment.now.offset + len < 2 ^ 64 }
+    requires multiple { len % sector_len segment.now ≡ 0 }
+    requires inside { offset + length buf.old ≤ len }
+    ensures { ReadsRange segment.now cipher.now len (I.image image.now) offset result buf.new }
+{
+    let head = head_len(segment, offset, buf.len());
+    read_inside(segment, cipher, image, len, offset, &mut buf[..head])?;
+    read_aligned(segment, cipher, image, len, offset + head as u64, &mut buf[head..])
+}

@@ -1,0 +1,85 @@
+//! Whole sectors of a payload, from any of them on.
+
+ghost use Rattle.std.specs.Prelude.{◌≡◌, ◌+◌, ◌*◌, ◌-◌, ◌/◌, ◌%◌, ◌<◌, ◌≤◌, ◌^◌, List, ℕ, Err};
+ghost use Rattle.std.specs.Prelude.{if◌then◌else◌, length, nat_lt};
+ghost use Rattle.luks_verdict.specs.SectorSize.{bytes_of};
+ghost use Rattle.luks_volume.specs.Plain.{ending_within, sector_len, unit_number, within_size};
+ghost use Rattle.luks_access.specs.Sectors.{AreStored, plain_at, plain_in};
+
+use luks_cipher::SectorCipher;
+use luks_header::segment::Segment;
+use luks_verdict::sector_size::SectorSize;
+use luks_volume::fault::VolumeFault;
+use luks_volume::state::Step;
+
+/// The data unit number of a sector. Those of LUKS count in units of 512 bytes and wrap at 2^64.
+fn unit_number(segment: &Segment, sector: u64) -> u64
+    ensures { result ≡ unit_number segment.now sector }
+{
+    let units = (segment.sector_size.bytes() / 512) as u64;
+    segment.iv_tweak.wrapping_add(sector.wrapping_mul(units))
+}
+
+/// The length in bytes of the plain text of a payload from `offset` on, whose size may be fixed, in
+/// an image of this length: all whole sectors.
+pub fn text_len(offset: u64, size: Option<u64>, sector_size: SectorSize, image_len: u64) -> u64
+    ensures value { result ≡ within_size size (image_len - offset) / bytes_of sector_size
+        * bytes_of sector_size }
+    ensures within { result ≤ image_len - offset }
+    ensures multiple { result % bytes_of sector_size ≡ 0 }
+{
+    let behind = image_len.saturating_sub(offset);
+    let within = match size {
+        Some(size) => behind.min(size),
+        None => behind,
+    };
+    within - within % sector_size.bytes() as u64
+}
+
+/// How that payload ends in that image, as `luksCat` finds it.
+pub fn payload_ending(
+    offset: u64,
+    size: Option<u64>,
+    sector_size: SectorSize,
+    image_len: u64,
+) -> Result<Step, VolumeFault>
+    ensures { result ≡ (if nat_lt image_len offset then Err VolumeFault.CutBeforePayload
+        else ending_within size (bytes_of sector_size) (image_len - offset)) }
+{
+    let Some(len) = image_len.checked_sub(offset) else {
+        return Err(VolumeFault::CutBeforePayload);
+    };
+    let more = len % sector_size.bytes() as u64;
+    match size {
+        Some(size) if len < size => Err(VolumeFault::Short(size - len)),
+        None if more != 0 => Err(VolumeFault::Tail(more)),
+        _ => Ok(Step::End),
+    }
+}
+
+/// Decrypts whole sectors one after the other, the first of which has this number.
+fn decrypt_all(segment: &Segment, cipher: &SectorCipher, first: u64, bytes: &mut [u8])
+    requires whole { length bytes.old % sector_len segment.now ≡ 0 }
+    requires numbers { first + length bytes.old / sector_len segment.now < 2 ^ 64 }
+    ensures { bytes.new ≡ plain_in segment.now cipher.now first bytes.old }
+{
+    let size = segment.sector_size.bytes();
+    let count = bytes.len() / size;
+    'sectors: for i in 0..count {
+        let number = unit_number(segment, first + i as u64);
+        cipher.decrypt_unit(number, &mut bytes[i * size..i * size + size]);
+    }
+}
+
+/// Decrypts whole sectors in place, the first of which is sector `first` of the payload. Those of an
+/// image become that part of its plain text.
+pub fn decrypt_sectors(segment: &Segment, cipher: &SectorCipher, first: u64, bytes: &mut [u8])
+    requires whole { length bytes.old % sector_len segment.now ≡ 0 }
+    requires numbers { first + length bytes.old / sector_len segment.now < 2 ^ 64 }
+    ensures value { bytes.new ≡ plain_in segment.now cipher.now first bytes.old }
+    ensures plain { (image : List ℕ) → AreStored segment.now image first bytes.old
+        → bytes.new ≡ plain_at segment.now cipher.now image (first * sector_len segment.now)
+        (length bytes.old) }
+{
+    decrypt_all(segment, cipher, first, bytes);
+}

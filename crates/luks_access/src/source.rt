@@ -1,0 +1,62 @@
+//! An image that is read at offsets, as a source of its bytes.
+
+ghost use Rattle.std.specs.Prelude.{◌≡◌};
+ghost use Rattle.luks_access.specs.Image.{behind};
+
+use crate::image::ReadAt;
+use luks_io::DeviceFault;
+use luks_io::source::{Source, count_end};
+
+/// A source over an image: it gives the image's bytes from the first one on. It knows the bytes
+/// that the image knows.
+#[derive(Drop)]
+pub struct ImageSource<'a, I> {
+    image: &'a I,
+    at: u64,
+    failures: u64,
+    ends: u64,
+}
+
+impl<'a, I: ReadAt> ImageSource<'a, I> {
+    /// A source over this image, with no failure and no end so far.
+    pub fn new(image: &'a I) -> ImageSource<'a, I>
+        ensures bytes { ⟦<ImageSource<'a, I> as Source>⟧.to_come result
+            ≡ behind 0 (I.image image.entry.now) }
+        ensures failures { ⟦<ImageSource<'a, I> as Source>⟧.failures result ≡ 0 }
+    {
+        ImageSource {
+            image,
+            at: 0,
+            failures: 0,
+            ends: 0,
+        }
+    }
+}
+
+impl<'a, I: ReadAt> Source for ImageSource<'a, I> {
+    ghost use Rattle.luks_access.specs.Image.{behind};
+
+    ghost to_come = { λ s. behind s.at (I.image s.image.now) };
+
+    ghost failures = { λ s. s.failures };
+
+    ghost ends = { λ s. s.ends };
+
+    /// Reads as many of the bytes that are left as the buffer has room for. An image that has become
+    /// shorter fails.
+    fn read(&mut self, buf: &mut [u8]) -> Result<usize, DeviceFault> {
+        let left = self.image.len().saturating_sub(self.at);
+        let count = left.min(buf.len() as u64) as usize;
+        match self.image.read_at(self.at, &mut buf[..count]) {
+            Ok(()) => {
+                count_end(&mut self.ends, count, buf.len());
+                self.at += count as u64;
+                Ok(count)
+            }
+            Err(_) => {
+                self.failures = self.failures.saturating_add(1);
+                Err(DeviceFault)
+            }
+        }
+    }
+}

@@ -1,0 +1,256 @@
+//! Volumes that are open.
+
+ghost use Rattle.std.specs.Prelude.{◌≡◌, ◌≢◌, ◌+◌, ◌-◌, ◌%◌, ◌<◌, ◌≤◌, List, ℕ, Ok, Err, IfOk, IfErr, OnOk};
+ghost use Rattle.std.specs.Prelude.{false, length, nat_le, replicate, true};
+ghost use Rattle.luks_cipher.specs.Sector.{is_mode_key_length};
+ghost use Rattle.luks_io.specs.Bytes.{WhereKnown, counted};
+ghost use Rattle.luks_header.specs.Segment.{segment_of};
+ghost use Rattle.luks_open.specs.Order.{order_of};
+ghost use Rattle.luks_request.specs.Request.{opening_request};
+ghost use Rattle.luks_runs.specs.Run.{breaks_off, is_failed_read, message_of};
+ghost use Rattle.luks_unlock.specs.MayEnd.{OpeningMessage};
+ghost use Rattle.luks_volume.specs.Plain.{ending_of, sector_len};
+ghost use Rattle.luks_access.specs.Opens.{IsCatOf, IsOnlyAborted, IsPlainOf, Opens, Refuses, text_of};
+ghost use Rattle.luks_access.specs.Range.{IsRangeOf};
+ghost use Rattle.luks_access.specs.Unlocks.{Unlocks};
+
+use crate::fault::RangeFault;
+use crate::image::ReadAt;
+use crate::options::{Options, opening};
+use crate::range::read_range;
+use crate::sectors::{payload_ending, text_len};
+use crate::source::ImageSource;
+use luks_cipher::SectorCipher;
+use luks_header::segment::Segment;
+use luks_io::source::Source;
+use luks_open::key::Key;
+use luks_open::opening::Opened;
+use luks_report::message::Message;
+use luks_request::command::Opening;
+use luks_unlock::finding::{FoundVolume, find_volume};
+use luks_unlock::trying::try_slots;
+use luks_volume::fault::VolumeFault;
+use luks_volume::state::Step;
+use std::alloc::Global;
+use std::marker::Model;
+
+/// The length of the longest passphrase in bytes, which is that of the longest key file.
+pub const LONGEST_PASSPHRASE: usize = 8_388_608;
+
+/// A volume that is open. A clause sees where its payload lies, the key slot that opened, and the
+/// volume key.
+#[derive(Drop)]
+pub struct Volume {
+    segment: Segment,
+    slot: u8,
+    key: Key,
+    cipher: SectorCipher,
+}
+
+impl Model for Volume {
+    ghost use Rattle.std.specs.Prelude.{◌≡◌};
+    ghost use Rattle.luks_access.specs.Opens.{OpenVolume};
+
+    ghost Value = { OpenVolume };
+
+    ghost view = { λ v. record { segment = v.segment; slot = v.slot; key = v.key } };
+
+    ghost invariant = { λ v. v.cipher ≡ (v.segment.mode, v.key) };
+}
+
+/// The volume of this segment that was opened.
+fn volume_of(segment: Segment, opened: Opened) -> Volume
+    requires key { is_mode_key_length segment.mode (length opened.key) ≡ true }
+    ensures { result ≡ record { segment = segment; slot = opened.slot; key = opened.key } }
+{
+    let Opened { slot, key } = opened;
+    let Some(cipher) = SectorCipher::new(segment.mode, key.as_slice()) else {
+        unreachable!()
+    };
+    Volume {
+        segment,
+        slot,
+        key,
+        cipher,
+    }
+}
+
+/// The segment of a volume that was found, which ends here whether it was opened or not.
+fn payload_of(found: FoundVolume) -> Segment
+    ensures { result ≡ found.segment }
+{
+    found.segment
+}
+
+/// Tries the key slots of a volume that was found, unless the passphrase is too long.
+fn unlock<S: Source>(
+    opening: &Opening<'_>,
+    found: &mut FoundVolume,
+    source: &mut S,
+    pass: &[u8],
+) -> Result<Opened, Message>
+    requires segment { segment_of found.old.header ≡ Ok found.old.segment }
+    requires order { let o = opening_request opening.now in
+        order_of found.old.header o.key_slot o.max_iterations ≡ Ok found.old.order }
+    ensures run { WhereKnown (S.to_come source.old) (λ rest.
+        Unlocks (opening_request opening.now).key_slot found.old.order pass.now
+        found.old.area found.new.area rest (S.to_come source.new) result) }
+    ensures kept { found.new.segment ≡ found.old.segment }
+    ensures only { IfErr result OpeningMessage }
+    ensures key { IfOk result (λ opened.
+        is_mode_key_length found.old.segment.mode (length opened.key) ≡ true) }
+    ensures reads { S.failures source.new
+        ≡ counted (is_failed_read (message_of result)) (S.failures source.old) }
+{
+    if pass.len() > LONGEST_PASSPHRASE {
+        return Err(Message::KeyFileLength);
+    }
+    try_slots(opening, found, source, pass)
+}
+
+impl Volume {
+    /// Opens the volume whose header comes first from this source, by a passphrase: the bytes of
+    /// its image, or of its detached header.
+    ///
+    /// The volume is the one that `luksCat` opens with these options, and the message that with
+    /// which it ends. A passphrase longer than [`LONGEST_PASSPHRASE`] is refused, as a key file is.
+    pub fn open_from<S: Source>(
+        alloc: Global,
+        options: &Options,
+        source: &mut S,
+        pass: &[u8],
+    ) -> Result<Volume, Message>
+        ensures opens { IfOk result (λ volume. WhereKnown (S.to_come source.old)
+            (λ known. Opens options.now known pass.now volume)) }
+        ensures cats { IfOk result (λ volume. WhereKnown (S.to_come source.old)
+            (λ known. IsCatOf options.now known pass.now volume)) }
+        ensures honest { IfOk result (λ volume. WhereKnown (S.to_come source.old)
+            (λ known. IsPlainOf options.now known pass.now volume)) }
+        ensures key { IfOk result (λ volume.
+            is_mode_key_length volume.segment.mode (length volume.key) ≡ true) }
+        ensures refuses { IfErr result (λ message. WhereKnown (S.to_come source.old)
+            (λ known. breaks_off message ≡ false → Refuses options.now known pass.now message)) }
+        ensures refuses_no_honest { IfErr result (λ message. WhereKnown (S.to_come source.old)
+            (λ known. IsOnlyAborted options.now known pass.now message)) }
+        ensures only { IfErr result OpeningMessage }
+        ensures reads { S.failures source.new
+            ≡ counted (is_failed_read (message_of result)) (S.failures source.old) }
+    {
+        let opening = opening(options);
+        let mut found = find_volume(alloc, options.standing, &opening, source)?;
+        let opened = unlock(&opening, &mut found, source, pass);
+        let segment = payload_of(found);
+        match opened {
+            Ok(opened) => Ok(volume_of(segment, opened)),
+            Err(message) => Err(message),
+        }
+    }
+
+    /// Opens a volume as [`Volume::open_from`] does, from its image or its detached header.
+    pub fn open<I: ReadAt>(
+        alloc: Global,
+        options: &Options,
+        image: &I,
+        pass: &[u8],
+    ) -> Result<Volume, Message>
+        ensures opens { IfOk result (λ volume. WhereKnown (I.image image.now)
+            (λ known. Opens options.now known pass.now volume)) }
+        ensures cats { IfOk result (λ volume. WhereKnown (I.image image.now)
+            (λ known. IsCatOf options.now known pass.now volume)) }
+        ensures honest { IfOk result (λ volume. WhereKnown (I.image image.now)
+            (λ known. IsPlainOf options.now known pass.now volume)) }
+        ensures key { IfOk result (λ volume.
+            is_mode_key_length volume.segment.mode (length volume.key) ≡ true) }
+        ensures refuses { IfErr result (λ message. WhereKnown (I.image image.now)
+            (λ known. breaks_off message ≡ false → Refuses options.now known pass.now message)) }
+        ensures refuses_no_honest { IfErr result (λ message. WhereKnown (I.image image.now)
+            (λ known. IsOnlyAborted options.now known pass.now message)) }
+        ensures only { IfErr result OpeningMessage }
+    {
+        Volume::open_from(alloc, options, &mut ImageSource::new(image), pass)
+    }
+
+    /// Where the payload lies in its image.
+    pub fn segment(&self) -> Segment
+        ensures { result ≡ self.now.segment }
+    {
+        self.segment
+    }
+
+    /// The number of the key slot that opened.
+    pub fn slot(&self) -> u8
+        ensures { result ≡ self.now.slot }
+    {
+        self.slot
+    }
+
+    /// The volume key.
+    pub fn key(&self) -> &[u8]
+        ensures { result.now ≡ self.now.key }
+    {
+        self.key.as_slice()
+    }
+
+    /// The length in bytes of the plain text that an image of this length has: all whole sectors.
+    pub fn len(&self, image_len: u64) -> u64
+        ensures value { (image : List ℕ) → length image ≡ image_len
+            → result ≡ length (text_of self.now image) }
+        ensures within { result ≤ image_len - self.now.segment.offset }
+        ensures multiple { result % sector_len self.now.segment ≡ 0 }
+    {
+        let segment = &self.segment;
+        text_len(segment.offset, segment.size, segment.sector_size, image_len)
+    }
+
+    /// How the payload ends in an image of this length, as `luksCat` finds it.
+    pub fn ending(&self, image_len: u64) -> Result<Step, VolumeFault>
+        ensures { (image : List ℕ) → length image ≡ image_len
+            → result ≡ ending_of self.now.segment image }
+    {
+        let segment = &self.segment;
+        payload_ending(segment.offset, segment.size, segment.sector_size, image_len)
+    }
+
+    /// Reads the bytes of the plain text from `offset` on, as many as the buffer has room for.
+    ///
+    /// [`RangeFault::PastEnd`] leaves the buffer as it was: the range ends past the plain text, and
+    /// nothing was read. After any other fault the buffer is all zero.
+    pub fn read_at<I: ReadAt>(
+        &self,
+        image: &I,
+        offset: u64,
+        buf: &mut [u8],
+    ) -> Result<(), RangeFault>
+        ensures plain { OnOk result (WhereKnown (I.image image.now)
+            (λ known. IsRangeOf (text_of self.now known) offset buf.new)) }
+        ensures within { OnOk result (WhereKnown (I.image image.now)
+            (λ known. offset + length buf.new ≤ length (text_of self.now known))) }
+        ensures past { result ≡ Err RangeFault.PastEnd → (buf.new ≡ buf.old)
+            × WhereKnown (I.image image.now)
+            (λ known. length (text_of self.now known) < offset + length buf.old) }
+        ensures blank { IfErr result (λ fault. fault ≢ RangeFault.PastEnd
+            → buf.new ≡ replicate (length buf.old) 0) }
+        ensures whole { WhereKnown (I.image image.now)
+            (λ known. result ≢ Err RangeFault.Shorter) }
+    {
+        let len = self.len(image.len());
+        if !is_within(len, offset, buf.len()) {
+            return Err(RangeFault::PastEnd);
+        }
+        let answer = read_range(&self.segment, &self.cipher, image, len, offset, buf);
+        if answer.is_err() {
+            buf.fill(0);
+        }
+        answer
+    }
+}
+
+/// Whether so many bytes from this offset on end within a text of this length.
+fn is_within(len: u64, offset: u64, count: usize) -> bool
+    ensures { result ≡ nat_le (offset + count) len }
+{
+    match offset.checked_add(count as u64) {
+        Some(end) => end <= len,
+        None => false,
+    }
+}

@@ -1,0 +1,5 @@
+pub mod Answers
+pub mod Codes
+pub mod Message
+pub mod Options
+pub mod Stored

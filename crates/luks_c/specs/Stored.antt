@@ -1,0 +1,74 @@
+-- A volume as C keeps it, field by field, and what is read of it again.
+use Rattle.std.specs.Prelude.{ℕ, ◌≡◌, ◌==◌, if◌then◌else◌, replicate, take, Option, None, Some}
+use Rattle.luks_access.specs.Opens.{OpenVolume}
+use Rattle.luks_cipher.specs.Sector.{Cipher}
+use Rattle.luks_cipher.specs.declared.mode.Mode.{Mode}
+use Rattle.luks_cipher.specs.declared.mode.Mode.TheVariants.{XtsPlain64, XtsPlain, CbcEssivSha256, CbcPlain64}
+use Rattle.luks_verdict.specs.Segment.{segment_from}
+use Rattle.luks_verdict.specs.SectorSize.{bytes_of}
+use Rattle.luks_verdict.specs.declared.sector_size.SectorSize.{SectorSize}
+use Rattle.luks_verdict.specs.declared.sector_size.SectorSize.TheVariants.{B512, B1024, B2048, B4096}
+use Rattle.luks_verdict.specs.declared.segment.Segment.{Segment}
+use Rattle.luks_c.specs.declared.volume.LuksrdVolume.{LuksrdVolume}
+
+-- the numbers of `enum luksrd_mode`
+abbrev pub mode_number : Mode → ℕ
+mode_number XtsPlain64 = 1
+mode_number XtsPlain = 2
+mode_number CbcEssivSha256 = 3
+mode_number CbcPlain64 = 4
+
+-- whether the payload's length is fixed, and that length
+abbrev pub has_size_of : Option ℕ → ℕ
+has_size_of None = 0
+has_size_of (Some size) = 1
+
+abbrev pub size_of : Option ℕ → ℕ
+size_of None = 0
+size_of (Some size) = size
+
+-- C keeps this volume
+pub record Stores (c : LuksrdVolume) (v : OpenVolume) : Type 0 where
+  pub offset : c.offset ≡ v.segment.offset
+  pub has_size : c.has_size ≡ has_size_of v.segment.size
+  pub size : c.size ≡ size_of v.segment.size
+  pub iv_tweak : c.iv_tweak ≡ v.segment.iv_tweak
+  pub sector_size : c.sector_size ≡ bytes_of v.segment.sector_size
+  pub mode : c.mode ≡ mode_number v.segment.mode
+  pub key_slot : c.key_slot ≡ v.slot
+  pub key : take c.key_size c.key ≡ v.key
+
+-- C keeps no volume: all is zero
+pub record IsCleared (c : LuksrdVolume) : Type 0 where
+  pub sector_size : c.sector_size ≡ 0
+  pub key_size : c.key_size ≡ 0
+  pub key : c.key ≡ replicate 64 0
+
+-- ---- read again
+
+abbrev pub sector_size_in : ℕ → Option SectorSize
+sector_size_in n =
+    if n == 512 then Some B512 else if n == 1024 then Some B1024 else if n == 2048 then Some B2048
+    else if n == 4096 then Some B4096 else None
+
+abbrev pub mode_in : ℕ → Option Mode
+mode_in n =
+    if n == 1 then Some XtsPlain64 else if n == 2 then Some XtsPlain else if n == 3 then Some CbcEssivSha256
+    else if n == 4 then Some CbcPlain64 else None
+
+abbrev pub size_in : LuksrdVolume → Option ℕ
+size_in c = if c.has_size == 1 then Some c.size else None
+
+-- where the payload lies
+abbrev pub segment_in : LuksrdVolume → Option Segment
+segment_in c = segment_from record {
+  offset = Some c.offset;
+  size = Some (size_in c);
+  iv_tweak = Some c.iv_tweak;
+  sector_size = sector_size_in c.sector_size;
+  mode = mode_in c.mode;
+}
+
+-- the cipher, in this mode
+abbrev pub cipher_in : LuksrdVolume → Mode → Cipher
+cipher_in c mode = (mode, take c.key_size c.key)

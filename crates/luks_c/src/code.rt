@@ -1,0 +1,68 @@
+//! What a function answers: the numbers of `enum luksrd_code`.
+
+ghost use Rattle.std.specs.Prelude.{◌≡◌, ◌≤◌, length};
+ghost use Rattle.luks_c.specs.Codes.{code_for};
+
+use luks_access::Message;
+
+/// All is well.
+pub(crate) const OK: u32 = 0;
+
+/// The options name a key slot above 31.
+pub(crate) const BAD_OPTIONS: u32 = 15;
+
+/// A volume is none that was opened.
+pub(crate) const BAD_VOLUME: u32 = 16;
+
+/// Bytes are no whole sectors, or their numbers are too large.
+pub(crate) const BAD_RANGE: u32 = 17;
+
+/// The number of a refusal, or of an ending. A message that neither has is out of memory's.
+pub(crate) fn code_of(message: &Message) -> u32
+    ensures { result ≡ code_for message.now }
+{
+    match message {
+        Message::Done => 0,
+        Message::NotLuks => 1,
+        Message::Cut => 2,
+        Message::Json => 3,
+        Message::SegmentRefused(_) => 4,
+        Message::NoSuchSlot(_) => 5,
+        Message::SlotDisabled(_) => 6,
+        Message::SlotSkipped(..) => 7,
+        Message::NothingTried(_) => 8,
+        Message::KeyFileLength => 9,
+        Message::NoKey(_) => 10,
+        Message::CutBeforePayload => 12,
+        Message::Tail(_) => 13,
+        Message::Short(_) => 14,
+        _ => 11,
+    }
+}
+
+/// The exit status and the sentence of a code alone.
+pub(crate) fn sentence(code: u32) -> (u32, &'static str)
+    ensures { length result.1.now ≤ 100 }
+{
+    match code {
+        0 => (0, ""),
+        1 => (4, "luksrd: not a LUKS image"),
+        2 => (4, "luksrd: image ends inside the header or a key area"),
+        3 => (4, "luksrd: LUKS2 JSON area is not readable"),
+        4 => (1, "luksrd: segment refused"),
+        5 => (1, "luksrd: key slot is not there"),
+        6 => (1, "luksrd: key slot is disabled"),
+        7 => (1, "luksrd: key slot is skipped"),
+        8 => (1, "luksrd: no key slot can be tried"),
+        9 => (1, "luksrd: key file is longer than 8388608 bytes"),
+        10 => (2, "luksrd: no key opens the volume"),
+        11 => (3, "luksrd: out of memory"),
+        12 => (4, "luksrd: image ends before the payload"),
+        13 => (4, "luksrd: image ends inside a sector"),
+        14 => (4, "luksrd: image ends before the segment does"),
+        15 => (1, "luksrd: key slot number is above 31"),
+        16 => (1, "luksrd: not an open volume"),
+        17 => (1, "luksrd: not whole sectors of a volume"),
+        _ => (1, "luksrd: no such code"),
+    }
+}

@@ -1,0 +1,48 @@
+//! How a volume is opened, as C says it.
+
+ghost use Rattle.std.specs.Prelude.{IfSome};
+ghost use Rattle.luks_c.specs.Options.{AreOptions, IsNamed};
+
+use luks_access::options::Options;
+use luks_access::{IterationLimit, SlotNumber, Standing};
+
+/// How a volume is opened.
+#[repr(C)]
+pub struct LuksrdOptions {
+    /// Not 0: the bytes are those of a detached header.
+    pub detached: u32,
+    /// Not 0: only the key slot of number `key_slot` is tried.
+    pub has_key_slot: u32,
+    /// The number of the key slot, 0 to 31.
+    pub key_slot: u32,
+    /// The most iterations that a key slot or a digest may ask for, or 0.
+    pub max_iterations: u32,
+}
+
+// The key slot that is named: none, or one that may not be a number of a key slot.
+fn named_slot(options: &LuksrdOptions) -> Option<Option<SlotNumber>>
+    ensures { IfSome result (λ slot. IsNamed options.now slot) }
+{
+    if options.has_key_slot == 0 {
+        return Some(None);
+    }
+    Some(Some(SlotNumber::new(u64::from(options.key_slot))?))
+}
+
+/// The options that C says, if a key slot of the number that it names can be.
+pub(crate) fn options_in(options: &LuksrdOptions) -> Option<Options>
+    ensures { IfSome result (λ made. AreOptions options.now made) }
+{
+    let key_slot = named_slot(options)?;
+    let standing = if options.detached == 0 {
+        Standing::Attached
+    } else {
+        Standing::Detached
+    };
+    let max_iterations = IterationLimit::new(u64::from(options.max_iterations));
+    Some(Options {
+        standing,
+        key_slot,
+        max_iterations,
+    })
+}

@@ -1,0 +1,159 @@
+//! A volume that is open, as C keeps it.
+
+ghost use Rattle.std.specs.Prelude.{◌≡◌, ◌≤◌, IfSome, length, take};
+ghost use Rattle.luks_c.specs.Stored.{IsCleared, Stores, cipher_in, mode_in, mode_number};
+ghost use Rattle.luks_c.specs.Stored.{sector_size_in, segment_in, size_in};
+
+use luks_access::volume::Volume;
+use luks_cipher::{Mode, SectorCipher};
+use luks_header::segment::{Segment, SegmentParts};
+use luks_verdict::sector_size::SectorSize;
+
+/// Room for a volume key.
+const ROOM: usize = 64;
+
+/// A volume that is open. All of it is plain numbers.
+#[repr(C)]
+pub struct LuksrdVolume {
+    /// The first byte of the payload in its image.
+    pub offset: u64,
+    /// The payload's length in bytes, if it is fixed, and else 0.
+    pub size: u64,
+    /// The data unit number of the first sector.
+    pub iv_tweak: u64,
+    /// 1 if the payload's length is fixed, and else 0.
+    pub has_size: u32,
+    /// The length of a sector in bytes.
+    pub sector_size: u32,
+    /// The number of the cipher's mode, as in `enum luksrd_mode`.
+    pub mode: u32,
+    /// The length of the volume key in bytes.
+    pub key_size: u32,
+    /// The number of the key slot that opened.
+    pub key_slot: u32,
+    /// 0.
+    pub reserved: u32,
+    /// The volume key, and zeros behind it.
+    pub key: [u8; 64],
+}
+
+// The number of a mode.
+fn number_of_mode(mode: Mode) -> u32
+    ensures { result ≡ mode_number mode }
+{
+    match mode {
+        Mode::XtsPlain64 => 1,
+        Mode::XtsPlain => 2,
+        Mode::CbcEssivSha256 => 3,
+        Mode::CbcPlain64 => 4,
+    }
+}
+
+/// The mode of a number.
+fn mode_of_number(number: u32) -> Option<Mode>
+    ensures { result ≡ mode_in number }
+{
+    match number {
+        1 => Some(Mode::XtsPlain64),
+        2 => Some(Mode::XtsPlain),
+        3 => Some(Mode::CbcEssivSha256),
+        4 => Some(Mode::CbcPlain64),
+        _ => None,
+    }
+}
+
+/// The sector size of a volume that C keeps.
+pub(crate) fn sector_size(volume: &LuksrdVolume) -> Option<SectorSize>
+    ensures { result ≡ sector_size_in volume.now.sector_size }
+{
+    match volume.sector_size {
+        512 => Some(SectorSize::B512),
+        1024 => Some(SectorSize::B1024),
+        2048 => Some(SectorSize::B2048),
+        4096 => Some(SectorSize::B4096),
+        _ => None,
+    }
+}
+
+/// The length of its payload, if that is fixed.
+pub(crate) fn size(volume: &LuksrdVolume) -> Option<u64>
+    ensures { result ≡ size_in volume.now }
+{
+    if volume.has_size == 1 {
+        Some(volume.size)
+    } else {
+        None
+    }
+}
+
+/// The segment of its payload.
+pub(crate) fn segment(volume: &LuksrdVolume) -> Option<Segment>
+    ensures { result ≡ segment_in volume.now }
+{
+    Segment::from_parts(SegmentParts {
+        offset: Some(volume.offset),
+        size: Some(size(volume)),
+        iv_tweak: Some(volume.iv_tweak),
+        sector_size: sector_size(volume),
+        mode: mode_of_number(volume.mode),
+    })
+}
+
+/// Its cipher, in this mode.
+pub(crate) fn cipher(volume: &LuksrdVolume, mode: Mode) -> Option<SectorCipher>
+    ensures { IfSome result (λ cipher. cipher ≡ cipher_in volume.now mode) }
+{
+    let len = volume.key_size as usize;
+    if len > ROOM {
+        return None;
+    }
+    SectorCipher::new(mode, &volume.key[..len])
+}
+
+// Writes a key into the room for one, with zeros behind it. Answers its length.
+fn write_key(room: &mut [u8], key: &[u8]) -> u32
+    requires there { length room.old ≡ ROOM }
+    requires fits { length key.now ≤ ROOM }
+    ensures count { result ≡ length key.now }
+    ensures key { take result room.new ≡ key.now }
+{
+    let len = key.len();
+    room.fill(0);
+    room[..len].copy_from_slice(key);
+    len as u32
+}
+
+impl LuksrdVolume {
+    /// Stores a volume that is open.
+    pub(crate) fn store(&mut self, volume: &Volume)
+        requires { length volume.now.key ≤ ROOM }
+        ensures { Stores self.new volume.now }
+    {
+        let segment = volume.segment();
+        self.offset = segment.offset;
+        self.has_size = u32::from(segment.size.is_some());
+        self.size = segment.size.unwrap_or(0);
+        self.iv_tweak = segment.iv_tweak;
+        self.sector_size = segment.sector_size.bytes() as u32;
+        self.mode = number_of_mode(segment.mode);
+        self.key_size = write_key(&mut self.key, volume.key());
+        self.key_slot = u32::from(volume.slot());
+        self.reserved = 0;
+    }
+
+    /// Fills it with zeros.
+    pub(crate) fn clear(&mut self)
+        ensures { IsCleared self.new }
+    {
+        self.offset = 0;
+        self.size = 0;
+        self.iv_tweak = 0;
+        self.has_size = 0;
+        self.sector_size = 0;
+        self.mode = 0;
+        self.key_size = 0;
+        self.key_slot = 0;
+        self.reserved = 0;
+        self.key.fill(0);
+    }
+}

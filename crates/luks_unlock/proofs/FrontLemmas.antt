@@ -1,0 +1,225 @@
+-- The first bytes of an image decide how it is opened: its first 33,554,432 bytes, the most that a header area holds.
+use Rattle.std.proofs.Common.{◌≡◌, ◌∙◌, ℕ, ◌+◌, ◌*◌, ◌<◌, ◌≤◌, List, [], ◌∷◌, Option, None, Some, Result, Ok, Err, Bool}
+use Rattle.std.proofs.Common.{true, false, inl, inr, ap, sym, refl, take, take_all, length, length-take-le, max, arith}
+use Rattle.std.specs.List.{AllByRecursion}
+use Rattle.std.specs.Prelude.{nat_lt, ok_or, if◌then◌else◌}
+use Rattle.std.proofs.lemmas.Bool.{cases_lt, le-ltb}
+use Rattle.std.proofs.lemmas.List.{take-take}
+use Rattle.luks_area.specs.Area.{longest_area}
+use Rattle.luks_area.specs.declared.fault.HeaderFault.{HeaderFault}
+use Rattle.luks_area.specs.declared.fault.HeaderFault.TheVariants.{NotLuks}
+use Rattle.luks1_header.specs.Header1.{is_luks1}
+use Rattle.luks2_header.proofs.AgreeLemmas.{reach_fit, reach_unfit}
+use Rattle.luks2_header.proofs.ChoiceLemmas.{reach_other, reach_primary}
+use Rattle.luks2_header.proofs.JsonLemmas.{json_beginning}
+use Rattle.luks2_header.proofs.SearchLemmas.{search_reach_is}
+use Rattle.luks2_header.proofs.ValidLemmas.{fits_parts, size_range, valid_range}
+use Rattle.luks2_header.proofs.WalkLemmas.{furthest}
+use Rattle.luks2_header.specs.Choice2.{binary_at, fits, header2_of, is_valid}
+use Rattle.luks2_header.specs.Cost2.{cost2_of, reach2_of, reach_at}
+use Rattle.luks2_header.specs.Front2.{IsFront}
+use Rattle.luks2_header.specs.Header2.{sizes}
+use Rattle.luks2_header.specs.Text2.{json_text_of}
+use Rattle.luks2_header.specs.declared.header.Header2.{Header2}
+use Rattle.luks2_members.specs.Tree.{tree_of}
+use Rattle.luks_header.proofs.HeldLemmas.{begins_longer}
+use Rattle.luks_header.specs.Header.{cost_of, header_of, with_metadata, with_text}
+use Rattle.luks_header.specs.declared.header.Header.{Header}
+use Rattle.luks_open.proofs.CallerLemmas.{opening_beginning}
+use Rattle.luks_open.proofs.OrderLemmas.{held_of-within}
+use Rattle.luks_open.specs.Opening.{opening_of}
+use Rattle.luks_open.specs.Order.{held_of}
+use Rattle.luks_open.specs.declared.fault.OpenFault.{OpenFault}
+use Rattle.luks_open.specs.declared.opening.Opened.{Opened}
+use Rattle.luks_report.specs.declared.message.Message.{Message}
+use Rattle.luks_request.specs.Request.{OpeningRequest}
+use Rattle.luks_runs.specs.Reading.{as_detached}
+use Rattle.luks_runs.specs.Secret.{longest_key_file}
+use Rattle.luks_runs.specs.Standing.{reading_of}
+use Rattle.luks_runs.specs.declared.standing.Standing.{Standing}
+use Rattle.luks_runs.specs.declared.standing.Standing.TheVariants.{Attached, Detached}
+use Rattle.luks_unlock.proofs.StableCopy.{stable_by}
+use Rattle.luks_unlock.specs.Volume.{OnOpened, Volume, found_outcome, opened_outcome, outcome_after, volume_by}
+use Rattle.luks_unlock.specs.Volume.{volume_in_header, volume_outcome_by}
+
+-- ---- how far an image is looked at
+
+module _ (image : List ℕ) where
+  reach_by : (place : ℕ) (b : Bool) → fits image place ≡ b → place ≤ 4194304 → reach_at image place ≤ 8388608
+  reach_by place true is near =
+      let size = size_range place (binary_at image place) (fits_parts image place is).1 in
+      omega (arith, reach_fit image place is, size.1)
+  reach_by place false is near = omega (arith, reach_unfit image place is)
+
+  reach_near : (place : ℕ) → place ≤ 4194304 → reach_at image place ≤ 8388608
+  reach_near place = reach_by place (fits image place) refl
+
+furthest_by : (b : Bool) (here rest most : ℕ) → here ≤ most → rest ≤ most → max here (if b then 0 else rest) ≤ most
+furthest_by true here rest most near far = omega arith
+furthest_by false here rest most near far = omega arith
+
+furthest_within : (valid : ℕ → Bool) (reach : ℕ → ℕ) (most : ℕ) (places : List ℕ)
+    → AllByRecursion (λ place. reach place ≤ most) places → furthest valid reach places ≤ most
+unfolding furthest
+furthest_within valid reach most [] all = omega arith
+furthest_within valid reach most (place ∷ places) all =
+    furthest_by (valid place) (reach place) (furthest valid reach places) most all.0
+    (furthest_within valid reach most places all.1)
+
+search_within : (image : List ℕ) → furthest (is_valid image) (reach_at image) sizes ≤ 8388608
+unfolding sizes
+search_within image =
+    furthest_within (is_valid image) (reach_at image) 8388608 _ (
+      reach_near image 16384 (omega arith),
+      (
+        reach_near image 32768 (omega arith),
+        (
+          reach_near image 65536 (omega arith),
+          (
+            reach_near image 131072 (omega arith),
+            (
+              reach_near image 262144 (omega arith),
+              (
+                reach_near image 524288 (omega arith),
+                (
+                  reach_near image 1048576 (omega arith),
+                  (
+                    reach_near image 2097152 (omega arith),
+                    (reach_near image 4194304 (omega arith), tt),
+                  ),
+                ),
+              ),
+            ),
+          ),
+        ),
+      ),
+    )
+
+-- a header of LUKS2 is sought in the first 8 MiB
+reach2_within : (image : List ℕ) → reach2_of image ≤ 8388608
+reach2_within image = by (is_valid image 0) refl where
+  by : (b : Bool) → is_valid image 0 ≡ b → reach2_of image ≤ 8388608
+  by true is = omega (arith, reach_primary image is, (valid_range image 0 is).2)
+  by false is =
+      omega (
+        arith,
+        reach_other image is,
+        search_reach_is image,
+        search_within image,
+        reach_near image 0 (omega arith),
+      )
+
+-- ---- the header of the first bytes
+
+module _ (image : List ℕ) (n : ℕ) (far : 8388608 ≤ n) where
+  front_of : n ≤ length image → IsFront (take n image) false image
+  front_of more =
+      let long = length-take-le n image more in
+      record { begins = ap (λ k. take k image) long; within = omega (arith, long); ends = λ wrong. absurd (cc) }
+
+  front2 : n ≤ length image
+      → (header2_of (take n image) ≡ header2_of image) × (cost2_of (take n image) ≡ cost2_of image)
+  unfolding header2_of cost2_of
+  front2 more =
+      let long = length-take-le n image more in
+      let within = reach2_within image in
+      let same = stable_by (take n image) image (front_of more) (is_valid image 0) refl (omega (arith, long)) in
+      (ap (λ chosen. ok_or chosen NotLuks) same.0, omega (arith, same.1, long))
+
+  text_front : n ≤ length image → (header : Header2) → header2_of image ≡ Ok header
+      → json_text_of (take n image) header ≡ json_text_of image header
+  unfolding cost2_of
+  text_front more header found =
+      let same = front2 more in
+      let within = reach2_within image in
+      let cut : take (cost2_of (take n image)) (take n image) ≡ take (cost2_of image) image =
+      ap (λ k. take k (take n image)) same.1 ∙ take-take (cost2_of image) n image (omega arith) in
+      sym (json_beginning (take n image) header (same.0 ∙ found))
+      ∙ ap (λ bytes. json_text_of bytes header) cut
+      ∙ json_beginning image header found
+
+  with_text_front : n ≤ length image → (r : Result Header2 HeaderFault) → header2_of image ≡ r
+      → with_text (take n image) r ≡ with_text image r
+  with_text_front more (Ok header) is =
+      ap (λ text. with_metadata header (tree_of text)) (text_front more header is)
+  with_text_front more (Err fault) is = refl
+
+  header_by : n ≤ length image → is_luks1 (take n image) ≡ is_luks1 image → (b : Bool) → is_luks1 image ≡ b
+      → (header_of (take n image) ≡ header_of image) × (cost_of (take n image) ≡ cost_of image)
+  unfolding header_of cost_of
+  header_by more begins true is =
+      let long = length-take-le n image more in
+      let short = le-ltb (length (take n image)) 592 (omega (arith, long)) in
+      let shorter = le-ltb (length image) 592 (omega arith) in
+      (rw (begins, is, short, shorter, take-take 592 n image (omega arith)) refl, rw (begins, is) (omega (arith, long)))
+  header_by more begins false is =
+      let same = front2 more in (
+        rw (begins, is, same.0) (with_text_front more (header2_of image) refl),
+        rw (begins, is) same.1,
+      )
+
+  -- the first bytes of an image have its header, at its cost
+  pub header_front : (header_of (take n image) ≡ header_of image) × (cost_of (take n image) ≡ cost_of image)
+  header_front = elim (cases_lt n (length image)) [
+    | inl more ↦
+        (let long = length-take-le n image (omega arith) in
+        header_by (omega arith)
+        (sym (begins_longer (take n image) image (omega (arith, long)) (ap (λ k. take k image) long)))
+        (is_luks1 image) refl)
+    | inr all ↦ (let same = take_all n image all in (ap header_of same, ap cost_of same))
+  ]
+
+-- ---- opening by the first bytes
+
+module _ (stand : Standing) (o : OpeningRequest) (image pass : List ℕ) (n : ℕ) (far : longest_area ≤ n)
+    (on_opened : OnOpened) where
+  opened_front : (v : Volume) (r : Result Opened OpenFault)
+      → opened_outcome on_opened o.key_slot v (take n image) pass r
+      ≡ opened_outcome on_opened o.key_slot v image pass r
+  opened_front v (Ok opened) =
+      ap (λ cost. on_opened v.segment opened (max cost (held_of v.tries.slots)))
+      (header_front image n (omega arith)).1
+  opened_front v (Err fault) = rw (header_front image n (omega arith)).1 refl
+
+  found_front : n ≤ length image → (v : Volume)
+      → found_outcome on_opened o.key_slot v (take n image) pass ≡ found_outcome on_opened o.key_slot v image pass
+  unfolding found_outcome
+  found_front more v =
+      let long = length-take-le n image more in
+      let within = held_of-within v.tries.slots in
+      let all = le-ltb (length (take n image)) (held_of v.tries.slots) (omega (arith, long)) in
+      let whole = le-ltb (length image) (held_of v.tries.slots) (omega arith) in
+      let opening = opening_beginning v.tries n image pass (omega arith) in
+      let cost = (header_front image n (omega arith)).1 in
+      rw (all, whole, cost, opening, opened_front v (opening_of v.tries image pass)) refl
+
+  after_front : n ≤ length image → (r : Result Volume Message)
+      → outcome_after on_opened o.key_slot (take n image) pass r ≡ outcome_after on_opened o.key_slot image pass r
+  after_front more (Ok v) = found_front more v
+  after_front more (Err message) = rw (header_front image n (omega arith)).1 refl
+
+  reading_front : reading_of stand (take n image) ≡ reading_of stand image
+  reading_front = by stand where
+    by : (standing : Standing) → reading_of standing (take n image) ≡ reading_of standing image
+    by Attached = (header_front image n (omega arith)).0
+    by Detached = ap as_detached (header_front image n (omega arith)).0
+
+  -- a command comes to the same by the first bytes of an image as by all of it
+  pub outcome_front : volume_outcome_by (reading_of stand) on_opened o (take n image) pass
+      ≡ volume_outcome_by (reading_of stand) on_opened o image pass
+  unfolding volume_outcome_by volume_by
+  outcome_front = elim (cases_lt n (length image)) [
+    | inl more ↦
+        ap (λ r. outcome_after on_opened o.key_slot (take n image) pass (volume_in_header o r)) reading_front
+        ∙ after_front (omega arith) (volume_in_header o (reading_of stand image))
+    | inr all ↦ ap (λ bytes. volume_outcome_by (reading_of stand) on_opened o bytes pass) (take_all n image all)
+  ]
+
+-- images with the same first bytes are opened alike
+pub outcome_decided : (stand : Standing) (o : OpeningRequest) (a b pass : List ℕ) (on_opened : OnOpened)
+    → take longest_area a ≡ take longest_area b
+    → volume_outcome_by (reading_of stand) on_opened o a pass ≡ volume_outcome_by (reading_of stand) on_opened o b pass
+outcome_decided stand o a b pass on_opened same =
+    sym (outcome_front stand o a pass longest_area (omega arith) on_opened)
+    ∙ ap (λ bytes. volume_outcome_by (reading_of stand) on_opened o bytes pass) same
+    ∙ outcome_front stand o b pass longest_area (omega arith) on_opened

@@ -1,0 +1,60 @@
+-- Of an honestly sealed volume the payload is the plain text, and ends well.
+use Rattle.std.proofs.Common.{◌≡◌, ◌∙◌, ℕ, ◌+◌, ◌-◌, ◌/◌, ◌%◌, ◌≤◌, false, List, length, Option, None, Some, Ok, refl}
+use Rattle.std.proofs.Common.{ap, arith}
+use Rattle.std.specs.Prelude.{nat_lt}
+use Rattle.std.proofs.lemmas.Bool.{le-ltb}
+use Rattle.luks_aes.specs.Bytes.{IsBytes}
+use Rattle.luks_verdict.specs.SectorSize.{bytes_of}
+use Rattle.luks_verdict.specs.declared.sector_size.SectorSize.{SectorSize}
+use Rattle.luks_verdict.specs.declared.sector_size.SectorSize.TheVariants.{B512, B1024, B2048, B4096}
+use Rattle.luks_verdict.specs.declared.segment.Segment.{Segment}
+use Rattle.luks_seal.specs.Sealed.{EndsWith, SealsPlain}
+use Rattle.luks_payload.specs.Plain.{ending_of, ending_within, plain_of, sector_len, sector_plaintext, unit_number, unit_plain}
+use Rattle.luks_payload.specs.Plain.{within_size}
+use Rattle.luks_payload.specs.declared.state.Step.TheVariants.{End}
+use Rattle.luks_cipher.specs.Xts.{joined}
+use Rattle.luks_unlock.proofs.SealedUnits.{units_undone}
+
+-- sectors are whole blocks
+whole_blocks : (size : SectorSize) → bytes_of size % 16 ≡ 0
+whole_blocks B512 = refl
+whole_blocks B1024 = refl
+whole_blocks B2048 = refl
+whole_blocks B4096 = refl
+
+module _ (offset : ℕ) (plain image : List ℕ) (there : offset + length plain ≤ length image) where
+  -- as many bytes as the plain text has are the payload's
+  all_plain : (size : Option ℕ) → EndsWith size plain (offset + length plain) image
+      → within_size size (length image - offset) ≡ length plain
+  all_plain None ends = omega arith
+  all_plain (Some size) ends = omega arith
+
+  -- they are whole sectors, so it ends well
+  ends_well : (size : Option ℕ) (sector : ℕ) → EndsWith size plain (offset + length plain) image
+      → length plain % sector ≡ 0
+      → ending_within size sector (length image - offset) ≡ Ok End
+  ends_well None sector ends whole =
+      let all : length image - offset ≡ length plain = omega arith in
+      let none : (length image - offset) % sector ≡ 0 = ap (λ n. n % sector) all ∙ whole in
+      rw none refl
+  ends_well (Some size) sector ends whole =
+      let enough : nat_lt (length image - offset) size ≡ false = le-ltb (length image - offset) size (omega arith) in
+      rw enough refl
+
+module _ (segment : Segment) (image key plain : List ℕ) (seals : SealsPlain segment image key plain) where
+  pub plain_again : IsBytes key → plain_of segment (segment.mode, key) image ≡ plain
+  unfolding unit_plain
+  plain_again keys =
+      ap (λ n. joined (sector_plaintext segment (segment.mode, key) image) (n / sector_len segment))
+      (all_plain segment.offset plain image seals.stands.there segment.size seals.ends)
+      ∙ units_undone (segment.mode, key) (unit_number segment) (sector_len segment) segment.offset plain image
+      seals.stands keys (whole_blocks segment.sector_size) (sector_plaintext segment (segment.mode, key) image)
+      (λ i. refl)
+
+  pub ending_again : ending_of segment image ≡ Ok End
+  ending_again =
+      let reached : nat_lt (length image) segment.offset ≡ false =
+      le-ltb (length image) segment.offset (omega (arith, seals.stands.there)) in
+      rw reached
+      (ends_well segment.offset plain image seals.stands.there segment.size (sector_len segment) seals.ends
+      seals.stands.whole)

@@ -1,0 +1,132 @@
+-- `luksCat` of an honestly sealed volume writes its plain text.
+use Rattle.std.proofs.Common.{◌≡◌, ◌∙◌, ℕ, ◌≤◌, List, [], ◌∷◌, ◌++◌, length, Option, None, Some, Ok, refl, sym, ap}
+use Rattle.std.proofs.Common.{subst, arith}
+use Rattle.std.specs.List.{AllByRecursion, Contains}
+use Rattle.std.proofs.lemmas.List.Elements.{All-nil, recursion_from_All}
+use Rattle.luks_header.proofs.KnownLemmas.{is_attached, slot_of_usable}
+use Rattle.luks_open.specs.Opening.{answer_of, first_opening, key_of, opening_of}
+use Rattle.luks_open.specs.Order.{entry_at, held_of, order_of}
+use Rattle.luks_open.specs.declared.entry.Entry.{Entry}
+use Rattle.luks_open.specs.declared.opening.Opened.{Opened}
+use Rattle.luks_open.proofs.CallerLemmas.{held_before_payload}
+use Rattle.luks_open.proofs.OrderLemmas.{All-tries, IsOf}
+use Rattle.luks_seal.specs.Sealed.{Sealed, SealsKey}
+use Rattle.luks_request.specs.Request.{OpeningRequest}
+use Rattle.luks_report.specs.Faults.{message_at_end}
+use Rattle.luks_report.specs.declared.message.Message.TheVariants.{Done}
+use Rattle.luks_runs.specs.Ending.{Outcome}
+use Rattle.luks_unlock.specs.Honest.{GivesNoOther, IsHonest}
+use Rattle.luks_unlock.specs.Volume.{Volume, found_outcome, held_for, opened_outcome, payload_outcome, volume_by}
+use Rattle.luks_unlock.specs.Volume.{volume_outcome, volume_outcome_by}
+use Rattle.luks_runs.specs.Secret.{longest_key_file}
+use Rattle.luks_unlock.proofs.HonestPayload.{ending_again, plain_again}
+use Rattle.luks_unlock.proofs.HonestSlots.{first_again, key_again}
+use Rattle.luks_unlock.proofs.OutcomeLemmas.{found_whole}
+
+-- a key slot with a passphrase of a sealed volume is sealed with it
+sealed_with : (image key plain passphrase : List ℕ) (passphrases : List (ℕ × List ℕ)) (number : ℕ)
+    (sealed : Sealed image passphrases key plain) → Contains passphrases (number, passphrase)
+    → SealsKey sealed.header image key number passphrase
+sealed_with image key plain passphrase passphrases number sealed is =
+    subst (λ (slot : ℕ × List ℕ). SealsKey sealed.header image key slot.0 slot.1) is.2
+    (sealed.slots is.0 (number, passphrase) is.1)
+
+-- what holds of all elements of a list holds of one in its middle
+in_the_middle : {X : Type 0} (P : X → Type 0) (before : List X) (x : X) (after : List X)
+    → AllByRecursion P (before ++ x ∷ after) → P x
+in_the_middle P [] x after all = all.0
+in_the_middle P (y ∷ before) x after all = in_the_middle P before x after all.1
+
+module _ (o : OpeningRequest) (image passphrase plain : List ℕ) (honest : IsHonest o image passphrase plain) where
+  abbrev volume : Volume
+  volume = record { header = honest.sealed.header; segment = honest.sealed.segment; tries = honest.tries }
+
+  -- its key slot gives the key
+  gives_key : key_of honest.first.entry image passphrase ≡ Some honest.key
+  gives_key =
+      let sealed = honest.sealed in
+      let first = honest.first in
+      let tried = All-tries sealed.header o.key_slot o.max_iterations honest.tries honest.is_order in
+      let is = in_the_middle (IsOf sealed.header o.max_iterations) first.before first.entry first.after
+      (subst (AllByRecursion (IsOf sealed.header o.max_iterations)) first.are tried) in
+      let seals = sealed_with image honest.key plain passphrase honest.passphrases honest.number sealed
+      honest.is_passphrase in
+      key_again passphrase honest.key image sealed.header sealed.segment o.max_iterations first.entry sealed.is_segment
+      is (subst (λ (n : ℕ). SealsKey sealed.header image honest.key n passphrase) (sym first.is_number) seals)
+
+  -- so it is opened with it
+  opens : (number : ℕ) × (opening_of honest.tries image passphrase ≡ Ok (record { slot = number; key = honest.key }))
+  unfolding opening_of
+  opens =
+      let first = honest.first in
+      let found = first_again first.before first.entry first.after image passphrase honest.key
+      (recursion_from_All (GivesNoOther image passphrase honest.key) first.before first.no_other) gives_key in (
+        found.0,
+        ap (λ (entries : List Entry). answer_of (first_opening entries image passphrase) honest.tries.skipped)
+            first.are
+            ∙ ap (λ (opened : Option Opened). answer_of opened honest.tries.skipped) found.1,
+      )
+
+  -- the key material that is tried is all there
+  held_there : held_of honest.tries.slots ≤ length image
+  held_there =
+      let sealed = honest.sealed in
+      let before = held_before_payload sealed.header sealed.segment o.key_slot o.max_iterations honest.tries
+      (is_attached image sealed.header sealed.is_header) sealed.is_segment honest.is_order in
+      omega (arith, before, sealed.payload.stands.there)
+
+  -- it is a volume
+  found : volume_outcome (payload_outcome image passphrase) o image passphrase
+      ≡ found_outcome (payload_outcome image passphrase) o.key_slot volume image passphrase
+  unfolding volume_outcome_by volume_by
+  found = rw (honest.sealed.is_header, honest.sealed.is_segment, honest.is_order) refl
+
+  opened_is : (number : ℕ) × (volume_outcome (payload_outcome image passphrase) o image passphrase
+      ≡ payload_outcome image passphrase honest.sealed.segment (record { slot = number; key = honest.key })
+      (held_for image volume))
+  opened_is = (
+    opens.0,
+    found
+        ∙ found_whole (payload_outcome image passphrase) o.key_slot volume image passphrase honest.short held_there
+        ∙ ap (opened_outcome (payload_outcome image passphrase) o.key_slot volume image passphrase) opens.1,
+  )
+
+  -- the outcome of `luksCat` is the plain text, and that it ended well
+  pub unsealed : ((volume_outcome (payload_outcome image passphrase) o image passphrase).output ≡ plain)
+      × ((volume_outcome (payload_outcome image passphrase) o image passphrase).message ≡ Done)
+  unsealed =
+      let sealed = honest.sealed in (
+        ap (λ (out : Outcome). out.output) opened_is.1
+            ∙ plain_again sealed.segment image honest.key plain sealed.payload sealed.key_bytes,
+        ap (λ (out : Outcome). out.message) opened_is.1
+            ∙ ap message_at_end (ending_again sealed.segment image honest.key plain sealed.payload),
+      )
+
+-- a key slot that is named, and no limit, leave nothing to ask for of what is tried
+pub named_is_honest : (o : OpeningRequest) (image passphrase plain key : List ℕ) (passphrases : List (ℕ × List ℕ))
+    (number : ℕ) → Sealed image passphrases key plain → Contains passphrases (number, passphrase)
+    → length passphrase ≤ longest_key_file → o.key_slot ≡ Some number → o.max_iterations ≡ None
+    → IsHonest o image passphrase plain
+unfolding order_of entry_at
+named_is_honest o image passphrase plain key passphrases number sealed is short named unlimited =
+    let seals = sealed_with image key plain passphrase passphrases number sealed is in
+    let tried : Entry = record { number = number; slot = seals.slot; digest = seals.digest } in
+    let its_slot = slot_of_usable sealed.header None number seals.slot seals.usable in
+    record {
+      passphrases = passphrases;
+      key = key;
+      sealed = sealed;
+      number = number;
+      is_passphrase = is;
+      short = short;
+      tries = record { slots = tried ∷ []; skipped = [] };
+      is_order = rw (named, unlimited, seals.usable, its_slot, seals.is_digest) refl;
+      first = record {
+        before = [];
+        entry = tried;
+        after = [];
+        are = refl;
+        is_number = refl;
+        no_other = All-nil (GivesNoOther image passphrase key);
+      };
+    }

@@ -1,0 +1,144 @@
+-- What a command that opens a volume comes to, once the volume is found.
+use Rattle.std.proofs.Common.{◌≡◌, ℕ, ◌+◌, ◌-◌, ◌<◌, ◌≤◌, List, ◌++◌, Option, None, Some, Result, Ok, Err, ◌∙◌, ap}
+use Rattle.std.proofs.Common.{sym, refl, take, drop, length, length-drop, length-take-le, max, min, arith, true, false}
+use Rattle.std.proofs.lemmas.Bool.Decides.{nat_tests}
+use Rattle.std.proofs.lemmas.List.{drop-drop}
+use Rattle.std.proofs.Math.Seq.{take-add}
+use Rattle.std.specs.Prelude.{nat_lt}
+use Rattle.luks_header.specs.Area.{TookBehind}
+use Rattle.luks_header.specs.Header.{cost_of}
+use Rattle.luks_header.specs.Segment.{segment_of}
+use Rattle.luks_header.specs.declared.header.Header.{Header}
+use Rattle.luks_verdict.specs.declared.segment.Segment.{Segment}
+use Rattle.luks_io.specs.Bytes.{Took}
+use Rattle.luks_open.proofs.CallerLemmas.{opening_beginning}
+use Rattle.luks_open.specs.Opening.{opening_of}
+use Rattle.luks_open.specs.Order.{Tries, held_of, order_of}
+use Rattle.luks_open.specs.declared.fault.OpenFault.{OpenFault}
+use Rattle.luks_open.specs.declared.opening.Opened.{Opened}
+use Rattle.luks_report.specs.declared.message.Message.{Message}
+use Rattle.luks_report.specs.declared.message.Message.TheVariants.{Cut, KeyFileLength}
+use Rattle.luks_request.specs.Request.{OpeningRequest}
+use Rattle.luks_runs.proofs.HeaderTaking.{cost_there}
+use Rattle.luks_runs.specs.Ending.{unwritten}
+use Rattle.luks_runs.specs.Secret.{longest_key_file}
+use Rattle.luks_runs.specs.Standing.{reading_of}
+use Rattle.luks_runs.specs.declared.standing.Standing.{Standing}
+use Rattle.luks_unlock.proofs.VolumeLemmas.{cost_held, volume_is}
+use Rattle.luks_unlock.specs.Volume.{OnOpened, Volume, found_outcome, opened_outcome, outcome_after, volume_by}
+use Rattle.luks_unlock.specs.Volume.{volume_outcome_by}
+
+-- ---- the outcome of a volume that was found
+
+module _ (on_opened : OnOpened) (named : Option ℕ) (v : Volume) (image secret : List ℕ) where
+  pub found_long : longest_key_file < length secret
+      → found_outcome on_opened named v image secret ≡ unwritten KeyFileLength (cost_of image) (longest_key_file + 1)
+  unfolding found_outcome
+  found_long long = let yes : nat_lt longest_key_file (length secret) ≡ true = grind (arith, nat_tests) in rw yes refl
+
+  pub found_cut : length secret ≤ longest_key_file → length image < held_of v.tries.slots
+      → found_outcome on_opened named v image secret ≡ unwritten Cut (length image) (length secret)
+  unfolding found_outcome
+  found_cut short few =
+      let no : nat_lt longest_key_file (length secret) ≡ false = grind (arith, nat_tests) in
+      let yes : nat_lt (length image) (held_of v.tries.slots) ≡ true = grind (arith, nat_tests) in
+      rw (no, yes) refl
+
+  pub found_whole : length secret ≤ longest_key_file → held_of v.tries.slots ≤ length image
+      → found_outcome on_opened named v image secret
+      ≡ opened_outcome on_opened named v image secret (opening_of v.tries image secret)
+  unfolding found_outcome
+  found_whole short enough =
+      let no : nat_lt longest_key_file (length secret) ≡ false = grind (arith, nat_tests) in
+      let none : nat_lt (length image) (held_of v.tries.slots) ≡ false = grind (arith, nat_tests) in
+      rw (no, none) refl
+
+-- ---- the area that is held
+
+module _ (image area area' : List ℕ) (i : Option (List ℕ)) (held : ℕ) (front : area ≡ take (cost_of image) image) where
+  pub front_len : length area ≡ cost_of image
+  front_len = cost_held image area front
+
+  -- so many bytes more are held
+  pub area_more : (n : ℕ) → TookBehind area area' (drop (cost_of image) image) i n
+      → (area' ≡ take (cost_of image + n) image) × Took image i (cost_of image + n)
+  area_more n grows = (
+    grows.1 ∙ ap (λ l. l ++ take n (drop (cost_of image) image)) front ∙ sym (take-add (cost_of image) n image),
+    record {
+      within = omega (arith, grows.0.within, length-drop (cost_of image) image, cost_there image);
+      left = grows.0.left ∙ ap Some (drop-drop n (cost_of image) image);
+    },
+  )
+
+  module _ (grows : TookBehind area area' (drop (cost_of image) image) i
+      (min (held - length area) (length (drop (cost_of image) image)))) where
+    reached : ℕ
+    reached = cost_of image + min (held - length area) (length (drop (cost_of image) image))
+
+    grown : (length area' ≡ reached) × (reached ≡ max (cost_of image) (min held (length image)))
+    unfolding reached
+    grown =
+        let more = area_more _ grows in (
+          ap length more.0
+              ∙ length-take-le _ image more.1.within,
+          omega (arith, front_len, length-drop (cost_of image) image, cost_there image),
+        )
+
+    -- the image ended before the area was held
+    pub area_cut : length area' < held → (length image < held) × Took image i (length image)
+    unfolding reached
+    area_cut short =
+        let more = area_more _ grows in
+        let all : reached ≡ length image = omega (arith, grown.0, grown.1, cost_there image) in
+        (omega (arith, grown.0, grown.1, cost_there image), rw all at more.1)
+
+    -- the area is held
+    pub area_held : held ≤ length area' → (held ≤ length image) × (length area' ≡ max (cost_of image) held)
+        × (area' ≡ take (max (cost_of image) held) image) × Took image i (max (cost_of image) held)
+    unfolding reached
+    area_held enough =
+        let more = area_more _ grows in
+        let there : held ≤ length image = omega (arith, grown.0, grown.1, cost_there image, more.1.within) in
+        let all : reached ≡ max (cost_of image) held = omega (arith, grown.1) in
+        (there, grown.0 ∙ all, rw all at more.0, rw all at more.1)
+
+-- ---- the outcome of an image
+
+-- the volume of these
+abbrev pub volume_with : Header → Segment → Tries → Volume
+volume_with header segment tries = record { header = header; segment = segment; tries = tries }
+
+module _ (stand : Standing) (o : OpeningRequest) (image pass : List ℕ) where
+  pub outcome_is : (on_opened : OnOpened) (r : Result Volume Message) → volume_by (reading_of stand) o image ≡ r
+      → volume_outcome_by (reading_of stand) on_opened o image pass ≡ outcome_after on_opened o.key_slot image pass r
+  unfolding volume_outcome_by
+  outcome_is on_opened r is = rw is refl
+
+  -- the header names this segment and these key slots to be tried
+  module _ (header : Header) (segment : Segment) (tries : Tries) (found : reading_of stand image ≡ Ok header)
+      (is_segment : segment_of header ≡ Ok segment)
+      (ordered : order_of header o.key_slot o.max_iterations ≡ Ok tries) where
+    pub found_is : (on_opened : OnOpened)
+        → volume_outcome_by (reading_of stand) on_opened o image pass
+        ≡ found_outcome on_opened o.key_slot (volume_with header segment tries) image pass
+    found_is on_opened =
+        outcome_is on_opened (Ok (volume_with header segment tries))
+        (volume_is stand o image None header found segment is_segment tries ordered)
+
+    -- the key areas are held, and the key slots answer so
+    pub tried_is : (short : length pass ≤ longest_key_file) (area area' : List ℕ) (i : Option (List ℕ))
+        (front : area ≡ take (cost_of image) image)
+        (grows : TookBehind area area' (drop (cost_of image) image) i
+        (min (held_of tries.slots - length area) (length (drop (cost_of image) image))))
+        (enough : held_of tries.slots ≤ length area') (r : Result Opened OpenFault)
+        (tried : opening_of tries area' pass ≡ r) (on_opened : OnOpened)
+        → volume_outcome_by (reading_of stand) on_opened o image pass
+        ≡ opened_outcome on_opened o.key_slot (volume_with header segment tries) image pass r
+    tried_is short area area' i front grows enough r tried on_opened =
+        let v = volume_with header segment tries in
+        let held = area_held image area area' i (held_of tries.slots) front grows enough in
+        let whole : opening_of tries image pass ≡ r =
+        sym (opening_beginning tries (max (cost_of image) (held_of tries.slots)) image pass (omega arith))
+        ∙ ap (λ l. opening_of tries l pass) (sym held.2) ∙ tried in
+        found_is on_opened ∙ found_whole on_opened o.key_slot v image pass short held.0
+        ∙ ap (opened_outcome on_opened o.key_slot v image pass) whole

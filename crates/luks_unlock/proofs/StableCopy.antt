@@ -1,0 +1,129 @@
+-- The first bytes of an image, as many as its header costs, have the same header and the same cost.
+use Rattle.std.proofs.Common.{◌≡◌, ◌∙◌, ℕ, ◌+◌, ◌*◌, ◌<◌, ◌≤◌, List, [], ◌∷◌, Option, Some, None, Err, Bool, true}
+use Rattle.std.proofs.Common.{false, ap, sym, refl, inl, inr, take, take_all, length, length-take-le, max, arith}
+use Rattle.std.specs.Prelude.{nat_lt, ok_or, option_and_then}
+use Rattle.std.proofs.lemmas.Bool.{cases_lt, le-ltb}
+use Rattle.luks_area.specs.declared.fault.HeaderFault.TheVariants.{NotLuks}
+use Rattle.luks2_header.specs.Choice2.{chosen2_of, found_at, header2_of, is_valid, least_valid, size_at}
+use Rattle.luks2_header.specs.Cost2.{cost2_of, reach2_of, reach_at, search_reach}
+use Rattle.luks2_header.specs.Front2.{IsFront}
+use Rattle.luks2_header.specs.Header2.{header_in, size_in, sizes}
+use Rattle.luks2_header.specs.declared.header.Finding.TheVariants.{PrimaryNotValid}
+use Rattle.luks2_header.specs.declared.header.Place.TheVariants.{Secondary}
+use Rattle.luks2_header.proofs.AgreeLemmas.{at-front, fits-front, reach_fit, reach_least, valid-front}
+use Rattle.luks2_header.proofs.ChoiceLemmas.{beside_same, chosen_other, chosen_primary, reach_first, reach_other}
+use Rattle.luks2_header.proofs.ChoiceLemmas.{reach_primary, reach_some}
+use Rattle.luks2_header.proofs.SearchLemmas.{least_is, search_reach_is}
+use Rattle.luks2_header.proofs.ValidLemmas.{short-fits, unfit-is_valid}
+use Rattle.luks2_header.proofs.WalkLemmas.{first_valid, furthest}
+
+first_by : (valid : ℕ → Bool) (reach : ℕ → ℕ) (other : ℕ) (places : List ℕ) (place : ℕ) (b : Bool) → valid other ≡ b
+    → (first_valid valid places ≡ Some place → reach place ≤ furthest valid reach places)
+    → first_valid valid (other ∷ places) ≡ Some place → reach place ≤ furthest valid reach (other ∷ places)
+unfolding first_valid furthest
+first_by valid reach other places place true e next is =
+    let same : other ≡ place = (let one : Some other ≡ Some place = (rw e at is) in cc) in
+    rw e (omega (arith, ap reach same))
+first_by valid reach other places place false e next is = rw e (let below = next (rw e at is) in omega (arith, below))
+
+-- the first valid place is one that is looked at
+first_reach : (valid : ℕ → Bool) (reach : ℕ → ℕ) (places : List ℕ) (place : ℕ) → first_valid valid places ≡ Some place
+    → reach place ≤ furthest valid reach places
+unfolding first_valid furthest
+first_reach valid reach [] place is = absurd (cc)
+first_reach valid reach (other ∷ places) place is =
+    first_by valid reach other places place (valid other) refl (first_reach valid reach places place) is
+
+-- of places without a valid header none is the first
+first_none : (valid : ℕ → Bool) (places : List ℕ) → ((place : ℕ) → valid place ≡ false)
+    → first_valid valid places ≡ None
+unfolding first_valid
+first_none valid [] none = refl
+first_none valid (place ∷ places) none = rw (none place) (first_none valid places none)
+
+module _ (held image : List ℕ) (front : IsFront held false image) where
+  reach_same : (place : ℕ) → place + 4096 ≤ length held → reach_at held place ≡ reach_at image place
+  unfolding reach_at
+  reach_same place there =
+      rw (fits-front held false image front place there, at-front held false image front place 4096 there) refl
+
+  -- a place that is held as far as it is looked at
+  place_same : (place : ℕ) → reach_at image place ≤ length held
+      → (is_valid held place ≡ is_valid image place) × (reach_at held place ≡ reach_at image place)
+  place_same place within =
+      let there : place + 4096 ≤ length held = omega (arith, within, reach_least image place) in (
+        valid-front held false image front place there (λ fit. omega (arith, within, reach_fit image place fit)),
+        reach_same place there,
+      )
+
+  AreSame : List ℕ → Type 0
+  AreSame places = (first_valid (is_valid held) places ≡ first_valid (is_valid image) places)
+      × (furthest (is_valid held) (reach_at held) places ≡ furthest (is_valid image) (reach_at image) places)
+
+  walk_by : (place : ℕ) (places : List ℕ) (b : Bool) → is_valid image place ≡ b
+      → (furthest (is_valid image) (reach_at image) places ≤ length held → AreSame places)
+      → furthest (is_valid image) (reach_at image) (place ∷ places) ≤ length held → AreSame (place ∷ places)
+  unfolding first_valid furthest AreSame
+  walk_by place places true e next within =
+      let reaches : reach_at image place ≤ length held = omega (arith, within) in
+      let same = place_same place reaches in
+      (rw (same.0, e) refl, rw (same.0, same.1, e) refl)
+  walk_by place places false e next within =
+      let reaches : reach_at image place ≤ length held = omega (arith, within) in
+      let same = place_same place reaches in
+      let rest = next (let inside = (rw e at within) in omega (arith, inside)) in
+      (rw (same.0, e) rest.0, rw (same.0, same.1, e) (ap (max (reach_at image place)) rest.1))
+
+  walk_same : (places : List ℕ) → furthest (is_valid image) (reach_at image) places ≤ length held → AreSame places
+  unfolding first_valid furthest AreSame
+  walk_same [] within = (refl, refl)
+  walk_same (place ∷ places) within = walk_by place places (is_valid image place) refl (walk_same places) within
+
+  -- the header at the first valid place
+  same_first : (places : List ℕ) → furthest (is_valid image) (reach_at image) places ≤ length held
+      → first_valid (is_valid held) places ≡ first_valid (is_valid image) places
+  unfolding AreSame
+  same_first places within = (let walk = walk_same places within in walk.0)
+
+  same_furthest : (places : List ℕ) → furthest (is_valid image) (reach_at image) places ≤ length held
+      → furthest (is_valid held) (reach_at held) places ≡ furthest (is_valid image) (reach_at image) places
+  unfolding AreSame
+  same_furthest places within = (let walk = walk_same places within in walk.1)
+
+  found_same : (first : Option ℕ) → first_valid (is_valid image) sizes ≡ first
+      → furthest (is_valid image) (reach_at image) sizes ≤ length held
+      → option_and_then (found_at held) first ≡ option_and_then (found_at image) first
+  found_same None is within = refl
+  found_same (Some place) is within =
+      let below = first_reach (is_valid image) (reach_at image) sizes place is in
+      ap (header_in Secondary (Some PrimaryNotValid))
+      (at-front held false image front place 4096 (omega (arith, below, within, reach_least image place)))
+
+  pub stable_by : (b : Bool) → is_valid image 0 ≡ b → reach2_of image ≤ length held
+      → (chosen2_of held ≡ chosen2_of image) × (reach2_of held ≡ reach2_of image)
+  stable_by true e whole =
+      let first = place_same 0 (omega (arith, reach_first image, whole)) in
+      let size : size_at held 0 ≡ size_at image 0 =
+      ap size_in (at-front held false image front 0 4096 (omega (arith, reach_some image, whole))) in (
+        chosen_primary held (first.0 ∙ e)
+            ∙ beside_same held false image front e (λ _. omega (arith, reach_primary image e, whole))
+            ∙ sym (chosen_primary image e),
+        reach_primary held (first.0 ∙ e) ∙ ap (λ n. 2 * n) size ∙ sym (reach_primary image e),
+      )
+  stable_by false e whole =
+      let first = place_same 0 (omega (arith, reach_first image, whole)) in
+      let within : furthest (is_valid image) (reach_at image) sizes ≤ length held =
+      omega (arith, reach_other image e, search_reach_is image, whole) in
+      let least : least_valid held ≡ least_valid image =
+      least_is held ∙ same_first sizes within ∙ sym (least_is image) in (
+        chosen_other held (first.0 ∙ e)
+            ∙ ap (option_and_then (found_at held)) (least ∙ least_is image)
+            ∙ found_same (first_valid (is_valid image) sizes) refl within
+            ∙ sym (ap (option_and_then (found_at image)) (least_is image))
+            ∙ sym (chosen_other image e),
+        reach_other held (first.0 ∙ e)
+            ∙ ap (max (reach_at held 0))
+            (search_reach_is held ∙ same_furthest sizes within ∙ sym (search_reach_is image))
+            ∙ ap (λ n. max n (search_reach image)) first.1
+            ∙ sym (reach_other image e),
+      )

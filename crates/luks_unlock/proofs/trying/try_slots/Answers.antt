@@ -1,0 +1,45 @@
+use Rattle.std.proofs.lemmas.Result.{err_from_is_err_and}
+use Rattle.std.proofs.Common.{inl, inr, refl, sym}
+use Rattle.luks_header.proofs.HeaderLemmas.{short_from_not_whole}
+use Rattle.luks_unlock.proofs.trying.try_slots.Goals as goal
+
+pub returns-in_err-extend_to-clause-run : goal.returns-in_err-extend_to-clause-run
+returns-in_err-extend_to-clause-run g c =
+    let p = err_from_is_err_and c.from_residual.result c.from_residual.ensures.1 in
+    rw (p.1, p.2) (λ rest there.
+    inl (
+      c.in_err-extend_to.field-0.0,
+      refl,
+      rw c.held_end.ensures.value at (c.in_err-extend_to.ensures.broken rest there),
+    ))
+
+pub returns-then-not-branch-clause-run : goal.returns-then-not-branch-clause-run
+returns-then-not-branch-clause-run g c rest there =
+    let end = c.held_end.ensures.value in
+    let few = short_from_not_whole c.in_ok-extend_to.field-0 _ _ c.in_ok-extend_to.ensures.whole c.if-not-branch.true in
+    inr (rw end at (c.in_ok-extend_to.ensures.taken rest there), inl (refl, rw end at few))
+
+pub open-requires-clause-held : goal.open-requires-clause-held
+open-requires-clause-held g c =
+    rw c.held_end.ensures.value at (c.in_ok-extend_to.ensures.whole.0 c.if-not-branch.false)
+
+pub returns-in-Ok-clause-run : goal.returns-in-Ok-clause-run
+returns-in-Ok-clause-run g c rest there =
+    let end = c.held_end.ensures.value in (
+      rw end at (c.in_ok-extend_to.ensures.taken rest there),
+      rw end at (c.in_ok-extend_to.ensures.whole.0 c.if-not-branch.false),
+      sym c.in-Ok.ensures.value,
+    )
+
+pub returns-in-Err-clause-run : goal.returns-in-Err-clause-run
+returns-in-Err-clause-run g c = rw (c.of_opening.ensures, c.named_slot.ensures) (λ rest there.
+    let end = c.held_end.ensures.value in
+    inr (
+      rw end at (c.in_ok-extend_to.ensures.taken rest there),
+      inr (
+        c.in-Err.fault,
+        refl,
+        rw end at (c.in_ok-extend_to.ensures.whole.0 c.if-not-branch.false),
+        sym c.in-Err.ensures.value,
+      ),
+    ))

@@ -1,0 +1,26 @@
+-- What a header says of its volume, and what finding that leaves in its device.
+use Rattle.std.specs.Prelude.{◌≡◌, List, ℕ, Option, Ok, Err}
+use Rattle.luks_io.specs.Bytes.{Took, TookUpTo}
+use Rattle.luks_header.specs.Header.{cost_of, header_of}
+use Rattle.luks_header.specs.Segment.{segment_of}
+use Rattle.luks_header.specs.declared.header.Header.{Header}
+use Rattle.luks_verdict.specs.declared.segment.Segment.{Segment}
+use Rattle.luks_request.specs.Request.{OpeningRequest}
+use Rattle.luks_report.specs.declared.message.Message.{Message}
+use Rattle.luks_report.specs.declared.message.Message.TheVariants.{OutOfMemory, ReadFailed}
+use Rattle.luks_runs.specs.Reading.{Reading}
+use Rattle.luks_unlock.specs.Volume.{volume_by}
+
+-- a header is read, and it has this segment
+abbrev pub HasSegmentBy : Reading → List ℕ → Segment → Type 0
+HasSegmentBy read image segment = (header : Header) × (read image ≡ Ok header) × (segment_of header ≡ Ok segment)
+
+-- the image has a header with this segment
+abbrev pub HasSegment : List ℕ → Segment → Type 0
+HasSegment = HasSegmentBy header_of
+
+-- finding the volume whose header is read so ended without one
+abbrev pub StopsFinding : Reading → OpeningRequest → List ℕ → Option (List ℕ) → Message → Type 0
+StopsFinding read o image left ReadFailed = TookUpTo image left (cost_of image)
+StopsFinding read o image left OutOfMemory = TookUpTo image left (cost_of image)
+StopsFinding read o image left message = (volume_by read o image ≡ Err message) × Took image left (cost_of image)

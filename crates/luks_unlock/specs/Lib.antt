@@ -1,0 +1,5 @@
+pub mod Finding
+pub mod Honest
+pub mod MayEnd
+pub mod Trying
+pub mod Volume

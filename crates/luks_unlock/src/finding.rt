@@ -1,0 +1,123 @@
+//! Finding a volume: its header, where its payload lies, and which key slots are tried.
+
+ghost use Rattle.std.specs.Prelude.{◌≡◌, ◌≢◌, ◌⊎◌, Option, Ok, Err, IfOk, IfErr};
+ghost use Rattle.std.specs.Prelude.{false, is_err, length, take};
+ghost use Rattle.luks_io.specs.Bytes.{Took, WhereKnown, counted};
+ghost use Rattle.luks_header.specs.Header.{cost_of};
+ghost use Rattle.luks_header.specs.Segment.{segment_of};
+ghost use Rattle.luks_open.specs.Order.{order_of};
+ghost use Rattle.luks_request.specs.Request.{opening_request};
+ghost use Rattle.luks_runs.specs.Run.{FindsEndOnce, is_failed_read, message_of};
+ghost use Rattle.luks_runs.specs.Standing.{reading_of};
+ghost use Rattle.luks_unlock.specs.Finding.{StopsFinding};
+ghost use Rattle.luks_unlock.specs.MayEnd.{OpeningMessage};
+ghost use Rattle.luks_unlock.specs.Volume.{volume_by, volume_in_header};
+
+use luks_header::area::HeaderArea;
+use luks_header::header::Header;
+use luks_header::payload::segment;
+use luks_header::segment::Segment;
+use luks_io::source::Source;
+use luks_open::order::order;
+use luks_open::tries::Order;
+use luks_report::message::Message;
+use luks_request::command::Opening;
+use luks_runs::standing::{Standing, find_header};
+use std::alloc::Global;
+
+/// A volume whose header is read: where its payload lies, and which key slots are tried.
+#[derive(Drop)]
+pub struct FoundVolume {
+    /// Its header.
+    pub header: Header,
+    /// The first bytes of the image, or of the file with the header: all that were read.
+    pub area: HeaderArea,
+    /// Where its payload lies.
+    pub segment: Segment,
+    /// The key slots that are tried, in their order.
+    pub order: Order,
+}
+
+/// The number of the key slot that is named.
+pub(crate) fn named_slot(opening: &Opening<'_>) -> Option<u8>
+    ensures { result ≡ (opening_request opening.now).key_slot }
+{
+    match opening.key_slot {
+        Some(slot) => Some(slot.get()),
+        None => None,
+    }
+}
+
+/// The limit on iterations.
+fn limit(opening: &Opening<'_>) -> Option<u32>
+    ensures { result ≡ (opening_request opening.now).max_iterations }
+{
+    match opening.max_iterations {
+        Some(limit) => Some(limit.get()),
+        None => None,
+    }
+}
+
+/// Finds the segment of a header, and the key slots that are tried.
+fn find_slots(
+    alloc: Global,
+    opening: &Opening<'_>,
+    header: &Header,
+) -> Result<(Segment, Order), Message>
+    ensures segment { IfOk result (λ found. segment_of header.now ≡ Ok found.0) }
+    ensures order { IfOk result (λ found. let o = opening_request opening.now in
+        order_of header.now o.key_slot o.max_iterations ≡ Ok found.1) }
+    ensures err { IfErr result (λ message. (message ≡ Message.OutOfMemory)
+        ⊎ (volume_in_header (opening_request opening.now) (Ok header.now) ≡ Err message)) }
+    ensures only { IfErr result OpeningMessage }
+    ensures untouched { IfErr result
+        (λ message. (message ≢ Message.WriteFailed) × (message ≢ Message.ReadFailed)) }
+{
+    let segment = segment(header)?;
+    let named = named_slot(opening);
+    match order(alloc, header, named, limit(opening)) {
+        Ok(order) => Ok((segment, order)),
+        Err(fault) => Err(Message::of_opening(named, fault)),
+    }
+}
+
+/// Reads the header of an image, or of a file of its own, and finds its segment and the key slots
+/// that are tried.
+pub fn find_volume<I: Source>(
+    alloc: Global,
+    standing: Standing,
+    opening: &Opening<'_>,
+    image: &mut I,
+) -> Result<FoundVolume, Message>
+    ensures ok { IfOk result (λ volume. WhereKnown (I.to_come image.old)
+        (λ known. (reading_of standing known ≡ Ok volume.header)
+        × (volume.area ≡ take (cost_of known) known)
+        × Took known (I.to_come image.new) (cost_of known))) }
+    ensures err { IfErr result (λ message. WhereKnown (I.to_come image.old)
+        (λ known. StopsFinding (reading_of standing) (opening_request opening.now) known
+        (I.to_come image.new) message)) }
+    ensures only { IfErr result OpeningMessage }
+    ensures segment { IfOk result (λ volume. segment_of volume.header ≡ Ok volume.segment) }
+    ensures order { IfOk result (λ volume. let o = opening_request opening.now in
+        order_of volume.header o.key_slot o.max_iterations ≡ Ok volume.order) }
+    ensures volume { IfOk result (λ _. WhereKnown (I.to_come image.old)
+        (λ known. is_err (volume_by (reading_of standing) (opening_request opening.now) known)
+        ≡ false)) }
+    ensures area { IfOk result (λ volume. length volume.area ≡ cost_of volume.area) }
+    ensures front { IfOk result (λ volume. reading_of standing volume.area ≡ Ok volume.header) }
+    ensures writes { IfErr result (λ message. message ≢ Message.WriteFailed) }
+    ensures reads { I.failures image.new
+        ≡ counted (is_failed_read (message_of result)) (I.failures image.old) }
+    ensures end { FindsEndOnce (I.ends image.old) (I.ends image.new) }
+{
+    let (header, area) = find_header(alloc, standing, image)?;
+    match find_slots(alloc, opening, &header) {
+        Ok((segment, order)) => Ok(FoundVolume {
+            header,
+            area,
+            segment,
+            order,
+        }),
+        Err(message) => Err(message),
+    }
+}

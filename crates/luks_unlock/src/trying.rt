@@ -1,0 +1,57 @@
+//! Trying the key slots of a volume under a passphrase.
+
+ghost use Rattle.std.specs.Prelude.{◌≡◌, ◌≢◌, IfOk, IfErr, Ok, length, true};
+ghost use Rattle.luks_cipher.specs.Sector.{is_mode_key_length};
+ghost use Rattle.luks_io.specs.Bytes.{WhereKnown, counted};
+ghost use Rattle.luks_header.specs.Segment.{segment_of};
+ghost use Rattle.luks_open.specs.Order.{order_of};
+ghost use Rattle.luks_request.specs.Request.{opening_request};
+ghost use Rattle.luks_runs.specs.Run.{FindsEndOnce, is_failed_read, message_of};
+ghost use Rattle.luks_unlock.specs.MayEnd.{OpeningMessage};
+ghost use Rattle.luks_unlock.specs.Trying.{TriesSlots};
+
+use crate::finding::{FoundVolume, named_slot};
+use luks_io::source::Source;
+use luks_kdf::Work;
+use luks_open::opening::{Opened, open};
+use luks_open::tries::held_end;
+use luks_report::message::Message;
+use luks_request::command::Opening;
+
+/// Tries the key slots of a volume under a passphrase: takes the key areas behind its header first.
+pub fn try_slots<I: Source>(
+    opening: &Opening<'_>,
+    volume: &mut FoundVolume,
+    image: &mut I,
+    pass: &[u8],
+) -> Result<Opened, Message>
+    requires segment { segment_of volume.old.header ≡ Ok volume.old.segment }
+    requires order { let o = opening_request opening.now in
+        order_of volume.old.header o.key_slot o.max_iterations ≡ Ok volume.old.order }
+    ensures run { WhereKnown (I.to_come image.old) (λ rest.
+        TriesSlots (opening_request opening.now).key_slot volume.old.order pass.now
+        volume.old.area volume.new.area rest (I.to_come image.new) result) }
+    ensures kept { volume.new ≡ record volume.old { area = volume.new.area } }
+    ensures only { IfErr result OpeningMessage }
+    ensures writes { IfErr result (λ message. message ≢ Message.WriteFailed) }
+    ensures key { IfOk result (λ opened.
+        is_mode_key_length volume.old.segment.mode (length opened.key) ≡ true) }
+    ensures reads { I.failures image.new
+        ≡ counted (is_failed_read (message_of result)) (I.failures image.old) }
+    ensures image_end { FindsEndOnce (I.ends image.old) (I.ends image.new) }
+    ensures still { IfOk result (λ _. I.ends image.new ≡ I.ends image.old) }
+{
+    if !volume.area.extend_to(image, held_end(&volume.order))? {
+        return Err(Message::Cut);
+    }
+    let FoundVolume {
+        header,
+        area,
+        order,
+        ..
+    } = volume;
+    match open(header, area, order, pass, &mut Work::new(0)) {
+        Ok(opened) => Ok(opened),
+        Err(fault) => Err(Message::of_opening(named_slot(opening), fault)),
+    }
+}

@@ -1,0 +1,96 @@
+#include "input.h"
+
+#include <errno.h>
+#include <fcntl.h>
+#include <string.h>
+#include <sys/stat.h>
+#include <unistd.h>
+
+#define NBDKIT_API_VERSION 2
+#include <nbdkit-plugin.h>
+
+/* Reports that a file cannot be opened, and closes what was opened of it. Answers -1. */
+static int refuse(const char *name, int fd, const char *why)
+{
+  nbdkit_error("luksrd: cannot open %s: %s", name, why);
+  if (fd >= 0)
+    close(fd);
+  return -1;
+}
+
+/* Opens a file that is no folder. */
+static int open_file(const char *name, int flags, struct stat *found)
+{
+  const int fd = open(name, O_RDONLY | O_CLOEXEC | O_NOCTTY | flags);
+  if (fd < 0 || fstat(fd, found) < 0)
+    return refuse(name, fd, strerror(errno));
+  if (S_ISDIR(found->st_mode))
+    return refuse(name, fd, strerror(EISDIR));
+  return fd;
+}
+
+int open_stream(const char *name)
+{
+  struct stat found;
+  return open_file(name, 0, &found);
+}
+
+int open_image(const char *name, uint64_t *len)
+{
+  struct stat found;
+  /* A pipe without a writer would keep a blocking open waiting, only to be refused. */
+  const int fd = open_file(name, O_NONBLOCK, &found);
+  if (fd < 0)
+    return -1;
+  if (!S_ISREG(found.st_mode) && !S_ISBLK(found.st_mode))
+    return refuse(name, fd, "neither a regular file nor a block device");
+  /* The length of a block device is known by its end alone. */
+  const off_t end = lseek(fd, 0, SEEK_END);
+  if (end < 0 || lseek(fd, 0, SEEK_SET) < 0)
+    return refuse(name, fd, strerror(errno));
+  *len = (uint64_t)end;
+  return fd;
+}
+
+ssize_t read_next(int fd, uint8_t *to, size_t size)
+{
+  size_t got = 0;
+  while (got < size) {
+    const ssize_t n = read(fd, to + got, size - got);
+    if (n == 0)
+      break;
+    if (n > 0)
+      got += (size_t)n;
+    else if (errno != EINTR)
+      return -1;
+  }
+  return (ssize_t)got;
+}
+
+/* Whether a file still has so many bytes. One that is cut while it is read may give zeros from its
+ * last page, so that its length is asked for after the read. A block device has no length here. */
+static bool reaches(int fd, uint64_t end)
+{
+  struct stat found;
+  if (fstat(fd, &found) < 0)
+    return false;
+  errno = 0;
+  return !S_ISREG(found.st_mode) || (uint64_t)found.st_size >= end;
+}
+
+bool read_at(int fd, uint8_t *to, size_t size, uint64_t offset)
+{
+  size_t got = 0;
+  while (got < size) {
+    const ssize_t n = pread(fd, to + got, size - got, (off_t)(offset + got));
+    if (n == 0) {
+      errno = 0;
+      return false;
+    }
+    if (n > 0)
+      got += (size_t)n;
+    else if (errno != EINTR)
+      return false;
+  }
+  return reaches(fd, offset + size);
+}

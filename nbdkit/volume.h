@@ -1,0 +1,29 @@
+/* A volume that is open, and any part of its plain text. */
+#ifndef LUKSRD_NBDKIT_VOLUME_H
+#define LUKSRD_NBDKIT_VOLUME_H
+
+#include "luksrd.h"
+#include "parameters.h"
+
+#include <stdint.h>
+
+/* Once it is open it does not change, so that threads may read of it at once. */
+struct volume {
+  const char *name; /* of the image */
+  int fd;           /* of the image, or -1 */
+  uint64_t len;     /* how many bytes of plain text are served: whole sectors */
+  struct luksrd_volume opened;
+};
+
+/* Opens the volume that the parameters name, and wipes their passphrase in any case. Answers 0, or
+ * -1 and reports why not. */
+int open_volume(struct volume *volume, struct parameters *parameters);
+
+/* Puts `count` bytes of plain text from `offset` on, which are within the volume, into the buffer.
+ * Answers 0; or -1 and reports why not, and then the buffer is zeroed. */
+int read_plain(const struct volume *volume, uint8_t *to, uint32_t count, uint64_t offset);
+
+/* Wipes the key and closes the image. */
+void close_volume(struct volume *volume);
+
+#endif

@@ -1,0 +1,204 @@
+/* What tests/library.sh runs over luksrd.h, built with AddressSanitizer and under valgrind.
+ *
+ *     library IMAGE HEADER PASSPHRASE
+ *
+ * writes the plain text of a volume to standard output and luksrd's sentence to standard error, and
+ * ends with luksrd's status. HEADER is - if it is not detached. On the way it reads each sector by
+ * itself from several threads at once, and makes the calls that are refused; what it passes lies in
+ * memory of just its length. */
+#include "luksrd.h"
+
+#include <pthread.h>
+#include <stdbool.h>
+#include <stdio.h>
+#include <stdlib.h>
+#include <string.h>
+
+#define THREADS 4
+
+struct bytes {
+  uint8_t *at;
+  size_t len;
+};
+
+/* A volume, its image and its plain text. */
+struct job {
+  const struct luksrd_volume *volume;
+  struct bytes image;
+  struct bytes plain;
+};
+
+static void must(bool holds, const char *what)
+{
+  if (!holds) {
+    fprintf(stderr, "FAILED: %s\n", what);
+    exit(99);
+  }
+}
+
+static struct bytes copy_of(const uint8_t *at, size_t len)
+{
+  struct bytes copy = { malloc(len > 0 ? len : 1), len };
+  must(copy.at != NULL, "memory");
+  memcpy(copy.at, at, len);
+  return copy;
+}
+
+static struct bytes contents(const char *name)
+{
+  FILE *file = fopen(name, "rb");
+  must(file != NULL && fseek(file, 0, SEEK_END) == 0, name);
+  const long len = ftell(file);
+  must(len >= 0 && fseek(file, 0, SEEK_SET) == 0, name);
+  struct bytes all = { malloc(len > 0 ? (size_t)len : 1), (size_t)len };
+  must(all.at != NULL && fread(all.at, 1, all.len, file) == all.len, name);
+  fclose(file);
+  return all;
+}
+
+/* Ends with what luksrd says. */
+static void end_with(const struct luksrd_message *message)
+{
+  if (message->len > 0)
+    fprintf(stderr, "%.*s\n", (int)message->len, (const char *)message->text);
+  fflush(stdout);
+  exit((int)message->status);
+}
+
+static bool all_zero(const void *at, size_t len)
+{
+  const uint8_t *bytes = at;
+  for (size_t i = 0; i < len; i++)
+    if (bytes[i] != 0)
+      return false;
+  return true;
+}
+
+/* Each sector by itself is its part of the plain text. */
+static void *read_sectors(void *argument)
+{
+  const struct job *job = argument;
+  const uint32_t size = job->volume->sector_size;
+  for (uint64_t i = 0; i * size < job->plain.len; i++) {
+    struct bytes sector = copy_of(job->image.at + job->volume->offset + i * size, size);
+    must(luksrd_decrypt(job->volume, i, sector.at, size) == LUKSRD_OK, "a sector");
+    must(memcmp(sector.at, job->plain.at + i * size, size) == 0, "a sector's bytes");
+    free(sector.at);
+  }
+  return NULL;
+}
+
+static void read_by_threads(struct job *job)
+{
+  pthread_t threads[THREADS];
+  for (int i = 0; i < THREADS; i++)
+    must(pthread_create(&threads[i], NULL, read_sectors, job) == 0, "a thread");
+  for (int i = 0; i < THREADS; i++)
+    pthread_join(threads[i], NULL);
+}
+
+/* Calls that no caller should make are refused, and change nothing. */
+static void make_bad_calls(const struct job *job)
+{
+  const struct luksrd_volume none = { 0 }, *volume = job->volume;
+  const uint32_t size = volume->sector_size;
+  struct luksrd_message message;
+  uint64_t left;
+  struct bytes two = copy_of(job->image.at, 2 * (size_t)size);
+  must(luksrd_decrypt(volume, 0, two.at, size + 1) == LUKSRD_BAD_RANGE, "a part of a sector");
+  must(luksrd_decrypt(volume, UINT64_MAX, two.at, two.len) == LUKSRD_BAD_RANGE, "the last sector");
+  must(luksrd_decrypt(&none, 0, two.at, size) == LUKSRD_BAD_VOLUME, "no volume");
+  must(memcmp(two.at, job->image.at, two.len) == 0, "the bytes of refused calls");
+  must(luksrd_decrypt(volume, 7, two.at, 0) == LUKSRD_OK, "no sector");
+  must(luksrd_len(&none, UINT64_MAX) == 0, "the length of no volume");
+  must(luksrd_ending(&none, 0, &left, &message) == LUKSRD_BAD_VOLUME, "the ending of no volume");
+  free(two.at);
+}
+
+/* A message has a status and a sentence, and zeros behind it. */
+static void check_message(const struct luksrd_message *message)
+{
+  must(message->status >= 1 && message->status <= 4, "a message's status");
+  must(message->len > 8 && message->len <= sizeof message->text, "a message's length");
+  must(memcmp(message->text, "luksrd: ", 8) == 0, "a message's beginning");
+  must(all_zero(message->text + message->len, sizeof message->text - message->len),
+       "the bytes behind a message");
+}
+
+/* The sentences of all codes, and of others. */
+static void read_texts(void)
+{
+  static const char none[] = "luksrd: no such code";
+  struct luksrd_message message;
+  luksrd_status_text(LUKSRD_OK, &message);
+  must(all_zero(&message, sizeof message), "the text of LUKSRD_OK");
+  for (uint32_t code = 1; code <= LUKSRD_BAD_RANGE; code++) {
+    luksrd_status_text(code, &message);
+    check_message(&message);
+    must(strlen(none) != message.len || memcmp(message.text, none, message.len) != 0, "a code");
+  }
+  luksrd_status_text(LUKSRD_BAD_RANGE + 1, &message);
+  check_message(&message);
+  must(strlen(none) == message.len && memcmp(message.text, none, message.len) == 0, "no code");
+}
+
+/* Opens the volume; if it does not open, ends with what luksrd says. */
+static void open_volume(struct bytes header, struct bytes passphrase,
+                        struct luksrd_options *options, struct luksrd_volume *volume)
+{
+  struct luksrd_message message;
+  options->has_key_slot = 1;
+  options->key_slot = 32;
+  must(luksrd_open(header.at, header.len, passphrase.at, passphrase.len, options, volume,
+                   &message) == LUKSRD_BAD_OPTIONS,
+       "slot 32");
+  options->has_key_slot = options->key_slot = 0;
+  memset(volume, 255, sizeof *volume);
+  if (luksrd_open(header.at, header.len, passphrase.at, passphrase.len, options, volume,
+                  &message) != LUKSRD_OK) {
+    must(all_zero(volume, sizeof *volume), "a volume that is not opened");
+    check_message(&message);
+    end_with(&message);
+  }
+  must(all_zero(&message, sizeof message), "the message of a volume that is open");
+  must(all_zero(volume->key + volume->key_size, sizeof volume->key - volume->key_size),
+       "the bytes behind the key");
+}
+
+/* Reads the volume in all ways, and writes it. */
+static void read_volume(struct job *job)
+{
+  const size_t len = luksrd_len(job->volume, job->image.len);
+  job->plain = copy_of(job->image.at + (len > 0 ? job->volume->offset : 0), len);
+  must(luksrd_decrypt(job->volume, 0, job->plain.at, len) == LUKSRD_OK, "all sectors");
+  read_by_threads(job);
+  if (job->image.len >= 2 * (size_t)job->volume->sector_size)
+    make_bad_calls(job);
+  must(fwrite(job->plain.at, 1, len, stdout) == len, "the output");
+}
+
+int main(int argc, char **argv)
+{
+  must(argc == 4, "the arguments");
+  must(luksrd_version() >> 16 >= 1, "the version");
+  read_texts();
+
+  struct luksrd_options options = { .detached = strcmp(argv[2], "-") != 0 };
+  struct luksrd_volume volume;
+  struct job job = { .volume = &volume, .image = contents(argv[1]) };
+  struct bytes passphrase = contents(argv[3]);
+  struct bytes header = contents(options.detached ? argv[2] : argv[1]);
+  if (header.len > LUKSRD_HEADER_BYTES)
+    header.len = LUKSRD_HEADER_BYTES;
+  open_volume(header, passphrase, &options, &volume);
+  read_volume(&job);
+
+  struct luksrd_message message;
+  uint64_t left;
+  luksrd_ending(&volume, job.image.len, &left, &message);
+  free(job.plain.at);
+  free(job.image.at);
+  free(header.at);
+  free(passphrase.at);
+  end_with(&message);
+}
