@@ -5,17 +5,17 @@ use Rattle.std.specs.Prelude.{◌==◌, nat_lt, if◌then◌else◌}
 use Rattle.luks_area.specs.declared.fault.HeaderFault.TheVariants.{NotLuks as NoLuks, Cut as IsCut, Json as NoJson}
 use Rattle.luks_area.specs.declared.fault.HeaderFault.TheVariants.{Read as LostRead, Memory as NoMemory}
 use Rattle.luks_area.specs.declared.fault.HeaderFault.{HeaderFault}
-use Rattle.luks_header.specs.Header.{cost_of}
+use Rattle.luks_header.specs.Header.{header_read_len}
 use Rattle.luks_header.specs.Segment.{segment_of}
 use Rattle.luks_header.specs.declared.header.Header.{Header}
-use Rattle.luks_open.specs.Order.{Tries, held_of, order_of}
+use Rattle.luks_open.specs.Order.{OrderModel, key_areas_end, order_of}
 use Rattle.luks_open.specs.declared.opening.Opened.{Opened}
 use Rattle.luks_report.specs.Faults.{message_at_end}
 use Rattle.luks_report.specs.declared.message.Message.{Message}
 use Rattle.luks_report.specs.declared.message.Message.TheVariants.{Done, KeyFileLength, OutOfMemory, ReadFailed}
 use Rattle.luks_report.specs.declared.message.Message.TheVariants.{WriteFailed}
 use Rattle.luks_request.specs.Request.{OpeningRequest}
-use Rattle.luks_runs.specs.Ending.{Outcome, unwritten}
+use Rattle.luks_runs.specs.Ending.{Outcome, no_output}
 use Rattle.luks_runs.specs.Reading.{Reading}
 use Rattle.luks_runs.specs.Run.{breaks_off}
 use Rattle.luks_runs.specs.Secret.{longest_key_file}
@@ -25,7 +25,7 @@ use Rattle.luks_runs.specs.declared.standing.Standing.TheVariants.{Attached, Det
 use Rattle.luks_unlock.proofs.HonestVolumes.{unsealed}
 use Rattle.luks_unlock.proofs.OutcomeLemmas.{area_cut, found_cut, found_is, found_long, outcome_is, tried_is}
 use Rattle.luks_unlock.proofs.OutcomeLemmas.{volume_with}
-use Rattle.luks_unlock.specs.Finding.{StopsFinding}
+use Rattle.luks_unlock.specs.Finding.{AbortsFinding}
 use Rattle.luks_unlock.specs.Honest.{IsHonest}
 use Rattle.luks_unlock.specs.MayEnd.{OpeningMessage}
 use Rattle.luks_unlock.specs.Trying.{TriesSlots}
@@ -34,12 +34,12 @@ use Rattle.luks_unlock.specs.Volume.{outcome_after, volume_by, volume_in_header,
 use Rattle.luks_unlock.specs.Volume.{volume_outcome_by}
 use Rattle.luks_verdict.specs.declared.refusal.SegmentFault.{SegmentFault}
 use Rattle.luks_verdict.specs.declared.segment.Segment.{Segment}
-use Rattle.luks_volume.specs.Plain.{ending_of, ending_within, payload_len, sector_len}
-use Rattle.luks_volume.specs.declared.fault.VolumeFault.{VolumeFault}
-use Rattle.luks_volume.specs.declared.fault.VolumeFault.TheVariants.{CutBeforePayload as IsCutBefore, Tail as HasTail}
-use Rattle.luks_volume.specs.declared.fault.VolumeFault.TheVariants.{Short as IsShort}
-use Rattle.luks_volume.specs.declared.state.Step.{Step}
-use Rattle.luks_volume.specs.declared.state.Step.TheVariants.{End}
+use Rattle.luks_payload.specs.Plain.{ending_of, ending_within, payload_len, sector_len}
+use Rattle.luks_payload.specs.declared.fault.VolumeFault.{VolumeFault}
+use Rattle.luks_payload.specs.declared.fault.VolumeFault.TheVariants.{CutBeforePayload as IsCutBefore, Tail as HasTail}
+use Rattle.luks_payload.specs.declared.fault.VolumeFault.TheVariants.{Short as IsShort}
+use Rattle.luks_payload.specs.declared.state.Step.{Step}
+use Rattle.luks_payload.specs.declared.state.Step.TheVariants.{End}
 use Rattle.luks_access.specs.Opens.{HasOptions, IsCatOf, IsOnlyAborted, IsPlainOf, OpenVolume, Opens, Refuses}
 use Rattle.luks_access.specs.Opens.{cat_outcome_of, payload_image_of, text_of}
 use Rattle.luks_access.specs.Unlocks.{Unlocks}
@@ -86,7 +86,7 @@ ComesTo options o image pass out =
     (on_opened : OnOpened) → volume_outcome_by (reading_of options.standing) on_opened o image pass ≡ out
 
 refused_by : (options : Options) (o : OpeningRequest) (image pass : List ℕ) (message : Message) (a b : ℕ)
-    → HasOptions o options → ComesTo options o image pass (unwritten message a b) → Refuses options image pass message
+    → HasOptions o options → ComesTo options o image pass (no_output message a b) → Refuses options image pass message
 refused_by options o image pass message a b has comes = record {
   header_taken = a;
   secret_taken = b;
@@ -98,21 +98,21 @@ module _ (options : Options) (o : OpeningRequest) (image pass : List ℕ) (i : O
   where
     -- there is no volume
     pub refused_unfound : (message : Message) → breaks_off message ≡ false
-        → StopsFinding (reading_of options.standing) o image i message → Refuses options image pass message
+        → AbortsFinding (reading_of options.standing) o image i message → Refuses options image pass message
     refused_unfound OutOfMemory never stop = cc
     refused_unfound ReadFailed never stop = cc
     refused_unfound WriteFailed never stop = cc
     refused_unfound message never stop =
-        refused_by options o image pass message (cost_of image) 0 has
+        refused_by options o image pass message (header_read_len image) 0 has
         (λ on_opened. outcome_is options.standing o image pass on_opened (Err message) stop.0)
 
-    module _ (header : Header) (segment : Segment) (tries : Tries) (found : reading_of options.standing image ≡ Ok header)
+    module _ (header : Header) (segment : Segment) (tries : OrderModel) (found : reading_of options.standing image ≡ Ok header)
         (is_segment : segment_of header ≡ Ok segment)
         (ordered : order_of header o.key_slot o.max_iterations ≡ Ok tries) (area area' : List ℕ)
-        (front : area ≡ take (cost_of image) image) where
+        (front : area ≡ take (header_read_len image) image) where
       -- the key slots were tried, and none of them opens
       refused_slots : (short : length pass ≤ longest_key_file) (message : Message) → breaks_off message ≡ false
-          → TriesSlots o.key_slot tries pass area area' (drop (cost_of image) image) i (Err message)
+          → TriesSlots o.key_slot tries pass area area' (drop (header_read_len image) image) i (Err message)
           → Refuses options image pass message
       refused_slots short message never (inl (LostRead, is, lost)) = cc
       refused_slots short message never (inl (NoMemory, is, lost)) = cc
@@ -121,7 +121,7 @@ module _ (options : Options) (o : OpeningRequest) (image pass : List ℕ) (i : O
       refused_slots short message never (inl (NoJson, is, lost)) = absurd lost
       refused_slots short message never (inr (grows, inl (is, few))) =
           let v = volume_with header segment tries in
-          let cut = area_cut image area area' i (held_of tries.slots) front grows few in
+          let cut = area_cut image area area' i (key_areas_end tries.slots) front grows few in
           rw is (refused_by options o image pass _ (length image) (length pass) has
           (λ on_opened. found_is options.standing o image pass header segment tries found is_segment ordered on_opened
           ∙ found_cut on_opened o.key_slot v image pass short cut.0))
@@ -133,19 +133,19 @@ module _ (options : Options) (o : OpeningRequest) (image pass : List ℕ) (i : O
 
       -- the volume was not opened
       pub refused_unopened : (message : Message) → breaks_off message ≡ false
-          → Unlocks o.key_slot tries pass area area' (drop (cost_of image) image) i (Err message)
+          → Unlocks o.key_slot tries pass area area' (drop (header_read_len image) image) i (Err message)
           → Refuses options image pass message
       refused_unopened message never (inl (short, tried)) = refused_slots short message never tried
       refused_unopened message never (inr (long, is)) =
           let v = volume_with header segment tries in
           let same : message ≡ KeyFileLength = cc in
-          rw same (refused_by options o image pass KeyFileLength (cost_of image) _ has
+          rw same (refused_by options o image pass KeyFileLength (header_read_len image) _ has
           (λ on_opened. found_is options.standing o image pass header segment tries found is_segment ordered on_opened
           ∙ found_long on_opened o.key_slot v image pass long))
 
       -- the volume was opened
       pub opened_by : (opened : Opened)
-          → Unlocks o.key_slot tries pass area area' (drop (cost_of image) image) i (Ok opened)
+          → Unlocks o.key_slot tries pass area area' (drop (header_read_len image) image) i (Ok opened)
           → Opens options image pass (record { segment = segment; slot = opened.slot; key = opened.key })
       opened_by opened (inl (short, (grows, enough, tried))) =
           let v = volume_with header segment tries in
@@ -222,7 +222,7 @@ pub aborted_only : (options : Options) (image pass : List ℕ) (message : Messag
     → (breaks_off message ≡ false → Refuses options image pass message) → IsOnlyAborted options image pass message
 aborted_only options image pass message only refuses o plain attached has never honest =
     let refused : volume_outcome_by (reading_of Attached) (payload_outcome image pass) o image pass
-    ≡ unwritten message (refuses never).header_taken (refuses never).secret_taken =
+    ≡ no_output message (refuses never).header_taken (refuses never).secret_taken =
     rw attached at ((refuses never).outcome o has (payload_outcome image pass)) in
     let done : message ≡ Done =
     sym (ap (λ (out : Outcome). out.message) refused) ∙ (unsealed o image pass plain honest).1 in

@@ -13,8 +13,8 @@ use Rattle.luks_header.specs.SectorSize.{bytes_of}
 use Rattle.luks_verdict.specs.declared.sector_size.SectorSize.{SectorSize}
 use Rattle.luks_verdict.specs.declared.sector_size.SectorSize.TheVariants.{B512, B1024, B2048, B4096}
 use Rattle.luks_verdict.specs.declared.segment.Segment.{Segment}
-use Rattle.luks_volume.specs.Plain.{payload_len, plain_of, sector_len, sector_of, sector_start, sectors_of, unit_plain}
-use Rattle.luks_volume.specs.Plain.{unit_number, within_size}
+use Rattle.luks_payload.specs.Plain.{payload_len, plain_of, sector_len, sector_plaintext, sector_start, sectors_of, unit_plain}
+use Rattle.luks_payload.specs.Plain.{unit_number, within_size}
 use Rattle.luks_access.specs.Sectors.{AreStored, plain_at, plain_in, sector_in}
 
 pub record IsSectorLen (z : ℕ) : Type 0 where
@@ -159,7 +159,7 @@ within_len (Some size) len = omega arith
 
 module _ (s : Segment) (cipher : Cipher) (image : List ℕ) where
   -- a sector of the payload has its length
-  len_of : (j : ℕ) → j < sectors_of s image → length (sector_of s cipher image j) ≡ sector_len s
+  len_of : (j : ℕ) → j < sectors_of s image → length (sector_plaintext s cipher image j) ≡ sector_len s
   len_of j low =
       let all = one_more_fits j (within_size s.size (payload_len s image)) (sector_len s) low in
       let within = within_len s.size (payload_len s image) in
@@ -178,7 +178,7 @@ module _ (s : Segment) (cipher : Cipher) (image : List ℕ) where
   -- sector j of those that are stored
   same_sector : (first : ℕ) (stored : List ℕ) (n j : ℕ) → length stored ≡ n * sector_len s
       → stored ≡ take (length stored) (drop (sector_start s first) image) → j < n
-      → sector_of s cipher image (first + j) ≡ sector_in s cipher first stored j
+      → sector_plaintext s cipher image (first + j) ≡ sector_in s cipher first stored j
   same_sector first stored n j len is low =
       let z = sector_len s in
       let inside : (j + 1) * sector_len s ≤ n * sector_len s = mul-le-mul_right (sector_len s) (omega arith) in
@@ -208,9 +208,9 @@ module _ (s : Segment) (cipher : Cipher) (image : List ℕ) where
   part_of_plain first stored whole are =
       let n = length stored / sector_len s in
       let len : length stored ≡ n * sector_len s = exactly (length stored) (sector_len s) whole in
-      sym (joined_same (λ j. sector_of s cipher image (first + j)) (sector_in s cipher first stored) n
+      sym (joined_same (λ j. sector_plaintext s cipher image (first + j)) (sector_in s cipher first stored) n
       (λ j low. same_sector first stored n j len are.there low))
-      ∙ (sym (joined_part (sector_of s cipher image) (sector_len s) first n (sectors_of s image) len_of are.within)
+      ∙ (sym (joined_part (sector_plaintext s cipher image) (sector_len s) first n (sectors_of s image) len_of are.within)
       ∙ ap (λ k. take k (drop (first * sector_len s) (plain_of s cipher image))) (sym len))
     where
       exactly : (len z : ℕ) → len % z ≡ 0 → len ≡ len / z * z

@@ -11,7 +11,7 @@ use Rattle.luks_verdict.specs.declared.sector_size.SectorSize.{SectorSize}
 use Rattle.luks_verdict.specs.declared.sector_size.SectorSize.TheVariants.{B512, B1024, B2048, B4096}
 use Rattle.luks_verdict.specs.declared.segment.Segment.{Segment}
 use Rattle.luks_cipher.specs.Sector.{Cipher}
-use Rattle.luks_volume.specs.Plain.{plain_of, sector_len, sectors_of, within_size}
+use Rattle.luks_payload.specs.Plain.{plain_of, sector_len, sectors_of, within_size}
 use Rattle.luks_access.specs.Image.{IsAt}
 use Rattle.luks_access.specs.Range.{IsRangeOf, ReadsRange, text_len}
 use Rattle.luks_access.specs.declared.fault.RangeFault.{RangeFault}

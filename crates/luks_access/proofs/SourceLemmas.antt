@@ -3,13 +3,13 @@ use Rattle.std.proofs.Common.{◌≡◌, ◌∙◌, ℕ, ◌+◌, ◌-◌, ◌<�
 use Rattle.std.proofs.Common.{arith, ap, sym, refl}
 use Rattle.std.proofs.lemmas.List.{drop-drop, drop_all, take-append-drop}
 use Rattle.std.specs.Io.KnownBytes.{Consumes, IsAtEnd}
-use Rattle.luks_io.specs.Bytes.{WhereKnown}
+use Rattle.luks_io.specs.Bytes.{IfKnown}
 use Rattle.luks_kdf.proofs.BytesLemmas.{take_front}
 use Rattle.luks_access.specs.Image.{IsAt, behind}
 
 -- the bytes that were read are the next ones
 pub gives_part : (image : Option (List ℕ)) (place count : ℕ) (buf rest : List ℕ) → length buf ≡ count
-    → WhereKnown image (λ known. IsAt known place buf)
+    → IfKnown image (λ known. IsAt known place buf)
     → Consumes (behind place image) (behind (place + count) image) (take count (buf ++ rest))
 gives_part None place count buf rest long bytes = tt
 gives_part (Some known) place count buf rest long bytes =
@@ -23,7 +23,7 @@ gives_part (Some known) place count buf rest long bytes =
 
 -- where none were, none are left
 pub none_left : (image : Option (List ℕ)) (place count asked len : ℕ)
-    → WhereKnown image (λ known. len ≡ length known) → count ≡ min (len - place) asked → count ≡ 0 → 0 < asked
+    → IfKnown image (λ known. len ≡ length known) → count ≡ min (len - place) asked → count ≡ 0 → 0 < asked
     → IsAtEnd (behind (place + count) image)
 none_left None place count asked len is fits none some = tt
 none_left (Some known) place count asked len is fits none some =

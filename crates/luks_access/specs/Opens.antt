@@ -4,7 +4,7 @@ use Rattle.luks_cipher.specs.Sector.{Cipher}
 use Rattle.luks_report.specs.Faults.{message_at_end}
 use Rattle.luks_report.specs.declared.message.Message.{Message}
 use Rattle.luks_request.specs.Request.{OpeningRequest}
-use Rattle.luks_runs.specs.Ending.{Outcome, unwritten}
+use Rattle.luks_runs.specs.Ending.{Outcome, no_output}
 use Rattle.luks_runs.specs.Run.{breaks_off}
 use Rattle.luks_runs.specs.Reading.{detached_header_of}
 use Rattle.luks_runs.specs.Standing.{reading_of}
@@ -14,8 +14,8 @@ use Rattle.luks_unlock.specs.Honest.{IsHonest}
 use Rattle.luks_unlock.specs.Volume.{OnOpened, detached_payload_outcome, payload_outcome, volume_outcome}
 use Rattle.luks_unlock.specs.Volume.{volume_outcome_by}
 use Rattle.luks_verdict.specs.declared.segment.Segment.{Segment}
-use Rattle.luks_volume.specs.Plain.{ending_of, plain_of}
-use Rattle.luks_volume.specs.declared.state.Step.TheVariants.{End}
+use Rattle.luks_payload.specs.Plain.{ending_of, plain_of}
+use Rattle.luks_payload.specs.declared.state.Step.TheVariants.{End}
 use Rattle.luks_access.specs.declared.options.Options.{Options}
 
 -- a volume that is open: where its payload lies, the key slot that opened, and the volume key
@@ -51,7 +51,7 @@ pub record Refuses (options : Options) (header pass : List ℕ) (message : Messa
   pub secret_taken : ℕ
   pub outcome : (o : OpeningRequest) → HasOptions o options → (on_opened : OnOpened)
       → volume_outcome_by (reading_of options.standing) on_opened o header pass
-      ≡ unwritten message header_taken secret_taken
+      ≡ no_output message header_taken secret_taken
 
 -- the image of the payload: the one that the header is in front of, or another
 abbrev pub payload_image_of : Standing → List ℕ → List ℕ → List ℕ

@@ -1,9 +1,9 @@
 -- Ranges of a plain text.
 use Rattle.std.specs.Prelude.{ℕ, ◌≡◌, ◌*◌, List, drop, length, take, Option, Result, Ok, Err}
 use Rattle.luks_cipher.specs.Sector.{Cipher}
-use Rattle.luks_io.specs.Bytes.{WhereKnown}
+use Rattle.luks_io.specs.Bytes.{IfKnown}
 use Rattle.luks_verdict.specs.declared.segment.Segment.{Segment}
-use Rattle.luks_volume.specs.Plain.{plain_of, sector_len, sectors_of}
+use Rattle.luks_payload.specs.Plain.{plain_of, sector_len, sectors_of}
 use Rattle.luks_access.specs.declared.fault.RangeFault.{RangeFault}
 use Rattle.luks_access.specs.declared.fault.RangeFault.TheVariants.{PastEnd, Read, Shorter}
 use Rattle.luks_access.specs.declared.image.ReadAtFault.{ReadAtFault}
@@ -26,7 +26,7 @@ text_len s image = sectors_of s image * sector_len s
 -- its bytes, and has that text, does not end before the range does
 abbrev pub ReadsRange : Segment → Cipher → ℕ → Option (List ℕ) → ℕ → Result (Unit {0}) RangeFault → List ℕ → Type 0
 ReadsRange s cipher len image offset (Ok _) bytes =
-    WhereKnown image (λ known. text_len s known ≡ len → IsRangeOf (plain_of s cipher known) offset bytes)
+    IfKnown image (λ known. text_len s known ≡ len → IsRangeOf (plain_of s cipher known) offset bytes)
 ReadsRange s cipher len image offset (Err PastEnd) bytes = ⊥
 ReadsRange s cipher len image offset (Err Read) bytes = Unit {0}
-ReadsRange s cipher len image offset (Err Shorter) bytes = WhereKnown image (λ known. text_len s known ≡ len → ⊥)
+ReadsRange s cipher len image offset (Err Shorter) bytes = IfKnown image (λ known. text_len s known ≡ len → ⊥)

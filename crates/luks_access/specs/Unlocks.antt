@@ -1,6 +1,6 @@
 -- What trying the key slots leaves in the device, by a passphrase that may be too long.
 use Rattle.std.specs.Prelude.{◌≡◌, ◌⊎◌, ◌<◌, ◌≤◌, ℕ, List, length, Option, Some, Result, Err}
-use Rattle.luks_open.specs.Order.{Tries}
+use Rattle.luks_open.specs.Order.{OrderModel}
 use Rattle.luks_open.specs.declared.opening.Opened.{Opened}
 use Rattle.luks_report.specs.declared.message.Message.{Message}
 use Rattle.luks_report.specs.declared.message.Message.TheVariants.{KeyFileLength}
@@ -8,7 +8,7 @@ use Rattle.luks_runs.specs.Secret.{longest_key_file}
 use Rattle.luks_unlock.specs.Trying.{TriesSlots}
 
 -- the key slots were tried under a passphrase that is not too long, or it is
-abbrev pub Unlocks : Option ℕ → Tries → List ℕ → List ℕ → List ℕ → List ℕ → Option (List ℕ) → Result Opened Message
+abbrev pub Unlocks : Option ℕ → OrderModel → List ℕ → List ℕ → List ℕ → List ℕ → Option (List ℕ) → Result Opened Message
     → Type 0
 Unlocks named tries pass area area' rest left result =
     ((length pass ≤ longest_key_file) × TriesSlots named tries pass area area' rest left result)

@@ -1,7 +1,7 @@
 //! Images that are read at offsets.
 
 ghost use Rattle.std.specs.Prelude.{◌≡◌, ◌+◌, ◌<◌, List, ℕ, Option, Err, OnOk, length};
-ghost use Rattle.luks_io.specs.Bytes.{WhereKnown};
+ghost use Rattle.luks_io.specs.Bytes.{IfKnown};
 ghost use Rattle.luks_access.specs.Image.{IsAt};
 
 /// Why bytes of an image were not read.
@@ -20,12 +20,12 @@ pub trait ReadAt {
 
     /// Its length in bytes.
     fn len(&self) -> u64
-        ensures { WhereKnown (image self.now) (λ known. result ≡ length known) };
+        ensures { IfKnown (image self.now) (λ known. result ≡ length known) };
 
     /// Fills the buffer with the bytes from this offset on. After a fault the buffer holds anything.
     fn read_at(&self, offset: u64, buf: &mut [u8]) -> Result<(), ReadAtFault>
-        ensures bytes { OnOk result (WhereKnown (image self.now)
+        ensures bytes { OnOk result (IfKnown (image self.now)
             (λ known. IsAt known offset buf.new)) }
-        ensures ended { result ≡ Err ReadAtFault.Ended → WhereKnown (image self.now)
+        ensures ended { result ≡ Err ReadAtFault.Ended → IfKnown (image self.now)
             (λ known. length known < offset + length buf.new) };
 }

@@ -2,7 +2,7 @@
 
 ghost use Rattle.std.specs.Prelude.{◌≡◌, ◌+◌, ◌<◌, ◌≤◌, List, ℕ, Some, Err};
 ghost use Rattle.std.specs.Prelude.{IfErr, MatchOption, OnOk, length};
-ghost use Rattle.luks_io.specs.Bytes.{WhereKnown};
+ghost use Rattle.luks_io.specs.Bytes.{IfKnown};
 ghost use Rattle.luks_access.specs.Image.{IsAt};
 
 use crate::image::{ReadAt, ReadAtFault};
@@ -53,8 +53,8 @@ impl<'a> ReadAt for MemImage<'a> {
     }
 
     fn read_at(&self, offset: u64, buf: &mut [u8]) -> Result<(), ReadAtFault>
-        ensures bytes { OnOk result (WhereKnown (Some self.now) (λ known. IsAt known offset buf.new)) }
-        ensures ended { result ≡ Err ReadAtFault.Ended → WhereKnown (Some self.now)
+        ensures bytes { OnOk result (IfKnown (Some self.now) (λ known. IsAt known offset buf.new)) }
+        ensures ended { result ≡ Err ReadAtFault.Ended → IfKnown (Some self.now)
             (λ known. length known < offset + length buf.new) }
         ensures only { IfErr result (λ fault. fault ≡ ReadAtFault.Ended) }
     {

@@ -1,7 +1,7 @@
 //! Reading a range of a plain text: the sectors that overlap it, and no others.
 
 ghost use Rattle.std.specs.Prelude.{◌≡◌, ◌+◌, ◌-◌, ◌%◌, ◌<◌, ◌≤◌, ◌^◌, length};
-ghost use Rattle.luks_volume.specs.Plain.{sector_len};
+ghost use Rattle.luks_payload.specs.Plain.{sector_len};
 ghost use Rattle.luks_access.specs.Range.{ReadsRange};
 
 use crate::fault::RangeFault;

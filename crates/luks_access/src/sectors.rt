@@ -3,14 +3,14 @@
 ghost use Rattle.std.specs.Prelude.{◌≡◌, ◌+◌, ◌*◌, ◌-◌, ◌/◌, ◌%◌, ◌<◌, ◌≤◌, ◌^◌, List, ℕ, Err};
 ghost use Rattle.std.specs.Prelude.{if◌then◌else◌, length, nat_lt};
 ghost use Rattle.luks_verdict.specs.SectorSize.{bytes_of};
-ghost use Rattle.luks_volume.specs.Plain.{ending_within, sector_len, unit_number, within_size};
+ghost use Rattle.luks_payload.specs.Plain.{ending_within, sector_len, unit_number, within_size};
 ghost use Rattle.luks_access.specs.Sectors.{AreStored, plain_at, plain_in};
 
 use luks_cipher::SectorCipher;
 use luks_header::segment::Segment;
 use luks_verdict::sector_size::SectorSize;
-use luks_volume::fault::VolumeFault;
-use luks_volume::state::Step;
+use luks_payload::fault::VolumeFault;
+use luks_payload::state::Step;
 
 /// The data unit number of a sector. Those of LUKS count in units of 512 bytes and wrap at 2^64.
 fn unit_number(segment: &Segment, sector: u64) -> u64

@@ -3,13 +3,13 @@
 ghost use Rattle.std.specs.Prelude.{◌≡◌, ◌≢◌, ◌+◌, ◌-◌, ◌%◌, ◌<◌, ◌≤◌, List, ℕ, Ok, Err, IfOk, IfErr, OnOk};
 ghost use Rattle.std.specs.Prelude.{false, length, nat_le, replicate, true};
 ghost use Rattle.luks_cipher.specs.Sector.{is_mode_key_length};
-ghost use Rattle.luks_io.specs.Bytes.{WhereKnown, counted};
+ghost use Rattle.luks_io.specs.Bytes.{IfKnown, counted};
 ghost use Rattle.luks_header.specs.Segment.{segment_of};
 ghost use Rattle.luks_open.specs.Order.{order_of};
 ghost use Rattle.luks_request.specs.Request.{opening_request};
-ghost use Rattle.luks_runs.specs.Run.{breaks_off, is_failed_read, message_of};
+ghost use Rattle.luks_runs.specs.Run.{breaks_off, is_run_read_failure, result_message};
 ghost use Rattle.luks_unlock.specs.MayEnd.{OpeningMessage};
-ghost use Rattle.luks_volume.specs.Plain.{ending_of, sector_len};
+ghost use Rattle.luks_payload.specs.Plain.{ending_of, sector_len};
 ghost use Rattle.luks_access.specs.Opens.{IsCatOf, IsOnlyAborted, IsPlainOf, Opens, Refuses, text_of};
 ghost use Rattle.luks_access.specs.Range.{IsRangeOf};
 ghost use Rattle.luks_access.specs.Unlocks.{Unlocks};
@@ -29,8 +29,8 @@ use luks_report::message::Message;
 use luks_request::command::Opening;
 use luks_unlock::finding::{FoundVolume, find_volume};
 use luks_unlock::trying::try_slots;
-use luks_volume::fault::VolumeFault;
-use luks_volume::state::Step;
+use luks_payload::fault::VolumeFault;
+use luks_payload::state::Step;
 use std::alloc::Global;
 use std::marker::Model;
 
@@ -92,7 +92,7 @@ fn unlock<S: Source>(
     requires segment { segment_of found.old.header ≡ Ok found.old.segment }
     requires order { let o = opening_request opening.now in
         order_of found.old.header o.key_slot o.max_iterations ≡ Ok found.old.order }
-    ensures run { WhereKnown (S.to_come source.old) (λ rest.
+    ensures run { IfKnown (S.to_come source.old) (λ rest.
         Unlocks (opening_request opening.now).key_slot found.old.order pass.now
         found.old.area found.new.area rest (S.to_come source.new) result) }
     ensures kept { found.new.segment ≡ found.old.segment }
@@ -100,7 +100,7 @@ fn unlock<S: Source>(
     ensures key { IfOk result (λ opened.
         is_mode_key_length found.old.segment.mode (length opened.key) ≡ true) }
     ensures reads { S.failures source.new
-        ≡ counted (is_failed_read (message_of result)) (S.failures source.old) }
+        ≡ counted (is_run_read_failure (result_message result)) (S.failures source.old) }
 {
     if pass.len() > LONGEST_PASSPHRASE {
         return Err(Message::KeyFileLength);
@@ -120,21 +120,21 @@ impl Volume {
         source: &mut S,
         pass: &[u8],
     ) -> Result<Volume, Message>
-        ensures opens { IfOk result (λ volume. WhereKnown (S.to_come source.old)
+        ensures opens { IfOk result (λ volume. IfKnown (S.to_come source.old)
             (λ known. Opens options.now known pass.now volume)) }
-        ensures cats { IfOk result (λ volume. WhereKnown (S.to_come source.old)
+        ensures cats { IfOk result (λ volume. IfKnown (S.to_come source.old)
             (λ known. IsCatOf options.now known pass.now volume)) }
-        ensures honest { IfOk result (λ volume. WhereKnown (S.to_come source.old)
+        ensures honest { IfOk result (λ volume. IfKnown (S.to_come source.old)
             (λ known. IsPlainOf options.now known pass.now volume)) }
         ensures key { IfOk result (λ volume.
             is_mode_key_length volume.segment.mode (length volume.key) ≡ true) }
-        ensures refuses { IfErr result (λ message. WhereKnown (S.to_come source.old)
+        ensures refuses { IfErr result (λ message. IfKnown (S.to_come source.old)
             (λ known. breaks_off message ≡ false → Refuses options.now known pass.now message)) }
-        ensures refuses_no_honest { IfErr result (λ message. WhereKnown (S.to_come source.old)
+        ensures refuses_no_honest { IfErr result (λ message. IfKnown (S.to_come source.old)
             (λ known. IsOnlyAborted options.now known pass.now message)) }
         ensures only { IfErr result OpeningMessage }
         ensures reads { S.failures source.new
-            ≡ counted (is_failed_read (message_of result)) (S.failures source.old) }
+            ≡ counted (is_run_read_failure (result_message result)) (S.failures source.old) }
     {
         let opening = opening(options);
         let mut found = find_volume(alloc, options.standing, &opening, source)?;
@@ -153,17 +153,17 @@ impl Volume {
         image: &I,
         pass: &[u8],
     ) -> Result<Volume, Message>
-        ensures opens { IfOk result (λ volume. WhereKnown (I.image image.now)
+        ensures opens { IfOk result (λ volume. IfKnown (I.image image.now)
             (λ known. Opens options.now known pass.now volume)) }
-        ensures cats { IfOk result (λ volume. WhereKnown (I.image image.now)
+        ensures cats { IfOk result (λ volume. IfKnown (I.image image.now)
             (λ known. IsCatOf options.now known pass.now volume)) }
-        ensures honest { IfOk result (λ volume. WhereKnown (I.image image.now)
+        ensures honest { IfOk result (λ volume. IfKnown (I.image image.now)
             (λ known. IsPlainOf options.now known pass.now volume)) }
         ensures key { IfOk result (λ volume.
             is_mode_key_length volume.segment.mode (length volume.key) ≡ true) }
-        ensures refuses { IfErr result (λ message. WhereKnown (I.image image.now)
+        ensures refuses { IfErr result (λ message. IfKnown (I.image image.now)
             (λ known. breaks_off message ≡ false → Refuses options.now known pass.now message)) }
-        ensures refuses_no_honest { IfErr result (λ message. WhereKnown (I.image image.now)
+        ensures refuses_no_honest { IfErr result (λ message. IfKnown (I.image image.now)
             (λ known. IsOnlyAborted options.now known pass.now message)) }
         ensures only { IfErr result OpeningMessage }
     {
@@ -221,16 +221,16 @@ impl Volume {
         offset: u64,
         buf: &mut [u8],
     ) -> Result<(), RangeFault>
-        ensures plain { OnOk result (WhereKnown (I.image image.now)
+        ensures plain { OnOk result (IfKnown (I.image image.now)
             (λ known. IsRangeOf (text_of self.now known) offset buf.new)) }
-        ensures within { OnOk result (WhereKnown (I.image image.now)
+        ensures within { OnOk result (IfKnown (I.image image.now)
             (λ known. offset + length buf.new ≤ length (text_of self.now known))) }
         ensures past { result ≡ Err RangeFault.PastEnd → (buf.new ≡ buf.old)
-            × WhereKnown (I.image image.now)
+            × IfKnown (I.image image.now)
             (λ known. length (text_of self.now known) < offset + length buf.old) }
         ensures blank { IfErr result (λ fault. fault ≢ RangeFault.PastEnd
             → buf.new ≡ replicate (length buf.old) 0) }
-        ensures whole { WhereKnown (I.image image.now)
+        ensures whole { IfKnown (I.image image.now)
             (λ known. result ≢ Err RangeFault.Shorter) }
     {
         let len = self.len(image.len());

@@ -7,7 +7,7 @@ use Rattle.luks_access.specs.Sectors.{plain_in}
 use Rattle.luks_cipher.specs.Sector.{Cipher}
 use Rattle.luks_cipher.specs.declared.mode.Mode.{Mode}
 use Rattle.luks_cipher.specs.declared.mode.Mode.TheVariants.{XtsPlain64, XtsPlain, CbcEssivSha256, CbcPlain64}
-use Rattle.luks_verdict.specs.Evidence.{where_true}
+use Rattle.luks_verdict.specs.Evidence.{evidence_if}
 use Rattle.luks_verdict.specs.Segment.{segment_by, segment_from, segment_of_all}
 use Rattle.luks_verdict.specs.SectorSize.{are_sectors, bytes_of}
 use Rattle.luks_verdict.specs.declared.sector_size.SectorSize.{SectorSize}
@@ -53,7 +53,7 @@ module _ (offset : ℕ) (size : Option ℕ) (iv : ℕ) (z : SectorSize) (mode : 
   made_where None made = absurd (cc)
 
   made_of : segment_of_all (Some offset) (Some size) (Some iv) (Some z) (Some mode) ≡ Some s → IsOf
-  made_of made = made_where (where_true (are_sectors size z)) made
+  made_of made = made_where (evidence_if (are_sectors size z)) made
 
 module _ (c : LuksrdVolume) (v : OpenVolume) (stored : Stores c v) where
   pub stored_sector : sector_size_in c.sector_size ≡ Some v.segment.sector_size

@@ -2,14 +2,14 @@
 use Rattle.std.specs.Prelude.{ℕ, ◌≡◌, ◌≢◌, List, false, take, Result, Ok, Err}
 use Rattle.luks_access.specs.Opens.{IsCatOf, OpenVolume, Opens, Refuses}
 use Rattle.luks_access.specs.declared.options.Options.{Options}
-use Rattle.luks_area.specs.Area.{longest_area}
+use Rattle.luks_area.specs.Area.{max_area_len}
 use Rattle.luks_report.specs.Faults.{message_for_payload}
 use Rattle.luks_report.specs.declared.message.Message.{Message}
 use Rattle.luks_report.specs.declared.message.Message.TheVariants.{Done, ReadFailed}
 use Rattle.luks_runs.specs.Run.{breaks_off}
-use Rattle.luks_volume.specs.declared.fault.VolumeFault.{VolumeFault}
-use Rattle.luks_volume.specs.declared.fault.VolumeFault.TheVariants.{CutBeforePayload, Tail, Short, Read, Write}
-use Rattle.luks_volume.specs.declared.state.Step.{Step}
+use Rattle.luks_payload.specs.declared.fault.VolumeFault.{VolumeFault}
+use Rattle.luks_payload.specs.declared.fault.VolumeFault.TheVariants.{CutBeforePayload, Tail, Short, Read, Write}
+use Rattle.luks_payload.specs.declared.state.Step.{Step}
 use Rattle.luks_c.specs.Codes.{code_for}
 use Rattle.luks_c.specs.Message.{Tells}
 use Rattle.luks_c.specs.Options.{AreOptions}
@@ -21,7 +21,7 @@ use Rattle.luks_c.specs.declared.volume.LuksrdVolume.{LuksrdVolume}
 -- the image begins with these bytes as far as a header area can reach: with the same 33,554,432 bytes, or, if there
 -- are fewer, with these and no others
 abbrev pub BeginsAs : List ℕ → List ℕ → Type 0
-BeginsAs image header = take longest_area image ≡ take longest_area header
+BeginsAs image header = take max_area_len image ≡ take max_area_len header
 
 -- a volume was opened: C keeps it, and it is the one that `luksCat` opens of each image that begins so
 pub record Opened (c : LuksrdOptions) (header pass : List ℕ) (volume : LuksrdVolume) (message : LuksrdMessage) : Type 0

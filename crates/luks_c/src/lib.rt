@@ -7,7 +7,7 @@
 ghost use Rattle.std.specs.Prelude.{◌≡◌, ◌≢◌, ◌*◌, ◌≤◌, List, ℕ, length};
 ghost use Rattle.luks_access.specs.Opens.{OpenVolume, cipher_of, text_of};
 ghost use Rattle.luks_access.specs.Sectors.{AreStored, plain_at};
-ghost use Rattle.luks_volume.specs.Plain.{ending_of, sector_len};
+ghost use Rattle.luks_payload.specs.Plain.{ending_of, sector_len};
 ghost use Rattle.luks_c.specs.Answers.{EndsAs, Opened, Refused, fault_bytes};
 ghost use Rattle.luks_c.specs.Stored.{IsCleared, Stores};
 
@@ -19,7 +19,7 @@ use luks_access::Message;
 use luks_access::sectors::{decrypt_sectors, payload_ending, text_len};
 use luks_access::volume::Volume;
 use luks_io::memory::MemSource;
-use luks_volume::fault::VolumeFault;
+use luks_payload::fault::VolumeFault;
 use std::alloc::Global;
 
 mod code;

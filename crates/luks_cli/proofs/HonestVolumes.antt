@@ -1,6 +1,6 @@
 -- `luksCat` of an honestly sealed volume writes its plain text.
 use Rattle.std.proofs.Common.{◌∙◌, List, ℕ, Option, subst}
-use Rattle.luks_io.specs.Bytes.{Adds}
+use Rattle.luks_io.specs.Bytes.{Appended}
 use Rattle.luks_request.specs.Request.{Request, luks_cat}
 use Rattle.luks_report.specs.declared.message.Message.{Message}
 use Rattle.luks_unlock.proofs.HonestVolumes.{unsealed}

@@ -25,7 +25,7 @@ use Rattle.luks_unlock.proofs.OutcomeLemmas.{area_cut, area_held, area_more, fou
 use Rattle.luks_unlock.proofs.OutcomeLemmas.{front_len, outcome_is, tried_is}
 use Rattle.luks_report.specs.Faults.{message_for_header}
 use Rattle.luks_unlock.specs.Volume.{OnOpened, found_outcome, opened_outcome, outcome_after, volume_outcome_by}
-use Rattle.luks_runs.specs.Ending.{Outcome, unwritten}
+use Rattle.luks_runs.specs.Ending.{Outcome, no_output}
 use Rattle.luks_request.specs.Request.{OpeningRequest}
 use Rattle.luks_runs.specs.Run.{Aborted, IsPrefixLen, IsSilent, RunMatches}
 use Rattle.luks_io.proofs.Taking.{adds-none, took-none}
@@ -36,7 +36,7 @@ use Rattle.luks_runs.specs.Secret.{longest_key_file}
 use Rattle.luks_cli.specs.VolumeParts.{TakesHeld}
 use Rattle.luks_unlock.specs.Trying.{TriesSlots}
 use Rattle.luks_cli.specs.Unlocking.{OpensVolume, Unlocks, opens_promptly}
-use Rattle.luks_unlock.specs.Finding.{StopsFinding}
+use Rattle.luks_unlock.specs.Finding.{AbortsFinding}
 use Rattle.luks_unlock.specs.Volume.{Volume, held_for, volume_by}
 use Rattle.luks_runs.specs.Standing.{reading_of}
 use Rattle.luks_runs.specs.declared.standing.Standing.{Standing}

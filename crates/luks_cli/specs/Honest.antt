@@ -1,6 +1,6 @@
 -- What `luksCat` owes of an honestly sealed volume: its plain text.
 use Rattle.std.specs.Prelude.{◌≡◌, ℕ, ◌^◌, ◌<◌, List, length, Option, false}
-use Rattle.luks_io.specs.Bytes.{Adds, WhereKnown}
+use Rattle.luks_io.specs.Bytes.{Appended, IfKnown}
 use Rattle.luks_request.specs.Request.{Request, luks_cat}
 use Rattle.luks_report.specs.declared.message.Message.{Message}
 use Rattle.luks_report.specs.declared.message.Message.TheVariants.{Done}

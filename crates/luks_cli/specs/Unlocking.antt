@@ -1,10 +1,10 @@
 -- What opening a volume leaves in its devices, wherever its header stands.
 use Rattle.std.specs.Prelude.{◌≡◌, ℕ, ◌<◌, ◌≤◌, ◌⊎◌, List, length, max, take, Option, Some}
 use Rattle.std.specs.Prelude.{Result, Ok, Err}
-use Rattle.luks_io.specs.Bytes.{Adds, Took}
-use Rattle.luks_header.specs.Header.{cost_of}
+use Rattle.luks_io.specs.Bytes.{Appended, ConsumedExactly}
+use Rattle.luks_header.specs.Header.{header_read_len}
 use Rattle.luks_verdict.specs.declared.segment.Segment.{Segment}
-use Rattle.luks_open.specs.Order.{Tries}
+use Rattle.luks_open.specs.Order.{OrderModel}
 use Rattle.luks_open.specs.declared.opening.Opened.{Opened}
 use Rattle.luks_report.specs.Texts.{opened_line}
 use Rattle.luks_request.specs.Request.{OpeningRequest}

@@ -1,9 +1,9 @@
 -- What the parts of the commands on volumes leave in their devices.
 use Rattle.std.specs.Prelude.{◌≡◌, ◌⊎◌, ℕ, ◌+◌, ◌-◌, ◌*◌, ◌/◌, ◌<◌, ◌≤◌, List, length, max}
-use Rattle.luks_header.specs.Header.{cost_of}
+use Rattle.luks_header.specs.Header.{header_read_len}
 use Rattle.luks_verdict.specs.declared.segment.Segment.{Segment}
 use Rattle.luks_open.specs.declared.opening.Opened.{Opened}
-use Rattle.luks_volume.specs.Plain.{sector_len, sector_start}
+use Rattle.luks_payload.specs.Plain.{sector_len, sector_start}
 use Rattle.luks_report.specs.declared.message.Message.{Message}
 use Rattle.luks_report.specs.declared.message.Message.TheVariants.{ReadFailed, WriteFailed}
 use Rattle.luks_runs.specs.Reading.{detached_header_of}

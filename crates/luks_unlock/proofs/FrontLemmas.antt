@@ -5,30 +5,30 @@ use Rattle.std.specs.List.{AllByRecursion}
 use Rattle.std.specs.Prelude.{nat_lt, ok_or, if◌then◌else◌}
 use Rattle.std.proofs.lemmas.Bool.{cases_lt, le-ltb}
 use Rattle.std.proofs.lemmas.List.{take-take}
-use Rattle.luks_area.specs.Area.{longest_area}
+use Rattle.luks_area.specs.Area.{max_area_len}
 use Rattle.luks_area.specs.declared.fault.HeaderFault.{HeaderFault}
 use Rattle.luks_area.specs.declared.fault.HeaderFault.TheVariants.{NotLuks}
 use Rattle.luks1_header.specs.Header1.{is_luks1}
-use Rattle.luks2_header.proofs.AgreeLemmas.{reach_fit, reach_unfit}
-use Rattle.luks2_header.proofs.ChoiceLemmas.{reach_other, reach_primary}
-use Rattle.luks2_header.proofs.JsonLemmas.{json_beginning}
-use Rattle.luks2_header.proofs.SearchLemmas.{search_reach_is}
-use Rattle.luks2_header.proofs.ValidLemmas.{fits_parts, size_range, valid_range}
-use Rattle.luks2_header.proofs.WalkLemmas.{furthest}
-use Rattle.luks2_header.specs.Choice2.{binary_at, fits, header2_of, is_valid}
-use Rattle.luks2_header.specs.Cost2.{cost2_of, reach2_of, reach_at}
-use Rattle.luks2_header.specs.Front2.{IsFront}
-use Rattle.luks2_header.specs.Header2.{sizes}
-use Rattle.luks2_header.specs.Text2.{json_text_of}
-use Rattle.luks2_header.specs.declared.header.Header2.{Header2}
-use Rattle.luks2_members.specs.Tree.{tree_of}
+use Rattle.luks2_binary.proofs.AgreeLemmas.{reach_fit, reach_unfit}
+use Rattle.luks2_binary.proofs.ChoiceLemmas.{reach_other, reach_primary}
+use Rattle.luks2_binary.proofs.JsonLemmas.{json_beginning}
+use Rattle.luks2_binary.proofs.SearchLemmas.{search_reach_is}
+use Rattle.luks2_binary.proofs.ValidLemmas.{fits_parts, size_range, valid_range}
+use Rattle.luks2_binary.proofs.WalkLemmas.{furthest}
+use Rattle.luks2_binary.specs.Choice2.{binary_at, fits, header2_of, is_valid}
+use Rattle.luks2_binary.specs.Cost2.{header2_read_len, reach2_of, probe_end}
+use Rattle.luks2_binary.specs.Front2.{IsPrefixOf}
+use Rattle.luks2_binary.specs.Header2.{sizes}
+use Rattle.luks2_binary.specs.Text2.{json_text_of}
+use Rattle.luks2_binary.specs.declared.header.Header2.{Header2}
+use Rattle.luks2_json.specs.Tree.{tree_of}
 use Rattle.luks_header.proofs.HeldLemmas.{begins_longer}
-use Rattle.luks_header.specs.Header.{cost_of, header_of, with_metadata, with_text}
+use Rattle.luks_header.specs.Header.{header_read_len, header_of, with_metadata, with_text}
 use Rattle.luks_header.specs.declared.header.Header.{Header}
 use Rattle.luks_open.proofs.CallerLemmas.{opening_beginning}
 use Rattle.luks_open.proofs.OrderLemmas.{held_of-within}
 use Rattle.luks_open.specs.Opening.{opening_of}
-use Rattle.luks_open.specs.Order.{held_of}
+use Rattle.luks_open.specs.Order.{key_areas_end}
 use Rattle.luks_open.specs.declared.fault.OpenFault.{OpenFault}
 use Rattle.luks_open.specs.declared.opening.Opened.{Opened}
 use Rattle.luks_report.specs.declared.message.Message.{Message}
@@ -45,13 +45,13 @@ use Rattle.luks_unlock.specs.Volume.{volume_in_header, volume_outcome_by}
 -- ---- how far an image is looked at
 
 module _ (image : List ℕ) where
-  reach_by : (place : ℕ) (b : Bool) → fits image place ≡ b → place ≤ 4194304 → reach_at image place ≤ 8388608
+  reach_by : (place : ℕ) (b : Bool) → fits image place ≡ b → place ≤ 4194304 → probe_end image place ≤ 8388608
   reach_by place true is near =
       let size = size_range place (binary_at image place) (fits_parts image place is).1 in
       omega (arith, reach_fit image place is, size.1)
   reach_by place false is near = omega (arith, reach_unfit image place is)
 
-  reach_near : (place : ℕ) → place ≤ 4194304 → reach_at image place ≤ 8388608
+  reach_near : (place : ℕ) → place ≤ 4194304 → probe_end image place ≤ 8388608
   reach_near place = reach_by place (fits image place) refl
 
 furthest_by : (b : Bool) (here rest most : ℕ) → here ≤ most → rest ≤ most → max here (if b then 0 else rest) ≤ most
@@ -66,10 +66,10 @@ furthest_within valid reach most (place ∷ places) all =
     furthest_by (valid place) (reach place) (furthest valid reach places) most all.0
     (furthest_within valid reach most places all.1)
 
-search_within : (image : List ℕ) → furthest (is_valid image) (reach_at image) sizes ≤ 8388608
+search_within : (image : List ℕ) → furthest (is_valid image) (probe_end image) sizes ≤ 8388608
 unfolding sizes
 search_within image =
-    furthest_within (is_valid image) (reach_at image) 8388608 _ (
+    furthest_within (is_valid image) (probe_end image) 8388608 _ (
       reach_near image 16384 (omega arith),
       (
         reach_near image 32768 (omega arith),
@@ -112,14 +112,14 @@ reach2_within image = by (is_valid image 0) refl where
 -- ---- the header of the first bytes
 
 module _ (image : List ℕ) (n : ℕ) (far : 8388608 ≤ n) where
-  front_of : n ≤ length image → IsFront (take n image) false image
+  front_of : n ≤ length image → IsPrefixOf (take n image) false image
   front_of more =
       let long = length-take-le n image more in
       record { begins = ap (λ k. take k image) long; within = omega (arith, long); ends = λ wrong. absurd (cc) }
 
   front2 : n ≤ length image
-      → (header2_of (take n image) ≡ header2_of image) × (cost2_of (take n image) ≡ cost2_of image)
-  unfolding header2_of cost2_of
+      → (header2_of (take n image) ≡ header2_of image) × (header2_read_len (take n image) ≡ header2_read_len image)
+  unfolding header2_of header2_read_len
   front2 more =
       let long = length-take-le n image more in
       let within = reach2_within image in
@@ -128,12 +128,12 @@ module _ (image : List ℕ) (n : ℕ) (far : 8388608 ≤ n) where
 
   text_front : n ≤ length image → (header : Header2) → header2_of image ≡ Ok header
       → json_text_of (take n image) header ≡ json_text_of image header
-  unfolding cost2_of
+  unfolding header2_read_len
   text_front more header found =
       let same = front2 more in
       let within = reach2_within image in
-      let cut : take (cost2_of (take n image)) (take n image) ≡ take (cost2_of image) image =
-      ap (λ k. take k (take n image)) same.1 ∙ take-take (cost2_of image) n image (omega arith) in
+      let cut : take (header2_read_len (take n image)) (take n image) ≡ take (header2_read_len image) image =
+      ap (λ k. take k (take n image)) same.1 ∙ take-take (header2_read_len image) n image (omega arith) in
       sym (json_beginning (take n image) header (same.0 ∙ found))
       ∙ ap (λ bytes. json_text_of bytes header) cut
       ∙ json_beginning image header found
@@ -145,8 +145,8 @@ module _ (image : List ℕ) (n : ℕ) (far : 8388608 ≤ n) where
   with_text_front more (Err fault) is = refl
 
   header_by : n ≤ length image → is_luks1 (take n image) ≡ is_luks1 image → (b : Bool) → is_luks1 image ≡ b
-      → (header_of (take n image) ≡ header_of image) × (cost_of (take n image) ≡ cost_of image)
-  unfolding header_of cost_of
+      → (header_of (take n image) ≡ header_of image) × (header_read_len (take n image) ≡ header_read_len image)
+  unfolding header_of header_read_len
   header_by more begins true is =
       let long = length-take-le n image more in
       let short = le-ltb (length (take n image)) 592 (omega (arith, long)) in
@@ -159,25 +159,25 @@ module _ (image : List ℕ) (n : ℕ) (far : 8388608 ≤ n) where
       )
 
   -- the first bytes of an image have its header, at its cost
-  pub header_front : (header_of (take n image) ≡ header_of image) × (cost_of (take n image) ≡ cost_of image)
+  pub header_front : (header_of (take n image) ≡ header_of image) × (header_read_len (take n image) ≡ header_read_len image)
   header_front = elim (cases_lt n (length image)) [
     | inl more ↦
         (let long = length-take-le n image (omega arith) in
         header_by (omega arith)
         (sym (begins_longer (take n image) image (omega (arith, long)) (ap (λ k. take k image) long)))
         (is_luks1 image) refl)
-    | inr all ↦ (let same = take_all n image all in (ap header_of same, ap cost_of same))
+    | inr all ↦ (let same = take_all n image all in (ap header_of same, ap header_read_len same))
   ]
 
 -- ---- opening by the first bytes
 
-module _ (stand : Standing) (o : OpeningRequest) (image pass : List ℕ) (n : ℕ) (far : longest_area ≤ n)
+module _ (stand : Standing) (o : OpeningRequest) (image pass : List ℕ) (n : ℕ) (far : max_area_len ≤ n)
     (on_opened : OnOpened) where
   opened_front : (v : Volume) (r : Result Opened OpenFault)
       → opened_outcome on_opened o.key_slot v (take n image) pass r
       ≡ opened_outcome on_opened o.key_slot v image pass r
   opened_front v (Ok opened) =
-      ap (λ cost. on_opened v.segment opened (max cost (held_of v.tries.slots)))
+      ap (λ cost. on_opened v.segment opened (max cost (key_areas_end v.tries.slots)))
       (header_front image n (omega arith)).1
   opened_front v (Err fault) = rw (header_front image n (omega arith)).1 refl
 
@@ -187,8 +187,8 @@ module _ (stand : Standing) (o : OpeningRequest) (image pass : List ℕ) (n : �
   found_front more v =
       let long = length-take-le n image more in
       let within = held_of-within v.tries.slots in
-      let all = le-ltb (length (take n image)) (held_of v.tries.slots) (omega (arith, long)) in
-      let whole = le-ltb (length image) (held_of v.tries.slots) (omega arith) in
+      let all = le-ltb (length (take n image)) (key_areas_end v.tries.slots) (omega (arith, long)) in
+      let whole = le-ltb (length image) (key_areas_end v.tries.slots) (omega arith) in
       let opening = opening_beginning v.tries n image pass (omega arith) in
       let cost = (header_front image n (omega arith)).1 in
       rw (all, whole, cost, opening, opened_front v (opening_of v.tries image pass)) refl
@@ -217,9 +217,9 @@ module _ (stand : Standing) (o : OpeningRequest) (image pass : List ℕ) (n : �
 
 -- images with the same first bytes are opened alike
 pub outcome_decided : (stand : Standing) (o : OpeningRequest) (a b pass : List ℕ) (on_opened : OnOpened)
-    → take longest_area a ≡ take longest_area b
+    → take max_area_len a ≡ take max_area_len b
     → volume_outcome_by (reading_of stand) on_opened o a pass ≡ volume_outcome_by (reading_of stand) on_opened o b pass
 outcome_decided stand o a b pass on_opened same =
-    sym (outcome_front stand o a pass longest_area (omega arith) on_opened)
+    sym (outcome_front stand o a pass max_area_len (omega arith) on_opened)
     ∙ ap (λ bytes. volume_outcome_by (reading_of stand) on_opened o bytes pass) same
-    ∙ outcome_front stand o b pass longest_area (omega arith) on_opened
+    ∙ outcome_front stand o b pass max_area_len (omega arith) on_opened

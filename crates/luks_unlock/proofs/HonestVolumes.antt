@@ -4,8 +4,8 @@ use Rattle.std.proofs.Common.{subst, arith}
 use Rattle.std.specs.List.{AllByRecursion, Contains}
 use Rattle.std.proofs.lemmas.List.Elements.{All-nil, recursion_from_All}
 use Rattle.luks_header.proofs.KnownLemmas.{is_attached, slot_of_usable}
-use Rattle.luks_open.specs.Opening.{answer_of, first_opening, key_of, opening_of}
-use Rattle.luks_open.specs.Order.{entry_at, held_of, order_of}
+use Rattle.luks_open.specs.Opening.{answer_of, first_opening, slot_key, opening_of}
+use Rattle.luks_open.specs.Order.{entry_at, key_areas_end, order_of}
 use Rattle.luks_open.specs.declared.entry.Entry.{Entry}
 use Rattle.luks_open.specs.declared.opening.Opened.{Opened}
 use Rattle.luks_open.proofs.CallerLemmas.{held_before_payload}
@@ -42,7 +42,7 @@ module _ (o : OpeningRequest) (image passphrase plain : List ℕ) (honest : IsHo
   volume = record { header = honest.sealed.header; segment = honest.sealed.segment; tries = honest.tries }
 
   -- its key slot gives the key
-  gives_key : key_of honest.first.entry image passphrase ≡ Some honest.key
+  gives_key : slot_key honest.first.entry image passphrase ≡ Some honest.key
   gives_key =
       let sealed = honest.sealed in
       let first = honest.first in
@@ -68,7 +68,7 @@ module _ (o : OpeningRequest) (image passphrase plain : List ℕ) (honest : IsHo
       )
 
   -- the key material that is tried is all there
-  held_there : held_of honest.tries.slots ≤ length image
+  held_there : key_areas_end honest.tries.slots ≤ length image
   held_there =
       let sealed = honest.sealed in
       let before = held_before_payload sealed.header sealed.segment o.key_slot o.max_iterations honest.tries

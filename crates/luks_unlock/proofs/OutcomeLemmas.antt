@@ -5,22 +5,22 @@ use Rattle.std.proofs.lemmas.Bool.Decides.{nat_tests}
 use Rattle.std.proofs.lemmas.List.{drop-drop}
 use Rattle.std.proofs.Math.Seq.{take-add}
 use Rattle.std.specs.Prelude.{nat_lt}
-use Rattle.luks_header.specs.Area.{TookBehind}
-use Rattle.luks_header.specs.Header.{cost_of}
+use Rattle.luks_header.specs.Area.{ConsumedOnto}
+use Rattle.luks_header.specs.Header.{header_read_len}
 use Rattle.luks_header.specs.Segment.{segment_of}
 use Rattle.luks_header.specs.declared.header.Header.{Header}
 use Rattle.luks_verdict.specs.declared.segment.Segment.{Segment}
-use Rattle.luks_io.specs.Bytes.{Took}
+use Rattle.luks_io.specs.Bytes.{ConsumedExactly}
 use Rattle.luks_open.proofs.CallerLemmas.{opening_beginning}
 use Rattle.luks_open.specs.Opening.{opening_of}
-use Rattle.luks_open.specs.Order.{Tries, held_of, order_of}
+use Rattle.luks_open.specs.Order.{OrderModel, key_areas_end, order_of}
 use Rattle.luks_open.specs.declared.fault.OpenFault.{OpenFault}
 use Rattle.luks_open.specs.declared.opening.Opened.{Opened}
 use Rattle.luks_report.specs.declared.message.Message.{Message}
 use Rattle.luks_report.specs.declared.message.Message.TheVariants.{Cut, KeyFileLength}
 use Rattle.luks_request.specs.Request.{OpeningRequest}
 use Rattle.luks_runs.proofs.HeaderTaking.{cost_there}
-use Rattle.luks_runs.specs.Ending.{unwritten}
+use Rattle.luks_runs.specs.Ending.{no_output}
 use Rattle.luks_runs.specs.Secret.{longest_key_file}
 use Rattle.luks_runs.specs.Standing.{reading_of}
 use Rattle.luks_runs.specs.declared.standing.Standing.{Standing}
@@ -32,60 +32,60 @@ use Rattle.luks_unlock.specs.Volume.{volume_outcome_by}
 
 module _ (on_opened : OnOpened) (named : Option ℕ) (v : Volume) (image secret : List ℕ) where
   pub found_long : longest_key_file < length secret
-      → found_outcome on_opened named v image secret ≡ unwritten KeyFileLength (cost_of image) (longest_key_file + 1)
+      → found_outcome on_opened named v image secret ≡ no_output KeyFileLength (header_read_len image) (longest_key_file + 1)
   unfolding found_outcome
   found_long long = let yes : nat_lt longest_key_file (length secret) ≡ true = grind (arith, nat_tests) in rw yes refl
 
-  pub found_cut : length secret ≤ longest_key_file → length image < held_of v.tries.slots
-      → found_outcome on_opened named v image secret ≡ unwritten Cut (length image) (length secret)
+  pub found_cut : length secret ≤ longest_key_file → length image < key_areas_end v.tries.slots
+      → found_outcome on_opened named v image secret ≡ no_output Cut (length image) (length secret)
   unfolding found_outcome
   found_cut short few =
       let no : nat_lt longest_key_file (length secret) ≡ false = grind (arith, nat_tests) in
-      let yes : nat_lt (length image) (held_of v.tries.slots) ≡ true = grind (arith, nat_tests) in
+      let yes : nat_lt (length image) (key_areas_end v.tries.slots) ≡ true = grind (arith, nat_tests) in
       rw (no, yes) refl
 
-  pub found_whole : length secret ≤ longest_key_file → held_of v.tries.slots ≤ length image
+  pub found_whole : length secret ≤ longest_key_file → key_areas_end v.tries.slots ≤ length image
       → found_outcome on_opened named v image secret
       ≡ opened_outcome on_opened named v image secret (opening_of v.tries image secret)
   unfolding found_outcome
   found_whole short enough =
       let no : nat_lt longest_key_file (length secret) ≡ false = grind (arith, nat_tests) in
-      let none : nat_lt (length image) (held_of v.tries.slots) ≡ false = grind (arith, nat_tests) in
+      let none : nat_lt (length image) (key_areas_end v.tries.slots) ≡ false = grind (arith, nat_tests) in
       rw (no, none) refl
 
 -- ---- the area that is held
 
-module _ (image area area' : List ℕ) (i : Option (List ℕ)) (held : ℕ) (front : area ≡ take (cost_of image) image) where
-  pub front_len : length area ≡ cost_of image
+module _ (image area area' : List ℕ) (i : Option (List ℕ)) (held : ℕ) (front : area ≡ take (header_read_len image) image) where
+  pub front_len : length area ≡ header_read_len image
   front_len = cost_held image area front
 
   -- so many bytes more are held
-  pub area_more : (n : ℕ) → TookBehind area area' (drop (cost_of image) image) i n
-      → (area' ≡ take (cost_of image + n) image) × Took image i (cost_of image + n)
+  pub area_more : (n : ℕ) → ConsumedOnto area area' (drop (header_read_len image) image) i n
+      → (area' ≡ take (header_read_len image + n) image) × ConsumedExactly image i (header_read_len image + n)
   area_more n grows = (
-    grows.1 ∙ ap (λ l. l ++ take n (drop (cost_of image) image)) front ∙ sym (take-add (cost_of image) n image),
+    grows.1 ∙ ap (λ l. l ++ take n (drop (header_read_len image) image)) front ∙ sym (take-add (header_read_len image) n image),
     record {
-      within = omega (arith, grows.0.within, length-drop (cost_of image) image, cost_there image);
-      left = grows.0.left ∙ ap Some (drop-drop n (cost_of image) image);
+      within = omega (arith, grows.0.within, length-drop (header_read_len image) image, cost_there image);
+      left = grows.0.left ∙ ap Some (drop-drop n (header_read_len image) image);
     },
   )
 
-  module _ (grows : TookBehind area area' (drop (cost_of image) image) i
-      (min (held - length area) (length (drop (cost_of image) image)))) where
+  module _ (grows : ConsumedOnto area area' (drop (header_read_len image) image) i
+      (min (held - length area) (length (drop (header_read_len image) image)))) where
     reached : ℕ
-    reached = cost_of image + min (held - length area) (length (drop (cost_of image) image))
+    reached = header_read_len image + min (held - length area) (length (drop (header_read_len image) image))
 
-    grown : (length area' ≡ reached) × (reached ≡ max (cost_of image) (min held (length image)))
+    grown : (length area' ≡ reached) × (reached ≡ max (header_read_len image) (min held (length image)))
     unfolding reached
     grown =
         let more = area_more _ grows in (
           ap length more.0
               ∙ length-take-le _ image more.1.within,
-          omega (arith, front_len, length-drop (cost_of image) image, cost_there image),
+          omega (arith, front_len, length-drop (header_read_len image) image, cost_there image),
         )
 
     -- the image ended before the area was held
-    pub area_cut : length area' < held → (length image < held) × Took image i (length image)
+    pub area_cut : length area' < held → (length image < held) × ConsumedExactly image i (length image)
     unfolding reached
     area_cut short =
         let more = area_more _ grows in
@@ -93,19 +93,19 @@ module _ (image area area' : List ℕ) (i : Option (List ℕ)) (held : ℕ) (fro
         (omega (arith, grown.0, grown.1, cost_there image), rw all at more.1)
 
     -- the area is held
-    pub area_held : held ≤ length area' → (held ≤ length image) × (length area' ≡ max (cost_of image) held)
-        × (area' ≡ take (max (cost_of image) held) image) × Took image i (max (cost_of image) held)
+    pub area_held : held ≤ length area' → (held ≤ length image) × (length area' ≡ max (header_read_len image) held)
+        × (area' ≡ take (max (header_read_len image) held) image) × ConsumedExactly image i (max (header_read_len image) held)
     unfolding reached
     area_held enough =
         let more = area_more _ grows in
         let there : held ≤ length image = omega (arith, grown.0, grown.1, cost_there image, more.1.within) in
-        let all : reached ≡ max (cost_of image) held = omega (arith, grown.1) in
+        let all : reached ≡ max (header_read_len image) held = omega (arith, grown.1) in
         (there, grown.0 ∙ all, rw all at more.0, rw all at more.1)
 
 -- ---- the outcome of an image
 
 -- the volume of these
-abbrev pub volume_with : Header → Segment → Tries → Volume
+abbrev pub volume_with : Header → Segment → OrderModel → Volume
 volume_with header segment tries = record { header = header; segment = segment; tries = tries }
 
 module _ (stand : Standing) (o : OpeningRequest) (image pass : List ℕ) where
@@ -115,7 +115,7 @@ module _ (stand : Standing) (o : OpeningRequest) (image pass : List ℕ) where
   outcome_is on_opened r is = rw is refl
 
   -- the header names this segment and these key slots to be tried
-  module _ (header : Header) (segment : Segment) (tries : Tries) (found : reading_of stand image ≡ Ok header)
+  module _ (header : Header) (segment : Segment) (tries : OrderModel) (found : reading_of stand image ≡ Ok header)
       (is_segment : segment_of header ≡ Ok segment)
       (ordered : order_of header o.key_slot o.max_iterations ≡ Ok tries) where
     pub found_is : (on_opened : OnOpened)
@@ -127,18 +127,18 @@ module _ (stand : Standing) (o : OpeningRequest) (image pass : List ℕ) where
 
     -- the key areas are held, and the key slots answer so
     pub tried_is : (short : length pass ≤ longest_key_file) (area area' : List ℕ) (i : Option (List ℕ))
-        (front : area ≡ take (cost_of image) image)
-        (grows : TookBehind area area' (drop (cost_of image) image) i
-        (min (held_of tries.slots - length area) (length (drop (cost_of image) image))))
-        (enough : held_of tries.slots ≤ length area') (r : Result Opened OpenFault)
+        (front : area ≡ take (header_read_len image) image)
+        (grows : ConsumedOnto area area' (drop (header_read_len image) image) i
+        (min (key_areas_end tries.slots - length area) (length (drop (header_read_len image) image))))
+        (enough : key_areas_end tries.slots ≤ length area') (r : Result Opened OpenFault)
         (tried : opening_of tries area' pass ≡ r) (on_opened : OnOpened)
         → volume_outcome_by (reading_of stand) on_opened o image pass
         ≡ opened_outcome on_opened o.key_slot (volume_with header segment tries) image pass r
     tried_is short area area' i front grows enough r tried on_opened =
         let v = volume_with header segment tries in
-        let held = area_held image area area' i (held_of tries.slots) front grows enough in
+        let held = area_held image area area' i (key_areas_end tries.slots) front grows enough in
         let whole : opening_of tries image pass ≡ r =
-        sym (opening_beginning tries (max (cost_of image) (held_of tries.slots)) image pass (omega arith))
+        sym (opening_beginning tries (max (header_read_len image) (key_areas_end tries.slots)) image pass (omega arith))
         ∙ ap (λ l. opening_of tries l pass) (sym held.2) ∙ tried in
         found_is on_opened ∙ found_whole on_opened o.key_slot v image pass short held.0
         ∙ ap (opened_outcome on_opened o.key_slot v image pass) whole

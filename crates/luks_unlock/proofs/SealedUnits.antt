@@ -15,8 +15,8 @@ use Rattle.luks_kdf.specs.declared.hash.Hash.{Hash}
 use Rattle.luks_stripes.proofs.StripesLemmas.{merged_split}
 use Rattle.luks_verdict.specs.Rule.{need_of}
 use Rattle.luks_unlock.proofs.SectorsUndone.{sector_decrypted-sector_encrypted}
-use Rattle.luks_open.specs.Candidate.{material_of, material_sector, unlocked}
-use Rattle.luks_seal.specs.Sealed.{IsMaterial, StandEncrypted}
+use Rattle.luks_open.specs.Candidate.{decrypted_material, material_sector, unlocked}
+use Rattle.luks_seal.specs.Sealed.{IsMaterial, IsStoredEncrypted}
 use Rattle.luks_verdict.specs.declared.slot.SlotParts.{SlotParts}
 
 -- the first n units of a list, joined

@@ -4,18 +4,18 @@ use Rattle.std.proofs.Common.{false, ap, sym, refl, inl, inr, take, take_all, le
 use Rattle.std.specs.Prelude.{nat_lt, ok_or, option_and_then}
 use Rattle.std.proofs.lemmas.Bool.{cases_lt, le-ltb}
 use Rattle.luks_area.specs.declared.fault.HeaderFault.TheVariants.{NotLuks}
-use Rattle.luks2_header.specs.Choice2.{chosen2_of, found_at, header2_of, is_valid, least_valid, size_at}
-use Rattle.luks2_header.specs.Cost2.{cost2_of, reach2_of, reach_at, search_reach}
-use Rattle.luks2_header.specs.Front2.{IsFront}
-use Rattle.luks2_header.specs.Header2.{header_in, size_in, sizes}
-use Rattle.luks2_header.specs.declared.header.Finding.TheVariants.{PrimaryNotValid}
-use Rattle.luks2_header.specs.declared.header.Place.TheVariants.{Secondary}
-use Rattle.luks2_header.proofs.AgreeLemmas.{at-front, fits-front, reach_fit, reach_least, valid-front}
-use Rattle.luks2_header.proofs.ChoiceLemmas.{beside_same, chosen_other, chosen_primary, reach_first, reach_other}
-use Rattle.luks2_header.proofs.ChoiceLemmas.{reach_primary, reach_some}
-use Rattle.luks2_header.proofs.SearchLemmas.{least_is, search_reach_is}
-use Rattle.luks2_header.proofs.ValidLemmas.{short-fits, unfit-is_valid}
-use Rattle.luks2_header.proofs.WalkLemmas.{first_valid, furthest}
+use Rattle.luks2_binary.specs.Choice2.{chosen2_of, found_at, header2_of, is_valid, least_valid, size_at}
+use Rattle.luks2_binary.specs.Cost2.{header2_read_len, reach2_of, probe_end, search_reach}
+use Rattle.luks2_binary.specs.Front2.{IsPrefixOf}
+use Rattle.luks2_binary.specs.Header2.{header2_from, size_in, sizes}
+use Rattle.luks2_binary.specs.declared.header.Finding.TheVariants.{PrimaryNotValid}
+use Rattle.luks2_binary.specs.declared.header.Place.TheVariants.{Secondary}
+use Rattle.luks2_binary.proofs.AgreeLemmas.{at-front, fits-front, reach_fit, reach_least, valid-front}
+use Rattle.luks2_binary.proofs.ChoiceLemmas.{beside_same, chosen_other, chosen_primary, reach_first, reach_other}
+use Rattle.luks2_binary.proofs.ChoiceLemmas.{reach_primary, reach_some}
+use Rattle.luks2_binary.proofs.SearchLemmas.{least_is, search_reach_is}
+use Rattle.luks2_binary.proofs.ValidLemmas.{short-fits, unfit-is_valid}
+use Rattle.luks2_binary.proofs.WalkLemmas.{first_valid, furthest}
 
 first_by : (valid : ℕ → Bool) (reach : ℕ → ℕ) (other : ℕ) (places : List ℕ) (place : ℕ) (b : Bool) → valid other ≡ b
     → (first_valid valid places ≡ Some place → reach place ≤ furthest valid reach places)
@@ -41,15 +41,15 @@ unfolding first_valid
 first_none valid [] none = refl
 first_none valid (place ∷ places) none = rw (none place) (first_none valid places none)
 
-module _ (held image : List ℕ) (front : IsFront held false image) where
-  reach_same : (place : ℕ) → place + 4096 ≤ length held → reach_at held place ≡ reach_at image place
-  unfolding reach_at
+module _ (held image : List ℕ) (front : IsPrefixOf held false image) where
+  reach_same : (place : ℕ) → place + 4096 ≤ length held → probe_end held place ≡ probe_end image place
+  unfolding probe_end
   reach_same place there =
       rw (fits-front held false image front place there, at-front held false image front place 4096 there) refl
 
   -- a place that is held as far as it is looked at
-  place_same : (place : ℕ) → reach_at image place ≤ length held
-      → (is_valid held place ≡ is_valid image place) × (reach_at held place ≡ reach_at image place)
+  place_same : (place : ℕ) → probe_end image place ≤ length held
+      → (is_valid held place ≡ is_valid image place) × (probe_end held place ≡ probe_end image place)
   place_same place within =
       let there : place + 4096 ≤ length held = omega (arith, within, reach_least image place) in (
         valid-front held false image front place there (λ fit. omega (arith, within, reach_fit image place fit)),
@@ -58,45 +58,45 @@ module _ (held image : List ℕ) (front : IsFront held false image) where
 
   AreSame : List ℕ → Type 0
   AreSame places = (first_valid (is_valid held) places ≡ first_valid (is_valid image) places)
-      × (furthest (is_valid held) (reach_at held) places ≡ furthest (is_valid image) (reach_at image) places)
+      × (furthest (is_valid held) (probe_end held) places ≡ furthest (is_valid image) (probe_end image) places)
 
   walk_by : (place : ℕ) (places : List ℕ) (b : Bool) → is_valid image place ≡ b
-      → (furthest (is_valid image) (reach_at image) places ≤ length held → AreSame places)
-      → furthest (is_valid image) (reach_at image) (place ∷ places) ≤ length held → AreSame (place ∷ places)
+      → (furthest (is_valid image) (probe_end image) places ≤ length held → AreSame places)
+      → furthest (is_valid image) (probe_end image) (place ∷ places) ≤ length held → AreSame (place ∷ places)
   unfolding first_valid furthest AreSame
   walk_by place places true e next within =
-      let reaches : reach_at image place ≤ length held = omega (arith, within) in
+      let reaches : probe_end image place ≤ length held = omega (arith, within) in
       let same = place_same place reaches in
       (rw (same.0, e) refl, rw (same.0, same.1, e) refl)
   walk_by place places false e next within =
-      let reaches : reach_at image place ≤ length held = omega (arith, within) in
+      let reaches : probe_end image place ≤ length held = omega (arith, within) in
       let same = place_same place reaches in
       let rest = next (let inside = (rw e at within) in omega (arith, inside)) in
-      (rw (same.0, e) rest.0, rw (same.0, same.1, e) (ap (max (reach_at image place)) rest.1))
+      (rw (same.0, e) rest.0, rw (same.0, same.1, e) (ap (max (probe_end image place)) rest.1))
 
-  walk_same : (places : List ℕ) → furthest (is_valid image) (reach_at image) places ≤ length held → AreSame places
+  walk_same : (places : List ℕ) → furthest (is_valid image) (probe_end image) places ≤ length held → AreSame places
   unfolding first_valid furthest AreSame
   walk_same [] within = (refl, refl)
   walk_same (place ∷ places) within = walk_by place places (is_valid image place) refl (walk_same places) within
 
   -- the header at the first valid place
-  same_first : (places : List ℕ) → furthest (is_valid image) (reach_at image) places ≤ length held
+  same_first : (places : List ℕ) → furthest (is_valid image) (probe_end image) places ≤ length held
       → first_valid (is_valid held) places ≡ first_valid (is_valid image) places
   unfolding AreSame
   same_first places within = (let walk = walk_same places within in walk.0)
 
-  same_furthest : (places : List ℕ) → furthest (is_valid image) (reach_at image) places ≤ length held
-      → furthest (is_valid held) (reach_at held) places ≡ furthest (is_valid image) (reach_at image) places
+  same_furthest : (places : List ℕ) → furthest (is_valid image) (probe_end image) places ≤ length held
+      → furthest (is_valid held) (probe_end held) places ≡ furthest (is_valid image) (probe_end image) places
   unfolding AreSame
   same_furthest places within = (let walk = walk_same places within in walk.1)
 
   found_same : (first : Option ℕ) → first_valid (is_valid image) sizes ≡ first
-      → furthest (is_valid image) (reach_at image) sizes ≤ length held
+      → furthest (is_valid image) (probe_end image) sizes ≤ length held
       → option_and_then (found_at held) first ≡ option_and_then (found_at image) first
   found_same None is within = refl
   found_same (Some place) is within =
-      let below = first_reach (is_valid image) (reach_at image) sizes place is in
-      ap (header_in Secondary (Some PrimaryNotValid))
+      let below = first_reach (is_valid image) (probe_end image) sizes place is in
+      ap (header2_from Secondary (Some PrimaryNotValid))
       (at-front held false image front place 4096 (omega (arith, below, within, reach_least image place)))
 
   pub stable_by : (b : Bool) → is_valid image 0 ≡ b → reach2_of image ≤ length held
@@ -112,7 +112,7 @@ module _ (held image : List ℕ) (front : IsFront held false image) where
       )
   stable_by false e whole =
       let first = place_same 0 (omega (arith, reach_first image, whole)) in
-      let within : furthest (is_valid image) (reach_at image) sizes ≤ length held =
+      let within : furthest (is_valid image) (probe_end image) sizes ≤ length held =
       omega (arith, reach_other image e, search_reach_is image, whole) in
       let least : least_valid held ≡ least_valid image =
       least_is held ∙ same_first sizes within ∙ sym (least_is image) in (
@@ -122,7 +122,7 @@ module _ (held image : List ℕ) (front : IsFront held false image) where
             ∙ sym (ap (option_and_then (found_at image)) (least_is image))
             ∙ sym (chosen_other image e),
         reach_other held (first.0 ∙ e)
-            ∙ ap (max (reach_at held 0))
+            ∙ ap (max (probe_end held 0))
             (search_reach_is held ∙ same_furthest sizes within ∙ sym (search_reach_is image))
             ∙ ap (λ n. max n (search_reach image)) first.1
             ∙ sym (reach_other image e),

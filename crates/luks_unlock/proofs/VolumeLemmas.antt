@@ -18,7 +18,7 @@ use Rattle.luks_open.specs.declared.fault.OpenFault.TheVariants.{Memory}
 use Rattle.luks_report.specs.Faults.{message_for_header}
 use Rattle.luks_request.specs.Request.{OpeningRequest}
 use Rattle.luks_runs.proofs.HeaderTaking.{cost_there}
-use Rattle.luks_unlock.specs.Finding.{StopsFinding}
+use Rattle.luks_unlock.specs.Finding.{AbortsFinding}
 use Rattle.luks_runs.proofs.HeaderTaking.{reading_fault}
 use Rattle.luks_runs.specs.Standing.{reading_of}
 use Rattle.luks_unlock.specs.Volume.{volume_by, volume_in_header}

@@ -1,7 +1,7 @@
 -- What a header says of its volume, and what finding that leaves in its device.
 use Rattle.std.specs.Prelude.{◌≡◌, List, ℕ, Option, Ok, Err}
-use Rattle.luks_io.specs.Bytes.{Took, TookUpTo}
-use Rattle.luks_header.specs.Header.{cost_of, header_of}
+use Rattle.luks_io.specs.Bytes.{ConsumedExactly, ConsumedAtMost}
+use Rattle.luks_header.specs.Header.{header_read_len, header_of}
 use Rattle.luks_header.specs.Segment.{segment_of}
 use Rattle.luks_header.specs.declared.header.Header.{Header}
 use Rattle.luks_verdict.specs.declared.segment.Segment.{Segment}
@@ -20,7 +20,7 @@ abbrev pub HasSegment : List ℕ → Segment → Type 0
 HasSegment = HasSegmentBy header_of
 
 -- finding the volume whose header is read so ended without one
-abbrev pub StopsFinding : Reading → OpeningRequest → List ℕ → Option (List ℕ) → Message → Type 0
-StopsFinding read o image left ReadFailed = TookUpTo image left (cost_of image)
-StopsFinding read o image left OutOfMemory = TookUpTo image left (cost_of image)
-StopsFinding read o image left message = (volume_by read o image ≡ Err message) × Took image left (cost_of image)
+abbrev pub AbortsFinding : Reading → OpeningRequest → List ℕ → Option (List ℕ) → Message → Type 0
+AbortsFinding read o image left ReadFailed = ConsumedAtMost image left (header_read_len image)
+AbortsFinding read o image left OutOfMemory = ConsumedAtMost image left (header_read_len image)
+AbortsFinding read o image left message = (volume_by read o image ≡ Err message) × ConsumedExactly image left (header_read_len image)

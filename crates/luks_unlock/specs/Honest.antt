@@ -1,7 +1,7 @@
 -- Honestly sealed volumes, and the passphrases that open them.
 use Rattle.std.specs.Prelude.{◌≡◌, ℕ, ◌≤◌, All, Contains, List, ◌∷◌, ◌++◌, length, Some, Ok}
-use Rattle.luks_open.specs.Opening.{key_of}
-use Rattle.luks_open.specs.Order.{Tries, order_of}
+use Rattle.luks_open.specs.Opening.{slot_key}
+use Rattle.luks_open.specs.Order.{OrderModel, order_of}
 use Rattle.luks_open.specs.declared.entry.Entry.{Entry}
 use Rattle.luks_seal.specs.Sealed.{Sealed}
 use Rattle.luks_request.specs.Request.{OpeningRequest}
@@ -9,7 +9,7 @@ use Rattle.luks_runs.specs.Secret.{longest_key_file}
 
 -- if the key slot opens under this passphrase, it gives this key
 abbrev pub GivesNoOther : List ℕ → List ℕ → List ℕ → Entry → Type 0
-GivesNoOther image passphrase key entry = (other : List ℕ) → key_of entry image passphrase ≡ Some other → other ≡ key
+GivesNoOther image passphrase key entry = (other : List ℕ) → slot_key entry image passphrase ≡ Some other → other ≡ key
 
 -- the key slot of this number is one of these, and none before it gives another key under this passphrase
 pub record ComesFirst (number : ℕ) (entries : List Entry) (image passphrase key : List ℕ) : Type 0 where
@@ -29,6 +29,6 @@ pub record IsHonest (o : OpeningRequest) (image passphrase plain : List ℕ) : T
   pub number : ℕ
   pub is_passphrase : Contains passphrases (number, passphrase)
   pub short : length passphrase ≤ longest_key_file
-  pub tries : Tries
+  pub tries : OrderModel
   pub is_order : order_of sealed.header o.key_slot o.max_iterations ≡ Ok tries
   pub first : ComesFirst number tries.slots image passphrase key

@@ -1,9 +1,9 @@
 -- What trying the key slots of a volume leaves in its device.
 use Rattle.std.specs.Prelude.{◌≡◌, ℕ, ◌-◌, ◌<◌, ◌≤◌, ◌⊎◌, List, length, min, Option, Result, Ok, Err}
-use Rattle.luks_header.specs.Area.{BreaksTaking, TookBehind}
+use Rattle.luks_header.specs.Area.{AbortsConsuming, ConsumedOnto}
 use Rattle.luks_area.specs.declared.fault.HeaderFault.{HeaderFault}
 use Rattle.luks_open.specs.Opening.{opening_of}
-use Rattle.luks_open.specs.Order.{Tries, held_of}
+use Rattle.luks_open.specs.Order.{OrderModel, key_areas_end}
 use Rattle.luks_open.specs.declared.fault.OpenFault.{OpenFault}
 use Rattle.luks_open.specs.declared.opening.Opened.{Opened}
 use Rattle.luks_report.specs.Faults.{message_for_header, message_for_opening}
@@ -11,20 +11,20 @@ use Rattle.luks_report.specs.declared.message.Message.{Message}
 use Rattle.luks_report.specs.declared.message.Message.TheVariants.{Cut}
 
 -- the image was taken up to the end of the key areas, or up to its own end if that comes first
-abbrev pub TookAreas : Tries → List ℕ → List ℕ → List ℕ → Option (List ℕ) → Type 0
+abbrev pub TookAreas : OrderModel → List ℕ → List ℕ → List ℕ → Option (List ℕ) → Type 0
 TookAreas tries area area' rest left =
-    TookBehind area area' rest left (min (held_of tries.slots - length area) (length rest))
+    ConsumedOnto area area' rest left (min (key_areas_end tries.slots - length area) (length rest))
 
 -- the key slots of a volume that was found were tried, whose header is held: the key areas are taken, and those slots
 -- answer for this passphrase. Else a read of the key areas failed, or memory for them was refused, or the image ended
 -- within them
-abbrev pub TriesSlots : Option ℕ → Tries → List ℕ → List ℕ → List ℕ → List ℕ → Option (List ℕ) → Result Opened Message
+abbrev pub TriesSlots : Option ℕ → OrderModel → List ℕ → List ℕ → List ℕ → List ℕ → Option (List ℕ) → Result Opened Message
     → Type 0
 TriesSlots named tries pass area area' rest left (Ok opened) = TookAreas tries area area' rest left
-    × (held_of tries.slots ≤ length area') × (opening_of tries area' pass ≡ Ok opened)
+    × (key_areas_end tries.slots ≤ length area') × (opening_of tries area' pass ≡ Ok opened)
 TriesSlots named tries pass area area' rest left (Err message) =
     ((fault : HeaderFault) × (message ≡ message_for_header fault)
-    × BreaksTaking (held_of tries.slots - length area) area area' rest left fault)
-    ⊎ (TookAreas tries area area' rest left × ((message ≡ Cut × (length area' < held_of tries.slots))
-    ⊎ ((fault : OpenFault) × (message ≡ message_for_opening named fault) × (held_of tries.slots ≤ length area')
+    × AbortsConsuming (key_areas_end tries.slots - length area) area area' rest left fault)
+    ⊎ (TookAreas tries area area' rest left × ((message ≡ Cut × (length area' < key_areas_end tries.slots))
+    ⊎ ((fault : OpenFault) × (message ≡ message_for_opening named fault) × (key_areas_end tries.slots ≤ length area')
     × (opening_of tries area' pass ≡ Err fault))))

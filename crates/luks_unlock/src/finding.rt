@@ -2,14 +2,14 @@
 
 ghost use Rattle.std.specs.Prelude.{◌≡◌, ◌≢◌, ◌⊎◌, Option, Ok, Err, IfOk, IfErr};
 ghost use Rattle.std.specs.Prelude.{false, is_err, length, take};
-ghost use Rattle.luks_io.specs.Bytes.{Took, WhereKnown, counted};
-ghost use Rattle.luks_header.specs.Header.{cost_of};
+ghost use Rattle.luks_io.specs.Bytes.{ConsumedExactly, IfKnown, counted};
+ghost use Rattle.luks_header.specs.Header.{header_read_len};
 ghost use Rattle.luks_header.specs.Segment.{segment_of};
 ghost use Rattle.luks_open.specs.Order.{order_of};
 ghost use Rattle.luks_request.specs.Request.{opening_request};
-ghost use Rattle.luks_runs.specs.Run.{FindsEndOnce, is_failed_read, message_of};
+ghost use Rattle.luks_runs.specs.Run.{HitsEofOnce, is_run_read_failure, result_message};
 ghost use Rattle.luks_runs.specs.Standing.{reading_of};
-ghost use Rattle.luks_unlock.specs.Finding.{StopsFinding};
+ghost use Rattle.luks_unlock.specs.Finding.{AbortsFinding};
 ghost use Rattle.luks_unlock.specs.MayEnd.{OpeningMessage};
 ghost use Rattle.luks_unlock.specs.Volume.{volume_by, volume_in_header};
 
@@ -89,26 +89,26 @@ pub fn find_volume<I: Source>(
     opening: &Opening<'_>,
     image: &mut I,
 ) -> Result<FoundVolume, Message>
-    ensures ok { IfOk result (λ volume. WhereKnown (I.to_come image.old)
+    ensures ok { IfOk result (λ volume. IfKnown (I.to_come image.old)
         (λ known. (reading_of standing known ≡ Ok volume.header)
-        × (volume.area ≡ take (cost_of known) known)
-        × Took known (I.to_come image.new) (cost_of known))) }
-    ensures err { IfErr result (λ message. WhereKnown (I.to_come image.old)
-        (λ known. StopsFinding (reading_of standing) (opening_request opening.now) known
+        × (volume.area ≡ take (header_read_len known) known)
+        × ConsumedExactly known (I.to_come image.new) (header_read_len known))) }
+    ensures err { IfErr result (λ message. IfKnown (I.to_come image.old)
+        (λ known. AbortsFinding (reading_of standing) (opening_request opening.now) known
         (I.to_come image.new) message)) }
     ensures only { IfErr result OpeningMessage }
     ensures segment { IfOk result (λ volume. segment_of volume.header ≡ Ok volume.segment) }
     ensures order { IfOk result (λ volume. let o = opening_request opening.now in
         order_of volume.header o.key_slot o.max_iterations ≡ Ok volume.order) }
-    ensures volume { IfOk result (λ _. WhereKnown (I.to_come image.old)
+    ensures volume { IfOk result (λ _. IfKnown (I.to_come image.old)
         (λ known. is_err (volume_by (reading_of standing) (opening_request opening.now) known)
         ≡ false)) }
-    ensures area { IfOk result (λ volume. length volume.area ≡ cost_of volume.area) }
+    ensures area { IfOk result (λ volume. length volume.area ≡ header_read_len volume.area) }
     ensures front { IfOk result (λ volume. reading_of standing volume.area ≡ Ok volume.header) }
     ensures writes { IfErr result (λ message. message ≢ Message.WriteFailed) }
     ensures reads { I.failures image.new
-        ≡ counted (is_failed_read (message_of result)) (I.failures image.old) }
-    ensures end { FindsEndOnce (I.ends image.old) (I.ends image.new) }
+        ≡ counted (is_run_read_failure (result_message result)) (I.failures image.old) }
+    ensures end { HitsEofOnce (I.ends image.old) (I.ends image.new) }
 {
     let (header, area) = find_header(alloc, standing, image)?;
     match find_slots(alloc, opening, &header) {

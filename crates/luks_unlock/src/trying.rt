@@ -2,11 +2,11 @@
 
 ghost use Rattle.std.specs.Prelude.{◌≡◌, ◌≢◌, IfOk, IfErr, Ok, length, true};
 ghost use Rattle.luks_cipher.specs.Sector.{is_mode_key_length};
-ghost use Rattle.luks_io.specs.Bytes.{WhereKnown, counted};
+ghost use Rattle.luks_io.specs.Bytes.{IfKnown, counted};
 ghost use Rattle.luks_header.specs.Segment.{segment_of};
 ghost use Rattle.luks_open.specs.Order.{order_of};
 ghost use Rattle.luks_request.specs.Request.{opening_request};
-ghost use Rattle.luks_runs.specs.Run.{FindsEndOnce, is_failed_read, message_of};
+ghost use Rattle.luks_runs.specs.Run.{HitsEofOnce, is_run_read_failure, result_message};
 ghost use Rattle.luks_unlock.specs.MayEnd.{OpeningMessage};
 ghost use Rattle.luks_unlock.specs.Trying.{TriesSlots};
 
@@ -28,7 +28,7 @@ pub fn try_slots<I: Source>(
     requires segment { segment_of volume.old.header ≡ Ok volume.old.segment }
     requires order { let o = opening_request opening.now in
         order_of volume.old.header o.key_slot o.max_iterations ≡ Ok volume.old.order }
-    ensures run { WhereKnown (I.to_come image.old) (λ rest.
+    ensures run { IfKnown (I.to_come image.old) (λ rest.
         TriesSlots (opening_request opening.now).key_slot volume.old.order pass.now
         volume.old.area volume.new.area rest (I.to_come image.new) result) }
     ensures kept { volume.new ≡ record volume.old { area = volume.new.area } }
@@ -37,8 +37,8 @@ pub fn try_slots<I: Source>(
     ensures key { IfOk result (λ opened.
         is_mode_key_length volume.old.segment.mode (length opened.key) ≡ true) }
     ensures reads { I.failures image.new
-        ≡ counted (is_failed_read (message_of result)) (I.failures image.old) }
-    ensures image_end { FindsEndOnce (I.ends image.old) (I.ends image.new) }
+        ≡ counted (is_run_read_failure (result_message result)) (I.failures image.old) }
+    ensures image_end { HitsEofOnce (I.ends image.old) (I.ends image.new) }
     ensures still { IfOk result (λ _. I.ends image.new ≡ I.ends image.old) }
 {
     if !volume.area.extend_to(image, held_end(&volume.order))? {

@@ -3,8 +3,8 @@
 use super::fixture::{image2, opened, text};
 use luks_access::memory::MemImage;
 use luks_header::sector_size::SectorSize;
-use luks_volume::fault::VolumeFault;
-use luks_volume::state::Step;
+use luks_payload::fault::VolumeFault;
+use luks_payload::state::Step;
 use std::process::Abort;
 
 /// How an image ends: its length, that of its plain text, and how the payload ends.

@@ -6,8 +6,8 @@ use luks_access::options::Options;
 use luks_access::volume::{LONGEST_PASSPHRASE, Volume};
 use luks_access::{IterationLimit, Message, SlotNumber, Standing};
 use luks_header::sector_size::SectorSize;
-use luks_seal_testing::parameters::KEY;
-use luks_testing::scarce::Scarcity;
+use luks_seal_fixtures::parameters::KEY;
+use luks_test_support::scarce::Scarcity;
 use std::alloc::Global;
 use std::process::Abort;
 

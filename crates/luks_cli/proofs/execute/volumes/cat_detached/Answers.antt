@@ -2,7 +2,7 @@ use Rattle.std.proofs.lemmas.Result.{err_from_is_err_and}
 use Rattle.std.proofs.Common.{false, refl}
 use Rattle.luks_io.proofs.Taking.{took-none}
 use Rattle.luks_request.specs.Request.{opening_request}
-use Rattle.luks_runs.specs.Run.{message_of}
+use Rattle.luks_runs.specs.Run.{result_message}
 use Rattle.luks_unlock.specs.Volume.{detached_payload_outcome}
 use Rattle.luks_cli.proofs.DetachedRuns.{counts_passed_apart, counts_apart, runs_passed_apart, runs_unopened_apart}
 use Rattle.luks_cli.proofs.DetachedRuns.{takes_detached_payload, with_key}

@@ -1,7 +1,7 @@
 use Rattle.std.proofs.lemmas.Result.{err_from_is_err_and}
 use Rattle.std.proofs.Common.{refl}
 use Rattle.luks_unlock.specs.Volume.{slot_outcome}
-use Rattle.luks_runs.specs.Run.{message_of}
+use Rattle.luks_runs.specs.Run.{result_message}
 use Rattle.luks_cli.proofs.OpenedRuns.{counts_passed, runs_at_any_pace, runs_slot, slot_message, slot_reads_nothing}
 use Rattle.luks_cli.proofs.OpenedRuns.{takes_slot}
 use Rattle.luks_cli.proofs.execute.volumes.test_passphrase.Goals as goal
