@@ -8,9 +8,9 @@ ghost use Rattle.luks_access.specs.Sectors.{AreStored, plain_at, plain_in};
 
 use luks_cipher::SectorCipher;
 use luks_header::segment::Segment;
-use luks_verdict::sector_size::SectorSize;
 use luks_payload::fault::VolumeFault;
 use luks_payload::state::Step;
+use luks_verdict::sector_size::SectorSize;
 
 /// The data unit number of a sector. Those of LUKS count in units of 512 bytes and wrap at 2^64.
 fn unit_number(segment: &Segment, sector: u64) -> u64

@@ -25,12 +25,12 @@ use luks_header::segment::Segment;
 use luks_io::source::Source;
 use luks_open::key::Key;
 use luks_open::opening::Opened;
+use luks_payload::fault::VolumeFault;
+use luks_payload::state::Step;
 use luks_report::message::Message;
 use luks_request::command::Opening;
 use luks_unlock::finding::{FoundVolume, find_volume};
 use luks_unlock::trying::try_slots;
-use luks_payload::fault::VolumeFault;
-use luks_payload::state::Step;
 use std::alloc::Global;
 use std::marker::Model;
 

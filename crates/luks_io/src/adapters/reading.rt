@@ -3,7 +3,7 @@
 ghost use Rattle.std.specs.Prelude.{◌≡◌, ℕ, List, Option, None, length, is_err};
 ghost use Rattle.std.specs.Io.{ReadsAtMost};
 ghost use Rattle.std.specs.Io.KnownBytes.{ReadConsumes};
-ghost use Rattle.luks_io.specs.Answers.{AnswerConsumes, GivesNext, ReportsFirst, read_result};
+ghost use Rattle.luks_io.specs.Answers.{AnswerConsumes, GivesNext, ReportsFirst, max_retries, read_result};
 ghost use Rattle.luks_io.specs.Bytes.{counted, is_end};
 ghost use Rattle.luks_io.specs.declared.adapters.Answer.{Answer};
 
@@ -44,7 +44,7 @@ fn read_counted<D: Reading>(
     failures: &mut u64,
     ends: &mut u64,
 ) -> Result<usize, DeviceFault>
-    ensures told { ReportsFirst read_result (D.answers device.old) REPEATS result
+    ensures told { ReportsFirst read_result (D.answers device.old) max_retries result
         (D.answers device.new) }
     ensures bound { ReadsAtMost result buf.new }
     ensures bytes { ReadConsumes (D.bytes device.old) (D.bytes device.new) result buf.new }

@@ -2,7 +2,8 @@
 
 ghost use Rattle.std.specs.Prelude.{◌≡◌, ◌<◌, ℕ, List, Ok, Option, None, length, is_err};
 ghost use Rattle.std.specs.Io.KnownBytes.{WriteAppends};
-ghost use Rattle.luks_io.specs.Answers.{AnswerAppends, GivesNext, ReportsFirst, told_of_write};
+ghost use Rattle.luks_io.specs.Answers.{AnswerAppends, GivesNext, ReportsFirst, max_retries};
+ghost use Rattle.luks_io.specs.Answers.{told_of_write};
 ghost use Rattle.luks_io.specs.Bytes.{TakesSome, counted};
 ghost use Rattle.luks_io.specs.declared.adapters.Answer.{Answer};
 
@@ -43,7 +44,8 @@ fn write_counted<D: Writing>(
     failures: &mut u64,
 ) -> Result<usize, DeviceFault>
     ensures told { 0 < length buf.now
-        → ReportsFirst told_of_write (D.answers device.old) REPEATS result (D.answers device.new) }
+        → ReportsFirst told_of_write (D.answers device.old) max_retries result
+        (D.answers device.new) }
     ensures empty { length buf.now ≡ 0 → (result ≡ Ok 0) × (device.new ≡ device.old) }
     ensures bound { TakesSome result buf.now }
     ensures bytes { WriteAppends (D.bytes device.old) (D.bytes device.new) result buf.now }
