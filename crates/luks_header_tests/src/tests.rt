@@ -1,5 +1,5 @@
-//! What no clause says: that calls succeed, what the definitions give for headers made by another
-//! program, and sources that give few bytes at a time or fail.
+//! What no clause says: that the definitions mean what both formats do, bound by bound and text by
+//! text, and that calls succeed.
 
 mod detached;
 mod digests;

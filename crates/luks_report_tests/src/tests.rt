@@ -3,4 +3,3 @@
 mod check;
 mod dump2;
 mod fixture;
-mod messages;

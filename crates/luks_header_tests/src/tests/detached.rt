@@ -1,18 +1,11 @@
 //! Headers of both formats, read and then marked as detached.
 
 use super::fixture::{changed, parse};
-use super::judging::is_there;
+use super::judging::{Numbers, PAYLOAD_OFFSET, SLOT_OFFSET, fault_of, is_there};
 use luks_header::header::Header;
-use luks_header::payload::segment;
 use luks_header::slot::{Judgement, judge};
 use luks_test_support::header2::image_of;
-use luks_test_support::same::same;
-use std::alloc::{AllocError, Global};
 use std::process::Abort;
-
-const PAYLOAD_OFFSET: usize = 104;
-
-const SLOT_OFFSET: usize = 248;
 
 // A salt of 8 bytes 01, and a digest of 20 bytes 02, by Python's base64.b64encode.
 const KEYSLOTS: &str = "{\"keyslots\":{\"0\":{\"type\":\"luks2\",\"key_size\":64,\
@@ -30,39 +23,12 @@ const SEGMENT: &str = "\"segments\":{\"0\":{\"type\":\"crypt\",\"size\":\"dynami
     \"iv_tweak\":\"0\",\"encryption\":\"aes-xts-plain64\",\"sector_size\":512,\
     \"offset\":\"";
 
-// The volume of LUKS1 with these numbers at these places.
-fn first(rt: &(impl Abort + AllocGlobal), changes: &[(usize, u32)]) -> Header {
-    parse(rt, &changed(changes))
-}
-
-// The text of a volume of LUKS2 whose payload starts there.
-fn text(alloc: Global, offset: &str) -> Result<String, AllocError> {
-    let mut json = String::new(alloc);
-    for part in [KEYSLOTS, DIGESTS, SEGMENT, offset, "\"}}}"] {
-        json.push_str(part)?;
-    }
-    Ok(json)
-}
-
-// That volume.
-fn image(alloc: Global, offset: &str) -> Result<Vec<u8>, AllocError> {
-    image_of(alloc, 1, 1, text(alloc, offset)?.as_str())
-}
-
 // A volume of LUKS2 whose payload starts where the text says.
 fn second(rt: &(impl Abort + AllocGlobal), offset: &str) -> Header {
-    parse(
-        rt,
-        image(rt.alloc(), offset).expect(rt, "an image").as_slice(),
-    )
-}
-
-// What becomes of the segment.
-fn payload_word(header: &Header) -> &'static str {
-    match segment(header) {
-        Ok(_) => "fine",
-        Err(fault) => fault.text(),
-    }
+    let parts = [KEYSLOTS, DIGESTS, SEGMENT, offset, "\"}}}"];
+    let json = parts.concat(rt.alloc()).expect(rt, "a text");
+    let image = image_of(rt.alloc(), 1, 1, json.as_str()).expect(rt, "an image");
+    parse(rt, &image)
 }
 
 // What becomes of key slot 0.
@@ -75,82 +41,6 @@ fn slot_word(header: &Header) -> &'static str {
     }
 }
 
-fn check_words(rt: &impl Abort, header: &Header, want: [&str; 2]) {
-    same(payload_word(header), want[0]).expect(rt, "the same");
-    same(slot_word(header), want[1]).expect(rt, "the same");
-}
-
-fn check(
-    rt: &(impl Abort + AllocGlobal),
-    header: Header,
-    attached: [&str; 2],
-    detached: [&str; 2],
-) {
-    check_words(rt, &header, attached);
-    let apart = header.detach();
-    check_words(rt, &apart, detached);
-    assert!(rt; is_there(rt, &apart, 0) || detached[1] == "area");
-}
-
-const GOOD: [&str; 2] = ["fine", "usable"];
-
-// The payload's sector, and what is wrong where the header is attached.
-static SECTORS: [(u32, [&str; 2]); 6] = [
-    (0, ["offset", "area"]),
-    (1, ["offset", "area"]),
-    (2, ["fine", "area"]),
-    (507, ["fine", "area"]),
-    (508, GOOD),
-    (0xffff_ffff, GOOD),
-];
-
-// The key material ends with sector 508.
-#[test]
-fn a_header_of_luks1(rt: HostRuntime) {
-    for (sector, attached) in &SECTORS {
-        let header = first(&rt, &[(PAYLOAD_OFFSET, *sector)]);
-        check(&rt, header, *attached, GOOD);
-    }
-}
-
-static KEY_AREAS: [(u32, &str); 4] = [
-    (1, "area"),
-    (2, "usable"),
-    (65036, "usable"),
-    (65037, "area"),
-];
-
-// Of a detached header too, key material starts behind the header and ends within 32 MiB.
-#[test]
-fn key_areas_of_luks1(rt: HostRuntime) {
-    for (sector, slot) in &KEY_AREAS {
-        let header = first(&rt, &[(PAYLOAD_OFFSET, 0), (SLOT_OFFSET, *sector)]);
-        check(&rt, header, ["offset", "area"], ["fine", *slot]);
-    }
-}
-
-const WRONG: [&str; 2] = ["offset", "usable"];
-
-// The payload's start, and what is wrong where the header is attached and where it is not.
-static OFFSETS: [(&str, [&str; 2], [&str; 2]); 7] = [
-    ("0", WRONG, GOOD),
-    ("511", WRONG, WRONG),
-    ("32256", WRONG, GOOD),
-    ("32768", ["fine", "area"], GOOD),
-    ("32769", WRONG, WRONG),
-    ("288256", ["fine", "area"], GOOD),
-    ("288768", GOOD, GOOD),
-];
-
-// Both headers end with byte 32,768, and the key material with byte 288,768. Where the payload's
-// start is refused, key areas are judged without it.
-#[test]
-fn a_header_of_luks2(rt: HostRuntime) {
-    for (offset, attached, detached) in &OFFSETS {
-        check(&rt, second(&rt, offset), *attached, *detached);
-    }
-}
-
 fn is_detached(header: &Header) -> bool {
     match header {
         Header::V1(first) => first.detached,
@@ -158,13 +48,97 @@ fn is_detached(header: &Header) -> bool {
     }
 }
 
-fn check_detached(rt: &impl Abort, header: Header) {
-    assert!(rt; !is_detached(&header));
-    assert!(rt; is_detached(&header.detach()));
+/// The fault of the segment, and what becomes of key slot 0.
+type Words = [&'static str; 2];
+
+fn check_words(rt: &impl Abort, row: &str, header: &Header, want: Words) {
+    let found = [fault_of(header), slot_word(header)];
+    assert!(rt; found == want, "{row}: {found:?}");
 }
 
+// No header is read as a detached one.
+fn check(
+    rt: &(impl Abort + AllocGlobal),
+    row: &str,
+    header: Header,
+    (attached, detached): (Words, Words),
+) {
+    check_words(rt, row, &header, attached);
+    assert!(rt; !is_detached(&header), "{row}");
+    let apart = header.detach();
+    check_words(rt, row, &apart, detached);
+    assert!(rt; is_detached(&apart), "{row}");
+    assert!(rt; is_there(rt, &apart, 0) || detached[1] == "area", "{row}");
+}
+
+const GOOD: Words = ["none", "usable"];
+
+const FIRST: Words = ["offset", "area"];
+
+const APART: Words = ["none", "area"];
+
+// Numbers of a header of LUKS1, and what is wrong if it is attached and if it is detached. The key
+// material ends with sector 508. Of a detached header too, key material starts behind the header
+// and ends within 32 MiB.
+static OF_LUKS1: [(&str, Numbers, Words, Words); 10] = [
+    ("0", &[(PAYLOAD_OFFSET, 0)], FIRST, GOOD),
+    ("1", &[(PAYLOAD_OFFSET, 1)], FIRST, GOOD),
+    ("2", &[(PAYLOAD_OFFSET, 2)], APART, GOOD),
+    ("507", &[(PAYLOAD_OFFSET, 507)], APART, GOOD),
+    ("508", &[(PAYLOAD_OFFSET, 508)], GOOD, GOOD),
+    ("0xffffffff", &[(PAYLOAD_OFFSET, 0xffff_ffff)], GOOD, GOOD),
+    (
+        "area 1",
+        &[(PAYLOAD_OFFSET, 0), (SLOT_OFFSET, 1)],
+        FIRST,
+        APART,
+    ),
+    (
+        "area 2",
+        &[(PAYLOAD_OFFSET, 0), (SLOT_OFFSET, 2)],
+        FIRST,
+        GOOD,
+    ),
+    (
+        "area 65036",
+        &[(PAYLOAD_OFFSET, 0), (SLOT_OFFSET, 65_036)],
+        FIRST,
+        GOOD,
+    ),
+    (
+        "area 65037",
+        &[(PAYLOAD_OFFSET, 0), (SLOT_OFFSET, 65_037)],
+        FIRST,
+        APART,
+    ),
+];
+
 #[test]
-fn no_header_is_read_as_detached(rt: HostRuntime) {
-    check_detached(&rt, first(&rt, &[]));
-    check_detached(&rt, second(&rt, "0"));
+fn a_header_of_luks1(rt: HostRuntime) {
+    for (row, numbers, attached, detached) in &OF_LUKS1 {
+        let header = parse(&rt, &changed(numbers, &[]));
+        check(&rt, row, header, (*attached, *detached));
+    }
+}
+
+const WRONG: Words = ["offset", "usable"];
+
+// The payload's start, and what is wrong if the header is attached and if it is detached. Both
+// headers end with byte 32,768, and the key material with byte 288,768. If the payload's start
+// is refused, key areas are judged without it.
+static OF_LUKS2: [(&str, Words, Words); 7] = [
+    ("0", WRONG, GOOD),
+    ("511", WRONG, WRONG),
+    ("32256", WRONG, GOOD),
+    ("32768", APART, GOOD),
+    ("32769", WRONG, WRONG),
+    ("288256", APART, GOOD),
+    ("288768", GOOD, GOOD),
+];
+
+#[test]
+fn a_header_of_luks2(rt: HostRuntime) {
+    for (offset, attached, detached) in &OF_LUKS2 {
+        check(&rt, offset, second(&rt, offset), (*attached, *detached));
+    }
 }

@@ -6,8 +6,6 @@ use luks_header::header::Header;
 use luks_header::slot::has_name_out_of_range;
 use luks_kdf::Hash;
 use luks_test_support::header2::image_of;
-use luks_test_support::same::{same, same_in};
-use std::alloc::{AllocError, Global};
 use std::process::Abort;
 
 // A salt of 8 bytes 01, and a digest of 20 bytes 02, by Python's base64.b64encode.
@@ -15,28 +13,19 @@ const USABLE: &str = "{\"type\":\"pbkdf2\",\"keyslots\":[\"7\",\"0\",\"x\"],\
     \"segments\":[\"0\"],\"hash\":\"sha256\",\"iterations\":1000,\
     \"salt\":\"AQEBAQEBAQE=\",\"digest\":\"AgICAgICAgICAgICAgICAgICAgI=\"}";
 
-// The text of a LUKS2 header with these members of `keyslots` and of `digests`.
-fn text(alloc: Global, keyslots: &str, digests: &[&str]) -> Result<String, AllocError> {
-    let mut json = String::new(alloc);
-    for part in [
+// The LUKS2 header with these members of `keyslots` and of `digests`.
+fn header_of(rt: &(impl Abort + AllocGlobal), keyslots: &str, digests: &[&str]) -> Header {
+    let digests = digests.concat(rt.alloc()).expect(rt, "a text");
+    let parts = [
         "{\"segments\":{},\"keyslots\":{",
         keyslots,
         "},\"digests\":{",
-    ] {
-        json.push_str(part)?;
-    }
-    for part in digests {
-        json.push_str(part)?;
-    }
-    json.push_str("}}")?;
-    Ok(json)
-}
-
-// That header.
-fn header_of(rt: &(impl Abort + AllocGlobal), keyslots: &str, digests: &[&str]) -> Header {
-    let text = text(rt.alloc(), keyslots, digests).expect(rt, "a text");
+        digests.as_str(),
+        "}}",
+    ];
+    let text = parts.concat(rt.alloc()).expect(rt, "a text");
     let image = image_of(rt.alloc(), 1, 1, text.as_str()).expect(rt, "an image");
-    parse(rt, image.as_slice())
+    parse(rt, &image)
 }
 
 type Digests = Vec<(u8, Option<Digest>)>;
@@ -45,27 +34,27 @@ fn digests_of(rt: &(impl Abort + AllocGlobal), header: &Header) -> Digests {
     digests(rt.alloc(), header).expect(rt, "memory")
 }
 
-// The iterations of a digest, where it is usable.
-fn iterations(digest: &Option<Digest>) -> Option<u32> {
+// The iterations of a digest, or 0 if it is not usable.
+fn iterations(digest: &Option<Digest>) -> u32 {
     match digest {
-        Some(digest) => Some(digest.key.iterations),
-        None => None,
+        Some(digest) => digest.key.iterations,
+        None => 0,
     }
 }
 
-fn check_all(rt: &impl Abort, case: &[&str], all: &[(u8, Option<Digest>)], want: &[(u8, u32)]) {
-    same_in(&case, all.len(), want.len()).expect(rt, "the same");
+// The digests are those of these numbers and iterations.
+fn check_all(rt: &impl Abort, row: usize, all: &[(u8, Option<Digest>)], want: &[(u8, u32)]) {
+    assert!(rt; all.len() == want.len(), "row {row}");
     for (i, (number, digest)) in all.iter().enumerate() {
-        let stated = match want.get(i) {
-            Some((number, 0)) => Some((*number, None)),
-            Some((number, iterations)) => Some((*number, Some(*iterations))),
-            None => None,
-        };
-        same_in(&case, Some((*number, iterations(digest))), stated).expect(rt, "the same");
+        let stated = want.get(i).copied();
+        assert!(rt;
+            stated == Some((*number, iterations(digest))),
+            "row {row}: {number}"
+        );
     }
 }
 
-// Members of `digests`, and the number of each digest with its iterations, or 0 where it is not
+// Members of `digests`, and the number of each digest with its iterations, or 0 if it is not
 // usable.
 static DIGESTS: [(&[&str], &[(u8, u32)]); 7] = [
     (&[""], &[]),
@@ -83,45 +72,37 @@ static DIGESTS: [(&[&str], &[(u8, u32)]); 7] = [
 // By rising number, whatever their order. Names that are no number below 32 are passed over.
 #[test]
 fn digests_by_rising_number(rt: HostRuntime) {
-    for (members, want) in &DIGESTS {
-        let header = header_of(&rt, "", members);
-        check_all(&rt, members, digests_of(&rt, &header).as_slice(), want);
+    for (row, (members, want)) in DIGESTS.iter().enumerate() {
+        let all = digests_of(&rt, &header_of(&rt, "", members));
+        check_all(&rt, row, &all, want);
     }
 }
 
-// As many members as that, under the numbers from 0.
-fn numbered(alloc: Global, count: u8) -> Result<String, AllocError> {
-    let mut members = String::new(alloc);
-    for number in 0..count {
-        let comma = if number == 0 { "" } else { "," };
-        let member = format!(in alloc; "{comma}\"{number}\":0")?;
-        members.push_str(member.as_str())?;
-    }
-    Ok(members)
-}
+// The members under the numbers from 0 to 33.
+const NUMBERED: &str = "\"0\":0,\"1\":0,\"2\":0,\"3\":0,\"4\":0,\"5\":0,\"6\":0,\"7\":0,\
+    \"8\":0,\"9\":0,\"10\":0,\"11\":0,\"12\":0,\"13\":0,\"14\":0,\"15\":0,\"16\":0,\"17\":0,\
+    \"18\":0,\"19\":0,\"20\":0,\"21\":0,\"22\":0,\"23\":0,\"24\":0,\"25\":0,\"26\":0,\"27\":0,\
+    \"28\":0,\"29\":0,\"30\":0,\"31\":0,\"32\":0,\"33\":0";
 
 #[test]
 fn digests_are_no_more_than_32(rt: HostRuntime) {
-    let members = numbered(rt.alloc(), 34).expect(&rt, "a text");
-    let all = digests_of(&rt, &header_of(&rt, "", &[members.as_str()]));
-    same(all.len(), 32).expect(&rt, "the same");
+    let all = digests_of(&rt, &header_of(&rt, "", &[NUMBERED]));
+    assert!(rt; all.len() == 32);
     for (i, (number, digest)) in all.iter().enumerate() {
-        same_in(&i, usize::from(*number), i).expect(&rt, "the same");
-        assert!(rt; digest.is_none());
+        assert!(rt; usize::from(*number) == i && digest.is_none(), "{i}");
     }
 }
 
 fn check_names(rt: &impl Abort, names: &Names, want: &[&str]) {
     let names = names.as_slice();
-    same(names.len(), want.len()).expect(rt, "the same");
+    assert!(rt; names.len() == want.len());
     for (i, name) in names.iter().enumerate() {
-        same_in(&i, Some(name.as_str()), want.get(i).copied()).expect(rt, "the same");
+        assert!(rt; want.get(i).copied() == Some(name.as_str()), "{i}");
     }
 }
 
 fn check_key(rt: &impl Abort, key: &KeyDigest) {
-    same(key.hash, Some(Hash::Sha256)).expect(rt, "the same");
-    same(key.iterations, 1000).expect(rt, "the same");
+    assert!(rt; key.hash == Some(Hash::Sha256) && key.iterations == 1000);
     assert!(rt; key.salt.as_slice() == [1u8; 8].as_slice());
     assert!(rt; key.value.as_slice() == [2u8; 20].as_slice());
 }
@@ -140,7 +121,7 @@ fn a_digest_has_its_parts_and_names(rt: HostRuntime) {
 #[test]
 fn luks1_numbers_no_digest(rt: HostRuntime) {
     let header = parse(&rt, &volume_header());
-    same(digests_of(&rt, &header).len(), 0).expect(&rt, "the same");
+    assert!(rt; digests_of(&rt, &header).is_empty());
     assert!(rt; !has_name_out_of_range(&header));
 }
 
@@ -164,7 +145,7 @@ fn names_of_key_slots_out_of_range(rt: HostRuntime) {
     for (members, want) in &KEYSLOTS {
         for digest in ["\"0\":{}", "\"32\":{}"] {
             let header = header_of(&rt, members, &[digest]);
-            same_in(members, has_name_out_of_range(&header), *want).expect(&rt, "the same");
+            assert!(rt; has_name_out_of_range(&header) == *want, "{members}");
         }
     }
 }

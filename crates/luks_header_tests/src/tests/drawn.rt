@@ -1,13 +1,11 @@
-//! Headers of drawn numbers: what is told of their slots.
+//! Headers of drawn numbers: the verdicts on their slots.
 
 use super::fixture::{parse, patch, volume_header};
 use super::judging::{
     DIGEST_ITERATIONS, ITERATIONS, KEY_BYTES, PAYLOAD_OFFSET, SLOT_OFFSET, STATE, STRIPES,
     has_digest, is_there,
 };
-use luks_header::header::Header;
 use luks_header::slot::{Verdict, slots};
-use luks_test_support::same::{holds_in, same_in};
 use std::process::Abort;
 
 // The next of some numbers that look drawn: a linear congruence of 64 bits, of which the upper half
@@ -54,40 +52,26 @@ fn drawn_header(state: &mut u64) -> [u8; 592] {
     bytes
 }
 
-// How many of these slots of the header are usable. Of each of them digest and numbers are told.
-fn count_usable(
-    rt: &(impl Abort + AllocGlobal),
-    header: &Header,
-    verdicts: &[(u8, Verdict)],
-    run: u32,
-) -> u32 {
+// How many slots of a drawn header are usable. Each of them has its digest and its contents.
+fn usable_slots(rt: &(impl Abort + AllocGlobal), bytes: &[u8; 592], run: u32) -> u32 {
+    let header = parse(rt, bytes);
+    let limit = if run % 2 == 0 { None } else { Some(1000) };
+    let verdicts = slots(rt.alloc(), &header, limit).expect(rt, "verdicts");
+    assert!(rt; verdicts.len() == 8, "{run}");
     let mut usable = 0u32;
-    for (number, verdict) in verdicts {
+    for (number, verdict) in &verdicts {
         if matches!(verdict, Verdict::Usable(_)) {
             usable = usable.saturating_add(1);
-            check_told(rt, header, *number, run);
+            assert!(rt; has_digest(rt, &header, *number), "{run}");
+            assert!(rt; is_there(rt, &header, *number), "{run}");
         }
     }
     usable
 }
 
-fn check_told(rt: &(impl Abort + AllocGlobal), header: &Header, number: u8, run: u32) {
-    holds_in(&run, has_digest(rt, header, number)).expect(rt, "so");
-    holds_in(&run, is_there(rt, header, number)).expect(rt, "so");
-}
-
-// How many slots of a drawn header are usable.
-fn usable_slots(rt: &(impl Abort + AllocGlobal), bytes: &[u8; 592], run: u32) -> u32 {
-    let header = parse(rt, bytes);
-    let limit = if run % 2 == 0 { None } else { Some(1000) };
-    let verdicts = slots(rt.alloc(), &header, limit).expect(rt, "verdicts");
-    same_in(&run, verdicts.len(), 8).expect(rt, "the same");
-    count_usable(rt, &header, &verdicts, run)
-}
-
-// With ample memory want of it is never told: an error ends the test.
+// With ample memory no call reports that it is out of memory: an error ends the test.
 #[test]
-fn slots_and_digests_are_told_of_any_header(rt: HostRuntime) {
+fn slots_and_digests_of_any_header_are_reported(rt: HostRuntime) {
     let mut state = 1;
     let mut usable = 0u32;
     for run in 0..2000u32 {

@@ -1,11 +1,10 @@
-//! A header of LUKS1 and devices to read it from.
+//! A header of LUKS1.
 //!
-//! Where a call is to succeed, an error ends the test on the spot: what is not handed up needs not
+//! If a call is to succeed, an error ends the test on the spot: what is not handed up needs not
 //! be dropped on the way.
 
 use luks_header::header::{Header, read_header};
 use luks_io::memory::MemSource;
-use std::io::{self, ErrorKind, Read};
 use std::process::Abort;
 
 // Written by Python's struct module: struct.pack('>6sH32s32s32sII20s32sI40s', ..) and eight times
@@ -87,11 +86,14 @@ pub fn volume_header() -> [u8; 592] {
     bytes
 }
 
-/// That header with these numbers at these places.
-pub fn changed(changes: &[(usize, u32)]) -> [u8; 592] {
+/// That header with these numbers and texts at these places.
+pub fn changed(numbers: &[(usize, u32)], texts: &[(usize, &[u8])]) -> [u8; 592] {
     let mut bytes = volume_header();
-    for (place, number) in changes {
+    for (place, number) in numbers {
         patch(&mut bytes, *place, &number.to_be_bytes());
+    }
+    for (place, text) in texts {
+        patch(&mut bytes, *place, text);
     }
     bytes
 }
@@ -101,26 +103,4 @@ pub fn parse(rt: &(impl Abort + AllocGlobal), image: &[u8]) -> Header {
     let read = read_header(rt.alloc(), &mut MemSource::new(image));
     let (header, _area) = read.expect(rt, "a header");
     header
-}
-
-/// A reader that gives at most `piece` bytes a call, and fails once `calls` of them were made.
-#[derive(Drop)]
-pub struct Device<'a> {
-    pub left: &'a [u8],
-    pub piece: usize,
-    pub calls: u32,
-}
-
-impl<'a> Read for Device<'a> {
-    fn read(&mut self, buf: &mut [u8]) -> io::Result<usize> {
-        if self.calls == 0 {
-            return Err(io::Error::from(ErrorKind::Other));
-        }
-        self.calls -= 1;
-        let count = self.piece.min(buf.len()).min(self.left.len());
-        let (now, later) = self.left.split_at(count);
-        buf[..count].copy_from_slice(now);
-        self.left = later;
-        Ok(count)
-    }
 }

@@ -1,6 +1,6 @@
 //! Which slots can be tried and where the payload lies, each bound from both sides.
 
-use super::fixture::{changed, parse, patch, volume_header};
+use super::fixture::{changed, parse, volume_header};
 use luks_cipher::Mode;
 use luks_header::digest::{KeyDigest, digest_for};
 use luks_header::header::Header;
@@ -9,7 +9,6 @@ use luks_header::refusal::{SegmentFault, SkipReason};
 use luks_header::sector_size::SectorSize;
 use luks_header::slot::{Judgement, Slot, Verdict, judge, slot, slots};
 use luks_kdf::Hash;
-use luks_test_support::same::{same, same_in};
 use std::process::Abort;
 
 pub(super) const STATE: usize = 208;
@@ -40,12 +39,6 @@ pub(super) fn has_digest(rt: &(impl Abort + AllocGlobal), header: &Header, numbe
         .is_some()
 }
 
-type Verdicts = Vec<(u8, Verdict)>;
-
-fn verdicts(rt: &(impl Abort + AllocGlobal), bytes: &[u8], limit: Option<u32>) -> Verdicts {
-    slots(rt.alloc(), &parse(rt, bytes), limit).expect(rt, "verdicts")
-}
-
 fn word(verdict: &Verdict) -> &'static str {
     match verdict {
         Verdict::Usable(_) => "usable",
@@ -54,172 +47,150 @@ fn word(verdict: &Verdict) -> &'static str {
     }
 }
 
-// What becomes of slot 0.
-fn first_word(verdicts: &[(u8, Verdict)]) -> &'static str {
-    match verdicts.first() {
-        Some((0, verdict)) => word(verdict),
-        _ => "not there",
-    }
-}
-
-fn check_first(
-    rt: &(impl Abort + AllocGlobal),
-    changes: &[(usize, u32)],
-    limit: Option<u32>,
-    want: &str,
-) {
-    let verdicts = verdicts(rt, &changed(changes), limit);
-    same_in(&changes, first_word(&verdicts), want).expect(rt, "the same");
-}
-
-// Each row is a place, its number, and what becomes of slot 0.
-fn check_rows(rt: &(impl Abort + AllocGlobal), rows: &[(usize, u32, &str)]) {
-    for (place, number, want) in rows {
-        check_first(rt, &[(*place, *number)], None, want);
-    }
-}
-
-static SLOT_BOUNDS: [(usize, u32, &str); 12] = [
-    (STATE, 1, "state"),
-    (STATE, 0xdead, "disabled"),
-    (STRIPES, 0, "stripes"),
-    (STRIPES, 1, "usable"),
-    (STRIPES, 4000, "usable"),
-    (STRIPES, 4001, "stripes"),
-    (STRIPES, 0xffff_ffff, "stripes"),
-    (ITERATIONS, 0, "iterations"),
-    (ITERATIONS, 1, "usable"),
-    (ITERATIONS, 0xffff_ffff, "usable"),
-    (DIGEST_ITERATIONS, 0, "digest"),
-    (DIGEST_ITERATIONS, 1, "usable"),
-];
-
-#[test]
-fn each_bound_of_a_slot(rt: HostRuntime) {
-    check_first(&rt, &[], None, "usable");
-    check_rows(&rt, &SLOT_BOUNDS);
-}
-
-#[test]
-fn a_limit_bounds_slot_and_digest(rt: HostRuntime) {
-    check_first(&rt, &[], Some(1000), "usable");
-    check_first(&rt, &[], Some(999), "iterations");
-    check_first(&rt, &[(ITERATIONS, 1001)], Some(1000), "iterations");
-    check_first(&rt, &[(ITERATIONS, 999)], Some(999), "digest");
-    check_first(&rt, &[(DIGEST_ITERATIONS, 1001)], Some(1000), "digest");
-    check_first(&rt, &[(DIGEST_ITERATIONS, 0)], Some(1000), "digest");
-}
-
-static AREA_BOUNDS: [(usize, u32, &str); 10] = [
-    (SLOT_OFFSET, 1, "area"),
-    (SLOT_OFFSET, 2, "usable"),
-    (SLOT_OFFSET, 3596, "usable"),
-    (SLOT_OFFSET, 3597, "area"),
-    (SLOT_OFFSET, 0xffff_ffff, "area"),
-    (PAYLOAD_OFFSET, 1, "area"),
-    (PAYLOAD_OFFSET, 2, "area"),
-    (PAYLOAD_OFFSET, 507, "area"),
-    (PAYLOAD_OFFSET, 508, "usable"),
-    (KEY_BYTES, 0xffff_ffff, "area"),
-];
+/// Numbers at places of the header.
+pub(super) type Numbers = &'static [(usize, u32)];
 
 const FAR: (usize, u32) = (PAYLOAD_OFFSET, 100_000);
 
-#[test]
-fn each_bound_of_an_area(rt: HostRuntime) {
-    check_rows(&rt, &AREA_BOUNDS);
-    check_first(&rt, &[FAR, (SLOT_OFFSET, 65036)], None, "usable");
-    check_first(&rt, &[FAR, (SLOT_OFFSET, 65037)], None, "area");
-}
+// Of several reasons the first in the format's table counts.
+const NO_DIGEST: (usize, u32) = (DIGEST_ITERATIONS, 0);
 
-static REASONS: [(usize, u32); 5] = [
-    (DIGEST_ITERATIONS, 0),
-    (SLOT_OFFSET, 1),
-    (ITERATIONS, 0),
-    (STRIPES, 0),
-    (STATE, 2),
+const NO_AREA: (usize, u32) = (SLOT_OFFSET, 1);
+
+const NO_ITERATIONS: (usize, u32) = (ITERATIONS, 0);
+
+const NO_STRIPES: (usize, u32) = (STRIPES, 0);
+
+// Numbers, the limit of iterations, and what becomes of slot 0.
+static SLOTS: [(Numbers, Option<u32>, &str); 36] = [
+    (&[], None, "usable"),
+    (&[(STATE, 1)], None, "state"),
+    (&[(STATE, 0xdead)], None, "disabled"),
+    (&[(STRIPES, 0)], None, "stripes"),
+    (&[(STRIPES, 1)], None, "usable"),
+    (&[(STRIPES, 4000)], None, "usable"),
+    (&[(STRIPES, 4001)], None, "stripes"),
+    (&[(STRIPES, 0xffff_ffff)], None, "stripes"),
+    (&[(ITERATIONS, 0)], None, "iterations"),
+    (&[(ITERATIONS, 1)], None, "usable"),
+    (&[(ITERATIONS, 0xffff_ffff)], None, "usable"),
+    (&[(DIGEST_ITERATIONS, 0)], None, "digest"),
+    (&[(DIGEST_ITERATIONS, 1)], None, "usable"),
+    // A limit bounds the slot and the digest.
+    (&[], Some(1000), "usable"),
+    (&[], Some(999), "iterations"),
+    (&[(ITERATIONS, 1001)], Some(1000), "iterations"),
+    (&[(ITERATIONS, 999)], Some(999), "digest"),
+    (&[(DIGEST_ITERATIONS, 1001)], Some(1000), "digest"),
+    (&[(DIGEST_ITERATIONS, 0)], Some(1000), "digest"),
+    (&[(SLOT_OFFSET, 1)], None, "area"),
+    (&[(SLOT_OFFSET, 2)], None, "usable"),
+    (&[(SLOT_OFFSET, 3596)], None, "usable"),
+    (&[(SLOT_OFFSET, 3597)], None, "area"),
+    (&[(SLOT_OFFSET, 0xffff_ffff)], None, "area"),
+    (&[(PAYLOAD_OFFSET, 1)], None, "area"),
+    (&[(PAYLOAD_OFFSET, 2)], None, "area"),
+    (&[(PAYLOAD_OFFSET, 507)], None, "area"),
+    (&[(PAYLOAD_OFFSET, 508)], None, "usable"),
+    (&[(KEY_BYTES, 0xffff_ffff)], None, "area"),
+    (&[FAR, (SLOT_OFFSET, 65_036)], None, "usable"),
+    (&[FAR, (SLOT_OFFSET, 65_037)], None, "area"),
+    (&[NO_DIGEST, NO_AREA], None, "area"),
+    (&[NO_DIGEST, NO_AREA, NO_ITERATIONS], None, "iterations"),
+    (
+        &[NO_DIGEST, NO_AREA, NO_ITERATIONS, NO_STRIPES],
+        None,
+        "stripes",
+    ),
+    (
+        &[NO_DIGEST, NO_AREA, NO_ITERATIONS, NO_STRIPES, (STATE, 2)],
+        None,
+        "state",
+    ),
+    (
+        &[
+            NO_DIGEST,
+            NO_AREA,
+            NO_ITERATIONS,
+            NO_STRIPES,
+            (STATE, 0xdead),
+        ],
+        None,
+        "disabled",
+    ),
 ];
 
-static DISABLED: [(usize, u32); 5] = [
-    (DIGEST_ITERATIONS, 0),
-    (SLOT_OFFSET, 1),
-    (ITERATIONS, 0),
-    (STRIPES, 0),
-    (STATE, 0xdead),
-];
-
-#[test]
-fn the_first_reason_is_told(rt: HostRuntime) {
-    check_first(&rt, &REASONS[..2], None, "area");
-    check_first(&rt, &REASONS[..3], None, "iterations");
-    check_first(&rt, &REASONS[..4], None, "stripes");
-    check_first(&rt, &REASONS, None, "state");
-    check_first(&rt, &DISABLED, None, "disabled");
+// Each slot has its verdict: the others are disabled.
+fn check_slots(
+    rt: &(impl Abort + AllocGlobal),
+    header: &Header,
+    limit: Option<u32>,
+    (row, want): (usize, &str),
+) {
+    let verdicts = slots(rt.alloc(), header, limit).expect(rt, "verdicts");
+    assert!(rt; verdicts.len() == 8, "row {row}");
+    for (i, (number, verdict)) in verdicts.iter().enumerate() {
+        let found = word(verdict);
+        let stated = if i == 0 { want } else { "disabled" };
+        let is_so = usize::from(*number) == i && found == stated;
+        assert!(rt; is_so, "row {row}, slot {i}: {found}");
+    }
 }
 
-// The parts of slot 0, but for its salt.
-fn check_parts(rt: &impl Abort, slot: &Slot) {
+#[test]
+fn each_bound_of_a_slot(rt: HostRuntime) {
+    for (row, (numbers, limit, want)) in SLOTS.iter().enumerate() {
+        let header = parse(&rt, &changed(numbers, &[]));
+        check_slots(&rt, &header, *limit, (row, want));
+    }
+}
+
+// All parts of a usable slot 0, with so many stripes and this hash function. 3999 stripes of
+// 64 bytes are 499 sectors and seven eighths of one, and areas are whole sectors.
+fn check_parts(rt: &impl Abort, slot: &Slot, stripes: u32, hash: Option<Hash>) {
     let parts = &slot.parts;
-    same(parts.priority, 1).expect(rt, "the same");
-    same(parts.kdf_hash, Some(Hash::Sha256)).expect(rt, "the same");
-    same(parts.af_hash, Some(Hash::Sha256)).expect(rt, "the same");
     let numbers = [
         parts.iterations,
         parts.stripes,
         parts.key_bytes,
         parts.area_key_bytes,
     ];
-    same(numbers, [1000, 4000, 64, 64]).expect(rt, "the same");
-    same(parts.area_offset, 4096).expect(rt, "the same");
-    same(parts.area_mode, Some(Mode::XtsPlain64)).expect(rt, "the same");
+    assert!(rt; numbers == [1000, stripes, 64, 64], "{stripes}");
+    assert!(rt; parts.priority == 1, "{stripes}");
+    assert!(rt;
+        [parts.kdf_hash, parts.af_hash] == [hash, hash],
+        "{stripes}"
+    );
+    assert!(rt;
+        [slot.need(), parts.area_size] == [256_000, 256_000],
+        "{stripes}"
+    );
+    assert!(rt; parts.area_offset == 4096, "{stripes}");
+    assert!(rt; parts.area_mode == Some(Mode::XtsPlain64), "{stripes}");
+    let salt = parts.salt.as_slice();
+    assert!(rt;
+        salt.len() == 32 && salt.first() == Some(&0x40),
+        "{stripes}"
+    );
 }
 
-fn check_bytes(rt: &impl Abort, bytes: &[u8], len: usize, first: u8) {
-    same(bytes.len(), len).expect(rt, "the same");
-    same(bytes.first().copied(), Some(first)).expect(rt, "the same");
-}
+static USABLE: [(Numbers, &[u8], u32, Option<Hash>); 3] = [
+    (&[], b"sha256\0", 4000, Some(Hash::Sha256)),
+    (&[(STRIPES, 3999)], b"sha256\0", 3999, Some(Hash::Sha256)),
+    (&[], b"whirlpool\0", 4000, None),
+];
 
-// The area of slot 0, where it is usable.
-fn check_area(rt: &impl Abort, verdicts: &[(u8, Verdict)]) {
-    same(first_word(verdicts), "usable").expect(rt, "the same");
-    if let Some((_, Verdict::Usable(slot))) = verdicts.first() {
-        same(slot.need(), 256_000).expect(rt, "the same");
-        same(slot.parts.area_size, 256_000).expect(rt, "the same");
-    }
-}
-
-// All that is told of slot 0.
-fn check_told(rt: &impl Abort, verdicts: &[(u8, Verdict)]) {
-    check_area(rt, verdicts);
-    if let Some((_, Verdict::Usable(slot))) = verdicts.first() {
-        check_parts(rt, slot);
-        check_bytes(rt, slot.parts.salt.as_slice(), 32, 0x40);
-    }
-}
-
+// A slot without a known hash is judged all the same.
 #[test]
 fn a_usable_slot_has_its_numbers(rt: HostRuntime) {
-    check_told(&rt, &verdicts(&rt, &volume_header(), None));
-}
-
-// 3999 stripes of 64 bytes are 499 sectors and seven eighths of one.
-#[test]
-fn an_area_is_whole_sectors(rt: HostRuntime) {
-    check_area(&rt, &verdicts(&rt, &changed(&[(STRIPES, 3999)]), None));
-}
-
-fn check_each(rt: &impl Abort, verdicts: &[(u8, Verdict)]) {
-    same(verdicts.len(), 8).expect(rt, "the same");
-    for (i, (number, verdict)) in verdicts.iter().enumerate() {
-        let want = if i == 0 { "usable" } else { "disabled" };
-        same_in(&i, usize::from(*number), i).expect(rt, "the same");
-        same_in(&i, word(verdict), want).expect(rt, "the same");
+    for (numbers, name, stripes, hash) in &USABLE {
+        let header = parse(&rt, &changed(numbers, &[(HASH, *name)]));
+        let verdicts = slots(rt.alloc(), &header, None).expect(&rt, "verdicts");
+        let Some((0, Verdict::Usable(slot))) = verdicts.first() else {
+            panic!(rt; "slot 0 is not usable");
+        };
+        check_parts(&rt, slot, *stripes, *hash);
     }
-}
-
-#[test]
-fn each_slot_has_its_verdict(rt: HostRuntime) {
-    check_each(&rt, &verdicts(&rt, &volume_header(), None));
 }
 
 const NAME: usize = 8;
@@ -228,152 +199,115 @@ const MODE: usize = 40;
 
 const HASH: usize = 72;
 
+/// Texts at places of the header.
+type Texts = &'static [(usize, &'static [u8])];
+
+// Numbers and texts, and the fault of the segment.
+static SEGMENTS: [(Numbers, Texts, &str); 20] = [
+    (&[], &[(HASH, b"SHA512\0")], "none"),
+    (&[], &[(NAME, b"AES\0")], "encryption"),
+    (&[], &[(MODE, b"xts-plain\0")], "none"),
+    (&[], &[(MODE, b"cbc-plain64\0")], "key bytes"),
+    (&[], &[(MODE, b"cbc-plain\0")], "encryption"),
+    (&[], &[(MODE, b"xts-plain64\xff\0")], "encryption"),
+    (&[], &[(MODE, b"xts-plain64x\0")], "encryption"),
+    (&[], &[(HASH, b"ripemd160\0")], "hash"),
+    (&[], &[(HASH, b"sha256\xff\0")], "hash"),
+    (&[], &[(HASH, b"\0")], "hash"),
+    (
+        &[],
+        &[(NAME, b"serpent\0"), (HASH, b"ripemd160\0")],
+        "encryption",
+    ),
+    (&[(KEY_BYTES, 32)], &[], "none"),
+    (&[(KEY_BYTES, 48)], &[], "key bytes"),
+    (&[(KEY_BYTES, 0)], &[], "key bytes"),
+    (&[(KEY_BYTES, 0x4000_0000)], &[], "key bytes"),
+    (&[(PAYLOAD_OFFSET, 0)], &[], "offset"),
+    (&[(PAYLOAD_OFFSET, 1)], &[], "offset"),
+    (&[(PAYLOAD_OFFSET, 2)], &[], "none"),
+    (&[(KEY_BYTES, 48), (PAYLOAD_OFFSET, 1)], &[], "key bytes"),
+    (
+        &[(KEY_BYTES, 48), (PAYLOAD_OFFSET, 1)],
+        &[(HASH, b"md5\0")],
+        "hash",
+    ),
+];
+
 // The fault of a header's segment.
-fn fault(rt: &(impl Abort + AllocGlobal), bytes: &[u8]) -> &'static str {
-    match segment(&parse(rt, bytes)) {
+pub(super) fn fault_of(header: &Header) -> &'static str {
+    match segment(header) {
         Ok(_) => "none",
         Err(fault) => fault.text(),
     }
 }
 
-fn check_text(rt: &(impl Abort + AllocGlobal), place: usize, text: &[u8], want: &str) {
-    let mut bytes = volume_header();
-    patch(&mut bytes, place, text);
-    same_in(&text, fault(rt, &bytes), want).expect(rt, "the same");
-}
-
-static TEXTS: [(usize, &[u8], &str); 10] = [
-    (HASH, b"SHA512\0", "none"),
-    (NAME, b"AES\0", "encryption"),
-    (MODE, b"xts-plain\0", "none"),
-    (MODE, b"cbc-plain64\0", "key bytes"),
-    (MODE, b"cbc-plain\0", "encryption"),
-    (MODE, b"xts-plain64\xff\0", "encryption"),
-    (MODE, b"xts-plain64x\0", "encryption"),
-    (HASH, b"ripemd160\0", "hash"),
-    (HASH, b"sha256\xff\0", "hash"),
-    (HASH, b"\0", "hash"),
-];
-
 #[test]
-fn each_text_of_a_segment(rt: HostRuntime) {
-    for (place, text, want) in &TEXTS {
-        check_text(&rt, *place, text, want);
+fn each_bound_of_a_segment(rt: HostRuntime) {
+    for (row, (numbers, texts, want)) in SEGMENTS.iter().enumerate() {
+        let fault = fault_of(&parse(&rt, &changed(numbers, texts)));
+        assert!(rt; fault == *want, "row {row}: {fault}");
     }
-    let mut both = volume_header();
-    patch(&mut both, NAME, b"serpent\0");
-    patch(&mut both, HASH, b"ripemd160\0");
-    same(fault(&rt, &both), "encryption").expect(&rt, "the same");
 }
 
-fn check_number(rt: &(impl Abort + AllocGlobal), changes: &[(usize, u32)], want: &str) {
-    same_in(&changes, fault(rt, &changed(changes)), want).expect(rt, "the same");
-}
-
-static NUMBERS: [(usize, u32, &str); 7] = [
-    (KEY_BYTES, 32, "none"),
-    (KEY_BYTES, 48, "key bytes"),
-    (KEY_BYTES, 0, "key bytes"),
-    (KEY_BYTES, 0x4000_0000, "key bytes"),
-    (PAYLOAD_OFFSET, 0, "offset"),
-    (PAYLOAD_OFFSET, 1, "offset"),
-    (PAYLOAD_OFFSET, 2, "none"),
-];
-
-static WRONG: [(usize, u32); 2] = [(KEY_BYTES, 48), (PAYLOAD_OFFSET, 1)];
-
-#[test]
-fn each_number_of_a_segment(rt: HostRuntime) {
-    for (place, number, want) in &NUMBERS {
-        check_number(&rt, &[(*place, *number)], want);
-    }
-    check_number(&rt, &WRONG, "key bytes");
-    let mut both = changed(&WRONG);
-    patch(&mut both, HASH, b"md5\0");
-    same(fault(&rt, &both), "hash").expect(&rt, "the same");
-}
-
-fn check_segment(rt: &(impl Abort + AllocGlobal), bytes: &[u8], offset: u64) {
-    let segment = segment(&parse(rt, bytes)).expect(rt, "a segment");
-    same([segment.offset, segment.iv_tweak], [offset, 0]).expect(rt, "the same");
-    same(segment.size, None).expect(rt, "the same");
-    same(segment.sector_size, SectorSize::B512).expect(rt, "the same");
-    same(segment.mode, Mode::XtsPlain64).expect(rt, "the same");
-}
+// The payload's sector, and its byte.
+static OFFSETS: [(u32, u64); 2] = [(4096, 2_097_152), (0xffff_ffff, 2_199_023_255_040)];
 
 #[test]
 fn a_segment_goes_to_the_images_end(rt: HostRuntime) {
-    check_segment(&rt, &volume_header(), 2_097_152);
-    let far = changed(&[(PAYLOAD_OFFSET, 0xffff_ffff)]);
-    check_segment(&rt, &far, 2_199_023_255_040);
-}
-
-// Slot 0 has its area, and no hash function.
-fn check_unhashed(rt: &impl Abort, verdicts: &[(u8, Verdict)]) {
-    check_area(rt, verdicts);
-    if let Some((_, Verdict::Usable(slot))) = verdicts.first() {
-        same(slot.parts.kdf_hash, None).expect(rt, "the same");
-        same(slot.parts.af_hash, None).expect(rt, "the same");
+    for (sector, offset) in &OFFSETS {
+        let header = parse(&rt, &changed(&[(PAYLOAD_OFFSET, *sector)], &[]));
+        let segment = segment(&header).expect(&rt, "a segment");
+        assert!(rt; [segment.offset, segment.iv_tweak] == [*offset, 0]);
+        assert!(rt; segment.size.is_none() && segment.mode == Mode::XtsPlain64);
+        assert!(rt; segment.sector_size == SectorSize::B512);
     }
-}
-
-#[test]
-fn a_slot_without_a_known_hash_is_judged_all_the_same(rt: HostRuntime) {
-    let mut bytes = volume_header();
-    patch(&mut bytes, HASH, b"whirlpool\0");
-    check_unhashed(&rt, &verdicts(&rt, &bytes, None));
 }
 
 #[test]
 fn refusals_have_their_texts(rt: HostRuntime) {
-    same(SkipReason::Kind.text(), "type").expect(&rt, "the same");
-    same(SkipReason::KeySize.text(), "key size").expect(&rt, "the same");
-    same(SegmentFault::Kind.text(), "type").expect(&rt, "the same");
-    same(SegmentFault::SectorSize.text(), "sector size").expect(&rt, "the same");
+    assert!(rt; SkipReason::Kind.text() == "type");
+    assert!(rt; SkipReason::KeySize.text() == "key size");
+    assert!(rt; SegmentFault::Kind.text() == "type");
+    assert!(rt; SegmentFault::SectorSize.text() == "sector size");
 }
 
-fn check_judgement(
-    rt: &impl Abort,
-    header: &Header,
-    limit: Option<u32>,
-    number: u8,
-    want: Option<Judgement>,
-) {
-    same_in(&number, judge(header, limit, number), want).expect(rt, "the same");
-}
+const SKIPPED: Judgement = Judgement::Skipped(SkipReason::Iterations);
+
+// The limit of iterations, a slot's number, and the verdict on it without its contents. What is no
+// slot of the format has nothing to open.
+static JUDGED: [(Option<u32>, u8, Option<Judgement>); 7] = [
+    (None, 0, Some(Judgement::Usable(1))),
+    (Some(999), 0, Some(SKIPPED)),
+    (None, 7, Some(Judgement::Disabled)),
+    (None, 8, None),
+    (None, 31, None),
+    (None, 32, None),
+    (None, 255, None),
+];
 
 #[test]
 fn a_slot_is_judged_by_its_number(rt: HostRuntime) {
     let header = parse(&rt, &volume_header());
-    let skipped = Judgement::Skipped(SkipReason::Iterations);
-    check_judgement(&rt, &header, None, 0, Some(Judgement::Usable(1)));
-    check_judgement(&rt, &header, Some(999), 0, Some(skipped));
-    check_judgement(&rt, &header, None, 7, Some(Judgement::Disabled));
-    for number in [8, 31, 32, 255] {
-        check_judgement(&rt, &header, None, number, None);
-        assert!(rt; !is_there(&rt, &header, number));
+    for (limit, number, want) in &JUDGED {
+        assert!(rt; judge(&header, *limit, *number) == *want, "{number}");
+        let there = is_there(&rt, &header, *number);
+        assert!(rt; *number < 8 || !there, "{number}");
     }
 }
 
 fn check_digest(rt: &impl Abort, digest: &KeyDigest) {
-    same(digest.hash, Some(Hash::Sha256)).expect(rt, "the same");
-    same(digest.iterations, 1000).expect(rt, "the same");
-    check_bytes(rt, digest.salt.as_slice(), 32, 0x20);
-    same(digest.value.as_slice().len(), 20).expect(rt, "the same");
-    same(digest.value.as_slice().last(), Some(&0x13)).expect(rt, "the same");
+    assert!(rt; digest.hash == Some(Hash::Sha256) && digest.iterations == 1000);
+    let (salt, value) = (digest.salt.as_slice(), digest.value.as_slice());
+    assert!(rt; [salt.len(), value.len()] == [32, 20]);
+    assert!(rt; salt.first() == Some(&0x20) && value.last() == Some(&0x13));
 }
 
 #[test]
 fn a_digest_has_its_numbers(rt: HostRuntime) {
     let header = parse(&rt, &volume_header());
-    match digest_for(rt.alloc(), &header, 0).expect(&rt, "memory") {
-        Some(digest) => check_digest(&rt, &digest),
-        None => panic!(rt; "no digest"),
-    }
-}
-
-#[test]
-fn a_digest_of_no_iterations_is_none(rt: HostRuntime) {
-    let none = parse(&rt, &changed(&[(DIGEST_ITERATIONS, 0)]));
+    let digest = digest_for(rt.alloc(), &header, 0).expect(&rt, "memory");
+    check_digest(&rt, &digest.expect(&rt, "a digest"));
+    let none = parse(&rt, &changed(&[(DIGEST_ITERATIONS, 0)], &[]));
     assert!(rt; !has_digest(&rt, &none, 0));
 }

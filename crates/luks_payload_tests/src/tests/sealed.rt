@@ -2,11 +2,17 @@
 
 ghost use Rattle.std.specs.Prelude.{◌≡◌, length};
 
+use super::fixture::{NEVER, run_pump};
 use luks_cipher::{Mode, SectorCipher};
+use luks_header::sector_size::SectorSize;
+use luks_header::segment::{Segment, SegmentParts};
 use luks_kdf::{Hash, Work, pbkdf2};
 use luks_seal_fixtures::bytes::{at, counted};
 use luks_seal_fixtures::parameters::{KEY, SALT, parameters1, slot1};
 use luks_stripes::af_merge;
+use luks_test_support::devices::{Flaky, Leaky};
+use luks_payload::pump::Pump;
+use luks_payload::state::Step;
 use luks1_seal::seal1;
 use std::process::Abort;
 
@@ -82,7 +88,35 @@ static HEADER: [(usize, &[u8]); 16] = [
     (584, b"\x00\x00\x00\x40\x00\x00\x00\x04\x00\x00\x00\x00"),
 ];
 
-// Its payload is read in `sealed_both`.
+// The payload of two sectors, which starts at byte 36,864, under the volume key.
+fn payload(rt: &impl Abort) -> Pump<'static> {
+    let parts = SegmentParts {
+        offset: Some(36_864),
+        size: Some(None),
+        iv_tweak: Some(0),
+        sector_size: Some(SectorSize::B512),
+        mode: Some(Mode::XtsPlain64),
+    };
+    let segment = Segment::from_parts(parts).expect(rt, "a segment");
+    let cipher = SectorCipher::new(Mode::XtsPlain64, KEY).expect(rt, "a key");
+    Pump::new(segment, cipher, 0)
+}
+
+// The pump writes the plain text and consumes the image to its end. Further steps and skips report
+// the same and call no device.
+fn check_payload(rt: &(impl Abort + AllocGlobal), image: &[u8], plain: &[u8]) {
+    let mut pump = payload(rt);
+    let mut source = Flaky::new(image, 5000, NEVER);
+    let mut sink = Leaky::new(rt.alloc(), 4096, 5000, NEVER).expect(rt, "memory");
+    let end = run_pump(&mut pump, &mut source, &mut sink);
+    assert!(rt; end == (2, Ok(Step::End)) && source.left() == 0, "{end:?}");
+    assert!(rt; sink.as_slice() == plain);
+    let calls = (source.calls(), sink.calls());
+    let again = run_pump(&mut pump, &mut source, &mut sink);
+    assert!(rt; again == (0, Ok(Step::End)) && pump.skip(&mut source) == Ok(()));
+    assert!(rt; (source.calls(), sink.calls()) == calls);
+}
+
 #[test]
 fn a_sealed_volume_has_the_stated_places(rt: HostRuntime) {
     let plain = counted(rt.alloc(), 1024).expect(&rt, "memory");
@@ -98,4 +132,5 @@ fn a_sealed_volume_has_the_stated_places(rt: HostRuntime) {
     assert!(rt; opens(&rt, &image, 4096, &FIRST_SALT, b"first"));
     assert!(rt; opens(&rt, &image, 24_576, &SIXTH_SALT, b"sixth"));
     assert!(rt; !opens(&rt, &image, 4096, &FIRST_SALT, b"sixth"));
+    check_payload(&rt, &image, &plain);
 }

@@ -1,72 +1,127 @@
-//! What is found in headers.
+//! What is found in headers of LUKS1, and how a check tells that.
 
-use super::fixture::{check_findings, enable, header_bytes, patch, patch_number, place_of};
+use super::fixture::check_findings;
+use luks_io::memory::MemSink;
+use luks_report::message::Message;
+use std::process::Abort;
 
-#[test]
-fn a_header_in_order_is_clean(rt: HostRuntime) {
-    let mut bytes = header_bytes();
-    check_findings(&rt, &bytes, "");
-    enable(&mut bytes, 0, 8);
-    check_findings(&rt, &bytes, "");
-    // No iterations are too many for a check.
-    patch_number(&mut bytes, place_of(0) + 4, 0xffff_ffff);
-    patch_number(&mut bytes, 164, 0xffff_ffff);
-    check_findings(&rt, &bytes, "");
+// Puts bytes into a header, from a place on.
+fn patch(bytes: &mut [u8], place: usize, with: &[u8]) {
+    for (i, byte) in with.iter().enumerate() {
+        let at = place.saturating_add(i);
+        if at < bytes.len() {
+            bytes[at] = *byte;
+        }
+    }
 }
 
-// The first sectors of two areas of 500 sectors.
-static TOUCHING: [(u32, u32); 4] = [(8, 508), (508, 8), (8, 3000), (3000, 8)];
+// Puts numbers into a header, each at its place.
+fn patch_numbers(bytes: &mut [u8], numbers: &[(usize, u32)]) {
+    for (place, number) in numbers {
+        patch(bytes, *place, &number.to_be_bytes());
+    }
+}
 
-// A header with these two slots in use, whose areas begin there.
-fn with_slots(slots: [u8; 2], areas: (u32, u32)) -> [u8; 592] {
-    let mut bytes = header_bytes();
-    enable(&mut bytes, slots[0], areas.0);
-    enable(&mut bytes, slots[1], areas.1);
+// Numbers of a header without key slots in use, of a payload from sector 4096 on.
+static NUMBERS: [(usize, u32); 11] = [
+    (104, 4096),
+    (108, 64),
+    (164, 1000),
+    (208, 0xdead),
+    (256, 0xdead),
+    (304, 0xdead),
+    (352, 0xdead),
+    (400, 0xdead),
+    (448, 0xdead),
+    (496, 0xdead),
+    (544, 0xdead),
+];
+
+// Sets a key slot in use: 1000 iterations, and 4000 stripes of 64 bytes from this sector on. These
+// are 500 sectors.
+fn enable(bytes: &mut [u8], slot: u8, sector: u32) {
+    let place = 208 + 48 * usize::from(slot);
+    let state = [(place, 0x00ac_71f3), (place + 4, 1000)];
+    patch_numbers(bytes, &state);
+    patch_numbers(bytes, &[(place + 40, sector), (place + 44, 4000)]);
+}
+
+// A header with these slots in use, whose areas begin there, and with these other numbers.
+fn header_of(
+    rt: &(impl Abort + AllocGlobal),
+    slots: &[(u8, u32)],
+    numbers: &[(usize, u32)],
+) -> Vec<u8> {
+    let mut bytes = vec![in rt.alloc(); 0; 592].expect(rt, "memory");
+    let header = bytes.as_mut_slice();
+    patch(header, 0, b"LUKS\xba\xbe\0\x01aes");
+    patch(header, 40, b"xts-plain64");
+    patch(header, 72, b"sha256");
+    patch_numbers(header, &NUMBERS);
+    for (slot, sector) in slots {
+        enable(header, *slot, *sector);
+    }
+    patch_numbers(header, numbers);
     bytes
 }
 
+// The hash function's name ripemd160.
+const RIPEMD: &[(usize, u32)] = &[(72, 0x7269_7065), (76, 0x6d64_3136), (80, 0x3000_0000)];
+
+const MANY: &[(usize, u32)] = &[
+    (496 + 4, 0),
+    (352, 1),
+    (72, 0x7269_7065),
+    (76, 0x6d64_3136),
+    (80, 0x3000_0000),
+];
+
+const SHARE: &str = "slots 3 and 5: areas overlap\n";
+
+// Slots in use, each with the first sector of its area; other numbers; and what is found. Slot i
+// begins with its state, at 208 + 48 * i, and has its iterations 4 and its stripes 44 bytes behind.
+// No iterations are too many for a check. Areas that only touch share nothing; the last byte of the
+// stripes counts up to the end of its sector; and only slots that can be tried overlap.
+static ROWS: [(&[(u8, u32)], &[(usize, u32)], &str); 17] = [
+    (&[], &[], ""),
+    (&[(0, 8)], &[], ""),
+    (&[(0, 8)], &[(208 + 4, 0xffff_ffff), (164, 0xffff_ffff)], ""),
+    (&[(0, 8), (1, 508)], &[], ""),
+    (&[(0, 508), (1, 8)], &[], ""),
+    (&[(0, 8), (1, 3000)], &[], ""),
+    (&[(0, 3000), (1, 8)], &[], ""),
+    (&[(3, 8), (5, 507)], &[], SHARE),
+    (&[(3, 507), (5, 8)], &[], SHARE),
+    (&[(3, 8), (5, 8)], &[], SHARE),
+    (&[(3, 300), (5, 301)], &[], SHARE),
+    (&[(0, 8), (1, 9)], &[(208 + 44, 8)], ""),
+    (
+        &[(0, 8), (1, 9)],
+        &[(208 + 44, 9)],
+        "slots 0 and 1: areas overlap\n",
+    ),
+    (&[(0, 8), (1, 8)], &[(256, 0xdead)], ""),
+    (&[(0, 8), (1, 8)], &[(256 + 44, 4001)], "slot 1: stripes\n"),
+    (&[], RIPEMD, "segment: hash\n"),
+    (
+        &[(0, 8), (2, 8), (7, 8), (6, 1000)],
+        MANY,
+        "segment: hash\nslot 3: state\nslot 6: iterations\nslots 0 and 2: areas overlap\n\
+         slots 0 and 7: areas overlap\nslots 2 and 7: areas overlap\n",
+    ),
+];
+
 #[test]
-fn areas_that_only_touch_are_no_finding(rt: HostRuntime) {
-    for areas in &TOUCHING {
-        check_findings(&rt, &with_slots([0, 1], *areas), "");
+fn what_is_found_in_a_header(rt: HostRuntime) {
+    for (slots, numbers, wanted) in &ROWS {
+        check_findings(&rt, &header_of(&rt, slots, numbers), wanted);
     }
 }
 
-static SHARING: [(u32, u32); 4] = [(8, 507), (507, 8), (8, 8), (300, 301)];
-
 #[test]
-fn areas_that_share_a_byte_are_a_finding(rt: HostRuntime) {
-    for areas in &SHARING {
-        let page = "slots 3 and 5: areas overlap\n";
-        check_findings(&rt, &with_slots([3, 5], *areas), page);
-    }
-    // The last byte of the stripes counts up to the end of its sector.
-    let mut bytes = with_slots([0, 1], (8, 9));
-    patch_number(&mut bytes, place_of(0) + 44, 8);
-    check_findings(&rt, &bytes, "");
-    patch_number(&mut bytes, place_of(0) + 44, 9);
-    check_findings(&rt, &bytes, "slots 0 and 1: areas overlap\n");
-}
-
-#[test]
-fn only_slots_that_can_be_tried_overlap(rt: HostRuntime) {
-    let mut bytes = with_slots([0, 1], (8, 8));
-    patch_number(&mut bytes, place_of(1), 0xdead);
-    check_findings(&rt, &bytes, "");
-    patch_number(&mut bytes, place_of(1), 0x00ac_71f3);
-    patch_number(&mut bytes, place_of(1) + 44, 4001);
-    check_findings(&rt, &bytes, "slot 1: stripes\n");
-}
-
-#[test]
-fn findings_stand_in_their_order(rt: HostRuntime) {
-    let mut bytes = with_slots([0, 2], (8, 8));
-    enable(&mut bytes, 7, 8);
-    enable(&mut bytes, 6, 1000);
-    patch_number(&mut bytes, place_of(6) + 4, 0);
-    patch_number(&mut bytes, place_of(3), 1);
-    patch(&mut bytes, 72, b"ripemd160\0");
-    let page = "segment: hash\nslot 3: state\nslot 6: iterations\n\
-        slots 0 and 2: areas overlap\nslots 0 and 7: areas overlap\nslots 2 and 7: areas overlap\n";
-    check_findings(&rt, &bytes, page);
+fn a_check_with_findings_ends_with_status_1(rt: HostRuntime) {
+    assert!(rt; Message::Findings.status() == 1);
+    let mut out = MemSink::new(rt.alloc(), 100).expect(&rt, "memory");
+    assert!(rt; Message::Findings.print(&mut out).is_ok());
+    assert!(rt; out.as_slice() == b"luksrd: the header has findings\n".as_slice());
 }

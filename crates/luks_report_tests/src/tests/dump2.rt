@@ -2,8 +2,7 @@
 
 use super::fixture::{assert_page, check_findings, read};
 use luks_dump::dump::{dump_page, uuid_page};
-use luks_header::header::Header;
-use luks_test_support::header2::{SIZE, empty_image, image_of, write_header};
+use luks_test_support::header2::{SIZE, empty_image, write_header};
 use std::process::Abort;
 
 // Key slots out of order in the text, and digests with and without their members.
@@ -35,7 +34,11 @@ const REST: &str = "\"segments\":{\"0\":{\"type\":\"crypt\",\"offset\":\"1677721
     \"hash\":\"sha256\",\"iterations\":1500,\"salt\":\"AAAA\",\
     \"digest\":\"AAAAAAAAAAAAAAAAAAAAAAAAAAAAAAAAAAAAAAAAAAA=\"}}}";
 
-const HEADER_LINES: &str = "Version: 2\nHeader: primary\nSequence: 258\nHeader size: 16384\n\
+const UUID: &str = "11111111-2222-3333-4444-555555555555\n";
+
+const VERSION: &str = "Version: 2\nHeader: ";
+
+const HEADER_LINES: &str = "Header size: 16384\n\
     UUID: 11111111-2222-3333-4444-555555555555\nLabel: a\\x5clabel\\xc3\\x0a~\nSubsystem: \n\
     Checksum: sha256\n";
 
@@ -52,6 +55,59 @@ const OTHER_LINES: &str = "Segment 0: offset=16777216 size=dynamic iv=0 \
     Digest 9: REFUSED\n\
     Digest 10: USABLE hash=sha1 iterations=1 bytes=20 keyslots= segments=a,\\x5cb,\n";
 
+// What stands before a segment, and behind it.
+const BEFORE: &str = r#"{"keyslots":{},"digests":{},"segments":{"#;
+
+const BEHIND: &str = "}}";
+
+const FIXED: &str = "\"0\":{\"type\":\"crypt\",\"offset\":\"32768\",\"size\":\"8192\",\
+    \"iv_tweak\":\"18446744073709551615\",\"encryption\":\"aes-cbc-essiv:sha256\",\
+    \"sector_size\":4096}";
+
+const FIXED_LINE: &str = "Segment 0: offset=32768 size=8192 iv=18446744073709551615 \
+    encryption=aes-cbc-essiv:sha256 sector=4096\n";
+
+const LINEAR: &str = r#""0":{"type":"linear"}"#;
+
+const NO_SEGMENT: &str = "Segment: REFUSED segments\n";
+
+/// The sequence numbers of two headers, the parts of their text, the first lines of the dump, and
+/// those behind the header's.
+type Dump = ([u64; 2], [&'static str; 3], &'static str, [&'static str; 2]);
+
+static DUMPS: [Dump; 5] = [
+    (
+        [258, 258],
+        [KEYSLOTS, REST, ""],
+        "primary\nSequence: 258\n",
+        [SLOT_LINES, OTHER_LINES],
+    ),
+    (
+        [0, 1],
+        [BEFORE, FIXED, BEHIND],
+        "secondary\nSequence: 1\n",
+        [FIXED_LINE, ""],
+    ),
+    (
+        [0, 1],
+        [BEFORE, LINEAR, BEHIND],
+        "secondary\nSequence: 1\n",
+        ["Segment: REFUSED type\n", ""],
+    ),
+    (
+        [0, 1],
+        [BEFORE, "", BEHIND],
+        "secondary\nSequence: 1\n",
+        [NO_SEGMENT, ""],
+    ),
+    (
+        [1, u64::MAX],
+        [BEFORE, "", BEHIND],
+        "secondary\nSequence: 18446744073709551615\n",
+        [NO_SEGMENT, ""],
+    ),
+];
+
 // The parts, one behind the other.
 fn joined(rt: &(impl Abort + AllocGlobal), parts: &[&str]) -> String {
     let mut text = String::new(rt.alloc());
@@ -61,118 +117,72 @@ fn joined(rt: &(impl Abort + AllocGlobal), parts: &[&str]) -> String {
     text
 }
 
-// An image with two headers of these sequence numbers and this text.
-fn image(rt: &(impl Abort + AllocGlobal), numbers: (u64, u64), json: &str) -> Vec<u8> {
-    image_of(rt.alloc(), numbers.0, numbers.1, json).expect(rt, "memory")
+// An image with a header of this text at each place that has a sequence number.
+fn image(rt: &(impl Abort + AllocGlobal), numbers: [Option<u64>; 2], json: &str) -> Vec<u8> {
+    let mut image = empty_image(rt.alloc()).expect(rt, "memory");
+    if let Some(number) = numbers[0] {
+        write_header(image.as_mut_slice(), 0, number, json);
+    }
+    if let Some(number) = numbers[1] {
+        write_header(image.as_mut_slice(), SIZE, number, json);
+    }
+    image
 }
 
-// The header of such an image.
-fn header(rt: &(impl Abort + AllocGlobal), numbers: (u64, u64), json: &str) -> Header {
-    read(rt, &image(rt, numbers, json))
-}
-
-fn dump(rt: &(impl Abort + AllocGlobal), header: &Header) -> String {
-    dump_page(rt.alloc(), header).expect(rt, "memory")
-}
-
-fn uuid(rt: &(impl Abort + AllocGlobal), header: &Header) -> String {
-    uuid_page(rt.alloc(), header).expect(rt, "memory")
-}
-
-fn check_pages(rt: &(impl Abort + AllocGlobal), header: &Header) {
-    let wanted = joined(rt, &[HEADER_LINES, SLOT_LINES, OTHER_LINES]);
-    assert_page(rt, dump(rt, header).as_str(), wanted.as_str());
-    let wanted = "11111111-2222-3333-4444-555555555555\n";
-    assert_page(rt, uuid(rt, header).as_str(), wanted);
+fn check_dump(rt: &(impl Abort + AllocGlobal), row: &Dump) {
+    let ([one, other], json, first, rest) = *row;
+    let json = joined(rt, &json);
+    let image = image(rt, [Some(one), Some(other)], json.as_str());
+    let header = read(rt, &image);
+    let page = dump_page(rt.alloc(), &header).expect(rt, "memory");
+    let wanted = joined(rt, &[VERSION, first, HEADER_LINES, rest[0], rest[1]]);
+    assert_page(rt, page.as_str(), wanted.as_str());
+    let page = uuid_page(rt.alloc(), &header).expect(rt, "memory");
+    assert_page(rt, page.as_str(), UUID);
 }
 
 #[test]
 fn a_header_is_printed_whole(rt: HostRuntime) {
-    let json = joined(&rt, &[KEYSLOTS, REST]);
-    check_pages(&rt, &header(&rt, (258, 258), json.as_str()));
-}
-
-// The lines behind the checksum's.
-fn rest_of(page: &str) -> &str {
-    match page.split_once("Checksum: sha256\n") {
-        Some((_, rest)) => rest,
-        None => "",
+    for row in &DUMPS {
+        check_dump(&rt, row);
     }
 }
 
-fn check_segment(rt: &(impl Abort + AllocGlobal), segments: &str, line: &str) {
-    let rest = "},\"keyslots\":{},\"digests\":{}}";
-    let json = joined(rt, &["{\"segments\":{", segments, rest]);
-    let page = dump(rt, &header(rt, (0, 1), json.as_str()));
-    assert_page(rt, rest_of(page.as_str()), line);
-}
+const PLAIN: &str = r#"{"keyslots":{},"segments":{},"digests":{}}"#;
 
-#[test]
-fn a_segment_is_printed_or_its_fault(rt: HostRuntime) {
-    let fixed = "\"0\":{\"type\":\"crypt\",\"offset\":\"32768\",\"size\":\"8192\",\
-        \"iv_tweak\":\"18446744073709551615\",\"encryption\":\"aes-cbc-essiv:sha256\",\
-        \"sector_size\":4096}";
-    let line = "Segment 0: offset=32768 size=8192 iv=18446744073709551615 \
-        encryption=aes-cbc-essiv:sha256 sector=4096\n";
-    check_segment(&rt, fixed, line);
-    let linear = "\"0\":{\"type\":\"linear\"}";
-    check_segment(&rt, linear, "Segment: REFUSED type\n");
-    check_segment(&rt, "", "Segment: REFUSED segments\n");
-}
+const DIFFER: &str = "headers: sequence numbers differ\n";
 
-const PLAIN: &str = "{\"keyslots\":{},\"segments\":{},\"digests\":{}}";
-
-#[test]
-fn a_secondary_header_says_so(rt: HostRuntime) {
-    let page = dump(&rt, &header(&rt, (1, u64::MAX), PLAIN));
-    let start = "Version: 2\nHeader: secondary\nSequence: 18446744073709551615\n";
-    assert!(rt; page.as_str().starts_with(start));
-}
-
-// These lines, then that of the segment that is not there, then these of key slots.
-fn check_found(rt: &(impl Abort + AllocGlobal), image: &[u8], first: &str, slots: &str) {
-    let wanted = joined(rt, &[first, "segment: segments\n", slots]);
-    check_findings(rt, image, wanted.as_str());
-}
-
-// An image with one header, which stands at this place.
-fn image_with_one(rt: &(impl Abort + AllocGlobal), place: usize) -> Vec<u8> {
-    let mut image = empty_image(rt.alloc()).expect(rt, "memory");
-    write_header(image.as_mut_slice(), place, 5, PLAIN);
-    image
-}
+// The sequence numbers of the headers that there are, and what is found before that there is no
+// segment.
+static FOUND: [([Option<u64>; 2], &str); 5] = [
+    ([Some(5), Some(5)], ""),
+    ([Some(5), Some(6)], DIFFER),
+    ([Some(6), Some(5)], DIFFER),
+    ([Some(5), None], "secondary header: not valid\n"),
+    ([None, Some(5)], "primary header: not valid\n"),
+];
 
 #[test]
 fn what_is_amiss_with_two_headers(rt: HostRuntime) {
-    check_found(&rt, &image(&rt, (5, 5), PLAIN), "", "");
-    let differ = "headers: sequence numbers differ\n";
-    check_found(&rt, &image(&rt, (5, 6), PLAIN), differ, "");
-    check_found(&rt, &image(&rt, (6, 5), PLAIN), differ, "");
-    let secondary = "secondary header: not valid\n";
-    check_found(&rt, &image_with_one(&rt, 0), secondary, "");
-    let primary = "primary header: not valid\n";
-    check_found(&rt, &image_with_one(&rt, SIZE), primary, "");
+    for (numbers, first) in &FOUND {
+        let wanted = joined(&rt, &[first, "segment: segments\n"]);
+        check_findings(&rt, &image(&rt, *numbers, PLAIN), wanted.as_str());
+    }
 }
 
-fn check_name(rt: &(impl Abort + AllocGlobal), name: &str) {
-    let before = "{\"keyslots\":{\"0\":{},\"";
-    let behind = "\":{}},\"segments\":{},\"digests\":{}}";
-    let json = joined(rt, &[before, name, behind]);
-    let first = "headers: sequence numbers differ\nkeyslots: name out of range\n";
-    check_found(
-        rt,
-        &image(rt, (5, 6), json.as_str()),
-        first,
-        "slot 0: type\n",
-    );
-}
+static NAMES: [&str; 4] = ["32", "00", "x", ""];
+
+const NAMED: &str = "headers: sequence numbers differ\nkeyslots: name out of range\n\
+    segment: segments\nslot 0: type\n";
 
 #[test]
 fn a_name_out_of_range_is_found(rt: HostRuntime) {
-    check_name(&rt, "32");
-    check_name(&rt, "00");
-    check_name(&rt, "x");
-    check_name(&rt, "");
-    let json = "{\"keyslots\":{\"31\":{}},\"segments\":{},\"digests\":{\"x\":{}}}";
-    check_found(&rt, &image(&rt, (5, 5), json), "", "slot 31: type\n");
+    let json = r#"{"keyslots":{"31":{}},"segments":{},"digests":{"x":{}}}"#;
+    let wanted = "segment: segments\nslot 31: type\n";
+    check_findings(&rt, &image(&rt, [Some(5), Some(5)], json), wanted);
+    for name in &NAMES {
+        let behind = r#"":{}},"segments":{},"digests":{}}"#;
+        let json = joined(&rt, &[r#"{"keyslots":{"0":{},""#, name, behind]);
+        check_findings(&rt, &image(&rt, [Some(5), Some(6)], json.as_str()), NAMED);
+    }
 }

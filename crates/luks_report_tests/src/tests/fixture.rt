@@ -1,58 +1,11 @@
-//! LUKS1 headers, and what is found in a header.
-
-ghost use Rattle.std.specs.Prelude.{◌≤◌};
+//! What is found in a header.
 
 use luks_check::check::findings;
 use luks_header::header::{Header, read_header};
 use luks_io::memory::MemSource;
+use luks_report::check::check_page;
+use luks_report::message::Message;
 use std::process::Abort;
-
-/// Puts bytes into a header, from a place on.
-pub fn patch(bytes: &mut [u8; 592], place: usize, with: &[u8]) {
-    for (i, byte) in with.iter().enumerate() {
-        let at = place.saturating_add(i);
-        if at < 592 {
-            bytes[at] = *byte;
-        }
-    }
-}
-
-/// Puts a number into a header.
-pub fn patch_number(bytes: &mut [u8; 592], place: usize, number: u32) {
-    patch(bytes, place, &number.to_be_bytes());
-}
-
-/// Where the fields of a key slot begin.
-pub fn place_of(slot: u8) -> usize
-    ensures { result ≤ 20000 }
-{
-    208 + 48 * usize::from(slot)
-}
-
-/// Sets a key slot in use: 1000 iterations, and 4000 stripes of 64 bytes from this sector on. These
-/// are 500 sectors.
-pub fn enable(bytes: &mut [u8; 592], slot: u8, sector: u32) {
-    let place = place_of(slot);
-    patch_number(bytes, place, 0x00ac_71f3);
-    patch_number(bytes, place + 4, 1000);
-    patch_number(bytes, place + 40, sector);
-    patch_number(bytes, place + 44, 4000);
-}
-
-/// A header without key slots in use, of a payload from sector 4096 on.
-pub fn header_bytes() -> [u8; 592] {
-    let mut bytes = [0; 592];
-    patch(&mut bytes, 0, b"LUKS\xba\xbe\0\x01aes");
-    patch(&mut bytes, 40, b"xts-plain64");
-    patch(&mut bytes, 72, b"sha256");
-    patch_number(&mut bytes, 104, 4096);
-    patch_number(&mut bytes, 108, 64);
-    patch_number(&mut bytes, 164, 1000);
-    for slot in 0..8 {
-        patch_number(&mut bytes, place_of(slot), 0xdead);
-    }
-    bytes
-}
 
 /// The header of an image.
 pub fn read(rt: &(impl Abort + AllocGlobal), image: &[u8]) -> Header {
@@ -66,8 +19,17 @@ pub fn assert_page(rt: &impl Abort, page: &str, wanted: &str) {
     assert!(rt; page == wanted, "{page}, and not {wanted}");
 }
 
-/// This is found in the header of an image.
+/// This is found in the header of an image, and a check of it prints that and ends so.
 pub fn check_findings(rt: &(impl Abort + AllocGlobal), image: &[u8], wanted: &str) {
-    let found = findings(rt.alloc(), &read(rt, image)).expect(rt, "memory");
+    let header = read(rt, image);
+    let found = findings(rt.alloc(), &header).expect(rt, "memory");
     assert_page(rt, found.as_str(), wanted);
+    let (page, message) = if wanted.is_empty() {
+        ("clean\n", Message::Done)
+    } else {
+        (wanted, Message::Findings)
+    };
+    let checked = check_page(rt.alloc(), &header).expect(rt, "memory");
+    assert_page(rt, checked.0.as_str(), page);
+    assert!(rt; checked.1 == message, "{page}");
 }
