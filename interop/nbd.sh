@@ -195,7 +195,7 @@ truncated 'truncated inside the first sector' "$volume1" $((start + 1)) 0 'luksr
 truncated 'truncated at the payload' "$volume1" "$start" 0 ''
 truncated 'truncated before the payload' "$volume1" $((start - 1)) 0 'luksrd: image ends before the payload'
 truncated 'truncated inside a sector of 4096' "$volume2" $(($(start_of2 "$volume2") + 4096 + 4095)) 4096 'luksrd: image ends inside a sector: 4095 bytes left over'
-truncated 'truncated of fixed size' 'of fixed size' $(($(start_of2 'of fixed size') + 8192 + 700)) 8192 'luksrd: image ends 191808 bytes before the segment does'
+truncated 'truncated of fixed size' 'of fixed size' $(($(start_of2 'of fixed size') + 8192 + 700)) 8192 'luksrd: image ends 191812 bytes before the segment does'
 head -c 20000 "$volume1" >shorter
 refused 'truncated inside a key area' 'shorter: luksrd: image ends inside the header or a key area' shorter key-file=pass
 
