@@ -1,11 +1,14 @@
 -- Ranges of a plain text, from those of its sectors.
 use Rattle.std.proofs.Common.{◌≡◌, ℕ, ◌+◌, ◌-◌, ◌*◌, ◌/◌, ◌%◌, ◌<◌, ◌≤◌, ◌^◌, List, ◌++◌, length, take, drop}
 use Rattle.std.proofs.Common.{[], append-nil, inl, inr, length-append, length-drop, Option, None, Some, Result, Ok, Err, arith, sym, ap, ◌∙◌}
+use Rattle.std.specs.Prelude.{OnOk}
 use Rattle.std.proofs.lemmas.Bool.{cases_lt}
 use Rattle.std.proofs.lemmas.List.{drop-drop, drop-take, drop_all, take-take}
 use Rattle.luks_kdf.proofs.BytesLemmas.{take_front}
 use Rattle.std.proofs.Math.Seq.{take-add}
 use Rattle.std.proofs.Math.Nat.{div-mul-le_self}
+use Rattle.luks_io.specs.Bytes.{WhereKnown}
+use Rattle.luks_runs.proofs.PayloadLemmas.{plain_len}
 use Rattle.luks_verdict.specs.SectorSize.{bytes_of}
 use Rattle.luks_verdict.specs.declared.sector_size.SectorSize.{SectorSize}
 use Rattle.luks_verdict.specs.declared.sector_size.SectorSize.TheVariants.{B512, B1024, B2048, B4096}
@@ -185,3 +188,29 @@ part_read text unit bytes offset skip n whole before inside long are =
     let count : skip + n - skip ≡ length bytes = omega arith in
     are ∙ (ap (λ k. take k (drop skip unit)) count
     ∙ range_in text unit offset skip (length unit) (length bytes) whole before (omega arith))
+
+-- a plain text is as long as its whole sectors
+pub text_is_long : (s : Segment) (cipher : Cipher) (image : List ℕ) (image_len len : ℕ) → length image ≡ image_len
+    → len ≡ within_size s.size (image_len - s.offset) / sector_len s * sector_len s
+    → len ≡ length (plain_of s cipher image)
+text_is_long s cipher image image_len len long is =
+    is ∙ (ap (λ n. within_size s.size (n - s.offset) / sector_len s * sector_len s) (sym long)
+    ∙ sym (plain_len s image cipher))
+
+-- what was read of a range where the length is that of the text
+module _ (s : Segment) (cipher : Cipher) (len : ℕ) (image : Option (List ℕ)) (offset : ℕ) (bytes : List ℕ)
+    (long : (known : List ℕ) → image ≡ Some known → len ≡ length (plain_of s cipher known)) where
+  all_of : (known : List ℕ) → image ≡ Some known → text_len s known ≡ len
+  all_of known is = sym (long known is ∙ plain_len s known cipher)
+
+  pub range_read : (result : Result (Unit {0}) RangeFault) → ReadsRange s cipher len image offset result bytes
+      → OnOk result (WhereKnown image (λ known. IsRangeOf (plain_of s cipher known) offset bytes))
+  range_read (Ok _) reads = λ known is. reads known is (all_of known is)
+  range_read (Err _) reads = tt
+
+  pub never_shorter : (result : Result (Unit {0}) RangeFault) → ReadsRange s cipher len image offset result bytes
+      → WhereKnown image (λ known. result ≡ Err Shorter → ⊥)
+  never_shorter (Ok _) reads = λ known is wrong. cc
+  never_shorter (Err PastEnd) reads = absurd reads
+  never_shorter (Err Read) reads = λ known is wrong. cc
+  never_shorter (Err Shorter) reads = λ known is wrong. reads known is (all_of known is)

@@ -1,7 +1,8 @@
 -- A source over an image gives the image's bytes.
-use Rattle.std.proofs.Common.{◌≡◌, ◌∙◌, ℕ, ◌+◌, ◌-◌, ◌<◌, ◌≤◌, List, ◌++◌, Option, None, Some, length, take, drop, min}
+use Rattle.std.proofs.Common.{◌≡◌, ◌∙◌, ℕ, ◌+◌, ◌-◌, ◌<◌, ◌≤◌, List, ◌++◌, Option, None, Some, Result, Ok, Err, length, take, drop, min}
 use Rattle.std.proofs.Common.{arith, ap, sym, refl}
 use Rattle.std.proofs.lemmas.List.{drop-drop, drop_all, take-append-drop}
+use Rattle.std.specs.Prelude.{IfErr, IfOk}
 use Rattle.std.specs.Io.KnownBytes.{Consumes, IsAtEnd}
 use Rattle.luks_io.specs.Bytes.{WhereKnown}
 use Rattle.luks_kdf.proofs.BytesLemmas.{take_front}
@@ -32,3 +33,14 @@ none_left (Some known) place count asked len is fits none some =
 -- an image that is read from its start gives all its bytes
 pub behind_none : (image : Option (List ℕ)) (known : List ℕ) → image ≡ Some known → behind 0 image ≡ Some known
 behind_none image known is = rw is refl
+
+-- what holds where the source knows its bytes holds where the image does
+pub known_ok : {V M : Type 0} (r : Result V M) (Holds : V → List ℕ → Type 0) (image come : Option (List ℕ))
+    → come ≡ behind 0 image → IfOk r (λ v. WhereKnown come (Holds v)) → IfOk r (λ v. WhereKnown image (Holds v))
+known_ok (Ok v) Holds image come is holds = λ known there. holds known (is ∙ behind_none image known there)
+known_ok (Err m) Holds image come is holds = tt
+
+pub known_err : {V M : Type 0} (r : Result V M) (Holds : M → List ℕ → Type 0) (image come : Option (List ℕ))
+    → come ≡ behind 0 image → IfErr r (λ m. WhereKnown come (Holds m)) → IfErr r (λ m. WhereKnown image (Holds m))
+known_err (Ok v) Holds image come is holds = tt
+known_err (Err m) Holds image come is holds = λ known there. holds known (is ∙ behind_none image known there)

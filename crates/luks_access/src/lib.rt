@@ -17,12 +17,3 @@ pub mod range;
 pub mod sectors;
 pub mod source;
 pub mod volume;
-
-ghost use Rattle.std.specs.Prelude.{◌≡◌};
-
-/// SCRATCH
-pub fn scratch(n: u8) -> u8
-    ensures { result ≡ n }
-{
-    n
-}

@@ -26,6 +26,7 @@ pub fn text_len(offset: u64, size: Option<u64>, sector_size: SectorSize, image_l
     ensures value { result ≡ within_size size (image_len - offset) / bytes_of sector_size
         * bytes_of sector_size }
     ensures within { result ≤ image_len - offset }
+    ensures counted { offset + result < 2 ^ 64 }
     ensures multiple { result % bytes_of sector_size ≡ 0 }
 {
     let behind = image_len.saturating_sub(offset);

@@ -1,6 +1,6 @@
 //! Volumes that are open.
 
-ghost use Rattle.std.specs.Prelude.{◌≡◌, ◌≢◌, ◌+◌, ◌-◌, ◌%◌, ◌<◌, ◌≤◌, List, ℕ, Ok, Err, IfOk, IfErr, OnOk};
+ghost use Rattle.std.specs.Prelude.{◌≡◌, ◌≢◌, ◌+◌, ◌-◌, ◌%◌, ◌^◌, ◌<◌, ◌≤◌, List, ℕ, Ok, Err, IfOk, IfErr, OnOk};
 ghost use Rattle.std.specs.Prelude.{false, length, nat_le, replicate, true};
 ghost use Rattle.luks_cipher.specs.Sector.{is_mode_key_length};
 ghost use Rattle.luks_io.specs.Bytes.{WhereKnown, counted};
@@ -140,10 +140,7 @@ impl Volume {
         let mut found = find_volume(alloc, options.standing, &opening, source)?;
         let opened = unlock(&opening, &mut found, source, pass);
         let segment = payload_of(found);
-        match opened {
-            Ok(opened) => Ok(volume_of(segment, opened)),
-            Err(message) => Err(message),
-        }
+        Ok(volume_of(segment, opened?))
     }
 
     /// Opens a volume as [`Volume::open_from`] does, from its image or its detached header.
@@ -196,6 +193,7 @@ impl Volume {
         ensures value { (image : List ℕ) → length image ≡ image_len
             → result ≡ length (text_of self.now image) }
         ensures within { result ≤ image_len - self.now.segment.offset }
+        ensures counted { self.now.segment.offset + result < 2 ^ 64 }
         ensures multiple { result % sector_len self.now.segment ≡ 0 }
     {
         let segment = &self.segment;

@@ -1,10 +1,15 @@
 -- What is read of a volume that C keeps is what was stored.
-use Rattle.std.proofs.Common.{◌≡◌, ◌∙◌, ℕ, List, Option, None, Some, Bool, true, false, sym, ap, refl, length}
+use Rattle.std.proofs.Common.{◌≡◌, ◌∙◌, ℕ, ◌-◌, ◌*◌, ◌/◌, ◌%◌, List, Option, None, Some, Result, Err, Bool, true, false}
+use Rattle.std.proofs.Common.{◌≤◌, sym, ap, arith, refl, length, take}
+use Rattle.std.proofs.lemmas.Bool.Decides.{nat_tests}
 use Rattle.std.proofs.lemmas.Option.{same_Some}
-use Rattle.std.specs.Prelude.{if◌then◌else◌, option_map}
-use Rattle.luks_access.specs.Opens.{OpenVolume}
-use Rattle.luks_access.specs.Sectors.{plain_in}
-use Rattle.luks_cipher.specs.Sector.{Cipher}
+use Rattle.std.specs.Prelude.{if◌then◌else◌, nat_lt, option_map}
+use Rattle.luks_access.proofs.PartLemmas.{part_of_plain}
+use Rattle.luks_access.proofs.RangeLemmas.{text_is_long}
+use Rattle.luks_access.specs.Opens.{OpenVolume, cipher_of, text_of}
+use Rattle.luks_access.specs.Sectors.{AreStored, plain_at, plain_in}
+use Rattle.luks_cipher.proofs.ModeLemmas.{key_length_of_mode}
+use Rattle.luks_cipher.specs.Sector.{Cipher, is_mode_key_length}
 use Rattle.luks_cipher.specs.declared.mode.Mode.{Mode}
 use Rattle.luks_cipher.specs.declared.mode.Mode.TheVariants.{XtsPlain64, XtsPlain, CbcEssivSha256, CbcPlain64}
 use Rattle.luks_verdict.specs.Evidence.{where_true}
@@ -13,7 +18,12 @@ use Rattle.luks_verdict.specs.SectorSize.{are_sectors, bytes_of}
 use Rattle.luks_verdict.specs.declared.sector_size.SectorSize.{SectorSize}
 use Rattle.luks_verdict.specs.declared.sector_size.SectorSize.TheVariants.{B512, B1024, B2048, B4096}
 use Rattle.luks_verdict.specs.declared.segment.Segment.{Segment}
-use Rattle.luks_c.specs.Stored.{Stores, has_size_of, mode_in, mode_number, sector_size_in, segment_in, size_in, size_of}
+use Rattle.luks_volume.specs.Plain.{ending_of, ending_within, sector_len, within_size}
+use Rattle.luks_volume.specs.declared.fault.VolumeFault.{VolumeFault}
+use Rattle.luks_volume.specs.declared.fault.VolumeFault.TheVariants.{CutBeforePayload}
+use Rattle.luks_volume.specs.declared.state.Step.{Step}
+use Rattle.luks_c.specs.Stored.{Stores, cipher_in, has_size_of, mode_in, mode_number, sector_size_in, segment_in}
+use Rattle.luks_c.specs.Stored.{size_in, size_of}
 use Rattle.luks_c.specs.declared.volume.LuksrdVolume.{LuksrdVolume}
 
 pub size_again : (size : SectorSize) → sector_size_in (bytes_of size) ≡ Some size
@@ -82,3 +92,59 @@ module _ (c : LuksrdVolume) (v : OpenVolume) (stored : Stores c v) where
 pub same_plain : (s t : Segment) (cipher : Cipher) (first : ℕ) (bytes : List ℕ) → s.iv_tweak ≡ t.iv_tweak
     → s.sector_size ≡ t.sector_size → plain_in s cipher first bytes ≡ plain_in t cipher first bytes
 same_plain s t cipher first bytes iv size = rw (iv, size) refl
+
+-- ---- what is computed of a volume that C keeps
+
+module _ (c : LuksrdVolume) (v : OpenVolume) (stored : Stores c v) (z : SectorSize) (size : Option ℕ)
+    (sector : Some z ≡ sector_size_in c.sector_size) (fixed : size ≡ size_in c) (image : List ℕ) (image_len : ℕ)
+    (long : length image ≡ image_len) where
+  z_is : z ≡ v.segment.sector_size
+  z_is = same_Some z v.segment.sector_size (sector ∙ stored_sector c v stored)
+
+  size_is_its : size ≡ v.segment.size
+  size_is_its = fixed ∙ stored_size c v stored
+
+  pub len_for : (len : ℕ)
+      → len ≡ within_size size (image_len - c.offset) / bytes_of z * bytes_of z → len ≡ length (text_of v image)
+  len_for len is =
+      text_is_long v.segment (cipher_of v) image image_len len long (rw (z_is, size_is_its, stored.offset) at is)
+
+  pub ending_for : (r : Result Step VolumeFault)
+      → r ≡ (if nat_lt image_len c.offset then Err CutBeforePayload
+      else ending_within size (bytes_of z) (image_len - c.offset))
+      → r ≡ ending_of v.segment image
+  ending_for r is =
+      let its = rw (z_is, size_is_its, stored.offset) at is in
+      its ∙ ap (λ n. if nat_lt n v.segment.offset then Err CutBeforePayload
+      else ending_within v.segment.size (sector_len v.segment) (n - v.segment.offset)) (sym long)
+
+-- a volume that C keeps has a sector size
+pub some_sector : (c : LuksrdVolume) (v : OpenVolume) → Stores c v → None ≡ sector_size_in c.sector_size → ⊥
+some_sector c v stored none = let wrong : None ≡ Some v.segment.sector_size = none ∙ stored_sector c v stored in cc
+
+-- stored sectors became that part of the plain text
+pub decrypted_for : (c : LuksrdVolume) (v : OpenVolume) (image : List ℕ) → Stores c v → (s : Segment) (cipher : Cipher)
+    (first size : ℕ) (old new : List ℕ) → Some s ≡ segment_in c → cipher ≡ cipher_in c s.mode
+    → size ≡ bytes_of s.sector_size → length old % size ≡ 0 → new ≡ plain_in s cipher first old
+    → AreStored v.segment image first old
+    → new ≡ plain_at v.segment (cipher_of v) image (first * sector_len v.segment) (length old)
+decrypted_for c v image stored s cipher first size old new is_segment is_cipher is_size whole is_new are =
+    let its = stored_segment c v stored s (sym is_segment) in
+    let mode : (s.mode, take c.key_size c.key) ≡ cipher_of v =
+    ap (λ (mode : Mode). (mode, take c.key_size c.key)) its.mode_is
+    ∙ ap (λ (key : List ℕ). (v.segment.mode, key)) stored.key in
+    let sectors : length old % sector_len v.segment ≡ 0 =
+    sym (ap (λ n. length old % n) (is_size ∙ ap bytes_of its.sector_is)) ∙ whole in
+    is_new
+    ∙ (ap (λ (k : Cipher). plain_in s k first old) (is_cipher ∙ mode)
+    ∙ (same_plain s v.segment (cipher_of v) first old (its.iv_is ∙ stored.iv_tweak) its.sector_is
+    ∙ part_of_plain v.segment (cipher_of v) image first old sectors are))
+
+-- the cipher that was made of a key
+pub made_cipher : (b : Bool) (cipher made : Cipher) → Some cipher ≡ (if b then Some made else None) → cipher ≡ made
+made_cipher true cipher made is = same_Some cipher made is
+made_cipher false cipher made is = cc
+
+-- a volume key has at most 64 bytes
+pub short_key : (mode : Mode) (n : ℕ) → is_mode_key_length mode n ≡ true → n ≤ 64
+short_key mode n is = let known = key_length_of_mode mode n is in grind (arith, nat_tests)

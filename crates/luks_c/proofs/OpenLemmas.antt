@@ -1,0 +1,63 @@
+-- Opening from C: the first bytes of an image decide.
+use Rattle.std.proofs.Common.{◌≡◌, ◌≢◌, ◌∙◌, ℕ, List, false, arith}
+use Rattle.luks_access.specs.Opens.{OpenVolume, Opens, Refuses}
+use Rattle.luks_access.specs.declared.options.Options.{Options}
+use Rattle.luks_io.specs.Bytes.{counted}
+use Rattle.luks_report.specs.declared.message.Message.{Message}
+use Rattle.luks_report.specs.declared.message.Message.TheVariants.{Done, ReadFailed}
+use Rattle.luks_runs.specs.Run.{breaks_off, is_failed_read}
+use Rattle.luks_unlock.proofs.FrontLemmas.{outcome_decided}
+use Rattle.luks_unlock.specs.MayEnd.{OpeningMessage}
+use Rattle.luks_c.specs.Answers.{BeginsAs, Opened, Refused}
+use Rattle.luks_c.specs.Codes.{code_for}
+use Rattle.luks_c.specs.Message.{Tells}
+use Rattle.luks_c.specs.Options.{AreOptions}
+use Rattle.luks_c.specs.Stored.{Stores}
+use Rattle.luks_c.specs.declared.message.LuksrdMessage.{LuksrdMessage}
+use Rattle.luks_c.specs.declared.options.LuksrdOptions.{LuksrdOptions}
+use Rattle.luks_c.specs.declared.volume.LuksrdVolume.{LuksrdVolume}
+
+module _ (c : LuksrdOptions) (header pass : List ℕ) (message : LuksrdMessage) (options : Options)
+    (are : AreOptions c options) where
+  pub opened_for : (volume : LuksrdVolume) (v : OpenVolume) → Opens options header pass v → Stores volume v
+      → Tells message Done → Opened c header pass volume message
+  opened_for volume v opens stored told = record {
+    options = options;
+    are = are;
+    opened = v;
+    stored = stored;
+    opens = λ image begins. record {
+      held = opens.held;
+      outcome = λ o has on_opened. outcome_decided options.standing o image header pass on_opened begins
+          ∙ opens.outcome o has on_opened;
+    };
+    told = told;
+  }
+
+  pub refused_for : (refusal : Message) (code : ℕ) → code ≡ code_for refusal → Tells message refusal
+      → refusal ≢ ReadFailed → (breaks_off refusal ≡ false → Refuses options header pass refusal)
+      → Refused c header pass code message
+  refused_for refusal code is told read refuses = record {
+    options = options;
+    are = are;
+    refusal = refusal;
+    is_code = is;
+    told = told;
+    read = read;
+    refuses = λ never image begins. record {
+      header_taken = (refuses never).header_taken;
+      secret_taken = (refuses never).secret_taken;
+      outcome = λ o has on_opened. outcome_decided options.standing o image header pass on_opened begins
+          ∙ (refuses never).outcome o has on_opened;
+    };
+  }
+
+-- no read of bytes in memory fails
+pub no_read : (m : Message) → 0 ≡ counted (is_failed_read m) 0 → m ≢ ReadFailed
+no_read ReadFailed count = absurd (omega (arith, count))
+no_read _ count = λ is. cc
+
+-- the code of a refusal is not that of success
+pub some_code : (m : Message) → OpeningMessage m → code_for m ≢ 0
+some_code Done only = absurd only
+some_code _ only = λ is. absurd (omega arith)
