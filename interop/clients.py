@@ -84,7 +84,7 @@ def read_shrinking(uri, text, image):
             yield "a byte of a payload that is gone"
 
     def shrink():
-        for size in range(len(text), -1, -1237):
+        for size in range(len(text), -1, -(len(text) // 241 + 1)):
             os.truncate(image, start + size)
             left[0] = size
             time.sleep(0.005)

@@ -1,6 +1,6 @@
 #!/usr/bin/env bash
 # Makes Debian packages of the built program and of the built plugin (the second argument), and looks
-# into them; as root, and where none of both is installed, dpkg also installs them, they run from
+# into them; as root, and if none of both is installed, dpkg also installs them, they run from
 # there, and dpkg takes all of them away.
 sources=$(realpath "$(dirname "$0")/..")
 plugin=$(realpath "${2:?the built plugin}")
