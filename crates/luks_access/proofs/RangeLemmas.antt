@@ -7,7 +7,7 @@ use Rattle.std.proofs.lemmas.List.{drop-drop, drop-take, drop_all, take-take}
 use Rattle.luks_kdf.proofs.BytesLemmas.{take_front}
 use Rattle.std.proofs.Math.Seq.{take-add}
 use Rattle.std.proofs.Math.Nat.{div-mul-le_self}
-use Rattle.luks_io.specs.Bytes.{WhereKnown}
+use Rattle.luks_io.specs.Bytes.{IfKnown}
 use Rattle.luks_runs.proofs.PayloadLemmas.{plain_len}
 use Rattle.luks_verdict.specs.SectorSize.{bytes_of}
 use Rattle.luks_verdict.specs.declared.sector_size.SectorSize.{SectorSize}
@@ -204,12 +204,12 @@ module _ (s : Segment) (cipher : Cipher) (len : ℕ) (image : Option (List ℕ))
   all_of known is = sym (long known is ∙ plain_len s known cipher)
 
   pub range_read : (result : Result (Unit {0}) RangeFault) → ReadsRange s cipher len image offset result bytes
-      → OnOk result (WhereKnown image (λ known. IsRangeOf (plain_of s cipher known) offset bytes))
+      → OnOk result (IfKnown image (λ known. IsRangeOf (plain_of s cipher known) offset bytes))
   range_read (Ok _) reads = λ known is. reads known is (all_of known is)
   range_read (Err _) reads = tt
 
   pub never_shorter : (result : Result (Unit {0}) RangeFault) → ReadsRange s cipher len image offset result bytes
-      → WhereKnown image (λ known. result ≡ Err Shorter → ⊥)
+      → IfKnown image (λ known. result ≡ Err Shorter → ⊥)
   never_shorter (Ok _) reads = λ known is wrong. cc
   never_shorter (Err PastEnd) reads = absurd reads
   never_shorter (Err Read) reads = λ known is wrong. cc

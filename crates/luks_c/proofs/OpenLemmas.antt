@@ -5,7 +5,7 @@ use Rattle.luks_access.specs.declared.options.Options.{Options}
 use Rattle.luks_io.specs.Bytes.{counted}
 use Rattle.luks_report.specs.declared.message.Message.{Message}
 use Rattle.luks_report.specs.declared.message.Message.TheVariants.{Done, ReadFailed}
-use Rattle.luks_runs.specs.Run.{breaks_off, is_failed_read}
+use Rattle.luks_runs.specs.Run.{breaks_off, is_run_read_failure}
 use Rattle.luks_unlock.proofs.FrontLemmas.{outcome_decided}
 use Rattle.luks_unlock.specs.MayEnd.{OpeningMessage}
 use Rattle.luks_c.specs.Answers.{BeginsAs, Opened, Refused}
@@ -53,7 +53,7 @@ module _ (c : LuksrdOptions) (header pass : List ℕ) (message : LuksrdMessage) 
   }
 
 -- no read of bytes in memory fails
-pub no_read : (m : Message) → 0 ≡ counted (is_failed_read m) 0 → m ≢ ReadFailed
+pub no_read : (m : Message) → 0 ≡ counted (is_run_read_failure m) 0 → m ≢ ReadFailed
 no_read ReadFailed count = absurd (omega (arith, count))
 no_read _ count = λ is. cc
 

@@ -7,12 +7,12 @@ use luks_cipher::{Mode, SectorCipher};
 use luks_header::sector_size::SectorSize;
 use luks_header::segment::{Segment, SegmentParts};
 use luks_kdf::{Hash, Work, pbkdf2};
+use luks_payload::pump::Pump;
+use luks_payload::state::Step;
 use luks_seal_fixtures::bytes::{at, counted};
 use luks_seal_fixtures::parameters::{KEY, SALT, parameters1, slot1};
 use luks_stripes::af_merge;
 use luks_test_support::devices::{Flaky, Leaky};
-use luks_payload::pump::Pump;
-use luks_payload::state::Step;
 use luks1_seal::seal1;
 use std::process::Abort;
 
