@@ -1,6 +1,6 @@
 -- What is read of a volume that C keeps is what was stored.
-use Rattle.std.proofs.Common.{◌≡◌, ◌∙◌, ℕ, ◌-◌, ◌*◌, ◌/◌, ◌%◌, List, Option, None, Some, Result, Err, Bool, true, false}
-use Rattle.std.proofs.Common.{◌≤◌, sym, ap, arith, refl, length, take}
+use Rattle.std.proofs.Common.{◌≡◌, ◌∙◌, ℕ, ◌+◌, ◌-◌, ◌*◌, ◌/◌, ◌%◌, ◌^◌, List, Option, None, Some, Result, Err, Bool, true, false}
+use Rattle.std.proofs.Common.{◌≤◌, sym, ap, arith, refl, length, drop, take}
 use Rattle.std.proofs.lemmas.Bool.Decides.{nat_tests}
 use Rattle.std.proofs.lemmas.Option.{same_Some}
 use Rattle.std.specs.Prelude.{if◌then◌else◌, nat_lt, option_map}
@@ -18,7 +18,8 @@ use Rattle.luks_verdict.specs.SectorSize.{are_sectors, bytes_of}
 use Rattle.luks_verdict.specs.declared.sector_size.SectorSize.{SectorSize}
 use Rattle.luks_verdict.specs.declared.sector_size.SectorSize.TheVariants.{B512, B1024, B2048, B4096}
 use Rattle.luks_verdict.specs.declared.segment.Segment.{Segment}
-use Rattle.luks_volume.specs.Plain.{ending_of, ending_within, sector_len, within_size}
+use Rattle.luks_cipher.specs.Xts.{joined}
+use Rattle.luks_volume.specs.Plain.{ending_of, ending_within, sector_len, unit_plain, within_size}
 use Rattle.luks_volume.specs.declared.fault.VolumeFault.{VolumeFault}
 use Rattle.luks_volume.specs.declared.fault.VolumeFault.TheVariants.{CutBeforePayload}
 use Rattle.luks_volume.specs.declared.state.Step.{Step}
@@ -88,10 +89,18 @@ module _ (c : LuksrdVolume) (v : OpenVolume) (stored : Stores c v) where
       ∙ ap (segment_of_all (Some c.offset) (Some (size_in c)) (Some c.iv_tweak) (Some v.segment.sector_size)) stored_mode)
       ∙ is)
 
+-- the sectors from number `first` on, by the first data unit number and the length of a sector
+abbrev plain_by : ℕ → ℕ → Cipher → ℕ → List ℕ → List ℕ
+plain_by iv z cipher first bytes =
+    joined (λ j. unit_plain cipher ((iv + (first + j) * (z / 512)) % 2 ^ 64) (take z (drop (j * z) bytes)))
+    (length bytes / z)
+
 -- sectors are decrypted alike by the same numbers
 pub same_plain : (s t : Segment) (cipher : Cipher) (first : ℕ) (bytes : List ℕ) → s.iv_tweak ≡ t.iv_tweak
     → s.sector_size ≡ t.sector_size → plain_in s cipher first bytes ≡ plain_in t cipher first bytes
-same_plain s t cipher first bytes iv size = rw (iv, size) refl
+same_plain s t cipher first bytes iv size =
+    ap (λ n. plain_by n (bytes_of s.sector_size) cipher first bytes) iv
+    ∙ ap (λ (z : SectorSize). plain_by t.iv_tweak (bytes_of z) cipher first bytes) size
 
 -- ---- what is computed of a volume that C keeps
 

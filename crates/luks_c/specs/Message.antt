@@ -6,9 +6,9 @@ use Rattle.luks_c.specs.declared.message.LuksrdMessage.{LuksrdMessage}
 
 -- this status and this text are told, as much of it as there is room for
 pub record TellsText (c : LuksrdMessage) (status : ℕ) (text : List ℕ) : Type 0 where
-  pub status : c.status ≡ status
-  pub len : c.len ≡ min 1016 (length text)
-  pub text : take c.len c.text ≡ take c.len text
+  pub is_status : c.status ≡ status
+  pub is_len : c.len ≡ min 1016 (length text)
+  pub is_text : take c.len c.text ≡ take c.len text
 
 -- the line of a message without its newline
 abbrev pub sentence_of : Message → List ℕ

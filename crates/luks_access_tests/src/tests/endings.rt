@@ -45,7 +45,10 @@ fn check_ending(
     let mut bytes = text(rt, 2048);
     bytes.truncate(len as usize);
     bytes.fill(0xee);
-    assert!(rt; volume.read_at(&MemImage::new(cut), 0, &mut bytes) == Ok(()), "{image_len}");
+    assert!(rt;
+        volume.read_at(&MemImage::new(cut), 0, &mut bytes) == Ok(()),
+        "{image_len}"
+    );
     assert!(rt; plain.get(..bytes.len()) == Some(&bytes[..]), "{image_len}");
 }
 

@@ -74,17 +74,24 @@ fn an_image_is_not_opened_where_a_read_fails(rt: HostRuntime) {
             failing,
             ..BadImage::new(&image)
         };
-        assert!(rt; refusal(&rt, &OPTIONS, &bad, PASS) == Message::ReadFailed, "{failing}");
+        assert!(rt;
+            refusal(&rt, &OPTIONS, &bad, PASS) == Message::ReadFailed,
+            "{failing}"
+        );
     }
 }
 
 // The device of zeros has no length, and any byte of it can be read; the one of nothing has none.
 #[test]
 fn files_are_read_at_offsets(rt: HostRuntime) {
-    let zeros = FileImage::new(File::open(&rt, "/dev/zero").expect(&rt, "a device")).expect(&rt, "an end");
+    let zeros = FileImage::new(File::open(&rt, "/dev/zero").expect(&rt, "a device")).expect(
+        &rt, "an end",
+    );
     let mut bytes = [0xee; 600];
     assert!(rt; zeros.len() == 0 && zeros.read_at(512, &mut bytes) == Ok(()));
     assert!(rt; bytes.iter().all(|byte| *byte == 0));
-    let none = FileImage::new(File::open(&rt, "/dev/null").expect(&rt, "a device")).expect(&rt, "an end");
+    let none = FileImage::new(File::open(&rt, "/dev/null").expect(&rt, "a device")).expect(
+        &rt, "an end",
+    );
     assert!(rt; none.read_at(0, &mut bytes) == Err(ReadAtFault::Ended));
 }

@@ -58,14 +58,36 @@ fn check_ranges(rt: &(impl Abort + AllocGlobal), image: &[u8], plain: &[u8]) {
 fn each_range_of_a_volume_is_that_of_its_text(rt: HostRuntime) {
     let plain = text(&rt, LEN);
     check_ranges(&rt, &image1(&rt, &plain), &plain);
-    check_ranges(&rt, &image2(&rt, &plain, SectorSize::B512, 0, false), &plain);
-    check_ranges(&rt, &image2(&rt, &plain, SectorSize::B1024, 7, true), &plain);
-    check_ranges(&rt, &image2(&rt, &plain, SectorSize::B2048, u64::MAX, false), &plain);
-    check_ranges(&rt, &image2(&rt, &plain, SectorSize::B4096, 8, true), &plain);
+    check_ranges(
+        &rt,
+        &image2(&rt, &plain, SectorSize::B512, 0, false),
+        &plain,
+    );
+    check_ranges(
+        &rt,
+        &image2(&rt, &plain, SectorSize::B1024, 7, true),
+        &plain,
+    );
+    check_ranges(
+        &rt,
+        &image2(&rt, &plain, SectorSize::B2048, u64::MAX, false),
+        &plain,
+    );
+    check_ranges(
+        &rt,
+        &image2(&rt, &plain, SectorSize::B4096, 8, true),
+        &plain,
+    );
 }
 
 // The range is refused, and the buffer is left as it was.
-fn check_past(rt: &(impl Abort + AllocGlobal), volume: &Volume, image: &[u8], offset: u64, len: usize) {
+fn check_past(
+    rt: &(impl Abort + AllocGlobal),
+    volume: &Volume,
+    image: &[u8],
+    offset: u64,
+    len: usize,
+) {
     let mut bytes = text(rt, len);
     let source = BadImage::new(image);
     let answer = volume.read_at(&source, offset, &mut bytes);
