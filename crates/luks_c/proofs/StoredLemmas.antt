@@ -19,10 +19,10 @@ use Rattle.luks_verdict.specs.declared.sector_size.SectorSize.{SectorSize}
 use Rattle.luks_verdict.specs.declared.sector_size.SectorSize.TheVariants.{B512, B1024, B2048, B4096}
 use Rattle.luks_verdict.specs.declared.segment.Segment.{Segment}
 use Rattle.luks_cipher.specs.Xts.{joined}
-use Rattle.luks_volume.specs.Plain.{ending_of, ending_within, sector_len, unit_plain, within_size}
-use Rattle.luks_volume.specs.declared.fault.VolumeFault.{VolumeFault}
-use Rattle.luks_volume.specs.declared.fault.VolumeFault.TheVariants.{CutBeforePayload}
-use Rattle.luks_volume.specs.declared.state.Step.{Step}
+use Rattle.luks_payload.specs.Plain.{ending_of, ending_within, sector_len, unit_plain, within_size}
+use Rattle.luks_payload.specs.declared.fault.VolumeFault.{VolumeFault}
+use Rattle.luks_payload.specs.declared.fault.VolumeFault.TheVariants.{CutBeforePayload}
+use Rattle.luks_payload.specs.declared.state.Step.{Step}
 use Rattle.luks_c.specs.Stored.{Stores, cipher_in, has_size_of, mode_in, mode_number, sector_size_in, segment_in}
 use Rattle.luks_c.specs.Stored.{size_in, size_of}
 use Rattle.luks_c.specs.declared.volume.LuksrdVolume.{LuksrdVolume}

@@ -1,5 +1,5 @@
 use Rattle.std.proofs.Common.{◌∙◌, Some, ap, sym}
-use Rattle.luks_io.specs.Memory.{Given}
+use Rattle.luks_io.specs.Memory.{MemSourceModel}
 use Rattle.luks_c.proofs.OpenLemmas.{no_read, opened_for, refused_for, some_code}
 use Rattle.luks_c.proofs.StoredLemmas.{short_key}
 use Rattle.luks_c.proofs.luksrd_open.Goals as goal
@@ -11,7 +11,7 @@ pub returns-in-Ok-clause-opens : goal.returns-in-Ok-clause-opens
 returns-in-Ok-clause-opens c done =
     opened_for c.args.options.now c.args.header.now c.args.passphrase.now c.tell.new.self c.in-Some.options
     c.in-Some.ensures c.store.new.self _
-    (c.in-Ok.ensures.opens c.args.header.now (ap (λ (g : Given). Some g.left) c.new.ensures)) c.store.ensures
+    (c.in-Ok.ensures.opens c.args.header.now (ap (λ (g : MemSourceModel). Some g.left) c.new.ensures)) c.store.ensures
     c.tell.ensures
 
 pub returns-in-Err-clause-opens : goal.returns-in-Err-clause-opens
@@ -23,4 +23,4 @@ returns-in-Err-clause-refuses c some other =
     refused_for c.args.options.now c.args.header.now c.args.passphrase.now c.tell-in-Err.new.self c.in-Some.options
     c.in-Some.ensures c.in-Err.refusal c.code_of.result c.code_of.ensures c.tell-in-Err.ensures
     (no_read c.in-Err.refusal c.in-Err.ensures.reads)
-    (c.in-Err.ensures.refuses c.args.header.now (ap (λ (g : Given). Some g.left) c.new.ensures))
+    (c.in-Err.ensures.refuses c.args.header.now (ap (λ (g : MemSourceModel). Some g.left) c.new.ensures))
