@@ -109,7 +109,14 @@ fn read_aligned<I: ReadAt>(
     let size = segment.sector_size.bytes();
     let whole = buf.len() - buf.len() % size;
     read_sectors(segment, cipher, image, len, offset, &mut buf[..whole])?;
-    read_inside(segment, cipher, image, len, offset + whole as u64, &mut buf[whole..])
+    read_inside(
+        segment,
+        cipher,
+        image,
+        len,
+        offset + whole as u64,
+        &mut buf[whole..],
+    )
 }
 
 /// How many bytes of a range come before the first sector that begins in it.
@@ -146,5 +153,12 @@ pub(crate) fn read_range<I: ReadAt>(
 {
     let head = head_len(segment, offset, buf.len());
     read_inside(segment, cipher, image, len, offset, &mut buf[..head])?;
-    read_aligned(segment, cipher, image, len, offset + head as u64, &mut buf[head..])
+    read_aligned(
+        segment,
+        cipher,
+        image,
+        len,
+        offset + head as u64,
+        &mut buf[head..],
+    )
 }

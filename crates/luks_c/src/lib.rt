@@ -131,11 +131,7 @@ fn bytes_of(fault: VolumeFault) -> u64
 /// Decrypts whole sectors in place, the first of which has this number. Where it answers another code
 /// than 0, the bytes are as they were.
 #[unsafe(no_mangle)]
-pub extern "C" fn luksrd_decrypt(
-    volume: &LuksrdVolume,
-    first_sector: u64,
-    bytes: &mut [u8],
-) -> u32
+pub extern "C" fn luksrd_decrypt(volume: &LuksrdVolume, first_sector: u64, bytes: &mut [u8]) -> u32
     ensures plain { result ≡ 0 → (v : OpenVolume) (image : List ℕ) → Stores volume.now v
         → AreStored v.segment image first_sector bytes.old
         → bytes.new ≡ plain_at v.segment (cipher_of v) image
