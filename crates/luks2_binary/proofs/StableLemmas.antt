@@ -99,7 +99,8 @@ module _ (held image : List ℕ) (front : IsPrefixOf held false image) where
       ap (header2_from Secondary (Some PrimaryNotValid))
       (at-front held false image front place 4096 (omega (arith, below, within, reach_least image place)))
 
-  stable_by : (b : Bool) → is_valid image 0 ≡ b → reach2_of image ≤ length held
+  -- an image is looked at no further than it is held: so it has the same header, and is looked at as far
+  pub stable_by : (b : Bool) → is_valid image 0 ≡ b → reach2_of image ≤ length held
       → (chosen2_of held ≡ chosen2_of image) × (reach2_of held ≡ reach2_of image)
   stable_by true e whole =
       let first = place_same 0 (omega (arith, reach_first image, whole)) in

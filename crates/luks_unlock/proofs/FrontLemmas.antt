@@ -13,6 +13,7 @@ use Rattle.luks2_binary.proofs.AgreeLemmas.{reach_fit, reach_unfit}
 use Rattle.luks2_binary.proofs.ChoiceLemmas.{reach_other, reach_primary}
 use Rattle.luks2_binary.proofs.JsonLemmas.{json_beginning}
 use Rattle.luks2_binary.proofs.SearchLemmas.{search_reach_is}
+use Rattle.luks2_binary.proofs.StableLemmas.{stable_by}
 use Rattle.luks2_binary.proofs.ValidLemmas.{fits_parts, size_range, valid_range}
 use Rattle.luks2_binary.proofs.WalkLemmas.{furthest}
 use Rattle.luks2_binary.specs.Choice2.{binary_at, fits, header2_of, is_valid}
@@ -38,7 +39,6 @@ use Rattle.luks_runs.specs.Secret.{longest_key_file}
 use Rattle.luks_runs.specs.Standing.{reading_of}
 use Rattle.luks_runs.specs.declared.standing.Standing.{Standing}
 use Rattle.luks_runs.specs.declared.standing.Standing.TheVariants.{Attached, Detached}
-use Rattle.luks_unlock.proofs.StableCopy.{stable_by}
 use Rattle.luks_unlock.specs.Volume.{OnOpened, Volume, found_outcome, opened_outcome, outcome_after, volume_by}
 use Rattle.luks_unlock.specs.Volume.{volume_in_header, volume_outcome_by}
 

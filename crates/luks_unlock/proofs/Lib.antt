@@ -6,5 +6,4 @@ pub mod KeyLemmas
 pub mod OutcomeLemmas
 pub mod SealedUnits
 pub mod SectorsUndone
-pub mod StableCopy
 pub mod VolumeLemmas
