@@ -36,11 +36,11 @@ behind_none image known is = rw is refl
 
 -- what holds where the source knows its bytes holds where the image does
 pub known_ok : {V M : Type 0} (r : Result V M) (Holds : V → List ℕ → Type 0) (image come : Option (List ℕ))
-    → come ≡ behind 0 image → IfOk r (λ v. WhereKnown come (Holds v)) → IfOk r (λ v. WhereKnown image (Holds v))
+    → come ≡ behind 0 image → IfOk r (λ v. IfKnown come (Holds v)) → IfOk r (λ v. IfKnown image (Holds v))
 known_ok (Ok v) Holds image come is holds = λ known there. holds known (is ∙ behind_none image known there)
 known_ok (Err m) Holds image come is holds = tt
 
 pub known_err : {V M : Type 0} (r : Result V M) (Holds : M → List ℕ → Type 0) (image come : Option (List ℕ))
-    → come ≡ behind 0 image → IfErr r (λ m. WhereKnown come (Holds m)) → IfErr r (λ m. WhereKnown image (Holds m))
+    → come ≡ behind 0 image → IfErr r (λ m. IfKnown come (Holds m)) → IfErr r (λ m. IfKnown image (Holds m))
 known_err (Ok v) Holds image come is holds = tt
 known_err (Err m) Holds image come is holds = λ known there. holds known (is ∙ behind_none image known there)

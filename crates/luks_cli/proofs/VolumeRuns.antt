@@ -115,7 +115,7 @@ module _ (on_opened : OnOpened) (named : Option ℕ) (v : Volume) (image secret 
   ]
 
   -- the header is taken, and of the key file as much as is read at most
-  found_within : (cost_of image ≤ (found_outcome on_opened named v image secret).image_taken)
+  found_within : (header_read_len image ≤ (found_outcome on_opened named v image secret).image_taken)
       × (min (length secret) (longest_key_file + 1) ≤ (found_outcome on_opened named v image secret).secret_taken)
   found_within = elim (cases_lt longest_key_file (length secret)) [
     | inl long ↦ rw (found_long on_opened named v image secret long) (omega arith, omega arith)
@@ -155,8 +155,8 @@ module _ (stand : Standing) (o : OpeningRequest) (image pass : List ℕ) (i s w 
     runs_without_volume WriteFailed other stop whole = absurd (other refl)
     runs_without_volume message other stop whole =
         rw (outcome_is stand o image pass on_opened (Err message) stop.0)
-        (ends_unwritten stand image pass message i s w (cost_of image) 0 other
-        (prompt_in_header stand image message (cost_of image) 0 (omega arith)) stop.1 (took-none pass s whole))
+        (ends_unwritten stand image pass message i s w (header_read_len image) 0 other
+        (prompt_in_header stand image message (header_read_len image) 0 (omega arith)) stop.1 (took-none pass s whole))
 
   -- the header names this segment and these key slots to be tried
   module _ (header : Header) (segment : Segment) (tries : OrderModel) (found : reading_of stand image ≡ Ok header)
