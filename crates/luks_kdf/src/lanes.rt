@@ -12,9 +12,10 @@ ghost use Rattle.luks_kdf.specs.Hmac.{inner_block, outer_block};
 ghost use Rattle.luks_kdf.specs.Pbkdf2.{capped, derived_key, t_of, u_of};
 
 use crate::Work;
+use crate::derive::derive_block;
 use crate::engine::Engine;
 use crate::mac::{KeyBlocks, Keyed, key_blocks};
-use luks_sha_lanes::{chains1, chains256, lone_chain256};
+use luks_sha_lanes::{chains1, chains256};
 use sha1::Sha1;
 use sha2::Sha256;
 
@@ -27,6 +28,9 @@ pub(crate) trait Lanes: Engine {
     const WIDTH: usize;
 
     ghost WIDTH: { ℕ };
+
+    // Whether one chain that is alone goes faster by `add_chains` than by the hasher.
+    const LONE: bool;
 
     /// Xors the next `count` digests of the first `used` chains into their sums. `last` holds the
     /// last digest of each chain, one after the other, and `sums` their sums.
@@ -49,6 +53,8 @@ impl Lanes for Sha1 {
     const WIDTH: usize = 4;
 
     ghost WIDTH = { 4 };
+
+    const LONE: bool = true;
 
     fn add_chains(
         inner: &[u8],
@@ -73,19 +79,17 @@ impl Lanes for Sha256 {
 
     ghost WIDTH = { 2 };
 
+    const LONE: bool = false;
+
     fn add_chains(
         inner: &[u8],
         outer: &[u8],
-        used: usize,
+        _used: usize,
         count: u32,
         last: &[u8],
         sums: &mut [u8],
     ) {
-        if used == 1 {
-            lone_chain256::add_chain(inner, outer, count, &last[..32], &mut sums[..32]);
-        } else {
-            chains256::add_chains(inner, outer, count, last, sums);
-        }
+        chains256::add_chains(inner, outer, count, last, sums);
     }
 
     ghost known = { inr (refl, refl) };
@@ -127,6 +131,7 @@ pub(crate) fn derive_in_lanes<E: Lanes>(
 }
 
 // Fills `out` with the first bytes of the blocks T from this number on, of which each lane has one.
+// A block that is alone goes by the hasher where that is faster.
 fn derive_group<E: Lanes>(
     keyed: &Keyed<E>,
     blocks: &KeyBlocks,
@@ -149,13 +154,17 @@ fn derive_group<E: Lanes>(
     ensures work { work.new
         ≡ capped (work.old + iterations * div_ceil (length out.old) (digest_len E.function)) }
 {
-    let mut t = [0; MAX_GROUP];
     let size = E::hash().size();
-    let t = &mut t[..E::WIDTH * size];
-    let count = out.len().div_ceil(size);
-    sum_group(keyed, blocks, salt, number, count, iterations, t);
-    work.raise_by(count as u128 * iterations as u128);
-    out.copy_from_slice(&t[..out.len()]);
+    if out.len() <= size && !E::LONE {
+        derive_block(keyed, salt, number, iterations, out, work);
+    } else {
+        let mut t = [0; MAX_GROUP];
+        let t = &mut t[..E::WIDTH * size];
+        let count = out.len().div_ceil(size);
+        sum_group(keyed, blocks, salt, number, count, iterations, t);
+        work.raise_by(count as u128 * iterations as u128);
+        out.copy_from_slice(&t[..out.len()]);
+    }
 }
 
 // Writes so many of the blocks T from this number on.

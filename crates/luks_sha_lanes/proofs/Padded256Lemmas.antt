@@ -13,13 +13,13 @@ use Rattle.luks_sha_lanes.proofs.PaddedLemmas.{IsTwoBlocks, two_blocks, word_bac
 use Rattle.luks_sha_lanes.proofs.WordLemmas.{below_sixteen, below_two, length-digest_bytes}
 
 -- the words of a digest and of its padding behind one block
-abbrev pub padded_words : List ℕ → List ℕ
+abbrev padded_words : List ℕ → List ℕ
 padded_words h =
     slice_index h 0 ∷ slice_index h 1 ∷ slice_index h 2 ∷ slice_index h 3 ∷ slice_index h 4 ∷ slice_index h 5
     ∷ slice_index h 6 ∷ slice_index h 7
     ∷ 0x80000000 ∷ 0 ∷ 0 ∷ 0 ∷ 0 ∷ 0 ∷ 0 ∷ 768 ∷ []
 
-pub digest_word : (h : List ℕ) → ((k : ℕ) → slice_index h k < 2 ^ 32) → (k : ℕ) → k < 16
+digest_word : (h : List ℕ) → ((k : ℕ) → slice_index h k < 2 ^ 32) → (k : ℕ) → k < 16
     → slice_index (padded_words h) k ≡ word_at (digest_bytes h 8 ++ padding 96) (4 * k)
 unfolding digest_bytes
 digest_word h fits =

@@ -135,7 +135,7 @@ four_fit a b c d ha hb hc hd (suc (suc zero)) = hc
 four_fit a b c d ha hb hc hd (suc (suc (suc zero))) = hd
 four_fit a b c d ha hb hc hd (suc (suc (suc (suc i)))) = omega arith
 
-pub words_of_bytes : (h bs : List ℕ) → ((i : ℕ) → slice_index bs i < 256) → (n : ℕ) → 4 * n ≤ length bs
+words_of_bytes : (h bs : List ℕ) → ((i : ℕ) → slice_index bs i < 256) → (n : ℕ) → 4 * n ≤ length bs
     → ((k : ℕ) → k < n → slice_index h k ≡ word_at bs (4 * k)) → digest_bytes h n ≡ take (4 * n) bs
 unfolding digest_bytes
 words_of_bytes h bs fits zero long each = refl

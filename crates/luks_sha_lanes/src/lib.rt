@@ -1,8 +1,8 @@
 //! SHA-256 and SHA-1 (FIPS 180-4) of one padded block from a chaining value, of several blocks side
 //! by side in the lanes of a vector, and chains of digests made by it: the turns of PBKDF2.
 //!
-//! Two blocks go side by side by SHA-256, and a lone one has a compression of its own. By SHA-1 as
-//! many do as there are lanes: four, or one alone by the same code. Nothing here allocates memory.
+//! Two blocks go side by side by SHA-256. By SHA-1 as many do as there are lanes: four, or one
+//! alone by the same code. Nothing here takes memory.
 #![tactic(auto)]
 
 mod block1;
@@ -10,8 +10,6 @@ mod block256;
 pub mod chains1;
 pub mod chains256;
 mod constants;
-mod lone256;
-pub mod lone_chain256;
 mod turns1;
 mod turns256;
 mod words;

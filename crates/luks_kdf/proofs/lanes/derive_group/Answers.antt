@@ -1,10 +1,18 @@
 use Rattle.std.proofs.Common.{◌≡◌, ◌∙◌, ap, arith, length}
 use Rattle.luks_kdf.specs.Hash.{digest_len}
-use Rattle.luks_kdf.proofs.LaneLemmas.{group_of_digests, has_lanes}
+use Rattle.luks_kdf.proofs.LaneLemmas.{group_of_digests, group_of_one, has_lanes}
 use Rattle.luks_kdf.proofs.lanes.derive_group.Goals as goal
 
-pub returns-clause-key : goal.returns-clause-key
-returns-clause-key g c = λ pass holds_inner holds_outer is_inner is_outer.
+pub returns-then-not-LONE-clause-key : goal.returns-then-not-LONE-clause-key
+returns-then-not-LONE-clause-key g c = λ pass holds_inner holds_outer is_inner is_outer.
+    let h = g.E.Engine.function in
+    let is_size : c.size-size.result ≡ digest_len h = c.size-size.ensures ∙ ap digest_len c.hash.ensures in
+    c.derive_block.ensures.key pass holds_inner holds_outer
+    ∙ group_of_one h pass c.args.salt.now c.args.number c.args.iterations g.E.Lanes.WIDTH (length c.args.out.now)
+    (omega arith) c.requires.room
+
+pub returns-else-out-size-clause-key : goal.returns-else-out-size-clause-key
+returns-else-out-size-clause-key g c = λ pass holds_inner holds_outer is_inner is_outer.
     let h = g.E.Engine.function in
     let is_size : c.size-size.result ≡ digest_len h = c.size-size.ensures ∙ ap digest_len c.hash.ensures in
     let lanes = has_lanes h g.E.Lanes.WIDTH g.met.E.Lanes.known in

@@ -1,7 +1,0 @@
-use Rattle.std.proofs.Common.{◌≡◌, ◌*◌, length, take}
-use Rattle.sha2.specs.Sha256.{digest_bytes}
-use Rattle.luks_sha_lanes.proofs.lone_chain256.store.Given as goal
-
--- the words before number i are written
-abbrev pub invariant-words : goal.invariant-words
-invariant-words l = (length l.out ≡ 32) × (take (4 * l.i) l.out ≡ digest_bytes l.x l.i)
