@@ -250,7 +250,7 @@ expect 'a derivation that is ended' 124 '' ''
 
 # installing into a folder with a space in its name
 mkdir 'a folder'
-make -s -C "$sources" install DESTDIR="$work/a folder" PREFIX=/usr PROGRAM="$program"
+make -s -C "$sources" install LIBRARY=absent PLUGIN=absent DESTDIR="$work/a folder" PREFIX=/usr PROGRAM="$program"
 find 'a folder' -type f -printf '%m %P\n' | sort >files
 same 'what is installed, and its modes' "$(cat files)" \
     '644 usr/share/bash-completion/completions/luksrd
