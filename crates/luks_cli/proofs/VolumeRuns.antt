@@ -107,7 +107,7 @@ module _ (on_opened : OnOpened) (named : Option ℕ) (v : Volume) (image secret 
   area_within : length secret ≤ longest_key_file
       → (min (length image) (held_for image v) ≤ (found_outcome on_opened named v image secret).image_taken)
       × (length secret ≤ (found_outcome on_opened named v image secret).secret_taken)
-  area_within short = elim (cases_lt (length image) (held_of v.tries.slots)) [
+  area_within short = elim (cases_lt (length image) (key_areas_end v.tries.slots)) [
     | inl few ↦ rw (found_cut on_opened named v image secret short few) (omega arith, omega arith)
     | inr enough ↦
         let all = opened_within (opening_of v.tries image secret) in
