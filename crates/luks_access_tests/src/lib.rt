@@ -1,7 +1,0 @@
-//! Tests of `luks_access`: ranges of plain texts, through its public calls.
-//!
-//! A crate of their own: what they stand on is not proved once more with them.
-#![tactic(auto)]
-
-#[cfg(test)]
-mod tests;
