@@ -5,9 +5,8 @@ use crate::target::is_output;
 use std::fs::{self, File};
 use std::io::{self, BufReader, ErrorKind, Read, Stdin};
 
-/// An input that is open. A regular file is read ahead. Of a pipe, a device and standard input only
-/// what is asked for is taken, so that what a run leaves of them stays for the program that reads
-/// on.
+/// An open input. A regular file is read ahead. A pipe, a device and standard input are read only
+/// as far as requested, so that the next program finds what a run leaves of them.
 #[derive(Drop)]
 pub enum Input {
     File(BufReader<File>),
@@ -16,27 +15,27 @@ pub enum Input {
     Empty,
 }
 
-/// Why an input is not open.
+/// Why an input cannot be opened.
 #[derive(Clone, Copy, PartialEq, Eq, Debug)]
-pub enum OpenFault {
+pub enum InputFault {
     NotOpened,
     Memory,
 }
 
 impl Input {
-    /// Opens the file of this name, or standard input for `-`. A folder does not open, nor does
+    /// Opens the file of this name, or standard input for `-`. A folder cannot be opened, nor can
     /// what standard output writes to.
-    pub fn open(rt: &HostRuntime, name: &str) -> Result<Input, OpenFault> {
+    pub fn open(rt: &HostRuntime, name: &str) -> Result<Input, InputFault> {
         if name == "-" {
             return match fs::metadata(rt, "/dev/stdin") {
-                Ok(kind) if kind.is_dir() || is_output(rt, &kind) => Err(OpenFault::NotOpened),
+                Ok(kind) if kind.is_dir() || is_output(rt, &kind) => Err(InputFault::NotOpened),
                 _ => Ok(Input::Standard(rt.stdin())),
             };
         }
         let file = fs::open(rt, name).map_err(fault_of)?;
         let kind = file.metadata().map_err(fault_of)?;
         if kind.is_dir() || is_output(rt, &kind) {
-            return Err(OpenFault::NotOpened);
+            return Err(InputFault::NotOpened);
         }
         if !kind.is_file() {
             return Ok(Input::Stream(file));
@@ -46,12 +45,12 @@ impl Input {
     }
 }
 
-/// What a refusal to open a file is told as.
-fn fault_of(e: io::Error) -> OpenFault {
+/// The fault that an error of opening a file is reported as.
+fn fault_of(e: io::Error) -> InputFault {
     if e.kind() == ErrorKind::OutOfMemory {
-        OpenFault::Memory
+        InputFault::Memory
     } else {
-        OpenFault::NotOpened
+        InputFault::NotOpened
     }
 }
 

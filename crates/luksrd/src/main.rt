@@ -1,56 +1,57 @@
-//! `luksrd`: reads the words, opens the inputs, runs the command, and tells how it ended.
+//! `luksrd`: reads its arguments, opens the inputs, runs the command, and reports how it ended.
 //!
-//! Everything that can be said of a run is said by `luks_cli`'s `plan`, `execute` and
-//! `execute_detached`; here are only the devices.
+//! What a run does is specified by `plan`, `execute` and `execute_detached` of `luks_cli`; only the
+//! devices are here.
 #![tactic(auto)]
 
 mod input;
 mod output;
 mod target;
 
-use input::{Input, OpenFault};
+use input::{Input, InputFault};
 use luks_cli::execute::{execute, execute_detached};
 use luks_cli::{Command, Message, NOT_OPENED, Report, not_opened_page, plan};
 use luks_io::adapters::{ReadSource, WriteSink};
 use luks_io::ahead::AheadSource;
 use luks_io::sink::put_all;
-use output::{Patient, stand_in};
+use output::{RetryingWriter, stand_in};
 use std::env;
 use std::io::{BufWriter, ErrorKind, Write};
 use std::process::ExitCode;
 
-/// How many bytes of a file or a payload are read, and of the output written, at most at once.
+/// The most bytes of a file or a payload that are read at once, and of the output that are written.
 const BUFFER: usize = 65536;
 
 fn main(rt: HostRuntime) -> ExitCode {
     let _stand_ins = [stand_in(&rt), stand_in(&rt), stand_in(&rt)];
-    let words = match env::args(&rt) {
-        Ok(words) => words,
-        Err(e) if e.kind() == ErrorKind::OutOfMemory => return tell(&rt, Message::OutOfMemory),
-        Err(_) => return tell(&rt, Message::Usage),
+    let args = match env::args(&rt) {
+        Ok(args) => args,
+        Err(e) if e.kind() == ErrorKind::OutOfMemory => return end(&rt, Message::OutOfMemory),
+        Err(_) => return end(&rt, Message::Usage),
     };
-    let Ok(words) = words.skip(1).collect::<Vec<String>>(rt.alloc()) else {
-        return tell(&rt, Message::OutOfMemory);
+    let Ok(args) = args.skip(1).collect::<Vec<String>>(rt.alloc()) else {
+        return end(&rt, Message::OutOfMemory);
     };
-    match plan(rt.alloc(), words.as_slice()) {
+    match plan(rt.alloc(), args.as_slice()) {
         Ok(command) => match run(&rt, &command) {
             Ok(status) | Err(status) => status,
         },
-        Err(fault) => tell_report(&rt, &Report::of_fault(fault)),
+        Err(fault) => print_report(&rt, &Report::of_fault(fault)),
     }
 }
 
-/// Opens the inputs, the image first and the file with its header next, and runs the command over
-/// them. Where one does not open, the status that tells so is the error.
+/// Opens the inputs, the image first and its detached header next, and runs the command over them.
+/// If one cannot be opened, the error is the exit status that says so.
 fn run(rt: &HostRuntime, command: &Command<'_>) -> Result<ExitCode, ExitCode> {
     let image = ReadSource::new(open(rt, Some(command.image()))?);
     let Ok(mut image) = AheadSource::new(rt.alloc(), BUFFER, image) else {
-        return Err(tell(rt, Message::OutOfMemory));
+        return Err(end(rt, Message::OutOfMemory));
     };
     let mut header = ReadSource::new(open(rt, command.header())?);
     let mut secret = ReadSource::new(open(rt, command.secret())?);
-    let Ok(writer) = BufWriter::with_capacity(rt.alloc(), BUFFER, Patient::new(rt.stdout())) else {
-        return Err(tell(rt, Message::OutOfMemory));
+    let Ok(writer) = BufWriter::with_capacity(rt.alloc(), BUFFER, RetryingWriter::new(rt.stdout()))
+    else {
+        return Err(end(rt, Message::OutOfMemory));
     };
     let mut out = WriteSink::new(writer);
     let alloc = rt.alloc();
@@ -67,39 +68,39 @@ fn run(rt: &HostRuntime, command: &Command<'_>) -> Result<ExitCode, ExitCode> {
         execute(alloc, command, &mut image, &mut secret, &mut out)
     };
     if out.into_inner().flush().is_err() {
-        return Err(tell(rt, Message::WriteFailed));
+        return Err(end(rt, Message::WriteFailed));
     }
-    Ok(tell_report(rt, &report))
+    Ok(print_report(rt, &report))
 }
 
-/// Opens an input, where there is one of a name.
+/// Opens the named input; without a name, an empty one.
 fn open(rt: &HostRuntime, name: Option<&str>) -> Result<Input, ExitCode> {
     let Some(name) = name else {
         return Ok(Input::Empty);
     };
-    Input::open(rt, name).map_err(|fault| tell_fault(rt, fault, name))
+    Input::open(rt, name).map_err(|fault| report_fault(rt, fault, name))
 }
 
-/// Tells that an input was not opened.
-fn tell_fault(rt: &HostRuntime, fault: OpenFault, name: &str) -> ExitCode {
-    if fault == OpenFault::Memory {
-        return tell(rt, Message::OutOfMemory);
+/// Reports that an input cannot be opened.
+fn report_fault(rt: &HostRuntime, fault: InputFault, name: &str) -> ExitCode {
+    if fault == InputFault::Memory {
+        return end(rt, Message::OutOfMemory);
     }
     let Ok(page) = not_opened_page(rt.alloc(), name) else {
-        return tell(rt, Message::OutOfMemory);
+        return end(rt, Message::OutOfMemory);
     };
     let _ = put_all(&mut WriteSink::new(rt.stderr()), page.as_bytes());
     ExitCode::from(NOT_OPENED)
 }
 
-/// Tells how a run ended.
-fn tell(rt: &HostRuntime, message: Message) -> ExitCode {
-    tell_report(rt, &Report::of(message))
+/// Ends a run with this message.
+fn end(rt: &HostRuntime, message: Message) -> ExitCode {
+    print_report(rt, &Report::of(message))
 }
 
-/// Prints the message of a report and gives its status. Where it can't be printed there is nobody
-/// to tell.
-fn tell_report(rt: &HostRuntime, report: &Report) -> ExitCode {
+/// Prints the message of a report and returns its status. A message that cannot be printed is lost:
+/// only the status remains.
+fn print_report(rt: &HostRuntime, report: &Report) -> ExitCode {
     let _ = report.message.print(&mut WriteSink::new(rt.stderr()));
     ExitCode::from(report.status)
 }

@@ -5,32 +5,32 @@ use std::fs::{self, File};
 use std::io::{self, ErrorKind, Write};
 use std::os::fd::AsRawFd;
 
-/// A writer that makes an interrupted call again, [`REPEATS`] times at most, and that is not asked
-/// again once a call has failed. What buffers its bytes would make an interrupted call again
-/// without end, and one that failed once more where it is dropped.
+/// A writer that retries an interrupted call, [`REPEATS`] times at most, and makes no call after
+/// one has failed. A buffer over the bare writer would retry without end, and would write once more
+/// after a failure when it is dropped.
 #[derive(Drop)]
-pub struct Patient<W> {
+pub struct RetryingWriter<W> {
     writer: W,
     failed: bool,
 }
 
-impl<W: Write> Patient<W> {
+impl<W: Write> RetryingWriter<W> {
     /// A writer over this one.
-    pub fn new(writer: W) -> Patient<W> {
-        Patient {
+    pub fn new(writer: W) -> RetryingWriter<W> {
+        RetryingWriter {
             writer,
             failed: false,
         }
     }
 
-    // What a call that failed is told as, from now on.
+    // The error of each call from now on.
     fn fail(&mut self) -> io::Error {
         self.failed = true;
         io::Error::from(ErrorKind::Other)
     }
 }
 
-impl<W: Write> Write for Patient<W> {
+impl<W: Write> Write for RetryingWriter<W> {
     fn write(&mut self, buf: &[u8]) -> io::Result<usize> {
         if self.failed {
             return Err(self.fail());
@@ -51,8 +51,9 @@ impl<W: Write> Write for Patient<W> {
 }
 
 /// Opens `/dev/null` in place of one of the descriptors 0 to 2, if one is closed: else the first
-/// input would become standard input, or the output would go into it. It stands there as long as it
-/// is kept. It is open for reading alone, so that a write to a closed output fails and is reported.
+/// input would become standard input, or the output would go into it. It holds that descriptor
+/// until it is dropped. It is open for reading alone, so that a write to a closed output fails and
+/// is reported.
 pub fn stand_in(rt: &HostRuntime) -> Option<File> {
     let file = fs::open(rt, "/dev/null").ok()?;
     if file.as_raw_fd() > 2 {

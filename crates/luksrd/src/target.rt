@@ -1,10 +1,10 @@
-//! What standard output writes to. No input may be that: a run would read what it writes, without
-//! end, or write over what it reads.
+//! The target of standard output. No input may be that: a run would read what it writes, without
+//! end, or overwrite what it reads.
 
 use std::fs::{self, Metadata};
 use std::os::unix::fs::{FileTypeExt, MetadataExt};
 
-/// What gives back the bytes that are written to it.
+/// A place that gives back the bytes that are written to it.
 #[derive(Clone, Copy, PartialEq, Eq)]
 enum Storage {
     /// A regular file, by its file system and its inode.
@@ -14,7 +14,7 @@ enum Storage {
 }
 
 /// Whether standard output writes to this input, by whatever name. Either of them may be a loop
-/// device over the other, or both over one file. A root without `/dev` or `/sys` shows less.
+/// device over the other, or both over one file. Without `/dev` or `/sys` fewer cases are found.
 pub fn is_output(rt: &HostRuntime, input: &Metadata) -> bool {
     let (Some(input), Ok(output)) = (storage_of(input), fs::metadata(rt, "/dev/stdout")) else {
         return false;
@@ -30,8 +30,8 @@ pub fn is_output(rt: &HostRuntime, input: &Metadata) -> bool {
         || (input_below.is_some() && input_below == output_below)
 }
 
-/// What a file's metadata stands for, if it gives back what is written to it. A terminal, a pipe
-/// and `/dev/null` do not.
+/// The storage that a file's metadata names, if it gives back what is written to it. A terminal, a
+/// pipe and `/dev/null` do not.
 fn storage_of(file: &Metadata) -> Option<Storage> {
     if file.is_file() {
         let (device, inode) = (file.dev(), file.ino());
@@ -44,7 +44,7 @@ fn storage_of(file: &Metadata) -> Option<Storage> {
     None
 }
 
-/// What a loop device is over, as far as `/sys` shows it.
+/// The storage under a loop device, if `/sys` shows it.
 fn backing_of(rt: &HostRuntime, storage: Storage) -> Option<Storage> {
     let Storage::Device { number } = storage else {
         return None;
