@@ -31,9 +31,9 @@ same 'install of no plugin' "$(lacking "$PATH" install-plugin PLUGIN=absent DEST
     'the plugin is not built: run make nbdkit first'
 same 'nothing is made' "$(ls "$nothing")" ''
 same 'a demo with no toolchain' "$(lacking "$nothing" demo)" 'rt is missing: put the Rattle toolchain on the path'
-same 'a package with no tools' "$(PATH=$nothing "$BASH" "$sources/packaging/deb" luksrd "$program" 1.0.0 luksrd.deb 2>&1)" \
+same 'a package with no tools' "$(PATH=$nothing "$BASH" "$sources/packaging/deb" luksrd "$program" 1.1.0 luksrd.deb 2>&1)" \
     'strip is missing: run apt-get install binutils'
-same 'a package that there is not' "$("$sources/packaging/deb" other "$program" 1.0.0 luksrd.deb 2>&1)" \
+same 'a package that there is not' "$("$sources/packaging/deb" other "$program" 1.1.0 luksrd.deb 2>&1)" \
     'there is no package other'
 
 program_package="$work/a folder/luksrd.deb"
@@ -66,6 +66,7 @@ holds() {
     same "$name: the same released changes" "$(zcat "$papers/changelog.gz" | grep -c '^  \*')" \
         "$(sed -n '/^## [0-9]/,$p' "$sources/CHANGELOG.md" | grep -c '^-')"
     same "$name: the man page" "$(zcat "$name/usr/share/man/man1/$page.gz")" "$(cat "$sources/docs/$page")"
+    same "$name: the version of the man page" "$(grep '^\.Os' "$sources/docs/$page")" ".Os luksrd $version"
     same "$name: what man says of its page" "$(man --warnings -l "$sources/docs/$page" 2>&1 >/dev/null)" ''
     same "$name: what mandoc says of it" "$(mandoc -Tlint -Wwarning "$sources/docs/$page" 2>&1)" ''
 }
