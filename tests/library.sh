@@ -68,6 +68,19 @@ agree 'nothing' empty - pass
 head -c 20000 volume >shorter
 agree 'truncated inside a key area' shorter - pass
 
+# the examples of docs/LIBRARY.md: the one in Rattle is that of its program, and the one in C reads the same volume
+block() {
+    sed -n "/^\`\`\`$1\$/,/^\`\`\`\$/p" "$sources/docs/LIBRARY.md" | sed '1d;$d'
+}
+example=$sources/crates/example_read
+same 'the example in Rattle' "$(sed -n '/^\/\/\/ The bytes of a sector/,/^}/p' "$example/src/main.rt")" "$(block rust)"
+block c >first.c
+gcc -std=c11 -D_GNU_SOURCE -Wall -Wextra -Werror -o first first.c "${words[@]}" || exit 1
+cp "$example/data/disk.img" .
+./first >given 2>said
+same 'the example in C' "$? $(cat said)" '0 '
+same 'what it writes' "$(sha256sum <given)" "$(sha256sum <"$example/stdout")"
+
 # it bears the version of the program, and gives the names of luksrd.h alone
 same 'its version' "$(pkg-config --modversion luksrd)" "$(make -s -C "$sources" -f Makefile -f - version <<<$'version:\n\t@echo $(VERSION)')"
 same 'what the library exports' "$(nm -D --defined-only "$shared" | awk '{ print $3 }' | sort | tr '\n' ' ')" \
