@@ -105,7 +105,7 @@ check: all $(SEALER) $(DERIVER) library nbdkit scripts
 # is built of C.
 TESTS := stripes volumes devices memory hostile completions
 INTEROP := headers headers2 volumes volumes2 detached filesystems
-PROGRAM_SCRIPTS := $(TESTS:%=test-%) $(INTEROP:%=interop-%)
+PROGRAM_SCRIPTS := test-names $(TESTS:%=test-%) $(INTEROP:%=interop-%)
 C_SCRIPTS := test-package test-library interop-nbd interop-recipes
 ALL_SCRIPTS := $(PROGRAM_SCRIPTS) $(C_SCRIPTS) interop-sealed interop-keys
 
@@ -117,6 +117,9 @@ c-scripts: ASKED = $(C_SCRIPTS)
 scripts program-scripts c-scripts:
 	tests/packages
 	+$(MAKE) -k -j 4 --output-sync=target --no-print-directory $(ASKED)
+
+test-names:
+	tests/names
 
 $(TESTS:%=test-%): test-%:
 	tests/$*.sh $(PROGRAM)

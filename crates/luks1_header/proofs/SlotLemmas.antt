@@ -134,11 +134,11 @@ usable_is header limit slot usable is =
     })
 
 -- of the slot of a number
-pub usable_at : (header : Header1) (limit : Option ℕ) (number : ℕ) (usable : Slot)
+pub slot_usable_at : (header : Header1) (limit : Option ℕ) (number : ℕ) (usable : Slot)
     → verdict1_at header limit number ≡ Some (Usable usable)
     → IsOf header usable × (slot1_at header number ≡ Some usable)
 unfolding verdict1_at slot1_at
-usable_at header limit number usable is = of_slot (slice_get header.slots number) is
+slot_usable_at header limit number usable is = of_slot (slice_get header.slots number) is
   where
     of_slot : (slot : Option KeySlot) → option_map (verdict1_of header limit) slot ≡ Some (Usable usable)
         → IsOf header usable × (option_and_then (slot1_of header) slot ≡ Some usable)

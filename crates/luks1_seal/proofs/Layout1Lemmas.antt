@@ -8,7 +8,7 @@ use Rattle.luks_cipher.specs.Sector.{mode_name}
 use Rattle.luks_cipher.specs.Xts.{joined}
 use Rattle.luks_cipher.specs.declared.mode.Mode.{Mode}
 use Rattle.luks_cipher.specs.declared.mode.Mode.TheVariants.{XtsPlain64, XtsPlain, CbcEssivSha256, CbcPlain64}
-use Rattle.luks_cipher.proofs.ModeLemmas.{longest_key}
+use Rattle.luks_cipher.proofs.ModeLemmas.{longest_mode_key}
 use Rattle.luks_kdf.specs.Hash.{hash_name}
 use Rattle.luks_kdf.specs.Pbkdf2.{derived_key}
 use Rattle.luks_kdf.specs.declared.hash.Hash.{Hash}
@@ -140,7 +140,7 @@ module _ (p : Seal1) (fits : AreParameters p) (typed : AreTyped1 p) where
   drawn1 slot of_slot = record {
     some = fits.counts.0;
     few = fits.counts.1;
-    key_most = longest_key p.mode (length p.key.now) fits.key;
+    key_most = longest_mode_key p.mode (length p.key.now) fits.key;
     len = of_slot.2;
   }
 

@@ -10,7 +10,7 @@ use Rattle.luks_area.specs.Field.{at, be32, text_of}
 use Rattle.luks_cipher.specs.Sector.{mode_name}
 use Rattle.luks_cipher.specs.declared.mode.Mode.{Mode}
 use Rattle.luks_cipher.specs.declared.mode.Mode.TheVariants.{XtsPlain64, XtsPlain, CbcEssivSha256, CbcPlain64}
-use Rattle.luks_cipher.proofs.ModeLemmas.{longest_key}
+use Rattle.luks_cipher.proofs.ModeLemmas.{longest_mode_key}
 use Rattle.luks_kdf.specs.Hash.{hash_name}
 use Rattle.luks_kdf.specs.Pbkdf2.{derived_key}
 use Rattle.luks_kdf.specs.declared.hash.Hash.{Hash}
@@ -232,7 +232,7 @@ module _ (p : Seal1) (fits : AreParameters p) (typed : AreTyped1 p) where
       let sectors = to_be_bytes w32 p.payload_sectors in
       let key = to_be_bytes w32 (length p.key.now) in
       number_read (at 108 4 (front1_of p)) (length p.key.now)
-      (omega (arith, longest_key p.mode (length p.key.now) fits.key))
+      (omega (arith, longest_mode_key p.mode (length p.key.now) fits.key))
       (in_middle 108 36 4 refl (omega arith)
       ∙ at_second 36 4 (hash ++ sectors) key (omega (arith, length-append hash sectors, length-hash_name p.hash)) refl)
 

@@ -68,7 +68,7 @@ fn are_distinct(slots: &[Slot1<'_>]) -> bool
 }
 
 /// All parameters are in their ranges.
-#[tactic(auto, using(luks_cipher::proofs::ModeLemmas::longest_key))]
+#[tactic(auto, using(luks_cipher::proofs::ModeLemmas::longest_mode_key))]
 pub(super) fn are_parameters(seal: &Seal1<'_>) -> bool
     ensures { IsTrue result ↔ AreParameters seal.now }
 {

@@ -24,8 +24,8 @@ any_name test no_members = false
 any_name test (member name value rest) = test name || any_name test rest
 
 -- a member of `keyslots` is passed over
-unfoldable pub has_name_out_of_range : Data → Bool
-has_name_out_of_range tree =
+unfoldable pub has_key_out_of_range : Data → Bool
+has_key_out_of_range tree =
     unwrap_or (option_map (any_name (λ name. not (is_number_below max_slots name)))
     (in_member (codes "keyslots") as_object tree)) false
 

@@ -2,7 +2,7 @@
 
 ghost use Rattle.std.specs.Prelude.{◌≡◌, bytes_eq, decimal, not, option_map, string_bytes};
 ghost use Rattle.luks_verdict.specs.Rule.{max_slots};
-ghost use Rattle.luks2_json.specs.Numbered.{any_name, is_number_below, object_numbered, has_name_out_of_range};
+ghost use Rattle.luks2_json.specs.Numbered.{any_name, is_number_below, object_numbered, has_key_out_of_range};
 ghost use Rattle.serde_json.specs.View.{members_view, view as data_of};
 
 use crate::tree::Metadata;
@@ -53,9 +53,9 @@ fn any_other_name(members: &Map<String, Value>) -> bool
 
 /// Whether a member of `keyslots` is passed over, since its name is no number below 32. This takes
 /// no memory.
-#[tactic(auto, unfolding(crate::specs::Numbered::has_name_out_of_range))]
+#[tactic(auto, unfolding(crate::specs::Numbered::has_key_out_of_range))]
 pub fn passes_over(metadata: &Metadata) -> bool
-    ensures { result ≡ has_name_out_of_range metadata.now }
+    ensures { result ≡ has_key_out_of_range metadata.now }
 {
     let Some(keyslots) = metadata.tree().get("keyslots") else {
         return false;

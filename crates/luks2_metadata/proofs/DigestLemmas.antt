@@ -39,11 +39,11 @@ many_iterations digest is many =
     out_of_range digest is (too_many (iterations_in digest) (length (value_in digest)) many)
 
 -- one whose numbers are in range
-pub in_range : (digest : Data) → is_digest2 digest ≡ true
+pub digest_in_range : (digest : Data) → is_digest2 digest ≡ true
     → is_digest (iterations_in digest) (length (value_in digest)) ≡ true
     → option_map iterations_of_digest (digest2_of digest) ≡ Some (iterations_in digest)
 unfolding digest2_of digest_of
-in_range digest is held = rw (is, digest_from-yes (digest_parts2_of digest) held) refl
+digest_in_range digest is held = rw (is, digest_from-yes (digest_parts2_of digest) held) refl
 
 pub few_iterations : (iterations len : ℕ) → is_digest iterations len ≡ true → iterations ≤ most_iterations
 few_iterations iterations len is = (usable_digest iterations len is).few_iterations

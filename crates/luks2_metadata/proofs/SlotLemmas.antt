@@ -6,7 +6,7 @@ use Rattle.std.proofs.lemmas.Bool.{ltb-false}
 use Rattle.std.proofs.lemmas.Option.{same_Some}
 use Rattle.luks_area.specs.Area.{max_area_len}
 use Rattle.luks_cipher.specs.declared.mode.Mode.{Mode}
-use Rattle.luks_cipher.proofs.ModeLemmas.{longest_key}
+use Rattle.luks_cipher.proofs.ModeLemmas.{longest_mode_key}
 use Rattle.luks_verdict.specs.Digest.{is_undigested}
 use Rattle.luks_verdict.specs.Rule.{exceeds, is_beyond, is_in_range, is_misplaced, is_unstriped, most_iterations}
 use Rattle.luks_verdict.specs.Rule.{need_of}
@@ -37,7 +37,7 @@ use Rattle.serde_json.specs.Data.{Data}
 key_length_few : (mode : Option Mode) (bytes : ℕ) → is_length_for mode bytes ≡ true → bytes ≤ 64
 unfolding is_length_for
 key_length_few None bytes is = grind (arith, nat_tests)
-key_length_few (Some mode) bytes is = longest_key mode bytes is
+key_length_few (Some mode) bytes is = longest_mode_key mode bytes is
 
 both : (a b : Bool) → (a && b) ≡ true → (a ≡ true) × (b ≡ true)
 both true b is = (refl, is)

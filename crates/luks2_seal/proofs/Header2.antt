@@ -71,8 +71,8 @@ secondary_start p fits = record {
 }
 
 -- the checksum of a header
-abbrev sum_of : Seal2 → List ℕ → List ℕ → ℕ → List ℕ
-sum_of p magic salt place = hash_of Sha256 (fields_of p magic salt place ++ padded 64 [] ++ body_bytes p)
+abbrev header_sum : Seal2 → List ℕ → List ℕ → ℕ → List ℕ
+header_sum p magic salt place = hash_of Sha256 (fields_of p magic salt place ++ padded 64 [] ++ body_bytes p)
 
 -- the checksum's field filled with something else
 zeroed_of : (front sum rest zeros : List ℕ) → length front ≡ 448 → length sum ≡ 64
@@ -112,11 +112,11 @@ module _ (p : Seal2) (fits : AreParameters2 p) (json : FitsJson p) (magic salt :
       let text = length-padded (p.hdr_size - 4096) (json_of p) (omega (arith, json.0)) in
       rw (length-append, zeros, text) (omega (arith, room.0))
 
-  sum_long : length (sum_of p magic salt place) ≡ 32
+  sum_long : length (header_sum p magic salt place) ≡ 32
   sum_long = length-hash_of Sha256 (fields_of p magic salt place ++ padded 64 [] ++ body_bytes p)
 
-  length-sum : length (padded 64 (sum_of p magic salt place)) ≡ 64
-  length-sum = length-padded 64 (sum_of p magic salt place) (omega (arith, sum_long))
+  length-sum : length (padded 64 (header_sum p magic salt place)) ≡ 64
+  length-sum = length-padded 64 (header_sum p magic salt place) (omega (arith, sum_long))
 
   pub length-header : length (header2_bytes p magic salt place) ≡ p.hdr_size
   unfolding header2_bytes
@@ -132,7 +132,7 @@ module _ (p : Seal2) (fits : AreParameters2 p) (json : FitsJson p) (magic salt :
   unfolding header2_bytes
   in_fields k len below =
       let fields = fields_of p magic salt place in
-      let sum = padded 64 (sum_of p magic salt place) in
+      let sum = padded 64 (header_sum p magic salt place) in
       at_first k len (fields ++ sum) (body_bytes p) (omega (arith, length-append fields sum, length-fields))
       ∙ at_first k len fields sum (omega (arith, length-fields))
 
@@ -175,11 +175,11 @@ module _ (p : Seal2) (fits : AreParameters2 p) (json : FitsJson p) (magic salt :
 
   -- ---- the checksum
 
-  sum_there : at 448 32 (header2_bytes p magic salt place) ≡ sum_of p magic salt place
+  sum_there : at 448 32 (header2_bytes p magic salt place) ≡ header_sum p magic salt place
   unfolding header2_bytes
   sum_there =
       let fields = fields_of p magic salt place in
-      let sum = sum_of p magic salt place in
+      let sum = header_sum p magic salt place in
       at_first 448 32 (fields ++ padded 64 sum) (body_bytes p)
       (omega (arith, length-append fields (padded 64 sum), length-fields, length-sum))
       ∙ at_behind 448 0 32 fields (padded 64 sum) (omega (arith, length-fields))
@@ -191,7 +191,7 @@ module _ (p : Seal2) (fits : AreParameters2 p) (json : FitsJson p) (magic salt :
       ≡ fields_of p magic salt place ++ padded 64 [] ++ body_bytes p
   unfolding without_checksum no_checksum header2_bytes padded
   zeroed =
-      zeroed_of (fields_of p magic salt place) (padded 64 (sum_of p magic salt place)) (body_bytes p) no_checksum
+      zeroed_of (fields_of p magic salt place) (padded 64 (header_sum p magic salt place)) (body_bytes p) no_checksum
       length-fields length-sum
 
   hash_known : checksum_hash_in (header2_bytes p magic salt place) ≡ Some Sha256
@@ -202,7 +202,7 @@ module _ (p : Seal2) (fits : AreParameters2 p) (json : FitsJson p) (magic salt :
   pub intact : checksum_matches (header2_bytes p magic salt place) ≡ true
   unfolding checksum_matches
   intact =
-      let sum = sum_of p magic salt place in
+      let sum = header_sum p magic salt place in
       rw (hash_known, zeroed, sum_there) ((bytes_eq-Decides sum sum).1 refl)
 
   -- ---- the binary header
@@ -261,7 +261,7 @@ module _ (p : Seal2) (fits : AreParameters2 p) (json : FitsJson p) (magic salt :
   unfolding header2_bytes body_bytes
   json_there =
       let fields = fields_of p magic salt place in
-      let sum = padded 64 (sum_of p magic salt place) in
+      let sum = padded 64 (header_sum p magic salt place) in
       let text = length-padded (p.hdr_size - 4096) (json_of p) (omega (arith, json.0)) in
       at_behind 4096 3584 (p.hdr_size - 4096) (fields ++ sum) (body_bytes p)
       (omega (arith, length-append fields sum, length-fields, length-sum))

@@ -8,7 +8,7 @@ use Rattle.std.proofs.lemmas.Bool.{cases_lt}
 use Rattle.std.proofs.lemmas.List.{take_all}
 use Rattle.std.proofs.lemmas.List.Elements.{All-head, All-tail}
 use Rattle.luks_area.specs.Field.{at}
-use Rattle.luks_cipher.proofs.ModeLemmas.{longest_key}
+use Rattle.luks_cipher.proofs.ModeLemmas.{longest_mode_key}
 use Rattle.luks_verdict.specs.Rule.{need_of}
 use Rattle.luks_verdict.specs.SectorSize.{bytes_of}
 use Rattle.luks_verdict.specs.declared.sector_size.SectorSize.{SectorSize}
@@ -63,7 +63,7 @@ module _ (p : Seal2) (fits : AreParameters2 p) (json : FitsJson p) (typed : AreT
   drawn slot of_slot = record {
     some = of_slot.3;
     few = of_slot.4;
-    key_most = longest_key p.mode (length p.key.now) fits.keys.0;
+    key_most = longest_mode_key p.mode (length p.key.now) fits.keys.0;
     len = of_slot.5;
   }
 

@@ -4,7 +4,7 @@ use Rattle.std.proofs.lemmas.Grind.{common_steps}
 use Rattle.std.proofs.lemmas.Bool.Decides.{nat_tests}
 use Rattle.luks_cipher.specs.Sector.{is_mode_key_length}
 use Rattle.luks_cipher.specs.declared.mode.Mode.{Mode}
-use Rattle.luks_cipher.proofs.ModeLemmas.{key_length_of_mode, longest_key}
+use Rattle.luks_cipher.proofs.ModeLemmas.{key_length_of_mode, longest_mode_key}
 use Rattle.luks_seal.specs.declared.parameters.Seal2.{Seal2}
 use Rattle.luks2_seal.specs.Ranges2.{AreParameters2, is_header_size}
 
@@ -22,13 +22,13 @@ module _ (p : Seal2) (fits : AreParameters2 p) where
   some_key = shortest_key p.mode (length p.key.now) fits.keys.0
 
   pub short_key : length p.key.now ≤ 64
-  short_key = longest_key p.mode (length p.key.now) fits.keys.0
+  short_key = longest_mode_key p.mode (length p.key.now) fits.keys.0
 
   pub some_area_key : 1 ≤ p.area_key_size
   some_area_key = shortest_key p.area_mode p.area_key_size fits.keys.1
 
   pub short_area_key : p.area_key_size ≤ 64
-  short_area_key = longest_key p.area_mode p.area_key_size fits.keys.1
+  short_area_key = longest_mode_key p.area_mode p.area_key_size fits.keys.1
 
   pub short_header : p.hdr_size ≤ 4194304
   short_header = (size_range p.hdr_size fits.size).1

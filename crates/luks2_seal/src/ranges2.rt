@@ -96,7 +96,7 @@ fn fits_offset(seal: &Seal2<'_>) -> bool
 }
 
 /// All parameters are in their ranges, as far as they can be judged without the JSON text.
-#[tactic(auto, using(luks_cipher::proofs::ModeLemmas::longest_key))]
+#[tactic(auto, using(luks_cipher::proofs::ModeLemmas::longest_mode_key))]
 pub(crate) fn are_parameters2(seal: &Seal2<'_>) -> bool
     ensures { IsTrue result ↔ AreParameters2 seal.now }
 {

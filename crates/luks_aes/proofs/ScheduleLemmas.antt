@@ -23,8 +23,8 @@ aes_lengths n is =
       | inr e ↦ inr (inr (eqb-true n 32 e))
     ]
 
-pub is_key_length : (n : ℕ) → (n ≡ 16) ⊎ ((n ≡ 24) ⊎ (n ≡ 32)) → IsTrue (is_aes_key_length n)
-is_key_length n one =
+pub known_key_length : (n : ℕ) → (n ≡ 16) ⊎ ((n ≡ 24) ⊎ (n ≡ 32)) → IsTrue (is_aes_key_length n)
+known_key_length n one =
     elim one [
       | inl e ↦ rw e refl
       | inr other ↦ elim other [ inl e ↦ rw e refl | inr e ↦ rw e refl ]

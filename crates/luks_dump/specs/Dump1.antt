@@ -37,8 +37,8 @@ slot1_lines number [] = []
 slot1_lines number (slot ∷ slots) = slot1_line number slot ++ slot1_lines (suc number) slots
 
 -- the lines from the version to the hash
-unfoldable pub text_lines : Header1 → List ℕ
-text_lines h =
+unfoldable pub text1_lines : Header1 → List ℕ
+text1_lines h =
     field (codes "Version") (codes "1")
     ++ field (codes "UUID") (escaped h.uuid)
     ++ field (codes "Cipher") (escaped h.cipher_name ++ codes "-" ++ escaped h.cipher_mode)
@@ -55,7 +55,7 @@ number_lines h =
 
 -- the dump of a header
 unfoldable pub dump1_of : Header1 → List ℕ
-dump1_of h = text_lines h ++ number_lines h ++ slot1_lines 0 h.slots
+dump1_of h = text1_lines h ++ number_lines h ++ slot1_lines 0 h.slots
 
 -- the line with the UUID alone
 unfoldable pub uuid_line : Header1 → List ℕ

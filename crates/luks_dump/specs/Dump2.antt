@@ -43,8 +43,8 @@ place_lines h =
     ++ field (codes "Header size") (decimal h.size)
 
 -- the lines from the UUID to the hash function of the checksum
-unfoldable pub text_lines : Header2 → List ℕ
-text_lines h =
+unfoldable pub text2_lines : Header2 → List ℕ
+text2_lines h =
     field (codes "UUID") (escaped h.uuid)
     ++ field (codes "Label") (escaped h.label)
     ++ field (codes "Subsystem") (escaped h.subsystem)
@@ -145,7 +145,7 @@ digest_lines digests = flat_map digest_line digests
 unfoldable pub dump2_of : Header2 → Data → List ℕ
 dump2_of h tree =
     place_lines h
-    ++ text_lines h
+    ++ text2_lines h
     ++ slot2_lines tree (bounds2_of h)
     ++ segment_line (segment2_of tree (bounds2_of h))
     ++ digest_lines (digests2_of tree)

@@ -12,7 +12,7 @@ use Rattle.luks_verdict.specs.declared.segment.Segment.{Segment}
 use Rattle.luks_verdict.specs.declared.slot.Slot.{Slot}
 use Rattle.luks_verdict.specs.declared.slot.Verdict.TheVariants.{Usable}
 use Rattle.luks1_header.proofs.SegmentLemmas.{IsReadable-ok, digest_hash}
-use Rattle.luks1_header.proofs.SlotLemmas.{usable_at}
+use Rattle.luks1_header.proofs.SlotLemmas.{slot_usable_at}
 use Rattle.luks_area.specs.Field.{at}
 use Rattle.luks_area.specs.declared.fault.HeaderFault.{HeaderFault}
 use Rattle.luks_area.specs.declared.fault.HeaderFault.TheVariants.{Cut}
@@ -68,7 +68,7 @@ pub slot_of_usable : (header : Header) (limit : Option ℕ) (number : ℕ) (slot
     → verdict_at header limit number ≡ Some (Usable slot)
     → slot_at header number ≡ Some slot
 unfolding verdict_at slot_at
-slot_of_usable (V1 header) limit number slot is = (usable_at header limit number slot is).1
+slot_of_usable (V1 header) limit number slot is = (slot_usable_at header limit number slot is).1
 slot_of_usable (V2 header tree) limit number slot is = (usable2_at tree (bounds2_of header) limit number slot is).1
 
 -- and a digest
@@ -76,7 +76,7 @@ pub digest_of_usable : (header : Header) (limit : Option ℕ) (number : ℕ) (sl
     → verdict_at header limit number ≡ Some (Usable slot)
     → (digest : KeyDigest) × (digest_for header number ≡ Some digest)
 unfolding verdict_at digest_for
-digest_of_usable (V1 header) limit number slot is = (usable_at header limit number slot is).0.digest
+digest_of_usable (V1 header) limit number slot is = (slot_usable_at header limit number slot is).0.digest
 digest_of_usable (V2 header tree) limit number slot is =
     (usable2_at tree (bounds2_of header) limit number slot is).0.digest
 
@@ -89,7 +89,7 @@ known_usable (V1 header) segment limit number slot is_segment is =
     let read = IsReadable-ok header segment is_segment in
     let readable = read.1 in
     let mode = read.0.mode in
-    let of_header = (usable_at header limit number slot is).0 in
+    let of_header = (slot_usable_at header limit number slot is).0 in
     record {
       kdf = (readable.hash.0, of_header.kdf ∙ readable.hash.1);
       af = (readable.hash.0, of_header.af ∙ readable.hash.1);
@@ -159,7 +159,7 @@ before_payload (V1 header) segment limit number slot attached is_segment is =
     let start = (IsReadable-ok header segment is_segment).0.offset in
     let known : payload1_start header ≡ Some segment.offset = rw (attached, start) refl in
     ends_before (payload1_start header) segment.offset (material_end slot) known
-    (usable_at header limit number slot is).0.before_payload
+    (slot_usable_at header limit number slot is).0.before_payload
 before_payload (V2 header tree) segment limit number slot attached is_segment is =
     let read = segment2-ok tree (bounds2_of header) segment is_segment in
     ends_before (payload2_of tree (bounds2_of header)) segment.offset (material_end slot) (read.start attached)

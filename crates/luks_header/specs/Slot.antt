@@ -5,7 +5,7 @@ use Rattle.luks_verdict.specs.Table.{ascending}
 use Rattle.luks_verdict.specs.declared.slot.Slot.{Slot}
 use Rattle.luks_verdict.specs.declared.slot.Verdict.{Verdict}
 use Rattle.luks1_header.specs.Slot1.{slot1_at, verdict1_at}
-use Rattle.luks2_json.specs.Numbered.{has_name_out_of_range as has_key_out_of_range}
+use Rattle.luks2_json.specs.Numbered.{has_key_out_of_range}
 use Rattle.luks2_metadata.specs.Slot2.{slot2_at, verdict2_at}
 use Rattle.luks_header.specs.Header.{bounds2_of}
 use Rattle.luks_header.specs.declared.header.Header.{Header}

@@ -19,7 +19,7 @@ use Rattle.luks_report.specs.declared.message.Message.{Message}
 use Rattle.luks_report.specs.declared.message.Message.TheVariants.{Done, KeyLength, FewRandomBytes, ReadFailed}
 use Rattle.luks_report.specs.declared.message.Message.TheVariants.{WriteFailed}
 use Rattle.luks_runs.specs.Ending.{Outcome}
-use Rattle.luks_runs.specs.Stripe.{split_key_outcome, split_outcome, stripes_of}
+use Rattle.luks_runs.specs.Stripe.{split_key_outcome, split_outcome, split_stripes}
 use Rattle.luks_runs.specs.Run.{IsPrefixLen, IsSilent, RunMatches, Aborted, Completed}
 use Rattle.luks_runs.specs.StripeParts.{NoKeyRead, Passed, StopsAtStripe, split_promptly}
 
@@ -53,7 +53,7 @@ module _ (h : Hash) (count : ℕ) (key random : List ℕ) where
   random_enough : (count - 1) * length key ≤ length random
       → split_key_outcome h count key random
       ≡ record {
-        output = stripes_of h count key (take ((count - 1) * length key) random);
+        output = split_stripes h count key (take ((count - 1) * length key) random);
         message = Done;
         image_taken = length key;
         secret_taken = (count - 1) * length key;

@@ -11,8 +11,8 @@ abbrev pub longest_key : ℕ
 longest_key = 512
 
 -- the stripes of a key: the random ones, and the one that makes them merge to the key
-abbrev pub stripes_of : Hash → ℕ → List ℕ → List ℕ → List ℕ
-stripes_of hash count key random = random ++ xor (chain_of hash (length key) random (count - 1)) key
+abbrev pub split_stripes : Hash → ℕ → List ℕ → List ℕ → List ℕ
+split_stripes hash count key random = random ++ xor (chain_of hash (length key) random (count - 1)) key
 
 -- splitting a key of a length that is allowed
 unfoldable pub split_key_outcome : Hash → ℕ → List ℕ → List ℕ → Outcome
@@ -20,7 +20,7 @@ split_key_outcome hash count key random =
     let needed = (count - 1) * length key in
     if nat_le needed (length random)
     then record {
-      output = stripes_of hash count key (take needed random);
+      output = split_stripes hash count key (take needed random);
       message = Done;
       image_taken = length key;
       secret_taken = needed;

@@ -73,5 +73,5 @@ sha1_behind b w whole =
     (hash_of_two (padded_message (b ++ d)) b (d ++ padding 84)
     (two_blocks b d 20 whole size (omega (arith, size, length-append d (padding 84)))))
 
-pub chained : IsChained sha1 (compress initial_hash) (behind compress 5) 5
-chained = record { follows = sha1_behind }
+pub chained1 : IsChained sha1 (compress initial_hash) (behind compress 5) 5
+chained1 = record { follows = sha1_behind }

@@ -87,5 +87,5 @@ sha256_behind b w whole =
     (hash_of_two initial_hash_256 (padded_message (b ++ d)) b (d ++ padding 96)
     (two_blocks b d 32 whole size (omega (arith, size, length-append d (padding 96)))))
 
-pub chained : IsChained sha256 (compress initial_hash_256) (behind compress 8) 8
-chained = record { follows = sha256_behind }
+pub chained256 : IsChained sha256 (compress initial_hash_256) (behind compress 8) 8
+chained256 = record { follows = sha256_behind }

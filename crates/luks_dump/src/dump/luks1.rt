@@ -3,7 +3,7 @@
 ghost use Rattle.std.specs.Prelude.{◌≡◌, ◌++◌, IfOk, OnOk, length, string_bytes, ◌≤◌};
 ghost use Rattle.luks_dump.specs.Dump1.{dump1_of, enabled_text, number_lines, slot1_line};
 ghost use Rattle.luks_dump.specs.Dump1.{slot1_lines};
-ghost use Rattle.luks_dump.specs.Dump1.{slot_text, text_lines, uuid_line};
+ghost use Rattle.luks_dump.specs.Dump1.{slot_text, text1_lines, uuid_line};
 
 use crate::escaping::escape;
 use crate::field::{push_bytes, push_field, push_number, push_text};
@@ -33,9 +33,9 @@ pub(super) fn dump_page(alloc: Global, header: &Header1) -> Result<String, Alloc
 }
 
 /// Adds the lines from the version to the hash.
-#[tactic(auto, unfolding(crate::specs::Dump1::text_lines))]
+#[tactic(auto, unfolding(crate::specs::Dump1::text1_lines))]
 fn push_texts(alloc: Global, page: &mut String, header: &Header1) -> Result<(), AllocError>
-    ensures { OnOk result (string_bytes page.new ≡ string_bytes page.old ++ text_lines header.now) }
+    ensures { OnOk result (string_bytes page.new ≡ string_bytes page.old ++ text1_lines header.now) }
 {
     let name = escape(alloc, header.cipher_name.as_bytes())?;
     let mode = escape(alloc, header.cipher_mode.as_bytes())?;

@@ -1,7 +1,7 @@
 //! What is printed of a LUKS2 header.
 
 ghost use Rattle.std.specs.Prelude.{◌≡◌, ◌++◌, IfOk, OnOk, string_bytes};
-ghost use Rattle.luks_dump.specs.Dump2.{dump2_of, place_lines, place_text, text_lines, uuid2_line};
+ghost use Rattle.luks_dump.specs.Dump2.{dump2_of, place_lines, place_text, text2_lines, uuid2_line};
 
 use crate::escaping::escape;
 use crate::field::{push_field, push_number, push_text};
@@ -66,9 +66,9 @@ fn place_text(place: Place) -> &'static str
 }
 
 // Adds the lines from the UUID to the hash function of the checksum.
-#[tactic(auto, unfolding(crate::specs::Dump2::text_lines))]
+#[tactic(auto, unfolding(crate::specs::Dump2::text2_lines))]
 fn push_texts(alloc: Global, page: &mut String, header: &Header2) -> Result<(), AllocError>
-    ensures { OnOk result (string_bytes page.new ≡ string_bytes page.old ++ text_lines header.now) }
+    ensures { OnOk result (string_bytes page.new ≡ string_bytes page.old ++ text2_lines header.now) }
 {
     push_text(alloc, page, "UUID", header.uuid.as_bytes())?;
     push_text(alloc, page, "Label", header.label.as_bytes())?;

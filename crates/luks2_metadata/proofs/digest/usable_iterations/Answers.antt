@@ -1,7 +1,7 @@
 use Rattle.std.proofs.Common.{◌≡◌, true, option_map, sym, ap, arith}
 use Rattle.luks_verdict.specs.Rule.{is_digest}
 use Rattle.luks2_metadata.specs.Digest2.{iterations_of_digest}
-use Rattle.luks2_metadata.proofs.DigestLemmas.{few_iterations, in_range, not_digest, out_of_range}
+use Rattle.luks2_metadata.proofs.DigestLemmas.{few_iterations, digest_in_range, not_digest, out_of_range}
 use Rattle.luks2_metadata.proofs.digest.usable_iterations.Goals as goal
 use Rattle.serde_json.specs.View.{view}
 
@@ -20,5 +20,5 @@ overflow_cast-result c =
 
 pub returns : goal.returns
 returns c =
-    let is = in_range (view c.args.digest.now) (cc) (cc) in
+    let is = digest_in_range (view c.args.digest.now) (cc) (cc) in
     cc

@@ -4,12 +4,12 @@ use Rattle.luks_kdf.specs.Hash.{digest_len}
 use Rattle.luks_kdf.proofs.BytesLemmas.{cut_start, cut_step, piece_begins}
 use Rattle.luks_kdf.proofs.LaneLemmas.{count_end, count_group, count_start, group_at}
 use Rattle.luks_kdf.proofs.LaneLemmas.{group_from, groups_end, has_lanes, length-blocks}
-use Rattle.luks_kdf.proofs.Pbkdf2Lemmas.{block_at}
+use Rattle.luks_kdf.proofs.Pbkdf2Lemmas.{block_t}
 use Rattle.luks_kdf.proofs.lanes.derive_in_lanes.Goals as goal
 
 pub fill-init : goal.fill-init
 fill-init g c = (
-  cut_start (group_at (block_at g.E.Engine.function c.args.pass.now c.args.salt.now c.args.iterations) g.E.Lanes.WIDTH)
+  cut_start (group_at (block_t g.E.Engine.function c.args.pass.now c.args.salt.now c.args.iterations) g.E.Lanes.WIDTH)
       (c.WIDTH.result * c.size.result) (length c.args.out.now) c.args.out.now,
   count_start c.args.work.now c.args.iterations _ (omega arith),
 )
@@ -32,7 +32,7 @@ fill-preserved g c =
     let is_number = ap (λ (n : ℕ). n * c.fill.i + 1) c.WIDTH-in-fill.ensures in
     let key = c.derive_group.ensures.key pass c.new-keyed.ensures.inner c.new-keyed.ensures.outer
     c.key_blocks-blocks.ensures.inner c.key_blocks-blocks.ensures.outer in (
-      cut_step (group_at (block_at h pass salt turns) w) group (length-blocks h pass salt turns w group is_group) before
+      cut_step (group_at (block_t h pass salt turns) w) group (length-blocks h pass salt turns w group is_group) before
           c.fill.out c.derive_group.new.out c.fill.i c.min-end.result inside c.fill.auto.out c.fill.invariant.0
           c.min-end.ensures (group_from h pass salt turns w c.fill.i _ _ _ is_number key),
       count_group h w group c.args.work.now c.fill.work c.derive_group.new.work turns (length before) c.fill.i

@@ -1,9 +1,9 @@
 use Rattle.std.proofs.Common.{append_assoc}
-use Rattle.luks_dump.specs.Dump1.{text_lines}
+use Rattle.luks_dump.specs.Dump1.{text1_lines}
 use Rattle.luks_dump.proofs.dump.luks1.push_texts.Goals as goal
 
 pub returns : goal.returns
-unfolding text_lines
+unfolding text1_lines
 returns c =
     simp (
       c.in_ok-push_text-2.ensures,
