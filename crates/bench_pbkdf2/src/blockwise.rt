@@ -15,12 +15,12 @@ const INNER_PAD: u8 = 0x36;
 
 const OUTER_PAD: u8 = 0x5C;
 
-/// Fills `out` with the key, and tells how many times HMAC was evaluated.
+/// Fills `out` with the key, and answers how many times HMAC was evaluated.
 pub(crate) fn by_sha1(pass: &[u8], salt: &[u8], turns: u32, out: &mut [u8]) -> u128 {
     derive::<Sha1>(pass, salt, turns, out)
 }
 
-/// Fills `out` with the key, and tells how many times HMAC was evaluated.
+/// Fills `out` with the key, and answers how many times HMAC was evaluated.
 pub(crate) fn by_sha256(pass: &[u8], salt: &[u8], turns: u32, out: &mut [u8]) -> u128 {
     derive::<Sha256>(pass, salt, turns, out)
 }
@@ -92,7 +92,7 @@ impl Hasher for Sha256 {
     }
 }
 
-// Two hashers that have taken in the key's two blocks.
+// Two hashers that have absorbed the key's two blocks.
 #[derive(Drop)]
 struct Keyed<H> {
     inner: H,

@@ -1,8 +1,8 @@
-//! Derives keys, and tells what that takes: `bench_pbkdf2 luks_kdf sha256 100000 64` derives a key
-//! of 64 bytes in that many turns, and writes the evaluations of HMAC, the nanoseconds of processor
-//! time and the key to standard error. Each further number is one more length, with a line of its
-//! own. `blockwise` in place of `luks_kdf` derives the blocks of a key one after the other, by
-//! SHA-1 or SHA-256. With no words, or with others, it does nothing.
+//! Derives keys, and reports what that costs: `bench_pbkdf2 luks_kdf sha256 100000 64` derives a
+//! key of 64 bytes with that many iterations, and writes the evaluations of HMAC, the nanoseconds
+//! of processor time and the key to standard error. Each further number is one more length, with a
+//! line of its own. `blockwise` in place of `luks_kdf` derives the blocks of a key one after the
+//! other, by SHA-1 or SHA-256. With no arguments, or with others, it does nothing.
 #![tactic(auto)]
 
 ghost use Rattle.std.specs.Prelude.{◌≤◌};
@@ -53,7 +53,7 @@ fn main(rt: HostRuntime) -> io::Result<()> {
     Ok(())
 }
 
-// Derives one key of this length in this way, and writes what it took.
+// Derives one key of this length in this way, and writes its cost.
 fn measure(rt: &HostRuntime, way: &str, hash: Hash, turns: u32, length: usize) -> io::Result<()>
     requires turns { 1 ≤ turns }
     requires some { 1 ≤ length }

@@ -1,8 +1,8 @@
 //! Times sectors: `bench_xts MODE WAY BYTES COUNT` encrypts or decrypts (WAY is `encrypt` or
 //! `decrypt`) COUNT sectors of BYTES bytes under the numbers from 0 and a key of AES-256 (two for
-//! XTS) in the mode of this name, and writes to standard error how many bytes that were, how many
-//! nanoseconds it took, and the first byte that is left. With no arguments it does nothing.
-//! `bench/xts` runs it beside others.
+//! XTS) in the mode of this name, and writes to standard error the number of bytes, the nanoseconds
+//! that they cost, and the first byte of the result. With no arguments it does nothing. `bench/xts`
+//! runs it beside others.
 #![tactic(auto)]
 
 use luks_cipher::{Mode, SectorCipher};

@@ -10,7 +10,7 @@ use Rattle.luks1_header.specs.declared.header.SlotState.TheVariants.{Enabled, Di
 abbrev pub magic_and_version : List ℕ
 magic_and_version = 0x4c ∷ 0x55 ∷ 0x4b ∷ 0x53 ∷ 0xba ∷ 0xbe ∷ 0x00 ∷ 0x01 ∷ []
 
--- the image begins so
+-- the image starts with that magic and version
 unfoldable pub is_luks1 : List ℕ → Bool
 is_luks1 image = bytes_eq (at 0 8 image) magic_and_version
 
@@ -36,7 +36,7 @@ key_slot_of bytes = record {
 unfoldable pub key_slots_of : List ℕ → List KeySlot
 key_slots_of bytes = map (λ i. key_slot_of (at (208 + 48 * i) 48 bytes)) (0 ∷ 1 ∷ 2 ∷ 3 ∷ 4 ∷ 5 ∷ 6 ∷ 7 ∷ [])
 
--- the header that 592 bytes write. It is read as one that stands in the payload's image
+-- the header that 592 bytes encode. It is read as an attached one
 unfoldable pub header1_of : List ℕ → Header1
 header1_of bytes = record {
   cipher_name = text_of (at 8 32 bytes);

@@ -19,7 +19,7 @@ abbrev pub is_key_length1 : Option Mode → ℕ → Bool
 is_key_length1 (Some mode) n = is_mode_key_length mode n
 is_key_length1 None n = false
 
--- the payload starts inside the header, where both stand in one image. (It starts where a sector of 512 bytes does.)
+-- the payload starts inside an attached header. (It starts at a multiple of 512 bytes.)
 unfoldable pub overlaps_header1 : Header1 → Bool
 overlaps_header1 header = not header.detached && nat_lt (512 * header.payload_offset) header1_len
 

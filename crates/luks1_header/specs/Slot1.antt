@@ -1,4 +1,4 @@
--- What becomes of the key slots of LUKS1.
+-- The verdicts on the key slots of LUKS1.
 use Rattle.std.specs.Prelude.{ℕ, ◌*◌, if◌then◌else◌, Bool, true, false, [], ◌∷◌, Option, Some, None, bytes_eq, codes}
 use Rattle.std.specs.Prelude.{option_and_then, option_map, slice_get}
 use Rattle.luks_cipher.specs.Sector.{mode_named}
@@ -35,11 +35,11 @@ is_damaged Enabled = false
 is_damaged Disabled = false
 is_damaged (Damaged _) = true
 
--- the hash function of the slots, the stripes and the digest, where its name is known
+-- the hash function of the slots, the stripes and the digest, if its name is known
 unfoldable pub hash1_of : Header1 → Option Hash
 hash1_of header = hash_named header.hash_spec
 
--- the mode of AES in which sectors are encrypted, those of the payload and of key material alike, where cipher and mode
+-- the mode of AES in which sectors are encrypted, those of the payload and of key material alike, if cipher and mode
 -- are known
 unfoldable pub mode1_of : Header1 → Option Mode
 mode1_of header = if bytes_eq header.cipher_name (codes "aes") then mode_named header.cipher_mode else None
@@ -53,11 +53,11 @@ digest_parts1_of header = record {
   value = header.digest;
 }
 
--- the digest, where its numbers are in range
+-- the digest, if its numbers are in range
 unfoldable pub digest1_of : Header1 → Option KeyDigest
 digest1_of header = digest_from (digest_parts1_of header)
 
--- where the payload starts, if it stands in the header's image. Key material ends there at the latest
+-- where the payload starts, if the header is attached. Key material ends there at the latest
 unfoldable pub payload1_start : Header1 → Option ℕ
 payload1_start header = if header.detached then None else Some (512 * header.payload_offset)
 
@@ -93,19 +93,19 @@ slot_parts1_of header slot = record {
   area_mode = mode1_of header;
 }
 
--- what it takes to open a slot, where its numbers are in range
+-- what is needed to open a slot, if its numbers are in range
 unfoldable pub slot1_of : Header1 → KeySlot → Option Slot
 slot1_of header slot = slot_from (slot_parts1_of header slot)
 
--- what becomes of a slot
+-- the verdict on a slot
 unfoldable pub verdict1_of : Header1 → Option ℕ → KeySlot → Verdict
 verdict1_of header limit slot =
     if is_disabled slot.state then Unused else judged (reason1_of header limit slot) (slot1_of header slot)
 
--- what becomes of the slot of this number, 0 to 7
+-- the verdict on the slot of this number, 0 to 7
 unfoldable pub verdict1_at : Header1 → Option ℕ → ℕ → Option Verdict
 verdict1_at header limit number = option_map (verdict1_of header limit) (slice_get header.slots number)
 
--- what it takes to open the slot of this number
+-- what is needed to open the slot of this number
 unfoldable pub slot1_at : Header1 → ℕ → Option Slot
 slot1_at header number = option_and_then (slot1_of header) (slice_get header.slots number)

@@ -36,8 +36,7 @@ pub struct Header1 {
     pub uuid: Text<40>,
     /// The key slots.
     pub slots: [KeySlot; 8],
-    /// Whether it stands apart from the payload's image. No header says so of itself: it is read
-    /// as one that does not.
+    /// Whether the header is detached. No header says so itself: it is read as an attached one.
     pub detached: bool,
 }
 
@@ -59,9 +58,9 @@ pub struct KeySlot {
 /// The state of a key slot.
 #[derive(Clone, Copy, PartialEq, Eq, Debug)]
 pub enum SlotState {
-    /// It holds key material.
+    /// It has key material.
     Enabled,
-    /// It holds none.
+    /// It has none.
     Disabled,
     /// The stored number is neither state's.
     Damaged(u32),

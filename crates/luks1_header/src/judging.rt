@@ -1,4 +1,4 @@
-//! What becomes of the key slots, the digest and the segment of a header.
+//! Verdicts on the key slots, the digest and the segment of a header.
 
 ghost use Rattle.std.specs.Prelude.{◌≡◌, ◌*◌, option_map, IfOk};
 ghost use Rattle.luks_cipher.specs.Sector.{mode_named};
@@ -36,7 +36,7 @@ fn mode_of(name: &[u8]) -> Option<Mode>
 }
 
 impl Header1 {
-    /// The hash function of the slots, the stripes and the digest, where its name is known.
+    /// The hash function of the slots, the stripes and the digest, if its name is known.
     #[tactic(auto, unfolding(crate::specs::Slot1::hash1_of))]
     pub fn hash(&self) -> Option<Hash>
         ensures { result ≡ hash1_of self.now }
@@ -45,7 +45,7 @@ impl Header1 {
     }
 
     /// The mode of AES in which sectors are encrypted, those of the payload and of key material
-    /// alike, where cipher and mode are known.
+    /// alike, if cipher and mode are known.
     #[tactic(auto, unfolding(crate::specs::Slot1::mode1_of))]
     pub fn mode(&self) -> Option<Mode>
         ensures { result ≡ mode1_of self.now }
@@ -65,7 +65,7 @@ fn place(sector: u32) -> u64
     512 * u64::from(sector)
 }
 
-// Where the payload starts, if it stands in the header's image.
+// Where the payload starts, if the header is attached.
 #[tactic(auto, unfolding(crate::specs::Slot1::payload1_start))]
 fn payload(header: &Header1) -> Option<u64>
     ensures { result ≡ payload1_start header.now }
@@ -78,7 +78,7 @@ fn payload(header: &Header1) -> Option<u64>
 }
 
 // The key material of a slot starts inside the header, or it ends past the payload's start or past
-// what is held.
+// byte 33,554,432.
 #[tactic(auto, unfolding(crate::specs::Slot1::is_misplaced1))]
 fn misplaced1(header: &Header1, slot: &KeySlot) -> bool
     ensures { result ≡ is_misplaced1 header.now slot.now }
@@ -123,7 +123,7 @@ fn disabled(state: SlotState) -> bool
     matches!(state, SlotState::Disabled)
 }
 
-// What becomes of a slot, without what it takes to open it.
+// The verdict on a slot, without what is needed to open it.
 #[tactic(auto, unfolding(crate::specs::Slot1::verdict1_of))]
 fn judge_slot(header: &Header1, limit: Option<u32>, slot: &KeySlot) -> Judgement
     ensures { result ≡ judgement_of (verdict1_of header.now limit slot.now) }
@@ -137,7 +137,8 @@ fn judge_slot(header: &Header1, limit: Option<u32>, slot: &KeySlot) -> Judgement
     }
 }
 
-/// What becomes of the slot of this number, without what it takes to open it. This takes no memory.
+/// The verdict on the slot of this number, without what is needed to open it. This allocates
+/// nothing.
 #[tactic(auto, unfolding(crate::specs::Slot1::verdict1_at))]
 pub fn judge(header: &Header1, limit: Option<u32>, number: u8) -> Option<Judgement>
     ensures { result ≡ option_map judgement_of (verdict1_at header.now limit number) }
@@ -148,7 +149,7 @@ pub fn judge(header: &Header1, limit: Option<u32>, number: u8) -> Option<Judgeme
     }
 }
 
-// What it takes to open a slot, where its numbers are in range.
+// What is needed to open a slot, if its numbers are in range.
 #[tactic(auto, unfolding(crate::specs::Slot1::slot1_of, crate::specs::Slot1::slot_parts1_of))]
 fn usable(alloc: Global, header: &Header1, slot: &KeySlot) -> Result<Option<Slot>, AllocError>
     ensures { IfOk result (λ usable. usable ≡ slot1_of header.now slot.now) }
@@ -169,7 +170,7 @@ fn usable(alloc: Global, header: &Header1, slot: &KeySlot) -> Result<Option<Slot
     Ok(Slot::from_parts(parts))
 }
 
-/// What it takes to open the slot of this number, where it is there and its numbers are in range.
+/// What is needed to open the slot of this number, if it is there and its numbers are in range.
 #[tactic(auto, unfolding(crate::specs::Slot1::slot1_at))]
 pub fn slot(alloc: Global, header: &Header1, number: u8) -> Result<Option<Slot>, AllocError>
     ensures { IfOk result (λ usable. usable ≡ slot1_at header.now number) }
@@ -180,7 +181,7 @@ pub fn slot(alloc: Global, header: &Header1, number: u8) -> Result<Option<Slot>,
     }
 }
 
-/// The digest of all slots, where its numbers are in range.
+/// The digest of all slots, if its numbers are in range.
 #[tactic(auto, unfolding(crate::specs::Slot1::digest1_of, crate::specs::Slot1::digest_parts1_of))]
 pub fn digest(alloc: Global, header: &Header1) -> Result<Option<KeyDigest>, AllocError>
     ensures { IfOk result (λ digest. digest ≡ digest1_of header.now) }
@@ -194,7 +195,7 @@ pub fn digest(alloc: Global, header: &Header1) -> Result<Option<KeyDigest>, Allo
     Ok(KeyDigest::from_parts(parts))
 }
 
-// The payload starts inside the header, where both stand in one image.
+// The payload starts inside an attached header.
 #[tactic(auto, unfolding(crate::specs::Segment1::overlaps_header1))]
 fn starts_inside(header: &Header1) -> bool
     ensures { result ≡ overlaps_header1 header.now }
@@ -221,7 +222,7 @@ fn fault(header: &Header1) -> Option<SegmentFault>
     }
 }
 
-/// The segment of a header, or its first fault. This takes no memory.
+/// The segment of a header, or its first fault. This allocates nothing.
 pub fn segment(header: &Header1) -> Result<Segment, SegmentFault>
     ensures { result ≡ segment1_of header.now }
 {

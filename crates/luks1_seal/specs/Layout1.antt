@@ -64,7 +64,7 @@ unfoldable pub material1_of : Seal1 → Slot1 → List ℕ
 material1_of p slot =
     encrypted_material (p.mode, area_key1_of p slot) (stripes_of p.hash p.key.now p.stripes slot.random.now)
 
--- the area of the slot of this number: its key material where it is in use, and zeros
+-- the area of the slot of this number: its key material if it is in use, and otherwise zeros
 unfoldable pub area1_of : Seal1 → ℕ → List ℕ
 area1_of p number =
     padded (area_sectors_of p * 512) (option_map_or (material1_of p) (slot1_numbered number p.slots.now) [])

@@ -4,7 +4,7 @@ use Rattle.luks_seal.specs.Ranges.{FitsKey, FitsText, longest_plain}
 use Rattle.luks_seal.specs.declared.parameters.Seal1.{Seal1}
 use Rattle.luks_seal.specs.declared.parameters.Slot1.{Slot1}
 
--- the sectors of 512 bytes that a slot's stripes take, rounded up to a multiple of 8
+-- the sectors of 512 bytes that a slot's stripes need, rounded up to a multiple of 8
 abbrev pub area_sectors : ℕ → ℕ → ℕ
 area_sectors key stripes = (key * stripes + 4095) / 4096 * 8
 

@@ -50,7 +50,7 @@ fn slot_material(alloc: Global, seal: &Seal1<'_>, slot: &Slot1<'_>) -> Result<Ve
     material_of(alloc, seal.mode, &area_key, &stripes)
 }
 
-/// The key material of the slot of this number, or no bytes where it is not in use.
+/// The key material of the slot of this number, or no bytes if it is not in use.
 fn material_at(alloc: Global, seal: &Seal1<'_>, number: u32) -> Result<Vec<u8>, AllocError>
     requires { AreParameters seal.now }
     ensures { IfOk result (λ material. material.items
@@ -116,12 +116,14 @@ fn image_of(alloc: Global, seal: &Seal1<'_>) -> Result<Vec<u8>, AllocError>
 
 /// Makes the image of a volume with the cipher `aes`.
 ///
-/// The area of slot i begins at sector `8 + i * a`, where `a` is the length of an area in sectors
-/// of 512 bytes, rounded up to a multiple of 8. The payload ends the image, and bytes that nothing
-/// is said of are zero.
+/// The area of slot i starts at sector `8 + i * a`, where `a` is the length of an area in sectors
+/// of 512 bytes, rounded up to a multiple of 8. The payload ends the image. Bytes that are not
+/// named are zero.
 ///
-/// [`Parameters`](SealFault::Parameters) says that a parameter is outside its range, and comes
-/// before any memory is taken.
+/// # Errors
+///
+/// [`Parameters`](SealFault::Parameters) if a parameter is out of range, before any memory is
+/// allocated; otherwise [`Memory`](SealFault::Memory) if memory runs out.
 pub fn seal1(alloc: Global, seal: &Seal1<'_>) -> Result<Vec<u8>, SealFault>
     ensures answer { SealAnswer (AreParameters seal.now) result }
     ensures image { IfOk result (λ image. image.items ≡ image1_of seal.now) }

@@ -7,7 +7,7 @@ ghost use Rattle.luks1_seal.specs.Ranges1.{FitsSlot, area_sectors};
 use luks_seal::parameters::{Seal1, Slot1};
 use luks_seal::ranges::fits_text;
 
-/// The sectors of 512 bytes that a slot's stripes take, rounded up to a multiple of 8.
+/// The sectors of 512 bytes that a slot's stripes need, rounded up to a multiple of 8.
 pub(super) fn area_of(key: usize, stripes: u32) -> u32
     requires key { key ≤ 64 }
     requires stripes { stripes ≤ 4000 }

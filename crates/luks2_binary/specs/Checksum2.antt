@@ -9,7 +9,7 @@ use Rattle.luks2_binary.specs.Header2.{checksum_hash_in}
 unfoldable pub no_checksum : List ℕ
 no_checksum = replicate 64 0
 
--- a header and its JSON area with zeros in bytes 448 to 511, where the checksum stands
+-- a header and its JSON area with zeros in bytes 448 to 511, in place of the checksum
 unfoldable pub without_checksum : List ℕ → List ℕ
 without_checksum header = take 448 header ++ no_checksum ++ drop 512 header
 

@@ -1,5 +1,5 @@
--- Which header of LUKS2 an image has (LUKS2 On-Disk Format Specification 1.1, sections 2.1 and 2.2): the primary one
--- stands at the image's start, the secondary one at its own length.
+-- Which header of LUKS2 an image has (LUKS2 On-Disk Format Specification 1.1, sections 2.1 and 2.2): the primary one is
+-- at the image's start, the secondary one at the offset of its own length.
 use Rattle.std.specs.Prelude.{ℕ, ◌+◌, ◌==◌, ◌&&◌, ◌||◌, not, nat_le, nat_lt, if◌then◌else◌, Bool, List, [], ◌∷◌, Option}
 use Rattle.std.specs.Prelude.{Some, None, Result, bytes_eq, is_some, length, ok_or, option_and_then}
 use Rattle.std.specs.List.{find, list_any}
@@ -48,7 +48,7 @@ is_valid image place =
     && nat_le (place + size_at image place) (length image)
     && checksum_matches (at place (size_at image place) image)
 
--- a place is tried, where the primary header is not valid: one of the nine before which there is no valid header
+-- an offset is tried, if the primary header is not valid: one of the nine before which there is no valid header
 unfoldable pub is_tried : List ℕ → ℕ → Bool
 is_tried image place = not (list_any (λ other. nat_lt other place && is_valid image other) sizes)
 
@@ -56,8 +56,8 @@ is_tried image place = not (list_any (λ other. nat_lt other place && is_valid i
 unfoldable pub least_valid : List ℕ → Option ℕ
 least_valid image = find (λ place. is_tried image place && is_valid image place) sizes
 
--- the header of an image whose primary one is valid: the secondary one right behind it, where that is valid and of a
--- later sequence number, and otherwise the primary
+-- the header of an image whose primary one is valid: the secondary one right behind it, if that is valid with a higher
+-- sequence number, and otherwise the primary
 unfoldable pub with_valid_primary : List ℕ → Option Header2
 with_valid_primary image =
     let primary = binary_at image 0 in
@@ -73,7 +73,7 @@ with_valid_primary image =
 abbrev pub found_at : List ℕ → ℕ → Option Header2
 found_at image place = header2_from Secondary (Some PrimaryNotValid) (binary_at image place)
 
--- the header of an image, where it has one
+-- the header of an image, if it has one
 unfoldable pub chosen2_of : List ℕ → Option Header2
 chosen2_of image =
     if is_valid image 0 then with_valid_primary image else option_and_then (found_at image) (least_valid image)

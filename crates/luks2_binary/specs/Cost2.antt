@@ -3,8 +3,8 @@ use Rattle.std.specs.Prelude.{ℕ, ◌+◌, ◌*◌, if◌then◌else◌, List, 
 use Rattle.luks2_binary.specs.Choice2.{fits, is_tried, is_valid, size_at}
 use Rattle.luks2_binary.specs.Header2.{binary_len, sizes}
 
--- how far a place is looked at: a binary header's length, and where one fits its whole length. At one of the nine
--- places that is twice the place
+-- how far an offset is looked at: a binary header's length, and, if one fits, its whole length. At one of the nine
+-- offsets that is twice the offset
 unfoldable pub probe_end : List ℕ → ℕ → ℕ
 probe_end image place = max (place + binary_len) (if fits image place then place + size_at image place else 0)
 
@@ -17,8 +17,8 @@ greatest (number ∷ numbers) = max number (greatest numbers)
 unfoldable pub search_reach : List ℕ → ℕ
 search_reach image = greatest (map (probe_end image) (filter (is_tried image) sizes))
 
--- how far an image is read where it is long enough: both headers of a valid primary one, and otherwise the image's
--- start and each place that is tried
+-- how far an image is read if it is long enough: both headers of a valid primary one, and otherwise the image's start
+-- and each offset that is tried
 unfoldable pub reach2_of : List ℕ → ℕ
 reach2_of image =
     if is_valid image 0 then 2 * size_at image 0

@@ -1,4 +1,4 @@
--- What is held of an image while its header is sought.
+-- What is loaded of an image while its header is sought.
 use Rattle.std.specs.Prelude.{◌≡◌, ◌+◌, ◌-◌, ◌<◌, ◌≤◌, ◌&&◌, ℕ, Bool, true, false, not, if◌then◌else◌, List, Option}
 use Rattle.std.specs.Prelude.{Some, None, Result, Ok, Err, drop, length, max, nat_lt, take}
 use Rattle.luks_io.specs.Bytes.{counted}
@@ -8,18 +8,18 @@ use Rattle.luks_area.specs.declared.fault.HeaderFault.TheVariants.{NotLuks, Cut,
 use Rattle.luks2_binary.specs.Choice2.{header2_of, is_valid, size_at}
 use Rattle.luks2_binary.specs.Cost2.{header2_read_len, reach2_of}
 
--- what is held is the front of the image, and all of it where its end was found
+-- the loaded bytes are the start of the image, and all of it if its end was hit
 pub record IsPrefixOf (held : List ℕ) (ended : Bool) (image : List ℕ) : Type 0 where
   pub begins : take (length held) image ≡ held
   pub within : length held ≤ length image
   pub ends : ended ≡ true → image ≡ held
 
--- the front of the image is held, and what is behind it is left in a source that knows its bytes
+-- the start of the image is loaded, and what is behind it remains in a source that knows its bytes
 pub record HoldsFront (image held : List ℕ) (ended : Bool) (left : Option (List ℕ)) : Type 0 where
   pub front : IsPrefixOf held ended image
   pub behind : left ≡ Some (drop (length held) image)
 
--- more of an image came to be held, from a source that counts how often it found the end
+-- more of an image was loaded, from a source that counts how often it hit the end
 pub record Extended (held held' : List ℕ) (ended ended' : Bool) (left left' : Option (List ℕ)) (ends ends' : ℕ) : Type 0
   where
     pub fronts : (image : List ℕ) → IsPrefixOf held' ended' image → IsPrefixOf held ended image
@@ -28,7 +28,7 @@ pub record Extended (held held' : List ℕ) (ended ended' : Bool) (left left' : 
     pub stays : ended ≡ true → ended' ≡ true
     pub found : ends' ≡ counted (not ended && ended') ends
 
--- the length of the header at a place, where a valid one is there
+-- the length of the header at an offset, if a valid one is there
 abbrev pub valid_size : List ℕ → ℕ → Option ℕ
 valid_size image place = if is_valid image place then Some (size_at image place) else None
 
@@ -36,24 +36,24 @@ valid_size image place = if is_valid image place then Some (size_at image place)
 abbrev pub OfEach : List ℕ → Bool → (List ℕ → Type 0) → Type 0
 OfEach held ended Holds = (image : List ℕ) → IsPrefixOf held ended image → Holds image
 
--- of an image as many bytes are held as were held or as it is to be read at most
+-- as many bytes of an image are loaded as were loaded before, or as are to be read at most
 abbrev pub WithinReach : List ℕ → List ℕ → Bool → (List ℕ → ℕ) → Type 0
 WithinReach held held' ended' reach = OfEach held' ended' (λ image. length held' ≤ max (length held) (reach image))
 
--- and no fewer where its end was not found
+-- and no fewer unless its end was hit
 abbrev pub Reaches : List ℕ → Bool → (List ℕ → ℕ) → Type 0
 Reaches held ended reach = OfEach held ended (λ image. ended ≡ false → reach image ≤ length held)
 
--- the end was found in this call: less is held than it is to be read
+-- the end was hit in this call: less is loaded than was to be read
 abbrev pub FallsShort : List ℕ → Bool → Bool → (List ℕ → ℕ) → Type 0
 FallsShort held' ended ended' reach = OfEach held' ended' (λ image. ended ≡ false → ended' ≡ true
     → length held' < reach image)
 
--- less of an image is held than it is to be read
+-- less of an image is loaded than is to be read
 abbrev pub StaysBelow : List ℕ → Bool → (List ℕ → ℕ) → Type 0
 StaysBelow held ended reach = OfEach held ended (λ image. length held < reach image)
 
--- the rest of an image, as much of it as the header costs, went behind what was held
+-- the rest of an image, as much of it as is read for the header, went behind what was loaded
 abbrev pub TookCost : List ℕ → List ℕ → List ℕ → List ℕ → Option (List ℕ) → Type 0
 TookCost image held held' rest left = (held' ≡ take (header2_read_len image) image)
     × ConsumedOnto held held' rest left (header2_read_len image - length held)
@@ -63,13 +63,13 @@ abbrev pub TookBelow : List ℕ → List ℕ → List ℕ → List ℕ → Optio
 TookBelow image held held' rest left = (count : ℕ) × (count ≤ header2_read_len image - length held)
     × ConsumedOnto held held' rest left count
 
--- some of the rest went behind it, and less is held than the image is to be read
+-- some of the rest went behind it, and less is loaded than the image is to be read
 abbrev pub TookEarly : List ℕ → List ℕ → List ℕ → List ℕ → Option (List ℕ) → Type 0
 TookEarly image held held' rest left = (count : ℕ) × (length held + count < reach2_of image)
     × ConsumedOnto held held' rest left count
 
--- seeking the header ended without one. Where the image has none, as many of its bytes are held as that costs to learn;
--- a failed read ended it somewhere before, and want of memory where more was still to be read
+-- seeking the header ended without one. If the image has none, as many of its bytes are loaded as must be read to know
+-- that; a failed read ended it somewhere before, or memory ran out while more was yet to be read
 abbrev pub BreaksSeeking : List ℕ → List ℕ → List ℕ → List ℕ → Option (List ℕ) → HeaderFault → Type 0
 BreaksSeeking image held held' rest left NotLuks = (header2_of image ≡ Err NotLuks)
     × TookCost image held held' rest left

@@ -24,7 +24,7 @@ size_in binary = be64 (at 8 8 binary)
 unfoldable pub sequence_in : List ℕ → ℕ
 sequence_in binary = be64 (at 16 8 binary)
 
--- `csum_alg`: the hash function of the checksum, where its name is known
+-- `csum_alg`: the hash function of the checksum, if its name is known
 unfoldable pub checksum_hash_in : List ℕ → Option Hash
 checksum_hash_in binary = hash_named (text_of (at 72 32 binary))
 
@@ -32,8 +32,7 @@ checksum_hash_in binary = hash_named (text_of (at 72 32 binary))
 unfoldable pub hdr_offset_in : List ℕ → ℕ
 hdr_offset_in binary = be64 (at 256 8 binary)
 
--- the header that 4096 bytes write, where the hash function is known. It is read as one that stands in the payload's
--- image
+-- the header that 4096 bytes encode, if the hash function is known. It is read as an attached one
 unfoldable pub header2_from : Place → Option Finding → List ℕ → Option Header2
 header2_from place finding binary =
     option_map (λ hash. record {

@@ -6,7 +6,7 @@ use Rattle.luks2_binary.specs.declared.header.Header2.{Header2}
 use Rattle.luks2_binary.specs.declared.header.Place.{Place}
 use Rattle.luks2_binary.specs.declared.header.Place.TheVariants.{Primary, Secondary}
 
--- where the header of this length stands, in bytes: a secondary one right behind the primary
+-- the offset of the header of this length, in bytes: a secondary one is right behind the primary
 abbrev pub header_offset : Place → ℕ → ℕ
 header_offset Primary size = 0
 header_offset Secondary size = size

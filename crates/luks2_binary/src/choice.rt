@@ -7,7 +7,7 @@ ghost use Rattle.luks2_binary.specs.Header2.{header2_from};
 use crate::header::{Finding, Header2, Place, sequence_in};
 use crate::validity::{binary_at, is_valid};
 
-/// The valid header that stands in these bytes at a place.
+/// The valid header in these bytes at an offset.
 pub(crate) fn valid_header(
     bytes: &[u8],
     start: usize,
@@ -21,8 +21,8 @@ pub(crate) fn valid_header(
     Header2::from_bytes(place, finding, binary_at(bytes, start))
 }
 
-/// The header of an image whose primary one is valid and of this length: the secondary one where
-/// that is valid and of a later sequence number, and otherwise the primary.
+/// The header of an image whose primary one is valid and of this length: the secondary one if that
+/// is valid with a higher sequence number, and otherwise the primary.
 #[tactic(auto, unfolding(crate::specs::Choice2::with_valid_primary))]
 pub(crate) fn beside_primary(bytes: &[u8], size: usize) -> Option<Header2>
     requires valid { is_valid bytes.now 0 ≡ true }

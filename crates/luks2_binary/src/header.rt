@@ -22,7 +22,7 @@ pub enum Place {
     Secondary,
 }
 
-/// What is amiss with the two headers of an image that has one.
+/// What is wrong with the two headers of an image that has one.
 #[derive(Clone, Copy, PartialEq, Eq, Debug)]
 pub enum Finding {
     /// The primary header is not valid; the secondary one was found by the search.
@@ -36,7 +36,7 @@ pub enum Finding {
 /// The fields of a header, as they are stored, and whether it is detached.
 #[derive(Drop, Debug)]
 pub struct Header2 {
-    /// Where it stands.
+    /// Which of the two headers it is.
     pub place: Place,
     /// The length of the header and its JSON area in bytes, 16,384 to 4,194,304.
     pub size: u32,
@@ -52,14 +52,13 @@ pub struct Header2 {
     pub uuid: Text<40>,
     /// The volume's subsystem, a second label.
     pub subsystem: Text<48>,
-    /// What is amiss with the two headers, if anything.
+    /// What is wrong with the two headers, if anything.
     pub finding: Option<Finding>,
-    /// Whether it stands apart from the payload's image. No header says so of itself: it is read
-    /// as one that does not.
+    /// Whether the header is detached. No header says so itself: it is read as an attached one.
     pub detached: bool,
 }
 
-/// The hash function of a header's checksum, where its name is known.
+/// The hash function of a header's checksum, if its name is known.
 #[tactic(auto, unfolding(crate::specs::Header2::checksum_hash_in))]
 pub(crate) fn hash_in(binary: &[u8]) -> Option<Hash>
     requires { 4096 ≤ length binary.now }
@@ -96,7 +95,7 @@ pub(crate) fn place_in(binary: &[u8]) -> u64
 }
 
 impl Header2 {
-    /// The header that the 4,096 bytes write, or `None` where the hash function of its checksum is
+    /// The header that the 4,096 bytes encode, or `None` if the hash function of its checksum is
     /// not known.
     pub(crate) fn from_bytes(
         place: Place,
@@ -129,8 +128,9 @@ impl Header2 {
         2 * u64::from(self.size)
     }
 
-    /// The text of its JSON area, as it stands in the image: it ends before the first zero byte or
-    /// with the area. `image` is the front of the image that was read for the header.
+    /// The text of its JSON area within the loaded bytes, not a copy: it ends before the first zero
+    /// byte or with the area (LUKS2 On-Disk Format Specification 1.1, section 3). `image` is the
+    /// start of the image that was read for the header.
     #[tactic(auto, unfolding(crate::specs::Text2::json_text_of, crate::specs::Text2::json_area_of))]
     pub fn json_text<'a>(&self, image: &'a [u8]) -> &'a [u8]
         ensures { result.now ≡ json_text_of image.now self.now }

@@ -17,8 +17,8 @@ use luks_area::area::HeaderArea;
 use luks_area::fault::HeaderFault;
 use luks_io::source::Source;
 
-// Holds so many bytes of the image in all, where it has them, and answers whether it does. `ended`
-// says that its end was found; no source is asked for more after that.
+// Loads `end` bytes of the image in all, if it has them, and answers whether it does. `ended` says
+// that its end was hit; the source is not read after that.
 fn grow<S: Source>(
     area: &mut HeaderArea,
     source: &mut S,
@@ -46,8 +46,8 @@ fn grow<S: Source>(
     Ok(whole)
 }
 
-// The length of the header at a place, where a valid one is there. As much of the image is taken
-// as that takes to learn.
+// The length of the header at an offset, if a valid one is there. As much of the image is consumed
+// as must be read to know that.
 fn header_at<S: Source>(
     area: &mut HeaderArea,
     source: &mut S,
@@ -84,7 +84,7 @@ fn header_at<S: Source>(
     Ok(is_valid(area.as_slice(), place).then_some(size))
 }
 
-// The header at the least of the nine places with a valid one, where there is one.
+// The header at the lowest of the nine offsets with a valid one, if there is one.
 fn search<S: Source>(
     area: &mut HeaderArea,
     source: &mut S,
@@ -115,7 +115,7 @@ fn search<S: Source>(
     Ok(None)
 }
 
-// The header that is chosen, where there is one.
+// The header that is chosen, if there is one.
 fn choose<S: Source>(
     area: &mut HeaderArea,
     source: &mut S,
@@ -142,13 +142,16 @@ fn choose<S: Source>(
     Ok(beside_primary(area.as_slice(), size))
 }
 
-/// Finds the header of LUKS2 of an image whose first bytes are held, and holds as much of the image
-/// as that costs.
+/// Finds the header of LUKS2 of an image whose first bytes are loaded, and loads as much of the
+/// image as that requires (LUKS2 On-Disk Format Specification 1.1, section 2).
 ///
-/// The image is one that does not begin as LUKS1 does, and whose end was not found yet.
-/// [`HeaderFault::NotLuks`] is for one without a valid header. After [`HeaderFault::Read`] and
-/// [`HeaderFault::Memory`] the area holds what was taken before, and no more than the header costs;
-/// after `Memory` less than the image is looked at, and its end was not found.
+/// The image is one that does not start as LUKS1 does, and whose end was not hit yet.
+///
+/// # Errors
+///
+/// [`HeaderFault::NotLuks`] for an image without a valid header. After [`HeaderFault::Read`] and
+/// [`HeaderFault::Memory`] the area has what was consumed before, and no more than is read for the
+/// header; after `Memory` less than the image is looked at, and its end was not hit.
 pub fn read_header2<S: Source>(
     area: &mut HeaderArea,
     source: &mut S,

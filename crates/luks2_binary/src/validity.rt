@@ -79,7 +79,7 @@ pub(crate) fn fits(bytes: &[u8], place: usize) -> bool
 
 static NO_CHECKSUM: [u8; 64] = [0; 64];
 
-// What stands in place of a checksum while it is computed.
+// The bytes in place of a checksum while it is computed.
 #[tactic(auto, unfolding(crate::specs::Checksum2::no_checksum))]
 fn no_checksum() -> &'static [u8]
     ensures { result.now ≡ no_checksum }
@@ -87,7 +87,7 @@ fn no_checksum() -> &'static [u8]
     &NO_CHECKSUM
 }
 
-// The checksum of a header by this hash function is the one that it holds. `sum` is room for it.
+// The checksum of a header by this hash function is the stored one. `sum` is a buffer for it.
 #[tactic(auto, unfolding(crate::specs::Checksum2::without_checksum))]
 fn agrees(hash: Hash, header: &[u8], sum: &mut [u8]) -> bool
     requires whole { 4096 ≤ length header.now }
@@ -99,7 +99,7 @@ fn agrees(hash: Hash, header: &[u8], sum: &mut [u8]) -> bool
     header[448..].starts_with(sum)
 }
 
-// The checksum of a header and its JSON area is the one that it holds.
+// The checksum of a header and its JSON area is the stored one.
 #[tactic(auto, unfolding(crate::specs::Checksum2::checksum_matches))]
 fn is_intact(header: &[u8]) -> bool
     requires { 4096 ≤ length header.now }
@@ -124,7 +124,7 @@ pub(crate) fn is_valid(bytes: &[u8], place: usize) -> bool
     place + size <= bytes.len() && is_intact(&bytes[place..place + size])
 }
 
-/// The length of the header at the place, where it fits.
+/// The length of the header at the offset, if one fits.
 pub(crate) fn fitting_size(bytes: &[u8], place: usize) -> Option<usize>
     requires { place ≤ 4194304 }
     ensures value { result
@@ -139,7 +139,7 @@ pub(crate) fn fitting_size(bytes: &[u8], place: usize) -> Option<usize>
     }
 }
 
-/// The places where a secondary header may stand, by rising number.
+/// The offsets at which a secondary header may be, ascending.
 #[tactic(auto, unfolding(crate::specs::Header2::sizes))]
 pub(crate) fn places() -> &'static [u64]
     ensures { result.now ≡ sizes }

@@ -1,4 +1,4 @@
--- A code of JSON values, by which a proof tells them apart: it is asked of whatever a clause sees a type as.
+-- A code of JSON values, by which a proof distinguishes them: it is required of every value that a clause mentions.
 use Rattle.std.specs.Prelude.{◌≡◌, ◌⊎◌, ℕ, ℤ, Float, refl}
 use Rattle.std.specs.Coded.{Coded, code_by, coded_ℕ, coded_ℤ, coded_bool, coded_list, coded⊎}
 use Rattle.std.proofs.Common.{ap, arith, inl, inr}
@@ -26,7 +26,7 @@ to_num-of_num (float x) = refl
 abbrev num_code : Coded Num
 num_code = code_by (ℕ ⊎ (ℤ ⊎ Float)) (coded⊎ coded_ℕ (coded⊎ coded_ℤ coded_float)) of_num to_num to_num-of_num
 
--- ---- values: the constructor's number, and what it holds
+-- ---- values: the constructor's number, and its contents
 
 abbrev mutual
   code_of : Data → Gv

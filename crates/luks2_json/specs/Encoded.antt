@@ -18,6 +18,6 @@ begins_with_group text =
     is_symbol (slice_index text 0)
     && (is_symbol (slice_index text 1) && (is_symbol (slice_index text 2) && is_symbol (slice_index text 3)))
 
--- for how many bytes the text stands, where it does
+-- the number of bytes that the text encodes, if it encodes any
 abbrev pub encoded_len : List ℕ → Option ℕ
 encoded_len text = option_map (λ (bytes : List ℕ). length bytes) (decoded_of standard text)

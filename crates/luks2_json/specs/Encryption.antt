@@ -4,12 +4,12 @@ use Rattle.std.specs.Prelude.{ℕ, Bool, List, Option, Some, None, bytes_eq, cod
 use Rattle.luks_cipher.specs.Sector.{is_key_length, is_mode_key_length, mode_named}
 use Rattle.luks_cipher.specs.declared.mode.Mode.{Mode}
 
--- the mode that a text names behind `aes-`, where it is a known one
+-- the mode that a text names behind `aes-`, if that is known
 unfoldable pub encryption_mode : List ℕ → Option Mode
 encryption_mode encryption =
     if bytes_eq (take 4 encryption) (codes "aes-") then mode_named (drop 4 encryption) else None
 
--- a key of the mode can have this many bytes; where the mode is not known, a key of some mode can
+-- a key of the mode can have this many bytes; if the mode is not known, a key of some mode can
 unfoldable pub is_length_for : Option Mode → ℕ → Bool
 is_length_for None bytes = is_key_length bytes
 is_length_for (Some mode) bytes = is_mode_key_length mode bytes

@@ -1,6 +1,6 @@
--- The kinds of members (LUKS2 On-Disk Format Specification 1.1, section 3): each word finds what an object has under a
--- name, where it is there and of that kind. JSON's null is a value like others: a member that is null is there, and is
--- neither a number nor a string_member nor an object.
+-- The kinds of members (LUKS2 On-Disk Format Specification 1.1, section 3): each definition finds the value of an
+-- object under a name, if it is there and of that kind. JSON's null is a value like others: a member that is null is
+-- there, and is neither a number nor a string nor an object.
 use Rattle.std.specs.Prelude.{ℕ, ◌&&◌, ◌^◌, Bool, false, List, Option, Some, None, bytes_eq, codes, is_some, length}
 use Rattle.std.specs.Prelude.{nat_le, nat_lt, if◌then◌else◌, option_and_then, option_map, unwrap_or}
 use Rattle.std.specs.Char.{is_ascii_digit}

@@ -19,10 +19,10 @@ has_objects tree = is_object_at (codes "keyslots") tree
     && is_object_at (codes "segments") tree
     && is_object_at (codes "digests") tree
 
--- the value, where it has the objects
+-- the value, if it has the objects
 abbrev pub where_header : Data → Option Data
 where_header tree = if has_objects tree then Some tree else None
 
--- what the text of a JSON area says, where it can be read
+-- what the text of a JSON area says, if it can be read
 unfoldable pub tree_of : List ℕ → Option Data
 tree_of text = option_and_then where_header (value_of text)

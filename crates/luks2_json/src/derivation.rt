@@ -11,7 +11,7 @@ use luks_verdict::bytes::HeaderBytes;
 use serde_json::Value;
 use std::alloc::{AllocError, Global};
 
-/// The hash function that the object's member `hash` names, where it is known.
+/// The hash function that the object's member `hash` names, if it is known.
 #[tactic(auto, unfolding(crate::specs::Derivation::hash_member))]
 pub fn hash_in(object: &Value) -> Option<Hash>
     ensures { result ≡ hash_member (data_of object.now) }
@@ -19,7 +19,7 @@ pub fn hash_in(object: &Value) -> Option<Hash>
     Hash::from_name(text(object, "hash")?)
 }
 
-/// The object's iterations of PBKDF2, or 0 where they are missing.
+/// The object's iterations of PBKDF2, or 0 if they are missing.
 #[tactic(auto, unfolding(crate::specs::Derivation::iterations_in))]
 pub fn iterations_in(object: &Value) -> u64
     ensures { result ≡ iterations_in (data_of object.now) }
@@ -27,7 +27,7 @@ pub fn iterations_in(object: &Value) -> u64
     whole_number(object, "iterations").unwrap_or(0)
 }
 
-/// The bytes under this name in base64, or none where they are missing.
+/// The bytes under this name in base64, or none if they are missing.
 pub fn bytes_in(alloc: Global, object: &Value, name: &str) -> Result<HeaderBytes, AllocError>
     ensures { IfOk result (λ bytes. bytes
         ≡ unwrap_or (base64_member name.now (data_of object.now)) []) }
@@ -38,7 +38,7 @@ pub fn bytes_in(alloc: Global, object: &Value, name: &str) -> Result<HeaderBytes
     }
 }
 
-/// The object's salt of PBKDF2, or no bytes where it is missing.
+/// The object's salt of PBKDF2, or no bytes if it is missing.
 #[tactic(auto, unfolding(crate::specs::Derivation::salt_in))]
 pub fn salt_in(alloc: Global, object: &Value) -> Result<HeaderBytes, AllocError>
     ensures { IfOk result (λ salt. salt ≡ salt_in (data_of object.now)) }

@@ -1,4 +1,4 @@
-//! Bytes in base64: whether a text stands for bytes, and for which.
+//! Bytes in base64: whether a text encodes bytes, and which.
 
 ghost use Rattle.std.specs.Prelude.{◌≡◌, ◌≤◌, IfOk, IfSome, length, option_map};
 ghost use Rattle.luks2_json.specs.Encoded.{begins_with_group, encoded_len, is_in_alphabet};
@@ -33,7 +33,7 @@ fn begins_with_group(text: &[u8]) -> bool
     is_symbol(text[0]) && is_symbol(text[1]) && is_symbol(text[2]) && is_symbol(text[3])
 }
 
-// For how many bytes a last group stands. It may have padding, or be empty.
+// The number of bytes that a last group encodes. It may have padding, or be empty.
 fn last_len(text: &[u8]) -> Option<usize>
     requires { length text.now ≤ 4 }
     ensures value { result ≡ encoded_len text.now }
@@ -46,7 +46,7 @@ fn last_len(text: &[u8]) -> Option<usize>
     }
 }
 
-/// For how many bytes the text stands, where it does. This takes no memory.
+/// The number of bytes that the text encodes, if it encodes any. This allocates nothing.
 pub(crate) fn encoded_len(text: &str) -> Option<usize>
     ensures { result ≡ encoded_len text.now }
 {
@@ -62,7 +62,7 @@ pub(crate) fn encoded_len(text: &str) -> Option<usize>
     Some(before + last_len(rest)?)
 }
 
-/// The bytes for which the text stands.
+/// The bytes that the text encodes.
 pub(crate) fn decoded(alloc: Global, text: &str) -> Result<Option<Vec<u8>>, AllocError>
     ensures { IfOk result (λ bytes.
         option_map (λ b. b.items) bytes ≡ decoded_of standard text.now) }

@@ -5,7 +5,7 @@ ghost use Rattle.luks2_json.specs.Encryption.{is_length_for, encryption_mode};
 
 use luks_cipher::Mode;
 
-/// The mode that a text names behind `aes-`, where it is a known one.
+/// The mode that a text names behind `aes-`, if that is known.
 #[tactic(auto, unfolding(crate::specs::Encryption::encryption_mode))]
 pub fn mode_of(encryption: &str) -> Option<Mode>
     ensures { result ≡ encryption_mode encryption.now }
@@ -13,8 +13,8 @@ pub fn mode_of(encryption: &str) -> Option<Mode>
     Mode::from_name(encryption.strip_prefix("aes-")?)
 }
 
-/// Whether a key of the mode can have this many bytes, or, where the mode is not known, a key of
-/// some mode.
+/// Whether a key of the mode can have this many bytes, or, if the mode is not known, a key of some
+/// mode.
 #[tactic(auto, unfolding(crate::specs::Encryption::is_length_for))]
 pub fn is_length_for(mode: Option<Mode>, bytes: u64) -> bool
     ensures { result ≡ is_length_for mode bytes }

@@ -1,5 +1,5 @@
-//! The kinds of members: each function finds what an object has under a name, where it is there and
-//! of that kind.
+//! The kinds of members: each function finds the value of an object under a name, if it is there
+//! and of that kind.
 
 ghost use Rattle.std.specs.Prelude.{◌≡◌, List, ℕ, length, option_map, IfOk};
 ghost use Rattle.std.specs.Char.{is_ascii_digit};
@@ -72,7 +72,7 @@ pub fn decimal_text(object: &Value, name: &str) -> Option<u64>
     number_of(text(object, name)?)
 }
 
-/// How many bytes are under this name in base64. This takes no memory.
+/// How many bytes are under this name in base64. This allocates nothing.
 #[tactic(auto, unfolding(crate::specs::Member::base64_member))]
 pub fn base64_len(object: &Value, name: &str) -> Option<usize>
     ensures { result ≡ option_map (λ (bytes : List ℕ). length bytes)

@@ -51,8 +51,8 @@ fn any_other_name(members: &Map<String, Value>) -> bool
     members.keys().any(|name| !is_number(name.as_str()))
 }
 
-/// Whether a member of `keyslots` is passed over, since its name is no number below 32. This takes
-/// no memory.
+/// Whether a member of `keyslots` is ignored, since its name is no number below 32. This allocates
+/// nothing.
 #[tactic(auto, unfolding(crate::specs::Numbered::has_key_out_of_range))]
 pub fn passes_over(metadata: &Metadata) -> bool
     ensures { result ≡ has_key_out_of_range metadata.now }

@@ -48,7 +48,7 @@ fn complete(tree: &Value) -> bool
     object_at(tree, "keyslots") && object_at(tree, "segments") && object_at(tree, "digests")
 }
 
-// Why a text was not read: Memory exactly if memory was refused, and else Json.
+// Why a text was not read: Memory exactly if memory ran out, and otherwise Json.
 fn fault_of(error: serde_json::Error) -> HeaderFault
     ensures memory { (result ≡ HeaderFault.Memory) ↔ IsMemory error }
     ensures json { (result ≡ HeaderFault.Json) ↔ (¬ IsMemory error) }
@@ -76,9 +76,11 @@ impl Metadata {
 
     /// What the text of a JSON area says.
     ///
-    /// [`HeaderFault::Json`] is for a text that is no JSON in UTF-8, nests deeper than 127, or is
-    /// no object with objects `keyslots`, `segments` and `digests`; [`HeaderFault::Memory`] for
-    /// refused memory, and never for an empty text. There are no other faults.
+    /// # Errors
+    ///
+    /// [`HeaderFault::Json`] for a text that is no JSON in UTF-8, nests deeper than 127, or is no
+    /// object with objects `keyslots`, `segments` and `digests`; [`HeaderFault::Memory`] if memory
+    /// ran out, and never for an empty text. There are no other faults.
     pub fn read(alloc: Global, text: &[u8]) -> Result<Metadata, HeaderFault>
         ensures ok { IfOk result (λ metadata. tree_of text.now ≡ Some metadata) }
         ensures json { result ≡ Err HeaderFault.Json → tree_of text.now ≡ None }

@@ -13,7 +13,7 @@ use Rattle.luks2_json.specs.Numbered.{lowest, object_numbered}
 use Rattle.luks2_metadata.specs.declared.digest.Digest.{Digest}
 use Rattle.serde_json.specs.Data.{Data}
 
--- the value of a digest (no bytes where it is missing)
+-- the value of a digest (no bytes if it is missing)
 unfoldable pub value_in : Data → List ℕ
 value_in digest = unwrap_or (base64_member (codes "digest") digest) []
 
@@ -37,7 +37,7 @@ digest_parts2_of digest = record {
   value = value_in digest;
 }
 
--- the digest, where it is usable: its numbers are in range too
+-- the digest, if it is usable: its numbers are in range too
 unfoldable pub digest2_of : Data → Option KeyDigest
 digest2_of digest = if is_digest2 digest then digest_from (digest_parts2_of digest) else None
 
@@ -46,11 +46,11 @@ unfoldable pub is_of_slot : ℕ → Data → Bool
 is_of_slot number digest =
     array_contains (codes "keyslots") (decimal number) digest && array_contains (codes "segments") (codes "0") digest
 
--- the digest, where it is usable and is of the key slot of this number: its own
+-- the digest, if it is usable and is of the key slot of this number: its own
 unfoldable pub own_digest : ℕ → Data → Option KeyDigest
 own_digest number digest = if is_of_slot number digest then digest2_of digest else None
 
--- the digest of number n, where it is usable and is of the key slot of this number: its own
+-- the digest of number n, if it is usable and is of the key slot of this number: its own
 unfoldable pub own_digest_at : Data → ℕ → ℕ → Option KeyDigest
 own_digest_at tree number n = option_and_then (own_digest number) (object_numbered (codes "digests") tree n)
 
@@ -62,7 +62,7 @@ digest2_for tree number = lowest (own_digest_at tree number) max_slots
 abbrev pub iterations_of_digest : KeyDigest → ℕ
 iterations_of_digest key = key.iterations
 
--- a digest as dumps tell it, where it is usable: with the names that it array_contains
+-- a digest as dumps print it, if it is usable: with the names that it lists
 unfoldable pub listed_of : Data → Option Digest
 listed_of digest =
     option_map (λ key. record {
@@ -71,7 +71,7 @@ listed_of digest =
       segments = texts_at (codes "segments") digest;
     }) (digest2_of digest)
 
--- the digest of number n beside its number, where there is one
+-- the digest of number n beside its number, if there is one
 abbrev pub digest2_numbered : Data → ℕ → Option (ℕ × Option Digest)
 digest2_numbered tree n = option_map (λ digest. (n, listed_of digest)) (object_numbered (codes "digests") tree n)
 

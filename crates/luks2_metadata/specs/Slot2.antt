@@ -1,4 +1,4 @@
--- What becomes of the key slots of LUKS2 (LUKS2 On-Disk Format Specification 1.1, section 3, the keyslots object).
+-- The verdicts on the key slots of LUKS2 (LUKS2 On-Disk Format Specification 1.1, section 3, the keyslots object).
 use Rattle.std.specs.Prelude.{ℕ, ◌&&◌, ◌||◌, not, nat_le, Bool, List, [], ◌∷◌, Option, Some, None, codes, is_none}
 use Rattle.std.specs.Prelude.{is_some, if◌then◌else◌, option_and_then, option_map, unwrap_or}
 use Rattle.luks_cipher.specs.declared.mode.Mode.{Mode}
@@ -26,7 +26,7 @@ use Rattle.serde_json.specs.Find.{get}
 
 -- ---- members and their kinds
 
--- how soon a slot is tried: 0, 1 or 2, and 1 where nothing is said
+-- the priority of a slot: 0, 1 or 2, and 1 if it has none
 abbrev pub priority_said : Option Data → Data → Option ℕ
 priority_said None slot = Some 1
 priority_said (Some _) slot =
@@ -42,7 +42,7 @@ is_af af =
     && is_some (integer_member (codes "stripes") af)
     && is_some (string_member (codes "hash") af)
 
--- where the key material lies, and how it is encrypted
+-- where the key material is, and how it is encrypted
 unfoldable pub is_area : Data → Bool
 is_area area =
     is_type (codes "raw") area
@@ -70,7 +70,7 @@ has_members slot =
     && passes (codes "area") is_area slot
     && passes (codes "kdf") is_kdf slot
 
--- ---- what the members say (0 and no bytes where they are missing)
+-- ---- what the members say (0 and no bytes if they are missing)
 
 -- the function by which the key comes of a passphrase is of this type
 abbrev pub is_kdf_type : List ℕ → Data → Bool
@@ -166,22 +166,22 @@ slot_parts2_of slot = record {
   area_mode = area_mode_of slot;
 }
 
--- what it takes to open the slot of this number, where there is no reason to skip it but a limit on iterations
+-- what is needed to open the slot of this number, if there is no reason to skip it but a limit on iterations
 unfoldable pub slot2_of : Data → Bounds → ℕ → Data → Option Slot
 slot2_of tree bounds number slot =
     if is_none (reason2_of tree bounds None number slot) then slot_from (slot_parts2_of slot) else None
 
--- what becomes of the slot of this number
+-- the verdict on the slot of this number
 unfoldable pub verdict2_of : Data → Bounds → Option ℕ → ℕ → Data → Verdict
 verdict2_of tree bounds limit number slot =
     judged (reason2_of tree bounds limit number slot) (slot2_of tree bounds number slot)
 
--- what becomes of the key slot of this number, where there is one
+-- the verdict on the key slot of this number, if there is one
 unfoldable pub verdict2_at : Data → Bounds → Option ℕ → ℕ → Option Verdict
 verdict2_at tree bounds limit number =
     option_map (verdict2_of tree bounds limit number) (object_numbered (codes "keyslots") tree number)
 
--- what it takes to open it
+-- what is needed to open it
 unfoldable pub slot2_at : Data → Bounds → ℕ → Option Slot
 slot2_at tree bounds number =
     option_and_then (slot2_of tree bounds number) (object_numbered (codes "keyslots") tree number)

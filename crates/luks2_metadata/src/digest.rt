@@ -30,7 +30,7 @@ pub struct Digest {
     pub segments: Names,
 }
 
-// The value of a digest, or no bytes where it is missing.
+// The value of a digest, or no bytes if it is missing.
 #[tactic(auto, unfolding(crate::specs::Digest2::value_in))]
 fn value_in(alloc: Global, digest: &Value) -> Result<HeaderBytes, AllocError>
     ensures { IfOk result (λ value. value ≡ value_in (data_of digest.now)) }
@@ -69,7 +69,7 @@ fn is_of_slot(digest: &Value, number: u8) -> bool
     lists(digest, "keyslots", name.format(number)) && lists(digest, "segments", "0")
 }
 
-// The digest, where it is usable.
+// The digest, if it is usable.
 #[tactic(auto, unfolding(crate::specs::Digest2::digest2_of))]
 fn usable(alloc: Global, digest: &Value) -> Result<Option<KeyDigest>, AllocError>
     ensures { IfOk result (λ key. key ≡ digest2_of (data_of digest.now)) }
@@ -90,7 +90,7 @@ fn usable(alloc: Global, digest: &Value) -> Result<Option<KeyDigest>, AllocError
     Ok(KeyDigest::from_parts(parts))
 }
 
-// The iterations of the digest, where it is usable.
+// The iterations of the digest, if it is usable.
 fn usable_iterations(digest: &Value) -> Option<u32>
     ensures { result ≡ option_map iterations_of_digest (digest2_of (data_of digest.now)) }
 {
@@ -104,7 +104,7 @@ fn usable_iterations(digest: &Value) -> Option<u32>
     Some(iterations as u32)
 }
 
-// The digest of a number, where it is usable and is of the key slot.
+// The digest of a number, if it is usable and is of the key slot.
 #[tactic(auto, unfolding(crate::specs::Digest2::own_digest, crate::specs::Digest2::own_digest_at))]
 fn of_slot_at(
     alloc: Global,
@@ -120,7 +120,7 @@ fn of_slot_at(
     }
 }
 
-// The iterations of the digest of a number, where it is usable and is of the key slot.
+// The iterations of the digest of a number, if it is usable and is of the key slot.
 #[tactic(auto, unfolding(crate::specs::Digest2::own_digest, crate::specs::Digest2::own_digest_at))]
 fn iterations_of_slot_at(tree: &Value, slot: u8, number: u8) -> Option<u32>
     ensures { result
@@ -132,7 +132,7 @@ fn iterations_of_slot_at(tree: &Value, slot: u8, number: u8) -> Option<u32>
     }
 }
 
-/// The digest that the key slot of this number is opened against, where there is one: of the usable
+/// The digest that the key slot of this number is opened against, if there is one: of the usable
 /// digests that list the slot and the segment, the one with the lowest number.
 pub fn digest_for(
     alloc: Global,
@@ -150,7 +150,7 @@ pub fn digest_for(
     Ok(None)
 }
 
-/// The iterations of that digest. This takes no memory.
+/// The iterations of that digest. This allocates nothing.
 pub(crate) fn iterations_for(tree: &Value, number: u8) -> Option<u32>
     ensures { result ≡ option_map iterations_of_digest (digest2_for (data_of tree.now) number) }
 {
@@ -163,7 +163,7 @@ pub(crate) fn iterations_for(tree: &Value, number: u8) -> Option<u32>
     None
 }
 
-// A digest as dumps tell it, where it is usable.
+// A digest as dumps print it, if it is usable.
 #[tactic(auto, unfolding(crate::specs::Digest2::listed_of))]
 fn listed(alloc: Global, digest: &Value) -> Result<Option<Digest>, AllocError>
     ensures { IfOk result (λ listed. listed ≡ listed_of (data_of digest.now)) }
@@ -178,7 +178,7 @@ fn listed(alloc: Global, digest: &Value) -> Result<Option<Digest>, AllocError>
     }))
 }
 
-// The digest of a number beside it, where there is one.
+// The digest of a number beside it, if there is one.
 fn numbered_digest(
     alloc: Global,
     tree: &Value,
@@ -192,7 +192,7 @@ fn numbered_digest(
     }
 }
 
-/// The digests by rising number, each with what it is a digest of, or `None` where it is not
+/// The digests by ascending number, each with what it is a digest of, or `None` if it is not
 /// usable.
 pub fn digests(alloc: Global, metadata: &Metadata) -> Result<Vec<(u8, Option<Digest>)>, AllocError>
     ensures value { IfOk result (λ digests. digests.items ≡ digests2_of metadata.now) }

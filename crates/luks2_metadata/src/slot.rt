@@ -50,7 +50,7 @@ fn kdf_hash(slot: &Value) -> Option<Hash>
     hash_in(slot.get("kdf")?)
 }
 
-// The iterations by which it does, or 0 where they are missing.
+// Its iterations, or 0 if they are missing.
 fn iterations(slot: &Value) -> u64
     ensures { result ≡ iterations_of_slot (data_of slot.now) }
 {
@@ -60,7 +60,7 @@ fn iterations(slot: &Value) -> u64
     }
 }
 
-// The salt by which it does, or no bytes where it is missing.
+// Its salt, or no bytes if it is missing.
 fn salt(alloc: Global, slot: &Value) -> Result<HeaderBytes, AllocError>
     ensures { IfOk result (λ salt. salt ≡ salt_of (data_of slot.now)) }
 {
@@ -77,7 +77,7 @@ fn af_hash(slot: &Value) -> Option<Hash>
     hash_in(slot.get("af")?)
 }
 
-// How many stripes the key material has, or 0 where that is missing.
+// How many stripes the key material has, or 0 if that is missing.
 fn stripes(slot: &Value) -> u64
     ensures { result ≡ stripes_member (data_of slot.now) }
 {
@@ -87,14 +87,14 @@ fn stripes(slot: &Value) -> u64
     }
 }
 
-// The length of the volume key in bytes, or 0 where it is missing.
+// The length of the volume key in bytes, or 0 if it is missing.
 fn key_size(slot: &Value) -> u64
     ensures { result ≡ key_size_of (data_of slot.now) }
 {
     whole_number(slot, "key_size").unwrap_or(0)
 }
 
-// The length in bytes of the key material's key, or 0 where it is missing.
+// The length in bytes of the key material's key, or 0 if it is missing.
 fn area_key_size(slot: &Value) -> u64
     ensures { result ≡ area_key_size_of (data_of slot.now) }
 {
@@ -111,7 +111,7 @@ fn area_mode(slot: &Value) -> Option<Mode>
     mode_of(text(slot.get("area")?, "encryption")?)
 }
 
-// The first byte of the key material, or 0 where it is missing.
+// The first byte of the key material, or 0 if it is missing.
 fn area_offset(slot: &Value) -> u64
     ensures { result ≡ area_offset_of (data_of slot.now) }
 {
@@ -121,7 +121,7 @@ fn area_offset(slot: &Value) -> u64
     }
 }
 
-// How many bytes are set aside for the key material, or 0 where that is missing.
+// How many bytes are reserved for the key material, or 0 if that is missing.
 fn area_size(slot: &Value) -> u64
     ensures { result ≡ area_size_of (data_of slot.now) }
 {
@@ -216,7 +216,7 @@ fn reason(
     }
 }
 
-// What becomes of a slot, without what it takes to open it.
+// The verdict on a slot, without what is needed to open it.
 #[tactic(auto, unfolding(crate::specs::Slot2::verdict2_of))]
 fn judge_slot(
     tree: &Value,
@@ -234,9 +234,8 @@ fn judge_slot(
     }
 }
 
-/// What becomes of the key slot of this number, where there is one, without what it takes to open
-/// it, in a header with these bounds. No more iterations than the limit are made. This takes no
-/// memory.
+/// The verdict on the key slot of this number, if there is one, in a header with these bounds. A
+/// slot with more iterations than the limit is skipped. This allocates nothing.
 #[tactic(auto, unfolding(crate::specs::Slot2::verdict2_at))]
 pub fn judge(
     metadata: &Metadata,
@@ -274,7 +273,7 @@ fn parts(alloc: Global, slot: &Value) -> Result<SlotParts, AllocError>
     })
 }
 
-// What it takes to open a slot, where there is no reason to skip it but a limit on iterations.
+// What is needed to open a slot, if there is no reason to skip it but a limit on iterations.
 #[tactic(auto, unfolding(crate::specs::Slot2::slot2_of))]
 fn usable(
     alloc: Global,
@@ -292,7 +291,7 @@ fn usable(
     Ok(Slot::from_parts(parts(alloc, slot)?))
 }
 
-/// What it takes to open the key slot of this number, where there is one and there is no reason to
+/// What is needed to open the key slot of this number, if there is one and there is no reason to
 /// skip it but a limit on iterations, in a header with these bounds.
 #[tactic(auto, unfolding(crate::specs::Slot2::slot2_at))]
 pub fn slot(

@@ -1,4 +1,4 @@
--- The JSON text of a volume of LUKS2 (LUKS2 On-Disk Format Specification 1.1, section 3). Members stand in the order of
+-- The JSON text of a volume of LUKS2 (LUKS2 On-Disk Format Specification 1.1, section 3). Members are in the order of
 -- their names.
 use Rattle.std.specs.Prelude.{◌≡◌, ℕ, zero, suc, ◌-◌, ◌*◌, Bool, true, false, List, [], ◌∷◌, ◌++◌, length, codes}
 use Rattle.std.specs.Prelude.{decimal, IsUtf8, Some}
@@ -101,7 +101,7 @@ digest_object p = object (members ((
     ∷ (codes "type", string (codes "pbkdf2"))
     ∷ []))
 
--- the payload's length, where it is fixed
+-- the payload's length, if it is fixed
 abbrev pub size_value : Bool → ℕ → Data
 size_value true len = decimal_value len
 size_value false len = string (codes "dynamic")
@@ -117,7 +117,7 @@ segment_object p = object (members (
     ∷ (codes "type", string (codes "crypt"))
     ∷ []))
 
--- the lengths of the JSON area, and of the room for key material
+-- the lengths of the JSON area, and of the space for key material
 unfoldable pub config_object : Seal2 → Data
 config_object p = object (members (
     (codes "json_size", decimal_value (p.hdr_size - 4096))

@@ -1,4 +1,4 @@
--- The key slots of a volume of LUKS2 by their numbers, and where their areas lie.
+-- The key slots of a volume of LUKS2 by their numbers, and where their areas are.
 use Rattle.std.specs.Prelude.{◌==◌, ℕ, zero, suc, ◌+◌, ◌*◌, ◌/◌, if◌then◌else◌, List, [], ◌∷◌, length, Option, None}
 use Rattle.std.specs.Prelude.{Some}
 use Rattle.std.specs.Option.{option_map_or}
@@ -19,7 +19,7 @@ abbrev pub area_size_at : Seal2 → ℕ → ℕ
 area_size_at p number =
     option_map_or (λ slot. area_size (length p.key.now) slot.stripes) (slot_numbered number p.slots.now) 0
 
--- where the area of the slot of this number begins, in bytes: behind both headers and the areas of all slots with lower
+-- where the area of the slot of this number starts, in bytes: behind both headers and the areas of all slots with lower
 -- numbers
 unfoldable pub area_start : Seal2 → ℕ → ℕ
 area_start p zero = 2 * p.hdr_size

@@ -49,7 +49,7 @@ fn area_size_at(seal: &Seal2<'_>, number: u32) -> u64
     }
 }
 
-/// Where the area of the slot of this number begins: behind both headers and the areas of all slots
+/// Where the area of the slot of this number starts: behind both headers and the areas of all slots
 /// with lower numbers.
 #[tactic(auto, unfolding(crate::specs::Numbered::area_start))]
 pub(crate) fn area_start(seal: &Seal2<'_>, number: u32) -> u64

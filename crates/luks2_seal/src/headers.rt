@@ -99,7 +99,7 @@ fn checksum_of(alloc: Global, fields: &[u8], rest: &[u8]) -> Result<Vec<u8>, All
     Ok(sum)
 }
 
-/// Adds a header with its JSON area, where `rest` is what stands behind the checksum.
+/// Adds a header with its JSON area, where `rest` is what is behind the checksum.
 #[tactic(auto, unfolding(crate::specs::Layout2::header2_bytes))]
 fn push_header(
     alloc: Global,

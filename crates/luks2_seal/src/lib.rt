@@ -1,4 +1,4 @@
-//! Volumes of LUKS2 made from values that are all handed in, for tests and for what is proved of
+//! Volumes of LUKS2 made from values that are all passed in, for tests and for what is proved about
 //! honest volumes: [`seal2`].
 #![tactic(auto)]
 

@@ -234,7 +234,7 @@ fn put_digest(
     )
 }
 
-/// The payload's length, where it is fixed.
+/// The payload's length, if it is fixed.
 fn size_text<'a>(fixed: bool, len: usize) -> Content<'a>
     ensures { data_of result ≡ size_value fixed len }
 {
@@ -266,7 +266,7 @@ fn segment_object(alloc: Global, seal: &Seal2<'_>) -> Result<Value, AllocError>
     )
 }
 
-/// Puts the lengths of the JSON area, and of the room for key material, into the metadata.
+/// Puts the lengths of the JSON area, and of the space for key material, into the metadata.
 #[tactic(auto, unfolding(crate::specs::Metadata2::config_object))]
 fn put_config(
     alloc: Global,

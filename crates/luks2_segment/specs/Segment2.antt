@@ -52,17 +52,17 @@ has_requirement tree =
 
 -- ---- the segment and its members
 
--- the only member, where it is named so
+-- the only member, if it is named so
 abbrev pub only_member : List ℕ → Members → Option Data
 only_member name no_members = None
 only_member name (member found value no_members) = if bytes_eq name found then Some value else None
 only_member name (member _ _ (member _ _ _)) = None
 
--- the segment, where there is exactly one and it is named 0
+-- the segment, if there is exactly one and it is named 0
 unfoldable pub the_segment : Data → Option Data
 the_segment tree = option_and_then (only_member (codes "0")) (in_member (codes "segments") as_object tree)
 
--- what is said of it (nothing where it is not there)
+-- what is said of it (nothing if it is not there)
 abbrev pub segment_said : Data → Data
 segment_said tree = unwrap_or (the_segment tree) null
 
@@ -70,7 +70,7 @@ segment_said tree = unwrap_or (the_segment tree) null
 abbrev pub offset_of : Data → Option ℕ
 offset_of segment = decimal_member (codes "offset") segment
 
--- its length in bytes, or None inside where it goes to the image's end
+-- its length in bytes, or None inside if it goes to the image's end
 unfoldable pub size_member : Data → Option (Option ℕ)
 size_member segment = if is_named (codes "size") (codes "dynamic") segment then Some None
     else option_map (λ bytes. Some bytes) (decimal_member (codes "size") segment)
@@ -79,7 +79,7 @@ size_member segment = if is_named (codes "size") (codes "dynamic") segment then 
 abbrev pub iv_tweak_of : Data → Option ℕ
 iv_tweak_of segment = decimal_member (codes "iv_tweak") segment
 
--- the length of a sector of so many bytes, where there is one
+-- the length of a sector of so many bytes, if there is one
 abbrev pub sector_size_with : ℕ → Option Sector
 sector_size_with bytes =
     if bytes == 512 then Some B512
@@ -112,7 +112,7 @@ is_segment segment =
 
 -- ---- the table of faults
 
--- it starts inside the header, where both stand in one image
+-- it starts inside an attached header
 unfoldable pub overlaps_headers2 : Bounds → ℕ → Bool
 overlaps_headers2 bounds offset = not bounds.detached && nat_lt offset bounds.end
 
@@ -205,8 +205,8 @@ segment2_of tree bounds =
 
 -- ---- what key slots are judged by
 
--- where the payload starts, if it stands in the header's image and the segment is not refused. Key material ends there
--- at the latest
+-- where the payload starts, if the header is attached and the segment is not refused. Key material ends there at the
+-- latest
 unfoldable pub payload2_of : Data → Bounds → Option ℕ
 payload2_of tree bounds =
     if bounds.detached then None else option_map (λ segment. segment.offset) (result_ok (segment2_of tree bounds))

@@ -64,7 +64,7 @@ fn has_requirement(tree: &Value) -> bool
     }
 }
 
-// The segment, where there is exactly one and it is named 0.
+// The segment, if there is exactly one and it is named 0.
 #[tactic(auto, unfolding(crate::specs::Segment2::the_segment))]
 fn the_segment(tree: &Value) -> Option<&Value>
     ensures { option_map (λ value. data_of value.now) result ≡ the_segment (data_of tree.now) }
@@ -77,7 +77,7 @@ fn the_segment(tree: &Value) -> Option<&Value>
     }
 }
 
-// Its length in bytes, or `Some(None)` where it goes to the image's end.
+// Its length in bytes, or `Some(None)` if it goes to the image's end.
 #[tactic(auto, unfolding(crate::specs::Segment2::size_member))]
 fn size(segment: &Value) -> Option<Option<u64>>
     ensures { result ≡ size_member (data_of segment.now) }
@@ -88,7 +88,7 @@ fn size(segment: &Value) -> Option<Option<u64>>
     Some(Some(decimal_text(segment, "size")?))
 }
 
-// The length of a sector of so many bytes, where there is one.
+// The length of a sector of so many bytes, if there is one.
 fn sector_size_with(bytes: u64) -> Option<SectorSize>
     ensures { result ≡ sector_size_with bytes }
 {
@@ -137,7 +137,7 @@ fn is_segment(segment: &Value) -> bool
     text(segment, "type").is_some() && (!is_type(segment, "crypt") || has_members(segment))
 }
 
-// It starts inside the header, where both stand in one image.
+// It starts inside an attached header.
 #[tactic(auto, unfolding(crate::specs::Segment2::overlaps_headers2))]
 fn starts_inside(bounds: Bounds, offset: u64) -> bool
     ensures { result ≡ overlaps_headers2 bounds offset }
@@ -226,14 +226,14 @@ fn segment_in(tree: &Value, bounds: Bounds) -> Result<Segment, SegmentFault>
     }
 }
 
-/// The segment of a header with these bounds, or its first fault. This takes no memory.
+/// The segment of a header with these bounds, or its first fault. This allocates nothing.
 pub fn segment(metadata: &Metadata, bounds: Bounds) -> Result<Segment, SegmentFault>
     ensures { result ≡ segment2_of metadata.now bounds }
 {
     segment_in(metadata.tree(), bounds)
 }
 
-/// Where the payload starts, if it stands in the header's image and the segment is not refused.
+/// Where the payload starts, if the header is attached and the segment is not refused.
 #[tactic(auto, unfolding(crate::specs::Segment2::payload2_of))]
 pub fn payload(tree: &Value, bounds: Bounds) -> Option<u64>
     ensures { result ≡ payload2_of (data_of tree.now) bounds }

@@ -14,7 +14,7 @@ sbox b =
     let a = inverse b in
     a ⊕ rotate_left w8 a 1 ⊕ rotate_left w8 a 2 ⊕ rotate_left w8 a 3 ⊕ rotate_left w8 a 4 ⊕ 0x63
 
--- the byte that the S-box takes to b
+-- the byte that the S-box maps to b
 unfoldable pub inv_sbox : ℕ → ℕ
 inv_sbox b = the_element (λ a. sbox a == b)
 
@@ -92,7 +92,7 @@ word_xor a b = word_of (λ k. slice_index a k ⊕ slice_index b k)
 unfoldable pub rot_word : List ℕ → List ℕ
 rot_word a = word_of (λ k. slice_index a ((k + 1) % 4))
 
--- SubWord: each byte taken through the S-box
+-- SubWord: the S-box of each byte
 unfoldable pub sub_word : List ℕ → List ℕ
 sub_word a = word_of (λ k. sbox (slice_index a k))
 

@@ -9,7 +9,7 @@ infixl 65 ◌⊕◌
 abbrev pub ◌⊕◌ : ℕ → ℕ → ℕ
 a ⊕ b = bit_xor a b
 
--- b times x: where the degree reaches 8, m(x) is taken off (XTIMES, 4.2)
+-- b times x: if the degree reaches 8, m(x) is subtracted (XTIMES, 4.2)
 unfoldable pub times_x : ℕ → ℕ
 times_x b = if nat_lt b 128 then 2 * b else (2 * b) ⊕ 0x11b
 
@@ -32,7 +32,7 @@ power_of_x (suc n) = times_x (power_of_x n)
 abbrev pub elements : List ℕ
 elements = range_with_len 0 256
 
--- the element that passes the test, or 0 where none does
+-- the element that passes the test, or 0 if none does
 abbrev pub the_element : (ℕ → Bool) → ℕ
 the_element test = unwrap_or (find test elements) 0
 

@@ -1,7 +1,7 @@
-//! AES, as FIPS 197 writes it.
+//! AES, as FIPS 197 defines it.
 //!
-//! [`AesKey`] encrypts and decrypts one block of 16 bytes, and takes no memory. It hides nothing
-//! from whoever can measure time, and wipes no secret.
+//! [`AesKey`] encrypts and decrypts one block of 16 bytes, and allocates nothing. It does not run
+//! in constant time, and wipes no key.
 #![tactic(auto)]
 
 mod aes;

@@ -79,14 +79,14 @@ impl InverseSubstitution {
     }
 }
 
-/// The byte to which the S-box takes `b`.
+/// The byte to which the S-box maps `b`.
 pub fn sbox(b: u8) -> u8
     ensures { result ≡ sbox b }
 {
     Substitution::new().value(b)
 }
 
-/// The byte that the S-box takes to `b`.
+/// The byte that the S-box maps to `b`.
 pub fn inv_sbox(b: u8) -> u8
     ensures { result ≡ inv_sbox b }
 {

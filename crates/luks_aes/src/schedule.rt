@@ -45,7 +45,7 @@ fn rot_word(a: [u8; 4]) -> [u8; 4]
     [a[1], a[2], a[3], a[0]]
 }
 
-// SubWord: each byte taken through the S-box.
+// SubWord: the S-box of each byte.
 #[tactic(auto, unfolding(crate::specs::Aes::sub_word))]
 fn sub_word(a: [u8; 4]) -> [u8; 4]
     ensures { result ≡ sub_word a }

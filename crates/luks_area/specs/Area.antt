@@ -1,4 +1,4 @@
--- The front of an image: how an area that holds it takes further bytes.
+-- The start of an image: how an area with it loads further bytes.
 use Rattle.std.specs.Prelude.{◌≡◌, ℕ, ◌<◌, ◌++◌, not, Bool, true, false, List, Option, Result, Ok, Err, take}
 use Rattle.luks_io.specs.Bytes.{ConsumedExactly}
 use Rattle.luks_area.specs.declared.fault.HeaderFault.{HeaderFault}
@@ -8,24 +8,24 @@ use Rattle.luks_area.specs.declared.fault.HeaderFault.TheVariants.{Read, Memory}
 abbrev pub max_area_len : ℕ
 max_area_len = 33554432
 
--- of the bytes that a source knew to come the first `count` were taken, and went behind those that were held
+-- the first `count` of a source's remaining bytes were consumed, and went behind those that were loaded
 abbrev pub ConsumedOnto : List ℕ → List ℕ → List ℕ → Option (List ℕ) → ℕ → Type 0
 ConsumedOnto held held' known left count = ConsumedExactly known left count × (held' ≡ held ++ take count known)
 
--- taking up to `most` bytes was broken off: by a failed read before the last of them, or at the start for want of
--- memory
+-- consuming up to `most` bytes was aborted: by a failed read before the last of them, or at the start since memory ran
+-- out
 abbrev pub AbortsConsuming : ℕ → List ℕ → List ℕ → List ℕ → Option (List ℕ) → HeaderFault → Type 0
 AbortsConsuming most held held' known left Read = (count : ℕ) × (count < most)
     × ConsumedOnto held held' known left count
 AbortsConsuming most held held' known left Memory = ConsumedOnto held held' known left 0
 AbortsConsuming most held held' known left _ = ⊥
 
--- a failed read is told
+-- a failed read is reported
 abbrev pub is_read : {T : Type 0} → Result T HeaderFault → Bool
 is_read (Err Read) = true
 is_read _ = false
 
--- an image is told to end before all that was asked of it was there
+-- an image is reported to end before all requested bytes were there
 abbrev pub is_truncated : Result Bool HeaderFault → Bool
 is_truncated (Ok whole) = not whole
 is_truncated (Err _) = false

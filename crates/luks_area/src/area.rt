@@ -1,4 +1,4 @@
-//! The front of an image, where its headers and key areas are.
+//! The start of an image, with its headers and key areas.
 
 ghost use Rattle.std.specs.Prelude.{◌≡◌, ◌-◌, ◌<◌, ◌≤◌, ◌↔◌, ◌++◌, ◌⊎◌, true, List, ℕ, [], Some};
 ghost use Rattle.std.specs.Prelude.{IsTrue, IfOk, IfErr, OnOk, OnErr, Ok, Err, length, max, min};
@@ -47,12 +47,14 @@ impl HeaderArea {
         self.bytes.as_slice()
     }
 
-    /// Takes further bytes of the image from the source until `end` are held, and answers whether
-    /// they are: `Ok(false)` says that the image ended first and is held whole. Where as many are
-    /// held already, nothing is read.
+    /// Loads further bytes of the image from the source until there are `end`, and answers whether
+    /// there are: `Ok(false)` says that the image ended first, and all of it is loaded. If as many
+    /// are loaded already, nothing is read.
     ///
-    /// After [`HeaderFault::Read`] the area holds what was taken before a read failed, after
-    /// [`HeaderFault::Memory`] nothing was taken. There are no other faults.
+    /// # Errors
+    ///
+    /// After [`HeaderFault::Read`] the area has what was consumed before a read failed; after
+    /// [`HeaderFault::Memory`] nothing was consumed. There are no other faults.
     pub fn extend_to<S: Source>(&mut self, source: &mut S, end: usize) -> Result<bool, HeaderFault>
         requires { end ≤ max_area_len }
         ensures taken { IfOk result (λ whole. IfKnown (S.to_come source.old) (λ known.
@@ -82,7 +84,7 @@ impl HeaderArea {
     }
 }
 
-// Gives the bytes room for `end` of them in all, and no more.
+// Gives the bytes capacity for `end` of them in all, and no more.
 fn reserve(bytes: &mut Vec<u8>, end: usize) -> Result<(), AllocError>
     requires { vec_len bytes.old ≤ end }
     ensures items { bytes.new.items ≡ bytes.old.items }

@@ -1,4 +1,4 @@
--- What a command line asks for.
+-- What the arguments ask for.
 use Rattle.std.specs.Prelude.{◌∷◌, [], ℕ, List, Option, Some, None, bytes_eq, codes}
 use Rattle.std.specs.Prelude.{if◌then◌else◌, option_and_then, option_map}
 use Rattle.clap.specs.Words.{Kinds, Row, Text, fault_of, first_of, subcommand_of}
@@ -22,11 +22,11 @@ o >>= f = option_and_then f o
 unfoldable pub text_in : Text → List Row → Option Text
 text_in name rows = first_of name rows
 
--- the name of the input that stands by itself
+-- the name of the input that belongs to no option
 abbrev pub input_in : List Row → Option Text
 input_in rows = text_in (codes "input") rows
 
--- FILE of `--header`, where it is given
+-- FILE of `--header`, if it is given
 abbrev pub header_file_in : List Row → Option Text
 header_file_in rows = text_in (codes "header") rows
 
@@ -42,11 +42,11 @@ stripes_in rows = text_in (codes "stripes") rows >>= number_within 1 4000
 unfoldable pub key_bytes_in : List Row → Option ℕ
 key_bytes_in rows = text_in (codes "key-bytes") rows >>= number_within 1 512
 
--- the number of `--key-slot`, where it is given
+-- the number of `--key-slot`, if it is given
 unfoldable pub key_slot_in : List Row → Option (Option ℕ)
 key_slot_in rows = optional_within 0 31 (text_in (codes "key-slot") rows)
 
--- the number of `--max-iterations`, where it is given
+-- the number of `--max-iterations`, if it is given
 unfoldable pub max_iterations_in : List Row → Option (Option ℕ)
 max_iterations_in rows = optional_within 1 4294967295 (text_in (codes "max-iterations") rows)
 
@@ -111,23 +111,23 @@ request_in (name, rows) =
 abbrev pub with_distinct_inputs : Request → Option Request
 with_distinct_inputs request = if reuses_stdin request then None else Some request
 
--- nothing is found where there is a fault
+-- nothing is found if there is a fault
 abbrev pub unless_faulty : {A : Type 0} → Kinds → Option A → Option A
 unless_faulty [] found = found
 unless_faulty (fault ∷ faults) found = None
 
--- the subcommand that the words name and its texts, where `clap` finds no fault in the words
+-- the subcommand that the arguments name and its texts, if `clap` finds no fault in the arguments
 unfoldable pub subcommand_in : List Text → Option (Text × List Row)
 subcommand_in words = unless_faulty (fault_of luksrd words) (subcommand_of luksrd words)
 
--- what the words after the program's name ask for, if they are a command line of luksrd
+-- what the arguments after the program's name ask for, if they are a luksrd command
 abbrev pub command_of : List Text → Option Request
 command_of words = do
   found ← subcommand_in words
   request ← request_in found
   with_distinct_inputs request
 
--- want of memory is the one error of `clap` that is no fault of the words
+-- running out of memory is the one error of `clap` that is no fault of the arguments
 abbrev pub fault_for : ErrorKind → PlanFault
 fault_for OutOfMemory = Memory
 fault_for _ = Usage

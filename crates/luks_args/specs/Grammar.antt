@@ -1,12 +1,12 @@
--- The command line of luksrd as `clap` reads it: one level of subcommands, each with options that
--- take one text and with one input, and no rule between options.
+-- The arguments of luksrd as `clap` reads them: one level of subcommands, each with options that have one argument and
+-- with one input, and no rule between options.
 use Rattle.std.specs.Prelude.{◌≡◌, ◌∷◌, ◌++◌, [], Bool, true, false, IfOk, List, Result, Some, codes}
 use Rattle.clap.specs.Words.{App, Rule, Shape, Text, app_of, new_rule}
 use Rattle.clap.specs.Simple.{new_shape}
 use Rattle.clap.specs.declared.builder.Command.{Command}
 use Rattle.clap.specs.declared.builder.Command.TheViews.{out-Command}
 
--- the option `--name`, which takes one text
+-- the option `--name`, which has one argument
 abbrev pub option : Text → Bool → Rule
 option name is_required = record (new_rule name) { long = Some name; required = is_required }
 
@@ -18,7 +18,7 @@ required name = option name true
 abbrev pub optional : Text → Rule
 optional name = option name false
 
--- the input, which stands by itself and may not be left out
+-- the input, which belongs to no option and may not be left out
 abbrev pub input : Rule
 input = record (new_rule (codes "input")) { required = true }
 
@@ -67,8 +67,8 @@ abbrev pub af_merge_shape : Shape
 af_merge_shape = command (codes "afMerge")
     (required (codes "hash") ∷ required (codes "stripes") ∷ required (codes "key-bytes") ∷ [])
 
--- luksrd with no command yet: the words are those after the program's name, and a word that asks
--- for help is a word like others
+-- luksrd with no command yet: the arguments are those after the program's name, and an argument that asks for help is
+-- one like others
 abbrev pub program : Shape
 program = record (new_shape (codes "luksrd")) {
   no_binary_name = true;
@@ -84,7 +84,7 @@ luksrd = record {
       af_split_shape ∷ af_merge_shape ∷ [];
 }
 
--- a command that stands by itself
+-- a command on its own
 abbrev pub alone : Shape → App
 alone shape = record { top = shape; subs = [] }
 
@@ -93,10 +93,10 @@ pub record IsReadAs (command : Command) (as_read : App) : Type 0 where
   pub app : app_of command ≡ as_read
   pub local : (out-Command command).has_globals ≡ false
 
--- a command in the making is read so, where memory did not run out
+-- a command being built is read so, if memory did not run out
 abbrev pub BuildsApp : {E : Type 0} → Result Command E → App → Type 0
 BuildsApp making as_read = IfOk making (λ command. IsReadAs command as_read)
 
--- a program in the making holds these commands, where memory did not run out
+-- a program being built has these commands, if memory did not run out
 abbrev pub HasSubcommands : {E : Type 0} → Result Command E → App → Type 0
 HasSubcommands making as_read = IfOk making (λ command. app_of command ≡ as_read)

@@ -6,7 +6,7 @@ use Rattle.std.specs.Prelude.{ℕ, List, [], ◌∷◌, ◌++◌, codes}
 abbrev line : String → List ℕ
 line text = codes text ++ 10 ∷ []
 
--- what is printed where the words are no command line of luksrd
+-- what is printed if the arguments are not a luksrd command
 unfoldable pub usage_text : List ℕ
 usage_text =
     line "usage: luksrd isLuks [--header FILE] IMAGE"

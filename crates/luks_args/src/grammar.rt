@@ -11,8 +11,8 @@ ghost use Rattle.luks_args.specs.Grammar.{test_passphrase_shape, volume_command}
 use clap::{Arg, Command};
 use std::alloc::{AllocError, Global};
 
-// A command in the making, which ran out of memory or did not: each call below puts one thing more
-// into it, and hands on what ran out of memory as it is.
+// A command being built, which ran out of memory or did not: each call below adds one thing to it,
+// and returns what ran out of memory as it is.
 type Making<'a> = Result<Command<'a>, AllocError>;
 
 // luksrd with all its commands.
@@ -25,7 +25,7 @@ pub(super) fn grammar<'a>(alloc: Global) -> Result<Command<'a>, AllocError>
     with_stripe_commands(alloc, program)
 }
 
-// luksrd with no command yet, and with no word that asks for help.
+// luksrd with no command yet, and with no argument that asks for help.
 fn program<'a>(alloc: Global) -> Command<'a>
     ensures { IsReadAs result (alone program) }
 {
@@ -151,7 +151,7 @@ fn with_input<'a>(alloc: Global, command: Making<'a>) -> Making<'a>
     command?.arg(input(alloc))
 }
 
-// The option `--name`, which takes one text.
+// The option `--name`, which has one argument.
 fn option<'a>(alloc: Global, name: &'a str, is_required: bool) -> Arg<'a>
     ensures rule { rule_of result ≡ option name.entry.now is_required }
     ensures local { result.global ≡ false }
@@ -159,7 +159,7 @@ fn option<'a>(alloc: Global, name: &'a str, is_required: bool) -> Arg<'a>
     Arg::new(alloc, name).long(name).required(is_required)
 }
 
-// The input, which stands by itself and may not be left out.
+// The input, which belongs to no option and may not be left out.
 fn input<'a>(alloc: Global) -> Arg<'a>
     ensures rule { rule_of result ≡ input }
     ensures local { result.global ≡ false }

@@ -42,7 +42,7 @@ pub(super) fn key_bytes(options: &ArgMatches<'_>) -> Option<KeyBytes>
     KeyBytes::read(text(options, "key-bytes")?)
 }
 
-// The number of `--key-slot`, where it is given.
+// The number of `--key-slot`, if it is given.
 #[tactic(auto, unfolding(crate::specs::Command::key_slot_in))]
 pub(super) fn key_slot(options: &ArgMatches<'_>) -> Option<Option<SlotNumber>>
     ensures { option_map (option_map (λ slot. slot.number)) result
@@ -54,7 +54,7 @@ pub(super) fn key_slot(options: &ArgMatches<'_>) -> Option<Option<SlotNumber>>
     }
 }
 
-// The number of `--max-iterations`, where it is given.
+// The number of `--max-iterations`, if it is given.
 #[tactic(auto, unfolding(crate::specs::Command::max_iterations_in))]
 pub(super) fn max_iterations(options: &ArgMatches<'_>) -> Option<Option<IterationLimit>>
     ensures { option_map (option_map (λ limit. limit.iterations)) result

@@ -46,12 +46,11 @@ impl From<clap::Error> for PlanFault {
     }
 }
 
-/// What the words after the program's name ask for.
+/// The command that the arguments after the program's name ask for.
 ///
 /// # Errors
 ///
-/// `Usage` where they are no command line of luksrd, as where there are none; `Memory` where memory
-/// ran out.
+/// `Usage` if they are not a luksrd command, also if there are none; `Memory` if memory ran out.
 pub fn plan<'a, S: AsStr>(alloc: Global, words: &'a [S]) -> Result<Command<'a>, PlanFault>
     ensures ok { IfOk result (λ command.
         command_of (map S.text words.entry.now) ≡ Some (request_of command)) }
@@ -64,7 +63,7 @@ pub fn plan<'a, S: AsStr>(alloc: Global, words: &'a [S]) -> Result<Command<'a>, 
     }
 }
 
-// The words as `clap` takes them apart.
+// The arguments as `clap` parses them.
 fn matches_of<'a, S: AsStr>(alloc: Global, words: &'a [S]) -> Result<ArgMatches<'a>, PlanFault>
     ensures ok { IfOk result (λ matches.
         subcommand_in (map S.text words.entry.now) ≡ subcommand_rows_of matches) }

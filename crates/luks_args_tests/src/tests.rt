@@ -72,7 +72,7 @@ static READINGS: [(&str, &str, Option<&str>); 16] = [
     ("--header=a=b i", "i", Some("a=b")),
 ];
 
-// Each command that reads a header takes these arguments so.
+// Each command that reads a header reads these arguments so.
 fn check_reading(rt: &(impl Abort + AllocGlobal), words: &str, reading: Reading<'_>) {
     let commands = [
         ("isLuks ", Command::IsLuks(reading)),
@@ -112,7 +112,7 @@ static OPENINGS: [(&str, &str, &str, Option<&str>); 11] = [
     ("--key-file i --header i i", "i", "i", Some("i")),
 ];
 
-// Both commands that open a volume take these arguments so.
+// Both commands that open a volume read these arguments so.
 fn check_opening(rt: &(impl Abort + AllocGlobal), words: &str, opening: Opening<'_>) {
     let commands = [
         ("testPassphrase ", Command::TestPassphrase(opening)),

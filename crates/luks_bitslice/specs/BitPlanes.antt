@@ -9,10 +9,10 @@ plane_bit v q = bit_at (slice_index v (q / 8)) (q % 8)
 
 -- ---- the 128 bits of a plane
 -- A plane represents one row of the states of 32 blocks: 4 columns a block. Bits are numbered 8 * byte + bit. The 16
--- bytes are four groups of four; byte c of group m belongs to block m modulo 4 and to the column that stands c-th in
--- the order 0, 1, 3, 2; bit k of that byte belongs to block 4 * k + m.
+-- bytes are four groups of four; byte c of group m belongs to block m modulo 4 and to the c-th column in the order 0,
+-- 1, 3, 2; bit k of that byte belongs to block 4 * k + m.
 
--- the column that stands i-th in that order; the order is its own inverse
+-- the i-th column in that order; the order is its own inverse
 abbrev pub column_order : ℕ → ℕ
 column_order i = slice_index (0 ∷ 1 ∷ 3 ∷ 2 ∷ []) i
 

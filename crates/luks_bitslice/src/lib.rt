@@ -1,7 +1,7 @@
-//! Bitsliced AES: eight vectors of 128 bits hold the bit planes of 128 bytes.
+//! Bitsliced AES: eight vectors of 128 bits have the bit planes of 128 bytes.
 //!
 //! The steps of the inverse cipher on bit planes, gate by gate, and the transposition of bytes to
-//! bit planes and back. Nothing here allocates memory, and no address depends on a secret.
+//! bit planes and back. Nothing here allocates memory, and no address depends on a key or on data.
 #![tactic(auto)]
 
 mod circuit;

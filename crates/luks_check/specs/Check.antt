@@ -1,4 +1,4 @@
--- What is amiss with a header: a finding a line, in a fixed order.
+-- What is wrong with a header: a finding a line, in a fixed order.
 use Rattle.std.specs.Prelude.{ℕ, ◌∷◌, ◌++◌, [], Bool, false, true, List, None, Result, Ok, Err, codes, flat_map}
 use Rattle.std.specs.Prelude.{if◌then◌else◌, max, min, nat_lt}
 use Rattle.std.specs.Fmt.{decimal}
@@ -21,7 +21,7 @@ use Rattle.luks_verdict.specs.declared.slot.Verdict.TheVariants.{Usable, Disable
 use Rattle.luks_check.specs.Check2.{header_finding}
 use Rattle.luks_dump.specs.Field.{field}
 
--- what is found in the two headers of LUKS2 beside one another. A LUKS1 header stands alone
+-- the findings about the two headers of LUKS2 together. LUKS1 has one header
 abbrev pub place_finding : Header → List ℕ
 place_finding (V1 header) = []
 place_finding (V2 header tree) = header_finding header.finding

@@ -1,4 +1,4 @@
--- What is amiss with the two headers of LUKS2.
+-- What is wrong with the two headers of LUKS2.
 use Rattle.std.specs.Prelude.{ℕ, [], List, Option, Some, None, codes}
 use Rattle.luks2_binary.specs.declared.header.Finding.{Finding}
 use Rattle.luks2_binary.specs.declared.header.Finding.TheVariants.{PrimaryNotValid, SecondaryNotValid, SequencesDiffer}

@@ -1,4 +1,4 @@
-//! What is amiss with a header.
+//! What is wrong with a header.
 
 ghost use Rattle.std.specs.Prelude.{◌≡◌, ◌++◌, IfOk, OnOk, string_bytes};
 ghost use Rattle.luks_header.specs.Segment.{segment_of};

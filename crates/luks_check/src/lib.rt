@@ -1,4 +1,4 @@
-//! What is amiss with a header: the page of findings that `luksCheck` prints.
+//! What is wrong with a header: the findings that `luksCheck` prints.
 #![tactic(auto)]
 
 pub mod check;

@@ -1,5 +1,5 @@
--- CBC over AES (NIST SP 800-38A, 6.2) on data units of whole blocks. The IV takes the place of a cipher block before
--- the first.
+-- CBC over AES (NIST SP 800-38A, 6.2) on data units of whole blocks. The IV is used as the cipher block before the
+-- first.
 use Rattle.std.specs.Prelude.{ℕ, zero, suc, ◌/◌, List, length}
 use Rattle.luks_aes.specs.Aes.{encrypted, decrypted}
 use Rattle.luks_cipher.specs.Xts.{block_at, block_xor, joined}

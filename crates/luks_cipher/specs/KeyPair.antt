@@ -1,4 +1,4 @@
--- What an expanded key of XTS-AES holds.
+-- What an expanded key of XTS-AES has.
 use Rattle.std.specs.Prelude.{◌≡◌, ℕ, ◌+◌, List, length, IsTrue}
 use Rattle.luks_aes.specs.Bytes.{IsBytes}
 use Rattle.luks_cipher.specs.Xts.{is_xts_key_length}

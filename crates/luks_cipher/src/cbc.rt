@@ -76,7 +76,8 @@ fn decrypt_batch(key: &BatchKey, before: [u8; 16], batch: &mut [u8]) -> [u8; 16]
     xor_blocks_before(before, &cipher, batch)
 }
 
-/// Encrypts the data unit under the key and the IV.
+/// Encrypts the data unit, whole blocks of 16 bytes, in place by CBC under the key and the IV (NIST
+/// SP 800-38A, 6.2).
 pub fn encrypt_chain(key: &AesKey, vector: [u8; 16], unit: &mut [u8])
     requires { length unit.old % 16 ≡ 0 }
     ensures value { unit.new ≡ cbc_encrypted key.now vector unit.old }
@@ -90,7 +91,8 @@ pub fn encrypt_chain(key: &AesKey, vector: [u8; 16], unit: &mut [u8])
     }
 }
 
-/// Decrypts the data unit under the key and the IV.
+/// Decrypts the data unit, whole blocks of 16 bytes, in place by CBC under the key and the IV (NIST
+/// SP 800-38A, 6.2).
 pub fn decrypt_chain(key: &BatchKey, vector: [u8; 16], unit: &mut [u8])
     requires { length unit.old % 16 ≡ 0 }
     ensures value { unit.new ≡ cbc_decrypted key.now vector unit.old }

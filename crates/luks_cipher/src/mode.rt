@@ -35,7 +35,7 @@ impl Mode {
         }
     }
 
-    /// Whether a key of the mode has so many bytes: 32 or 64 for XTS, 16 or 32 for CBC.
+    /// Whether a key of the mode can have `len` bytes: 32 or 64 for XTS, 16 or 32 for CBC.
     pub fn has_key_length(self, len: usize) -> bool
         ensures { result ≡ is_mode_key_length self len }
     {
@@ -45,7 +45,7 @@ impl Mode {
         }
     }
 
-    /// The name.
+    /// Its name, as `from_name` accepts it.
     pub fn name(self) -> &'static str
         ensures { result.now ≡ mode_name self }
     {

@@ -119,7 +119,9 @@ impl SectorCipher {
         }
     }
 
-    /// Encrypts the sector of this number. Its length is a multiple of 16 bytes, from 16 to 4096.
+    /// Encrypts the sector of this number in place, in the cipher's mode: a data unit of XTS (IEEE
+    /// 1619, 5.3.2) or a chain of CBC (NIST SP 800-38A, 6.2). Its length is a multiple of 16 bytes,
+    /// from 16 to 4096.
     pub fn encrypt_unit(&self, number: u64, unit: &mut [u8])
         requires whole_blocks { length unit.old % 16 ≡ 0 }
         requires shortest { 16 ≤ length unit.old }
@@ -139,7 +141,9 @@ impl SectorCipher {
         }
     }
 
-    /// Decrypts the sector of this number. Its length is a multiple of 16 bytes, from 16 to 4096.
+    /// Decrypts the sector of this number in place, in the cipher's mode: a data unit of XTS (IEEE
+    /// 1619, 5.4.2) or a chain of CBC (NIST SP 800-38A, 6.2). Its length is a multiple of 16 bytes,
+    /// from 16 to 4096.
     pub fn decrypt_unit(&self, number: u64, unit: &mut [u8])
         requires whole_blocks { length unit.old % 16 ≡ 0 }
         requires shortest { 16 ≤ length unit.old }

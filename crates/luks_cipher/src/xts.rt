@@ -137,8 +137,8 @@ impl XtsKey {
         next
     }
 
-    /// Encrypts the data unit of this number (IEEE 1619, 5.3.2). Its length is a multiple of 16
-    /// bytes, from 16 to 4096.
+    /// Encrypts the data unit of this number in place (IEEE 1619, 5.3.2). Its length is a multiple
+    /// of 16 bytes, from 16 to 4096.
     pub fn encrypt_unit(&self, number: u64, unit: &mut [u8])
         requires whole_blocks { length unit.old % 16 ≡ 0 }
         requires shortest { 16 ≤ length unit.old }
@@ -154,8 +154,8 @@ impl XtsKey {
         }
     }
 
-    /// Decrypts the data unit of this number (IEEE 1619, 5.4.2). Its length is a multiple of 16
-    /// bytes, from 16 to 4096.
+    /// Decrypts the data unit of this number in place (IEEE 1619, 5.4.2). Its length is a multiple
+    /// of 16 bytes, from 16 to 4096.
     pub fn decrypt_unit(&self, number: u64, unit: &mut [u8])
         requires whole_blocks { length unit.old % 16 ≡ 0 }
         requires shortest { 16 ≤ length unit.old }

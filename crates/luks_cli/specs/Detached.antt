@@ -33,22 +33,22 @@ detached_outcome_of (luks_cat o) file image secret =
 -- the commands on stripes have no header
 detached_outcome_of request file image secret = outcome_of request image secret
 
--- how prompt a command is that took so many bytes of the image
+-- how prompt a command is that consumed so many bytes of the image
 abbrev pub detached_promptness_of : Request → List ℕ → ℕ → Promptness
 detached_promptness_of (luks_cat o) file payload_taken = detached_cat_promptly file payload_taken
 detached_promptness_of request file payload_taken = at_any_pace
 
--- the image knows its bytes, where the command reads any of it
+-- the image knows its bytes, if the command reads any of it
 abbrev pub KnowsPayload : Request → Option (List ℕ) → List ℕ → Type 0
 KnowsPayload (luks_cat o) device image = device ≡ Some image
 KnowsPayload request device image = Unit {0}
 
--- what was taken of it
+-- what was consumed of it
 abbrev pub TookPayload : Request → List ℕ → Option (List ℕ) → ℕ → Type 0
 TookPayload (luks_cat o) image left = ConsumedExactly image left
 TookPayload request image left = TookNone
 
--- where the inputs of a command know their bytes, its run has the outcome that is stated for these
+-- if the inputs of a command know their bytes, its run has the outcome that is specified for these
 abbrev pub RunsDetached : Request → Message → Option (List ℕ) → Option (List ℕ) → Option (List ℕ) → Option (List ℕ)
     → Option (List ℕ) → Option (List ℕ) → Option (List ℕ) → Option (List ℕ) → Type 0
 RunsDetached request message header header' image image' secret secret' written written' =
@@ -87,7 +87,7 @@ EndsWithoutKey OutOfMemory = Unit {0}
 EndsWithoutKey _ = ⊥
 
 -- the counts of failures after a run with this message, of the file with the header and of the other devices: one of
--- them rose by one where a read or a write failed, and else none did
+-- them rose by one if a read or a write failed, and otherwise none did
 abbrev pub CountsDetached : Message → ℕ → ℕ → Failures → Failures → Type 0
 CountsDetached ReadFailed header header' before after =
     ((header' ≡ saturating_inc header) × (after ≡ before)) ⊎ ((header' ≡ header) × Counts ReadFailed before after)

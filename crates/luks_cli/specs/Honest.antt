@@ -7,7 +7,7 @@ use Rattle.luks_report.specs.declared.message.Message.TheVariants.{Done}
 use Rattle.luks_runs.specs.Run.{breaks_off}
 use Rattle.luks_unlock.specs.Honest.{IsHonest}
 
--- `luksCat` of such a volume: a run that is not broken off writes the plain text, and ends well
+-- `luksCat` of such a volume: a run that is not aborted writes the plaintext and succeeds
 abbrev pub WritesPlain : Request → Message → Option (List ℕ) → Option (List ℕ) → Option (List ℕ) → Option (List ℕ)
     → Type 0
 WritesPlain (luks_cat o) message image secret written written' =

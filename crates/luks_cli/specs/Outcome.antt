@@ -1,4 +1,4 @@
--- What a run of luksrd comes to: a function of the command and the bytes of both inputs.
+-- The outcome of a run of luksrd: a function of the command and the bytes of both inputs.
 use Rattle.std.specs.Prelude.{ℕ, List}
 use Rattle.luks_request.specs.Request.{Request, is_luks, luks_uuid, luks_dump, luks_check, test_passphrase, luks_cat}
 use Rattle.luks_request.specs.Request.{af_split, af_merge}

@@ -1,4 +1,4 @@
--- How a run of a command is held to the outcome that is stated for it.
+-- How a run of a command is compared with the outcome that is specified for it.
 use Rattle.std.specs.Prelude.{◌≡◌, ℕ, ◌<◌, ◌^◌, List, length, Option, Some, true, ◌⊎◌, is_err}
 use Rattle.luks_io.specs.Bytes.{Appended, ConsumedExactly, IfKnown}
 use Rattle.luks_cli.specs.VolumeParts.{cat_promptly}
@@ -28,7 +28,7 @@ KnowsSecret (luks_cat o) device secret = device ≡ Some secret
 KnowsSecret (af_split s) device secret = device ≡ Some secret
 KnowsSecret (af_merge m) device secret = Unit {0}
 
--- what was taken of it
+-- what was consumed of it
 abbrev pub TookSecret : Request → List ℕ → Option (List ℕ) → ℕ → Type 0
 TookSecret (is_luks _) secret left = TookNone
 TookSecret (luks_uuid _) secret left = TookNone
@@ -44,7 +44,7 @@ abbrev pub IsCounted : Request → List ℕ → Type 0
 IsCounted (luks_cat o) image = length image < 2 ^ 64
 IsCounted _ image = Unit {0}
 
--- the headline: where the inputs of a command know their bytes, its run has the outcome that is stated for these
+-- the headline: if the inputs of a command know their bytes, its run has the outcome that is specified for these
 abbrev pub RunsAsStated : Request → Message → Option (List ℕ) → Option (List ℕ) → Option (List ℕ) → Option (List ℕ)
     → Option (List ℕ) → Option (List ℕ) → Type 0
 RunsAsStated request message image image' secret secret' written written' =
@@ -53,7 +53,7 @@ RunsAsStated request message image image' secret secret' written written' =
     → RunMatches (promptness_of request known) (outcome_of request known known_secret) message
     (ConsumedExactly known image') (TookSecret request known_secret secret') (Appended written written'))
 
--- the command takes no memory
+-- the command allocates nothing
 abbrev pub TakesNoMemory : Request → Type 0
 TakesNoMemory (af_split s) = Unit {0}
 TakesNoMemory (af_merge m) = Unit {0}

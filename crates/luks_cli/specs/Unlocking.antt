@@ -1,4 +1,4 @@
--- What opening a volume leaves in its devices, wherever its header stands.
+-- The effects of opening a volume on its devices, with an attached or a detached header.
 use Rattle.std.specs.Prelude.{◌≡◌, ℕ, ◌<◌, ◌≤◌, ◌⊎◌, List, length, max, take, Option, Some}
 use Rattle.std.specs.Prelude.{Result, Ok, Err}
 use Rattle.luks_io.specs.Bytes.{Appended, ConsumedExactly}
@@ -19,14 +19,14 @@ use Rattle.luks_cli.specs.VolumeParts.{cat_promptly}
 use Rattle.luks_runs.specs.declared.standing.Standing.{Standing}
 use Rattle.luks_runs.specs.declared.standing.Standing.TheVariants.{Attached, Detached}
 
--- opening is broken off: with a header in the payload's image it owes what `luksCat` owes, and else it writes nothing
+-- opening is aborted: with an attached header it is as prompt as `luksCat`, and otherwise it writes nothing
 abbrev pub opens_promptly : Standing → List ℕ → Message → ℕ → ℕ → ℕ → Type 0
 opens_promptly Attached image message image_taken secret_taken output =
     cat_promptly image message image_taken secret_taken output
 opens_promptly Detached image message image_taken secret_taken output = output ≡ 0
 
--- the volume was opened: its segment and its key are these, and these first bytes are held of the image, or of the file
--- with the header: of an image, but for the header, none of the payload's
+-- the volume was opened: its segment and its key are these, and these first bytes of the image, or of the file with the
+-- header, are loaded. With an attached header they reach past the payload's start only as far as the header was read
 pub record Unlocks (standing : Standing) (o : OpeningRequest) (image secret : List ℕ) (segment : Segment)
     (opened : Opened) (held : List ℕ) (image' secret' : Option (List ℕ)) : Type 0 where
   pub outcome : (on_opened : OnOpened)
@@ -38,8 +38,8 @@ pub record Unlocks (standing : Standing) (o : OpeningRequest) (image secret : Li
   pub image_taken : ConsumedExactly image image' (length held)
   pub secret_taken : ConsumedExactly secret secret' (length secret)
 
--- a volume that was found was opened by the passphrase that the key file has, or was not: that is read whole before
--- the key slots are tried. Else nothing more was taken of the image
+-- a volume that was found was opened by the passphrase in the key file, or was not. The key file is read whole before
+-- the key slots are tried; if it cannot be, nothing more of the image is consumed
 abbrev pub OpensVolume : Option ℕ → OrderModel → List ℕ → List ℕ → List ℕ → List ℕ → Option (List ℕ) → Option (List ℕ)
     → Result Opened Message → Type 0
 OpensVolume named tries pass area area' rest left secret' result =
@@ -48,8 +48,7 @@ OpensVolume named tries pass area area' rest left secret' result =
     ⊎ ((message : Message) × (result ≡ Err message) × NoSecretRead pass secret' message × (area' ≡ area)
     × (left ≡ Some rest))
 
--- the key slot that opened was told: in a line that was written, or of which a write failed, or for which memory was
--- refused
+-- the key slot that opened was reported: its line was written, or a write failed within it, or memory for it ran out
 abbrev pub TellsSlot : Opened → Option (List ℕ) → Option (List ℕ) → Message → Type 0
 TellsSlot opened written written' Done = Appended written written' (opened_line opened.slot)
 TellsSlot opened written written' WriteFailed = (count : ℕ) × (count < length (opened_line opened.slot))

@@ -12,7 +12,7 @@ use Rattle.luks_unlock.specs.Volume.{OnOpened}
 
 -- ---- opening
 
--- what is done with a volume takes no less of its image than is held, and the whole key file
+-- whatever is done with a volume consumes at least the bytes of its image that are loaded, and the whole key file
 pub record TakesHeld (secret : List ℕ) (on_opened : OnOpened) : Type 0 where
   pub held : (segment : Segment) (opened : Opened) (held : ℕ) → held ≤ (on_opened segment opened held).image_taken
   pub whole : (segment : Segment) (opened : Opened) (held : ℕ)
@@ -25,7 +25,7 @@ pub record TakesHeld (secret : List ℕ) (on_opened : OnOpened) : Type 0 where
 abbrev pub PassesHeader : Segment → ℕ → ℕ → Type 0
 PassesHeader s cost taken = (cost ≤ s.offset) ⊎ (cost < taken)
 
--- passing on a payload is aborted: if a write fails, no byte of the image past the sector of the last byte written was
+-- forwarding a payload is aborted: if a write fails, no byte of the image past the sector of the last byte written was
 -- consumed, except for the header's; if a read fails, the output is the whole sectors that were consumed
 abbrev pub passed_promptly : Segment → ℕ → Message → ℕ → ℕ → Type 0
 passed_promptly s cost WriteFailed taken output = taken ≤ max cost (sector_start s (output / sector_len s + 1))
@@ -33,14 +33,14 @@ passed_promptly s cost ReadFailed taken output = PassesHeader s cost taken
     → output ≡ (taken - s.offset) / sector_len s * sector_len s
 passed_promptly s cost _ taken output = Unit {0}
 
--- `luksCat` is broken off: it owes this of the image's payload
+-- `luksCat` is aborted: this holds of the image's payload
 abbrev pub cat_promptly : List ℕ → Message → ℕ → ℕ → ℕ → Type 0
 cat_promptly image message image_taken secret_taken output =
     (segment : Segment) → HasSegment image segment → passed_promptly segment
     (header_read_len image) message image_taken output
 
--- `luksCat` is broken off whose header stands in a file of its own: it owes the same of the payload's image, of which
--- nothing is taken for a header
+-- `luksCat` with a detached header is aborted: the same holds of the payload's image, of which nothing is consumed for
+-- a header
 abbrev pub detached_cat_promptly : List ℕ → ℕ → Message → ℕ → ℕ → ℕ → Type 0
 detached_cat_promptly file payload_taken message header_taken secret_taken output =
     (segment : Segment) → HasSegmentBy detached_header_of file segment

@@ -24,27 +24,27 @@ use std::alloc::Global;
 mod detached;
 mod volumes;
 
-/// Runs a command over its first input, its second one and the output. Its header stands in the
-/// first one: where it has a file of its own, [`execute_detached`] is called.
+/// Runs a command over its first input, its second one and the output. The header is attached, in
+/// the first input; for a detached header, call [`execute_detached`].
 ///
-/// What is written, told and taken of both inputs is one function of the command and of the bytes
-/// that the inputs give. Where memory is refused or a read or a write fails, what was written is a
-/// beginning of that output, and no input was taken further than stated; a failed read or write is
-/// told exactly where one failed. Where a write failed, not all of the output is written. A command
-/// that has no second input leaves that source as it is, and so does one whose run ends with the
-/// header, the segment, the order of the key slots or the length of a key. But for `luksCat` and
-/// `afSplit`, nothing is written where a read fails.
+/// What is written, reported and consumed of both inputs is one function of the command and of the
+/// bytes that the inputs give. If an allocation, a read or a write fails, what was written is a
+/// prefix of that output, and no input was consumed further than specified; a failed read or write
+/// is reported exactly if one failed. If a write failed, not all of the output is written. A
+/// command that has no second input leaves that source as it is, and so does one whose run ends
+/// with the header, the segment, the order of the key slots or the length of a key. Except for
+/// `luksCat` and `afSplit`, nothing is written if a read fails.
 ///
-/// `luksCat` writes the plain text of an honestly sealed volume if the passphrase is that of a key
+/// `luksCat` writes the plaintext of an honestly sealed volume if the passphrase is that of a key
 /// slot which is tried and has at most 8,388,608 bytes, no slot tried before gives another key, the
-/// image is shorter than 2^64 bytes, both inputs know their bytes, and no memory, read or write
+/// image is shorter than 2^64 bytes, both inputs know their bytes, and no allocation, read or write
 /// fails.
 ///
-/// `luksCat` announces how much of the image it will ask for, and writes each sector as it comes:
-/// if a write fails, nothing past the current sector was taken, but for what the header costs, and
-/// if a read fails, all whole sectors that were taken are written. No clause says yet how much it
-/// announces, so none says what a source that reads ahead takes of a pipe. Its image is shorter
-/// than 2^64 bytes.
+/// `luksCat` allows read-ahead for the bytes of the image that it will request, and writes each
+/// sector as it comes: if a write fails, nothing past the current sector was consumed, except for
+/// the header, and if a read fails, all whole sectors that were consumed are written. No clause
+/// says how much read-ahead it allows, so none says what a source that reads ahead consumes of a
+/// pipe. Its image is shorter than 2^64 bytes.
 pub fn execute<I: Source, K: Source, O: Sink>(
     alloc: Global,
     command: &Command<'_>,
@@ -80,7 +80,7 @@ pub fn execute<I: Source, K: Source, O: Sink>(
     }
 }
 
-/// Does what a command asks for. What is told of a run that does not end well is its error.
+/// Performs a command. The error is the message of a run that does not succeed.
 fn perform<I: Source, K: Source, O: Sink>(
     alloc: Global,
     command: &Command<'_>,
@@ -121,7 +121,7 @@ fn perform<I: Source, K: Source, O: Sink>(
     }
 }
 
-/// Does what `afSplit` or `afMerge` asks for. It has no allocator, so neither takes memory.
+/// Performs `afSplit` or `afMerge`. It has no allocator, so neither allocates anything.
 fn perform_stripes<I: Source, K: Source, O: Sink>(
     command: &Command<'_>,
     image: &mut I,

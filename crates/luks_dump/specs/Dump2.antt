@@ -57,8 +57,8 @@ abbrev pub hash_text : Option Hash → List ℕ
 hash_text None = []
 hash_text (Some hash) = hash_name hash
 
--- what is said of a key slot that can be tried: the hash function and the iterations of its key, and where its area
--- lies in bytes
+-- what is said of a key slot that can be tried: the hash function and the iterations of its key, and where its area is
+-- in bytes
 unfoldable pub usable_text : SlotParts → List ℕ
 usable_text parts =
     codes "USABLE priority=" ++ decimal parts.priority ++ codes " kdf=pbkdf2 hash=" ++ hash_text parts.kdf_hash
@@ -71,7 +71,7 @@ verdict_text (Usable slot) = usable_text slot.parts
 verdict_text Disabled = codes "DISABLED"
 verdict_text (Skipped reason) = codes "SKIPPED " ++ reason_text reason
 
--- the line of the key slot of a number, where there is one
+-- the line of the key slot of a number, if there is one
 abbrev pub slot2_line : ℕ → Option Verdict → List ℕ
 slot2_line number None = []
 slot2_line number (Some verdict) = field (codes "Slot " ++ decimal number) (verdict_text verdict)
@@ -91,7 +91,7 @@ slot2_lines tree bounds = lines_below (slot_line_at tree bounds) max_slots
 
 -- ---- the segment
 
--- its length in bytes, where it has one
+-- its length in bytes, if it has one
 abbrev pub size_text : Option ℕ → List ℕ
 size_text None = codes "dynamic"
 size_text (Some bytes) = decimal bytes
@@ -139,7 +139,7 @@ digest_line (number, digest) = field (codes "Digest " ++ decimal number) (listed
 abbrev pub digest_lines : List (ℕ × Option Digest) → List ℕ
 digest_lines digests = flat_map digest_line digests
 
--- ---- pages
+-- ---- dumps
 
 -- the dump of a header
 unfoldable pub dump2_of : Header2 → Data → List ℕ

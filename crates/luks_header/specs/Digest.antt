@@ -7,7 +7,7 @@ use Rattle.luks2_metadata.specs.declared.digest.Digest.{Digest}
 use Rattle.luks_header.specs.declared.header.Header.{Header}
 use Rattle.luks_header.specs.declared.header.Header.TheVariants.{V1, V2}
 
--- the digest that the key slot of this number is opened against, where there is one. LUKS1 has one for all key slots
+-- the digest that the key slot of this number is opened against, if there is one. LUKS1 has one for all key slots
 unfoldable pub digest_for : Header → ℕ → Option KeyDigest
 digest_for (V1 header) number = digest1_of header
 digest_for (V2 header tree) number = digest2_for tree number

@@ -18,12 +18,12 @@ use Rattle.luks_header.specs.declared.header.Header.TheVariants.{V1, V2}
 use Rattle.luks_area.specs.declared.fault.HeaderFault.{HeaderFault}
 use Rattle.luks_area.specs.declared.fault.HeaderFault.TheVariants.{Cut, Json, Read, Memory}
 
--- the header stands apart from the payload's image
+-- the header is detached: it is in another file than the payload
 unfoldable pub is_detached : Header → Bool
 is_detached (V1 header) = header.detached
 is_detached (V2 header tree) = header.detached
 
--- the same header, as one that stands apart from the payload's image
+-- the same header, as a detached one
 unfoldable pub detached_of : Header → Header
 detached_of (V1 header) = V1 (record header { detached = true })
 detached_of (V2 header tree) = V2 (record header { detached = true }) tree
@@ -32,12 +32,12 @@ detached_of (V2 header tree) = V2 (record header { detached = true }) tree
 unfoldable pub bounds2_of : Header2 → Bounds
 bounds2_of header = record { end = end2_of header; detached = header.detached }
 
--- a binary header of LUKS2 with what its JSON text says, where that can be read
+-- a binary header of LUKS2 with what its JSON text says, if that can be read
 abbrev pub with_metadata : Header2 → Option Data → Result Header HeaderFault
 with_metadata header None = Err Json
 with_metadata header (Some tree) = Ok (V2 header tree)
 
--- the header of LUKS2 of these bytes, where they have a binary one
+-- the header of LUKS2 of these bytes, if they have a binary one
 abbrev pub with_text : List ℕ → Result Header2 HeaderFault → Result Header HeaderFault
 with_text image (Ok header) = with_metadata header (tree_of (json_text_of image header))
 with_text image (Err fault) = Err fault
@@ -61,12 +61,12 @@ probe_len image = if is_luks1 image then header1_len else reach2_of image
 abbrev pub falls_short : List ℕ → Bool
 falls_short image = nat_lt (length image) (probe_len image)
 
--- as many of its bytes were taken as the header costs, and its end was found where it falls short
+-- as many of its bytes were consumed as are read for the header, and its end was hit if it falls short
 abbrev pub TookCostly : List ℕ → Option (List ℕ) → ℕ → ℕ → Type 0
 TookCostly image left ends ends' = ConsumedExactly image left (header_read_len image)
     × (ends' ≡ counted (falls_short image) ends)
 
--- some of its bytes were taken, of LUKS1 none, and its end was not found: more was still to be looked at
+-- some of its bytes were consumed, of LUKS1 none, and its end was not hit: more was yet to be looked at
 abbrev pub TookEarlier : List ℕ → Option (List ℕ) → ℕ → ℕ → Type 0
 TookEarlier image left ends ends' = ConsumedFewer image left (probe_len image) × (ends' ≡ ends)
     × (is_luks1 image ≡ true → ConsumedExactly image left 0)
@@ -75,7 +75,7 @@ TookEarlier image left ends ends' = ConsumedFewer image left (probe_len image) �
 abbrev pub HasSecond : List ℕ → Type 0
 HasSecond image = (header : Header2) × (is_luks1 image ≡ false) × (header2_of image ≡ Ok header)
 
--- reading the header ended without one. A failed read ended it somewhere; want of memory while more was still to be
+-- reading the header ended without one. A failed read ended it somewhere; memory ran out while more was yet to be
 -- looked at, or behind a header of LUKS2, for the tree of its text; any other fault is the image's
 abbrev pub BreaksReading : List ℕ → Option (List ℕ) → ℕ → ℕ → HeaderFault → Type 0
 BreaksReading image left ends ends' Read = ConsumedAtMost image left (header_read_len image) × (ends' ≡ ends)
@@ -83,7 +83,7 @@ BreaksReading image left ends ends' Memory =
     TookEarlier image left ends ends' ⊎ (HasSecond image × TookCostly image left ends ends')
 BreaksReading image left ends ends' fault = (header_of image ≡ Err fault) × TookCostly image left ends ends'
 
--- the same of an image of which some bytes were held before, and more went behind them
+-- the same for an image of which some bytes were loaded before, and more went behind them
 abbrev pub TookCosts : List ℕ → List ℕ → List ℕ → List ℕ → Option (List ℕ) → ℕ → ℕ → Type 0
 TookCosts image held held' rest left ends ends' = TookCost image held held' rest left
     × (ends' ≡ counted (falls_short image) ends)

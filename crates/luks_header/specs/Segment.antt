@@ -1,4 +1,4 @@
--- Where the payload of a volume lies, or why it cannot be read.
+-- Where the payload of a volume is, or why it cannot be read.
 use Rattle.std.specs.Prelude.{Result}
 use Rattle.luks_verdict.specs.declared.refusal.SegmentFault.{SegmentFault}
 use Rattle.luks_verdict.specs.declared.segment.Segment.{Segment}

@@ -1,4 +1,4 @@
--- What becomes of the key slots of a header: whether each can be tried, and if not, why.
+-- The verdicts on the key slots of a header: whether each can be tried, and if not, why.
 use Rattle.std.specs.Prelude.{ℕ, Bool, false, List, Option, option_map}
 use Rattle.luks_verdict.specs.Rule.{max_slots}
 use Rattle.luks_verdict.specs.Table.{ascending}
@@ -11,13 +11,13 @@ use Rattle.luks_header.specs.Header.{bounds2_of}
 use Rattle.luks_header.specs.declared.header.Header.{Header}
 use Rattle.luks_header.specs.declared.header.Header.TheVariants.{V1, V2}
 
--- what becomes of the key slot of this number, where the header has one
+-- the verdict on the key slot of this number, if the header has one
 unfoldable pub verdict_at : Header → Option ℕ → ℕ → Option Verdict
 verdict_at (V1 header) limit number = verdict1_at header limit number
 verdict_at (V2 header tree) limit number = verdict2_at tree (bounds2_of header) limit number
 
--- what it takes to open the key slot of this number: in LUKS1 if it is there and its numbers are in range, whatever its
--- state and its digest, in LUKS2 if it is there and there is no reason to skip it but a limit on iterations
+-- what is needed to open the key slot of this number: in LUKS1 if it is there and its numbers are in range, whatever
+-- its state and its digest; in LUKS2 if it is there and there is no reason to skip it but a limit on iterations
 unfoldable pub slot_at : Header → ℕ → Option Slot
 slot_at (V1 header) number = slot1_at header number
 slot_at (V2 header tree) number = slot2_at tree (bounds2_of header) number
@@ -26,7 +26,7 @@ slot_at (V2 header tree) number = slot2_at tree (bounds2_of header) number
 abbrev pub numbered_verdict : Header → Option ℕ → ℕ → Option (ℕ × Verdict)
 numbered_verdict header limit number = option_map (λ verdict. (number, verdict)) (verdict_at header limit number)
 
--- the key slots of a header and what becomes of them, by ascending number
+-- the key slots of a header with their verdicts, by ascending number
 unfoldable pub verdicts_of : Header → Option ℕ → List (ℕ × Verdict)
 verdicts_of header limit = ascending (numbered_verdict header limit) max_slots
 

@@ -10,8 +10,13 @@ pub use luks2_json::list::Names;
 pub use luks2_metadata::digest::Digest;
 use std::alloc::{AllocError, Global};
 
-/// The digest that the key slot of this number is opened against, where there is one. LUKS1 has one
-/// digest for all its key slots.
+/// The digest that the key slot of this number is opened against, if there is one (LUKS2 On-Disk
+/// Format Specification 1.1, section 3, the digests object). LUKS1 has one digest for all its key
+/// slots.
+///
+/// # Errors
+///
+/// `AllocError` if memory runs out.
 #[tactic(auto, unfolding(crate::specs::Digest::digest_for))]
 pub fn digest_for(
     alloc: Global,
@@ -26,8 +31,13 @@ pub fn digest_for(
     }
 }
 
-/// The digests of a header by rising number, at most 32: each with the names that it lists, or
-/// `None` if it is not usable. LUKS1 numbers no digest: it has none here.
+/// The digests of a header by ascending number, at most 32: each with the names that it lists, or
+/// `None` if it is not usable (LUKS2 On-Disk Format Specification 1.1, section 3, the digests
+/// object). LUKS1 numbers no digest: it has none here.
+///
+/// # Errors
+///
+/// `AllocError` if memory runs out.
 #[tactic(auto, unfolding(crate::specs::Digest::digests_of))]
 pub fn digests(alloc: Global, header: &Header) -> Result<Vec<(u8, Option<Digest>)>, AllocError>
     ensures value { IfOk result (λ digests. digests.items ≡ digests_of header.now) }

@@ -30,9 +30,9 @@ pub enum Header {
 }
 
 impl Header {
-    /// Marks a header as detached: it stands apart from the payload's image. The payload may start
-    /// anywhere in that image where a sector of 512 bytes does, and the key areas may reach past
-    /// that place. Nothing else changes, and this takes no memory.
+    /// Marks a header as detached: it is in another file than the payload. The payload may start at
+    /// any multiple of 512 bytes in its own image, and the key areas may reach past that offset.
+    /// Nothing else changes, and this allocates nothing.
     #[tactic(auto, unfolding(crate::specs::Header::detached_of))]
     pub fn detach(self) -> Header
         ensures { result ≡ detached_of self }
@@ -45,7 +45,8 @@ impl Header {
     }
 }
 
-/// The bounds that a header of LUKS2 sets to key material and to the payload.
+/// The bounds that a header of LUKS2 sets to key material and to the payload: where both headers
+/// end, and whether it is detached. This allocates nothing.
 #[tactic(auto, unfolding(crate::specs::Header::bounds2_of))]
 pub fn bounds(header: &Header2) -> Bounds
     ensures { result ≡ bounds2_of header.now }
@@ -56,13 +57,17 @@ pub fn bounds(header: &Header2) -> Bounds
     }
 }
 
-/// Reads the header at the front of an image, and answers it with the bytes that were read. It
-/// reads no more than it has to: of LUKS1 592 bytes, or all of a shorter image; of LUKS2 both
-/// headers, or where the first is not valid, as much as it takes to find the second.
+/// Reads the header at the start of an image, and answers it with the bytes that were read. It
+/// reads no more than it has to: 592 bytes for LUKS1, or all of a shorter image; for LUKS2 both
+/// headers, or, if the first is not valid, as much as finding the second requires (LUKS1 On-Disk
+/// Format Specification 1.2.3; LUKS2 On-Disk Format Specification 1.1, section 2).
 ///
-/// [`HeaderFault::NotLuks`] is for an image that has neither a header of LUKS1 nor a valid one of
-/// LUKS2, [`HeaderFault::Cut`] for one that begins as LUKS1 and is shorter than the header, and
-/// [`HeaderFault::Json`] for a header of LUKS2 whose JSON area cannot be read.
+/// # Errors
+///
+/// [`HeaderFault::NotLuks`] for an image that has neither a header of LUKS1 nor a valid one of
+/// LUKS2, [`HeaderFault::Cut`] for one that starts as LUKS1 and is shorter than the header,
+/// [`HeaderFault::Json`] for a header of LUKS2 whose JSON area cannot be read,
+/// [`HeaderFault::Read`] if a read failed, and [`HeaderFault::Memory`] if memory ran out.
 pub fn read_header<S: Source>(
     alloc: Global,
     source: &mut S,
@@ -99,7 +104,8 @@ pub fn read_header<S: Source>(
     Ok((header, area))
 }
 
-// Reads the header of LUKS2 of an image whose first bytes are held, and do not begin as LUKS1 does.
+// Reads the header of LUKS2 of an image whose first bytes are loaded, and do not start as LUKS1
+// does.
 fn read2<S: Source>(
     alloc: Global,
     area: &mut HeaderArea,

@@ -1,12 +1,11 @@
 //! LUKS headers: what they say of a volume's cipher, key slots and payload.
 //!
-//! [`read_header`](header::read_header) reads the header at the front of an image,
-//! [`slots`](slot::slots) tells which of its key slots can be tried,
+//! [`read_header`](header::read_header) reads the header at the start of an image,
+//! [`slots`](slot::slots) says which of its key slots can be tried,
 //! [`digest_for`](digest::digest_for) against which digest, [`digests`](digest::digests) which
-//! digests it has, and [`segment`](payload::segment) where the payload lies.
+//! digests it has, and [`segment`](payload::segment) where the payload is.
 //!
-//! What belongs to one format stands in a crate of its own beneath this one, and so does what both
-//! have in common.
+//! What belongs to one format is in a crate of its own below this one, and so is what both share.
 #![tactic(auto)]
 
 pub mod digest;

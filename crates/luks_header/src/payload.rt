@@ -1,4 +1,4 @@
-//! Where a volume's payload lies.
+//! Where a volume's payload is.
 
 ghost use Rattle.std.specs.Prelude.{◌≡◌};
 ghost use Rattle.luks_header.specs.Segment.{segment_of};
@@ -7,7 +7,12 @@ use crate::header::{Header, bounds};
 use luks_verdict::refusal::SegmentFault;
 use luks_verdict::segment::Segment;
 
-/// The segment that holds a volume's payload, or why it cannot be read. This takes no memory.
+/// The segment with a volume's payload (LUKS1 On-Disk Format Specification 1.2.3; LUKS2 On-Disk
+/// Format Specification 1.1, section 3, the segments object). This allocates nothing.
+///
+/// # Errors
+///
+/// The first [`SegmentFault`] that holds, if luksrd does not read the payload.
 #[tactic(auto, unfolding(crate::specs::Segment::segment_of))]
 pub fn segment(header: &Header) -> Result<Segment, SegmentFault>
     ensures { result ≡ segment_of header.now }

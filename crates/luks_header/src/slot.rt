@@ -1,4 +1,4 @@
-//! Key slots and what becomes of them.
+//! Key slots and their verdicts.
 
 ghost use Rattle.std.specs.Prelude.{◌≡◌, ◌≤◌, IfOk, option_map, vec_len};
 ghost use Rattle.luks_verdict.specs.Rule.{max_slots};
@@ -12,8 +12,8 @@ pub use luks_verdict::slot::{Judgement, Slot, Verdict};
 use luks2_json::numbered::passes_over;
 use std::alloc::{AllocError, Global};
 
-/// What becomes of the key slot of this number, where the header has one, without what it takes to
-/// open it. No more iterations than the limit are made. This takes no memory.
+/// The verdict on the key slot of this number, if the header has one, without what is needed to
+/// open it. A slot with more iterations than the limit is skipped. This allocates nothing.
 #[tactic(auto, unfolding(crate::specs::Slot::verdict_at))]
 pub fn judge(header: &Header, limit: Option<u32>, number: u8) -> Option<Judgement>
     ensures { result ≡ option_map judgement_of (verdict_at header.now limit number) }
@@ -26,9 +26,13 @@ pub fn judge(header: &Header, limit: Option<u32>, number: u8) -> Option<Judgemen
     }
 }
 
-/// What it takes to open the key slot of this number. In LUKS1 it is given if the header has the
+/// What is needed to open the key slot of this number. In LUKS1 it is given if the header has the
 /// slot and its numbers are in range, whatever its state and its digest. In LUKS2 it is given if
 /// the header has the slot and there is no reason to skip it but a limit on iterations.
+///
+/// # Errors
+///
+/// `AllocError` if memory runs out.
 #[tactic(auto, unfolding(crate::specs::Slot::slot_at))]
 pub fn slot(alloc: Global, header: &Header, number: u8) -> Result<Option<Slot>, AllocError>
     ensures { IfOk result (λ slot. slot ≡ slot_at header.now number) }
@@ -41,7 +45,7 @@ pub fn slot(alloc: Global, header: &Header, number: u8) -> Result<Option<Slot>, 
     }
 }
 
-// What becomes of the key slot of this number.
+// The verdict on the key slot of this number.
 fn verdict(
     alloc: Global,
     header: &Header,
@@ -61,8 +65,12 @@ fn verdict(
     }
 }
 
-/// The key slots of a header by rising number, and what becomes of each: at most 32 slots. No more
-/// iterations than the limit are made.
+/// The key slots of a header by ascending number, each with its verdict: at most 32 slots. A slot
+/// with more iterations than the limit is skipped.
+///
+/// # Errors
+///
+/// `AllocError` if memory runs out.
 pub fn slots(
     alloc: Global,
     header: &Header,
@@ -80,8 +88,8 @@ pub fn slots(
     Ok(verdicts)
 }
 
-/// Whether the object of key slots has a member whose name is not a number from 0 to 31: `slots`
-/// passes over it. The key slots of LUKS1 have no names. This takes no memory.
+/// Whether the object of key slots has a member whose name is not a number from 0 to 31, which
+/// `slots` ignores. The key slots of LUKS1 have no names. This allocates nothing.
 #[tactic(auto, unfolding(crate::specs::Slot::has_name_out_of_range))]
 pub fn has_name_out_of_range(header: &Header) -> bool
     ensures { result ≡ has_name_out_of_range header.now }

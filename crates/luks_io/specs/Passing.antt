@@ -4,13 +4,13 @@ use Rattle.std.specs.Io.KnownBytes.{Consumes}
 use Rattle.luks_io.specs.Bytes.{Appended}
 use Rattle.luks_io.specs.declared.sink.WriteFault.{WriteFault}
 
--- the next `count` bytes of a source were taken, and of what they become some part was written
+-- the next `count` bytes of a source were consumed, and some part of what they become was written
 abbrev pub Forwarded : ℕ → (List ℕ → List ℕ) → Option (List ℕ) → Option (List ℕ) → Option (List ℕ) → Option (List ℕ)
     → Type 0
 Forwarded count written_of left left' before after =
     (bytes : List ℕ) × (length bytes ≡ count) × Consumes left left' bytes × Appended before after (written_of bytes)
 
--- what passing on `count` bytes of a source did: nothing, all of it, or it was broken off by a write that failed
+-- the effect of forwarding `count` bytes of a source: nothing, all of it, or as far as a write that failed
 abbrev pub ForwardEffect : Option (Result (Unit {0}) WriteFault) → Type 0 → ℕ → (List ℕ → List ℕ) → Option (List ℕ)
     → Option (List ℕ) → Option (List ℕ) → Option (List ℕ) → Type 0
 ForwardEffect None untouched count changed left left' before after = untouched
@@ -19,13 +19,13 @@ ForwardEffect (Some (Ok _)) untouched count changed left left' before after =
 ForwardEffect (Some (Err fault)) untouched count changed left left' before after =
     (fault.written < count) × Forwarded count (λ bytes. take fault.written (changed bytes)) left left' before after
 
--- whether passing on was broken off
+-- whether forwarding was aborted
 abbrev pub is_broken_off : Option (Result (Unit {0}) WriteFault) → Bool
 is_broken_off None = false
 is_broken_off (Some (Ok _)) = false
 is_broken_off (Some (Err _)) = true
 
--- which bytes stay held
+-- which bytes stay buffered
 abbrev pub held_after : Option (Result (Unit {0}) WriteFault) → ℕ → List ℕ → List ℕ
 held_after None count held = held
 held_after (Some _) count held = drop count held

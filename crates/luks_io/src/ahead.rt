@@ -1,4 +1,5 @@
-//! A source that takes many bytes at once, but none that is not asked for or announced.
+//! A source that reads many bytes at once, but only those that are requested or allowed to be read
+//! ahead.
 
 ghost use Rattle.std.specs.Prelude.{◌≡◌, ◌≢◌, ◌+◌, ◌-◌, ◌<◌, ◌≤◌, ◌++◌, ◌⊎◌, [], IfOk};
 ghost use Rattle.std.specs.Prelude.{IsErr, MatchResult, is_err, is_some, length, min, nat_le, take};
@@ -15,12 +16,12 @@ use crate::source::Source;
 use std::alloc::{AllocError, Global};
 use std::marker::Model;
 
-/// A source over another one, each call of which is dear: as long as bytes are announced, it takes
-/// as many of these at once as its buffer has room for, and hands them on. It takes no others
-/// before they are asked for, so what is not needed stays where it is.
+/// A source over another one whose calls are expensive: it reads as many bytes at once as are
+/// allowed to be read ahead and fit into its buffer, and copies them out as they are requested. It
+/// reads no others before they are requested, so what is not needed stays in the source below.
 ///
-/// A clause sees the source below, which of its bytes were taken and not yet handed on, how many
-/// behind these are announced, and the buffer's room.
+/// A clause sees the source below, which of its bytes are buffered, how many behind these are
+/// allowed to be read ahead, and the buffer's capacity.
 #[derive(Drop)]
 pub struct AheadSource<S> {
     source: S,
@@ -67,8 +68,12 @@ fn read_front<S: Source>(
 }
 
 impl<S: Source + Drop> AheadSource<S> {
-    /// A source over this one, which takes at most `room` bytes ahead. The memory for them is taken
+    /// A source over this one, which reads at most `room` bytes ahead. Their buffer is allocated
     /// here.
+    ///
+    /// # Errors
+    ///
+    /// `AllocError` if memory runs out.
     pub fn new(alloc: Global, room: usize, source: S) -> Result<AheadSource<S>, AllocError>
         ensures { IfOk result (λ a.
             a ≡ record { source = source; held = []; announced = 0; room = room }) }
@@ -92,7 +97,7 @@ impl<S: Source> AheadSource<S> {
         &self.source
     }
 
-    /// Reads what is asked for, past the buffer.
+    /// Reads the requested bytes, past the buffer.
     fn pass(&mut self, buf: &mut [u8]) -> Result<usize, DeviceFault>
         ensures bound { ReadsAtMost result buf.new }
         ensures bytes { ReadConsumes (S.to_come self.old.source) (S.to_come self.new.source)
@@ -111,7 +116,7 @@ impl<S: Source> AheadSource<S> {
         Ok(count)
     }
 
-    /// Reads so many bytes into the buffer, which holds nothing, and answers how many came.
+    /// Reads at most `count` bytes into the empty buffer, and answers how many came.
     fn refill(&mut self, count: usize) -> Result<usize, DeviceFault>
         requires room { count ≤ self.old.room }
         requires empty { self.old.held ≡ [] }
@@ -138,7 +143,7 @@ impl<S: Source> AheadSource<S> {
         Ok(got)
     }
 
-    /// Hands on as many of the bytes that are held as there is room for, and answers how many.
+    /// Copies out as many of the buffered bytes as fit, and answers how many.
     fn hand_on(&mut self, buf: &mut [u8]) -> usize
         ensures count { result ≡ min (length buf.old) (length self.old.held) }
         ensures len { length buf.new ≡ length buf.old }
@@ -164,9 +169,9 @@ impl<S: Source> Source for AheadSource<S> {
 
     ghost ends = { λ a. S.ends a.source };
 
-    /// Hands on what is held. Where nothing is, the source below is asked once: for as many bytes
-    /// as are announced and fit into this one's buffer, or as this call asks for, where that is
-    /// not less.
+    /// Copies out buffered bytes. If there are none, it reads once from the source below: as many
+    /// bytes as are allowed to be read ahead and fit into its own buffer, or as this call requests,
+    /// whichever is more.
     fn read(&mut self, buf: &mut [u8]) -> Result<usize, DeviceFault>
         ensures bound { ReadsAtMost result buf.new }
         ensures bytes { ReadConsumes (prepend_known self.old.held (S.to_come self.old.source))
@@ -200,14 +205,14 @@ impl<S: Source> Source for AheadSource<S> {
         Ok(self.hand_on(buf))
     }
 
-    /// Announces that the next `count` bytes will be asked for, those among them that are held.
+    /// Allows read-ahead for the next `count` bytes, including those that are buffered.
     fn announce(&mut self, count: u64)
         ensures { self.new ≡ record self.old { announced = count - length self.old.held } }
     {
         self.announced = count.saturating_sub((self.end - self.start) as u64);
     }
 
-    /// Passes on only bytes that are held, and asks the source below for none.
+    /// Forwards only buffered bytes, and does not read from the source below.
     fn pass_on<C: Change, O: Sink>(
         &mut self,
         count: usize,

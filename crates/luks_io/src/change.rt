@@ -5,9 +5,9 @@ ghost use Rattle.luks_io.specs.Bytes.{Appended, counted};
 
 use crate::sink::{Sink, WriteFault, put_all};
 
-/// Changes bytes where they stand.
+/// Transforms bytes in place.
 pub trait Change {
-    /// How many it takes at once.
+    /// Which numbers of bytes it transforms at once.
     ghost takes: { Self → ℕ → Type 0 };
 
     /// What they become.
@@ -19,8 +19,7 @@ pub trait Change {
         ensures { bytes.new ≡ changed self.now bytes.old };
 }
 
-/// Changes some bytes of a buffer where they stand, and writes what they became. The bytes behind
-/// them stay.
+/// Transforms some bytes of a buffer in place, and writes the result. The bytes behind them stay.
 pub(crate) fn put_changed<C: Change, O: Sink>(
     buffer: &mut [u8],
     start: usize,

@@ -2,8 +2,8 @@
 //! failed.
 //!
 //! A [`Source`](source::Source) gives the next bytes, a [`Sink`](sink::Sink) appends them. Each
-//! counts the calls that failed, so that a caller can say "this was told as a failure exactly where
-//! one failed".
+//! counts the calls that failed, so that a caller can say "a failure was reported exactly if one
+//! occurred".
 #![tactic(auto)]
 
 ghost use Rattle.std.specs.Prelude.{◌≡◌};

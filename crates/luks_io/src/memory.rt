@@ -1,4 +1,4 @@
-//! Sources and sinks over memory, which tell their bytes.
+//! Sources and sinks over memory, which know their bytes.
 
 ghost use Rattle.std.specs.Prelude.{◌≡◌, ◌+◌, ◌-◌, ◌<◌, ◌≤◌, ◌↔◌, ◌++◌, ℕ, List, [], Some, length};
 ghost use Rattle.std.specs.Prelude.{take, drop, min, vec_len, is_err, IfOk, IsErr};
@@ -12,8 +12,8 @@ use crate::source::{Source, count_end};
 use std::alloc::{AllocError, Global};
 use std::marker::Model;
 
-/// Reads from bytes in memory. No read of it fails. A clause sees the bytes that are left, and how
-/// often the end was found.
+/// Reads from bytes in memory. No read of it fails. A clause sees the remaining bytes, and how
+/// often the end was hit.
 #[derive(Drop)]
 pub struct MemSource<'a> {
     left: &'a [u8],
@@ -39,7 +39,7 @@ impl<'a> MemSource<'a> {
         }
     }
 
-    /// The bytes that no read has taken yet.
+    /// The remaining bytes.
     pub fn left(&self) -> &'a [u8]
         ensures { result.now ≡ self.now.left }
     {
@@ -54,8 +54,8 @@ impl<'a> Source for MemSource<'a> {
 
     ghost ends = { λ s. s.ends };
 
-    /// Gives as many of the bytes that are left as the buffer has room for. The buffer stays as it
-    /// was behind them.
+    /// Gives as many of the remaining bytes as fit into the buffer. The buffer stays as it was
+    /// behind them.
     fn read(&mut self, buf: &mut [u8]) -> Result<usize, DeviceFault>
         ensures bound { ReadsAtMost result buf.new }
         ensures bytes { ReadConsumes (Some self.old.left) (Some self.new.left) result buf.new }
@@ -73,8 +73,8 @@ impl<'a> Source for MemSource<'a> {
     }
 }
 
-/// Writes into memory that was taken beforehand. It takes what still fits; a write to a full one
-/// fails.
+/// Writes into memory that was allocated beforehand. It accepts what still fits; a write to a full
+/// one fails.
 #[derive(Drop)]
 pub struct MemSink {
     bytes: Vec<u8>,
@@ -100,7 +100,12 @@ impl Model for MemSink {
 }
 
 impl MemSink {
-    /// An empty sink with room for so many bytes. All of it is taken here, and no write takes more.
+    /// An empty sink with capacity for `room` bytes. All memory is allocated here; no write
+    /// allocates more.
+    ///
+    /// # Errors
+    ///
+    /// `AllocError` if memory runs out.
     pub fn new(alloc: Global, room: usize) -> Result<MemSink, AllocError>
         ensures { IfOk result (λ s. s ≡ record { written = []; room = room; failures = 0 }) }
     {
@@ -132,7 +137,7 @@ impl Sink for MemSink {
 
     ghost failures = { λ s. s.failures };
 
-    /// Takes as many of the bytes as still fit. It fails only where there are some and none fits.
+    /// Accepts as many of the bytes as still fit. It fails only if there are bytes and none fits.
     fn write(&mut self, buf: &[u8]) -> Result<usize, DeviceFault>
         ensures bound { TakesSome result buf.now }
         ensures bytes { WriteAppends (Some self.old.written)

@@ -1,4 +1,4 @@
-//! What takes bytes.
+//! Sinks of bytes.
 
 ghost use Rattle.std.specs.Prelude.{◌≡◌, ◌<◌, ◌≤◌, ℕ, List, Option, length, take, is_err, OnOk};
 ghost use Rattle.std.specs.Prelude.{IfErr};
@@ -9,14 +9,14 @@ use crate::DeviceFault;
 
 /// Takes bytes, each call's behind those of the calls before.
 pub trait Sink {
-    /// The bytes that were written, where the sink tells them.
+    /// The bytes that were written, if the sink knows them.
     ghost written: { Self → Option (List ℕ) };
 
     /// How many writes have failed. It stays at its greatest value.
     ghost failures: { Self → ℕ };
 
-    /// Writes a beginning of the buffer, and answers its length: at least one byte where there are
-    /// any. A failure writes nothing.
+    /// Writes a prefix of the buffer, and answers its length: at least one byte if there are any. A
+    /// failure writes nothing.
     fn write(&mut self, buf: &[u8]) -> Result<usize, DeviceFault>
         ensures bound { TakesSome result buf.now }
         ensures bytes { WriteAppends (written self.old) (written self.new) result buf.now }
@@ -31,8 +31,9 @@ pub struct WriteFault {
 
 /// Writes all the bytes.
 ///
-/// A [`WriteFault`] says that a write failed, and that exactly the first `written` bytes went out
-/// before.
+/// # Errors
+///
+/// A [`WriteFault`] if a write failed: exactly the first `written` bytes were written before.
 pub fn put_all<S: Sink>(sink: &mut S, bytes: &[u8]) -> Result<(), WriteFault>
     ensures ok { OnOk result (Appended (S.written sink.old) (S.written sink.new) bytes.now) }
     ensures err { IfErr result (λ fault. (fault.written < length bytes.now)

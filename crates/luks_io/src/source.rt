@@ -14,36 +14,36 @@ use crate::sink::{Sink, WriteFault};
 
 /// Gives bytes, the next ones at each call.
 pub trait Source {
-    /// The bytes that are still to come, where the source tells them.
+    /// The remaining bytes, if the source knows them.
     ghost to_come: { Self → Option (List ℕ) };
 
     /// How many reads have failed. It stays at its greatest value.
     ghost failures: { Self → ℕ };
 
-    /// How many reads have found the end: they gave nothing to a buffer with room. It stays at its
-    /// greatest value.
+    /// How many reads have hit the end: they gave nothing to a buffer with capacity. It stays at
+    /// its greatest value.
     ghost ends: { Self → ℕ };
 
-    /// Reads the next bytes into the front of the buffer, and answers how many.
-    /// `Ok(0)` for a buffer that has room means that none are left. A failure consumes nothing.
+    /// Reads the next bytes into the start of the buffer, and answers how many. `Ok(0)` for a
+    /// buffer with capacity means that none remain. A failure consumes nothing.
     fn read(&mut self, buf: &mut [u8]) -> Result<usize, DeviceFault>
         ensures bound { ReadsAtMost result buf.new }
         ensures bytes { ReadConsumes (to_come self.old) (to_come self.new) result buf.new }
         ensures counts { failures self.new ≡ counted (is_err result) (failures self.old) }
         ensures ends { ends self.new ≡ counted (is_end result (length buf.new)) (ends self.old) };
 
-    /// Announces that the next `count` bytes will be asked for, unless the source ends or a call of
-    /// some device fails before. A source may take them ahead; what it gives is the same. A later
-    /// announcement takes the place of an earlier one.
+    /// Allows read-ahead for the next `count` bytes: they will be requested, unless the source ends
+    /// or a call of some device fails first. A source may consume them before they are requested;
+    /// the bytes that it gives are the same. A later call replaces an earlier one.
     fn announce(&mut self, _count: u64)
         ensures bytes { to_come self.new ≡ to_come self.old }
         ensures failures { failures self.new ≡ failures self.old }
         ensures ends { ends self.new ≡ ends self.old }
     {}
 
-    /// Passes the next `count` bytes on to the sink, changed, where the source holds so many. They
-    /// are taken, whether the writing fails or not. At `None` nothing was done, and they are to be
-    /// read.
+    /// Forwards the next `count` bytes, transformed, to the sink, if the source has so many
+    /// buffered. They are consumed, whether the write fails or not. At `None` nothing was done, and
+    /// the caller reads them.
     fn pass_on<C: Change, O: Sink>(
         &mut self,
         count: usize,
@@ -63,7 +63,7 @@ pub trait Source {
     }
 }
 
-/// Counts a read that found the end: it gave nothing to a buffer with room. For a source's own
+/// Counts a read that hit the end: it gave nothing to a buffer with capacity. For a source's own
 /// `read`.
 pub fn count_end(ends: &mut u64, got: usize, room: usize)
     ensures { ends.new ≡ counted (got == 0 && nat_lt 0 room) ends.old }
@@ -79,11 +79,13 @@ pub struct ReadFault {
     pub got: usize,
 }
 
-/// Fills the buffer with the next bytes of the source, and answers how many there were:
-/// fewer than the buffer's length only where the source is at its end. That is found by one read,
-/// the last.
+/// Fills the buffer with the next bytes of the source, and answers how many there were: fewer than
+/// the buffer has only if the source is at its end. One read, the last, hits that end.
 ///
-/// A [`ReadFault`] says how many bytes were consumed before a read failed. They stand in front.
+/// # Errors
+///
+/// A [`ReadFault`] if a read failed: it says how many bytes were consumed before. They are at the
+/// start of the buffer.
 pub fn fill<S: Source>(source: &mut S, buf: &mut [u8]) -> Result<usize, ReadFault>
     ensures bound { MatchResult result (λ count. count ≤ length buf.new)
         (λ fault. fault.got < length buf.new) }

@@ -1,7 +1,7 @@
 //! Tests of `luks_io` and `luks_test_support`: devices, and the failing ones of tests, through
 //! their public calls.
 //!
-//! A crate of their own: what they stand on is not proved once more with them.
+//! They are a crate of their own, so that the crates below are not proved once more with them.
 #![tactic(auto)]
 
 #[cfg(test)]

@@ -32,7 +32,7 @@ pub(crate) trait Lanes: Engine {
     // Whether one chain that is alone goes faster by `add_chains` than by the hasher.
     const LONE: bool;
 
-    /// Xors the next `count` digests of the first `used` chains into their sums. `last` holds the
+    /// XORs the next `count` digests of the first `used` chains into their sums. `last` has the
     /// last digest of each chain, one after the other, and `sums` their sums.
     fn add_chains(inner: &[u8], outer: &[u8], used: usize, count: u32, last: &[u8], sums: &mut [u8])
         requires inner { length inner.now ≡ 64 }
@@ -130,8 +130,8 @@ pub(crate) fn derive_in_lanes<E: Lanes>(
     }
 }
 
-// Fills `out` with the first bytes of the blocks T from this number on, of which each lane has one.
-// A block that is alone goes by the hasher where that is faster.
+// Fills `out` with the first bytes of the blocks T from this number on, one in each lane. A lone
+// block uses the hasher if that is faster.
 fn derive_group<E: Lanes>(
     keyed: &Keyed<E>,
     blocks: &KeyBlocks,

@@ -1,7 +1,7 @@
 //! Tests of `luks_kdf` and `luks_stripes`: hash functions, keys and stripes, through their public
 //! calls.
 //!
-//! A crate of their own: what they stand on is not proved once more with them.
+//! They are a crate of their own, so that the crates below are not proved once more with them.
 #![tactic(auto)]
 
 #[cfg(test)]

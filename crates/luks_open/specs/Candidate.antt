@@ -35,8 +35,8 @@ candidate_by (Some kdf) (Some af) (Some mode) parts image pass =
     parts.area_offset parts.key_bytes parts.stripes)
 candidate_by _ _ _ parts image pass = None
 
--- the key that a key slot's material holds under a passphrase. There is none where the name of a hash function or of
--- the mode is not known
+-- the key that a key slot's material holds under a passphrase. There is none if the name of a hash function or of the
+-- mode is not known
 unfoldable pub candidate_of : Slot → List ℕ → List ℕ → Option (List ℕ)
 candidate_of slot image pass =
     candidate_by slot.parts.kdf_hash slot.parts.af_hash slot.parts.area_mode slot.parts image pass

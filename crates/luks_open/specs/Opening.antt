@@ -1,4 +1,4 @@
--- Which key slot opens a volume, and how many evaluations of HMAC it takes.
+-- Which key slot opens a volume, and how many evaluations of HMAC that costs.
 use Rattle.std.specs.Prelude.{ℕ, ◌+◌, ◌*◌, sum_by, if◌then◌else◌, List, [], ◌∷◌, Option, Some, None, Result, Ok, Err}
 use Rattle.std.specs.Prelude.{length, is_some}
 use Rattle.std.specs.Int.{div_ceil}
@@ -18,7 +18,7 @@ abbrev pub if_meets : KeyDigest → Option (List ℕ) → Option (List ℕ)
 if_meets digest None = None
 if_meets digest (Some key) = if matches_digest digest key then Some key else None
 
--- the volume key that a key slot gives under a passphrase, where it opens
+-- the volume key that a key slot gives under a passphrase, if it opens
 unfoldable pub slot_key : Entry → List ℕ → List ℕ → Option (List ℕ)
 slot_key entry image pass = if_meets entry.digest (candidate_of entry.slot image pass)
 
@@ -33,7 +33,7 @@ first_opening [] image pass = None
 first_opening (entry ∷ entries) image pass =
     opened_or entry.number (slot_key entry image pass) (first_opening entries image pass)
 
--- what is opened, where something is
+-- what is opened, if anything is
 abbrev pub answer_of : Option Opened → List (ℕ × SkipReason) → Result Opened OpenFault
 answer_of (Some opened) skipped = Ok opened
 answer_of None skipped = Err (NoKey skipped)
@@ -47,7 +47,7 @@ abbrev pub evaluations : Option Hash → ℕ → ℕ → ℕ
 evaluations (Some hash) iterations bytes = iterations * div_ceil bytes (digest_len hash)
 evaluations None iterations bytes = 0
 
--- those that a trial of a key slot takes: for the key of its key material, and for the digest of the candidate
+-- those that trying a key slot costs: for the key of its key material, and for the digest of the candidate
 unfoldable pub evaluations_of : Entry → ℕ
 evaluations_of entry =
     evaluations entry.slot.parts.kdf_hash entry.slot.parts.iterations entry.slot.parts.area_key_bytes
@@ -59,6 +59,6 @@ tried_of [] image pass = []
 tried_of (entry ∷ entries) image pass = entry
     ∷ (if is_some (slot_key entry image pass) then [] else tried_of entries image pass)
 
--- the evaluations of HMAC that opening takes: those of all key slots that are tried
+-- the evaluations of HMAC that opening costs: those of all key slots that are tried
 unfoldable pub work_of : OrderModel → List ℕ → List ℕ → ℕ
 work_of tries image pass = sum_by evaluations_of (tried_of tries.slots image pass)

@@ -23,10 +23,10 @@ use Rattle.luks_open.specs.declared.fault.OpenFault.TheVariants.{Memory}
 pub record OrderModel : Type 0 where
   -- the key slots with their numbers and digests, in the order in which they are tried
   pub slots : List Entry
-  -- the key slots that were skipped, by ascending number; empty where a key slot was named
+  -- the key slots that were skipped, by ascending number; empty if a key slot was named
   pub skipped : List (ℕ × SkipReason)
 
--- what is tried of a key slot, where there is a digest
+-- the entry of a key slot, if there is a digest
 abbrev pub entry_of : ℕ → Option Slot → Option KeyDigest → Option Entry
 entry_of number (Some slot) (Some digest) = Some record { number = number; slot = slot; digest = digest }
 entry_of number (Some slot) None = None
@@ -36,7 +36,7 @@ entry_of number None digest = None
 unfoldable pub entry_at : Header → ℕ → Option Entry
 entry_at header number = entry_of number (slot_at header number) (digest_for header number)
 
--- where that is a key slot which can be tried and has this priority
+-- that entry, if the key slot can be tried and has this priority
 abbrev pub where_usable : ℕ → Option Entry → Option Verdict → Option Entry
 where_usable priority entry (Some (Usable slot)) = if slot.parts.priority == priority then entry else None
 where_usable priority entry (Some Unused) = None
@@ -56,7 +56,7 @@ where_skipped number None = None
 abbrev pub skipped_at : Header → Option ℕ → ℕ → Option (ℕ × SkipReason)
 skipped_at header limit number = where_skipped number (verdict_at header limit number)
 
--- these key slots are tried, where there are any
+-- these key slots are tried, if there are any
 abbrev pub unless_none : List Entry → List (ℕ × SkipReason) → Result OrderModel OpenFault
 unless_none [] skipped = Err (NothingTried skipped)
 unless_none (entry ∷ entries) skipped = Ok record { slots = entry ∷ entries; skipped = skipped }
@@ -67,7 +67,7 @@ tries_of_all header limit =
     unless_none (ascending (usable_at header limit 2) max_slots ++ ascending (usable_at header limit 1) max_slots)
     (ascending (skipped_at header limit) max_slots)
 
--- it is tried alone. (Where it can be tried, there is what it takes, and a digest.)
+-- it is tried alone. (If it can be tried, there are a slot and a digest.)
 abbrev pub tried_alone : Option Entry → Result OrderModel OpenFault
 tried_alone (Some entry) = Ok record { slots = entry ∷ []; skipped = [] }
 tried_alone None = Err (NamedSkipped Digest)
@@ -84,12 +84,12 @@ unfoldable pub order_of : Header → Option ℕ → Option ℕ → Result OrderM
 order_of header None limit = tries_of_all header limit
 order_of header (Some named) limit = tries_of_named (entry_at header named) (verdict_at header limit named)
 
--- an answer is the stated one, or memory was refused
+-- an answer is the specified one, or memory ran out
 abbrev pub IsOrMemory : {T : Type 0} → Result T OpenFault → Result T OpenFault → Type 0
 IsOrMemory stated answer =
     MatchResult answer (λ value. stated ≡ Ok value) (λ fault. (fault ≡ Memory) ⊎ (stated ≡ Err fault))
 
--- where the key material ends of all these key slots
+-- the end of the key material of all these key slots: that of the last
 unfoldable pub key_areas_end : List Entry → ℕ
 key_areas_end [] = 0
 key_areas_end (entry ∷ entries) = max (material_end entry.slot) (key_areas_end entries)

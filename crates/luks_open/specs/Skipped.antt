@@ -1,10 +1,10 @@
--- How a list of at most 32 key slots stands in 32 places.
+-- How a list of at most 32 key slots is stored in an array of 32.
 use Rattle.std.specs.Prelude.{◌≡◌, ℕ, ◌-◌, ◌≤◌, List, ◌++◌, length, take, replicate}
 use Rattle.std.proofs.Common.{◌∙◌, ap, sym}
 use Rattle.luks_verdict.specs.declared.refusal.SkipReason.{SkipReason}
 use Rattle.luks_verdict.specs.declared.refusal.SkipReason.TheVariants.{State}
 
--- what stands in a place that is left
+-- what the unused elements of the array are
 abbrev pub nothing : ℕ × SkipReason
 nothing = (0, State)
 
@@ -12,13 +12,13 @@ nothing = (0, State)
 abbrev pub padded_to_32 : List (ℕ × SkipReason) → List (ℕ × SkipReason)
 padded_to_32 slots = slots ++ replicate (32 - length slots) nothing
 
--- so many of the 32 places are taken, and nothing stands in the others
+-- so many of the 32 elements are used, and the others are unused
 pub record IsPadded (places : List (ℕ × SkipReason)) (taken : ℕ) : Type 0 where
   pub room : taken ≤ 32
   pub there : length (take taken places) ≡ taken
   pub others : places ≡ take taken places ++ replicate (32 - taken) nothing
 
--- the places that hold the list of those that are taken are the same
+-- padding the used elements to 32 gives the same array
 pub filled_up_again : {T : Type 0} (make : List (ℕ × SkipReason) → ℕ → T) (places : List (ℕ × SkipReason)) (taken : ℕ)
     → IsPadded places taken
     → make (padded_to_32 (take taken places)) (length (take taken places)) ≡ make places taken

@@ -7,7 +7,7 @@ use Rattle.luks_verdict.specs.Slot.{material_end}
 use Rattle.luks_verdict.specs.declared.slot.Slot.{Slot}
 
 -- the hash functions and the mode of a key slot are known ones, its keys have lengths that there are, that of the key
--- material one of its mode, and the material ends within the `held` bytes
+-- material one of its mode, and the material ends within the first `held` bytes
 pub record IsTriable (held : ℕ) (slot : Slot) : Type 0 where
   pub kdf : (hash : Hash) × (slot.parts.kdf_hash ≡ Some hash)
   pub af : (hash : Hash) × (slot.parts.af_hash ≡ Some hash)

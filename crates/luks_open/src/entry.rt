@@ -13,14 +13,14 @@ use std::alloc::{AllocError, Global};
 pub struct Entry {
     /// The number of the key slot.
     pub number: u8,
-    /// What it takes to open it.
+    /// What is needed to open it.
     pub slot: Slot,
     /// The digest.
     pub digest: KeyDigest,
 }
 
-/// What is tried of the key slot of this number, where the header has what it takes to open it, and
-/// a digest.
+/// The entry of the key slot of this number, if the header has what is needed to open it, and a
+/// digest.
 #[tactic(auto, unfolding(crate::specs::Order::entry_at))]
 pub(crate) fn entry_at(
     alloc: Global,

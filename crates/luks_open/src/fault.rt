@@ -18,7 +18,7 @@ pub enum OpenFault {
     NamedSkipped(SkipReason),
     /// There is no key slot to try. These were skipped.
     NothingTried(SkippedSlots),
-    /// No key slot that was tried opens the volume. These were skipped, none where a key slot was
+    /// No key slot that was tried opens the volume. These were skipped, or none if a key slot was
     /// named.
     NoKey(SkippedSlots),
     /// Memory was refused.

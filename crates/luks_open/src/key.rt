@@ -32,7 +32,7 @@ impl Model for Key {
 }
 
 impl Key {
-    // A key of so many bytes, which are still to be written.
+    // A key of so many bytes, which are yet to be written.
     fn blank(len: usize) -> Key
         requires { len ≤ 64 }
         ensures { length result ≡ len }
@@ -43,7 +43,7 @@ impl Key {
         }
     }
 
-    // Writes the key that PBKDF2 derives from a secret.
+    // Writes the key that PBKDF2 derives from a passphrase or a candidate key.
     fn derive(&mut self, hash: Hash, secret: &[u8], salt: &[u8], iterations: u32, work: &mut Work)
         requires turns { 1 ≤ iterations }
         requires some { 1 ≤ length self.old }
@@ -70,7 +70,7 @@ impl Key {
         material::unlock(af, key, image, offset, stripes, bytes);
     }
 
-    /// The key of `len` bytes that PBKDF2 derives from a passphrase or another secret.
+    /// The key of `len` bytes that PBKDF2 derives from a passphrase or from a candidate key.
     pub(crate) fn derived(
         hash: Hash,
         secret: &[u8],
@@ -111,7 +111,7 @@ impl Key {
         volume_key
     }
 
-    /// The bytes.
+    /// The bytes of the key.
     pub fn as_slice(&self) -> &[u8]
         ensures { result.now ≡ self.now }
     {

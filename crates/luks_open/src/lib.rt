@@ -1,7 +1,7 @@
 //! Opening a volume: which key slots are tried, in which order, and what key a passphrase gives.
 //!
 //! [`order`](order::order) says which key slots of a header are tried,
-//! [`held_end`](tries::held_end) how much of the image has to be held for that, and
+//! [`held_end`](tries::held_end) how much of the image must be loaded for that, and
 //! [`open`](opening::open) tries them.
 #![tactic(auto)]
 

@@ -26,7 +26,7 @@ fn decrypt_sector(key: &SectorCipher, image: &[u8], offset: usize, number: usize
     key.decrypt_unit(number as u64, sector);
 }
 
-// Takes in so many stripes of `len` bytes, none of them the last.
+// Absorbs so many stripes of `len` bytes, none of them the last.
 fn take_in(splitter: &mut AfSplitter, stripes: &[u8], len: usize, count: usize)
     requires len { length splitter.old.block ≡ len }
     requires there { count * len ≤ length stripes.now }

@@ -91,7 +91,7 @@ fn first_opening(entries: &[Entry], image: &[u8], pass: &[u8], work: &mut Work) 
         → All (λ entry. is_mode_key_length mode entry.slot.parts.key_bytes ≡ true) entries.now
         → IfSome result (λ opened. is_mode_key_length mode (length opened.key) ≡ true) }
 {
-    // Where there are no key slots, the count stays as it is: within its range.
+    // If there are no key slots, the count stays as it is: within its range.
     let _before = work.count();
     'entries: for entry in entries {
         if let Some(key) = key(entry, image, pass, work) {
@@ -107,10 +107,10 @@ fn first_opening(entries: &[Entry], image: &[u8], pass: &[u8], work: &mut Work) 
 /// Tries the key slots of an order under a passphrase, and answers the first that opens with its
 /// volume key (LUKS1 On-Disk Format Specification 1.2.3, "Master key recovery").
 ///
-/// A key slot opens where PBKDF2 of the key that its material holds equals the whole digest that it
-/// is opened against. Where none does, it is [`OpenFault::NoKey`]; there is no other fault. This
-/// takes no memory. The count of work is raised by the evaluations of HMAC that the key slots take
-/// which are tried: up to the first that opens, or all.
+/// A key slot opens if PBKDF2 of the key that its material holds equals the whole digest that it is
+/// opened against. If none does, the fault is [`OpenFault::NoKey`]; there is no other fault. This
+/// allocates nothing. The count of work is raised by the evaluations of HMAC for the key slots that
+/// are tried: up to the first that opens, or all.
 #[tactic(auto, unfolding(crate::specs::Opening::opening_of, crate::specs::Opening::work_of))]
 pub fn open(
     header: &Header,

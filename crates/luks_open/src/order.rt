@@ -18,7 +18,7 @@ use luks_header::rule::MOST_SLOTS;
 use luks_header::slot::{Judgement, judge};
 use std::alloc::{AllocError, Global};
 
-// What is tried of the key slot of this number, where it can be tried and has this priority.
+// The entry of the key slot of this number, if it can be tried and has this priority.
 fn usable(
     alloc: Global,
     header: &Header,
@@ -56,7 +56,7 @@ fn push_usable(
     Ok(())
 }
 
-// Why the key slot of this number is skipped, where it is.
+// Why the key slot of this number is skipped, if it is.
 fn skip_reason(header: &Header, limit: Option<u32>, number: u8) -> Option<SkipReason>
     ensures { option_map (λ reason. (number, reason)) result ≡ skipped_at header.now limit number }
 {
@@ -134,13 +134,15 @@ fn order_named(
 }
 
 /// The key slots of a header that are tried, in their order: those of priority 2, then those of
-/// priority 1, each by rising number. Where a key slot is named, it is that one alone, whatever its
-/// priority. Key slots that want more iterations than the limit, or a digest that does, are
+/// priority 1, each by ascending number. If a key slot is named, only that one is tried, whatever
+/// its priority. Key slots with more iterations than the limit, or with a digest that has more, are
 /// skipped.
+///
+/// # Errors
 ///
 /// [`OpenFault::NoSuchSlot`], [`OpenFault::Disabled`] and [`OpenFault::NamedSkipped`] are for a key
 /// slot that is named, [`OpenFault::NothingTried`] is for a header of which no key slot is tried
-/// where none is named. [`OpenFault::Memory`] comes only where there is something to try.
+/// although none is named. [`OpenFault::Memory`] comes only if there is something to try.
 #[tactic(auto, unfolding(crate::specs::Order::order_of))]
 pub fn order(
     alloc: Global,

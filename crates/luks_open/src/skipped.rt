@@ -8,7 +8,7 @@ use std::marker::Model;
 /// The most key slots that a header has.
 const MOST: usize = 32;
 
-/// What stands in the places that are left.
+/// What the unused elements are.
 const NOTHING: (u8, SkipReason) = (0, SkipReason::State);
 
 /// Key slots that were skipped, by rising number, and why: at most 32. A clause sees them as a
@@ -57,7 +57,7 @@ impl SkippedSlots {
         self.taken += 1;
     }
 
-    /// The numbers of the key slots, each with the reason.
+    /// The numbers of the key slots, each with the reason, by ascending number; at most 32.
     pub fn as_slice(&self) -> &[(u8, SkipReason)]
         ensures value { result.now ≡ self.now }
         ensures few { length self.now ≤ 32 }

@@ -33,7 +33,7 @@ impl Order {
         Order { entries, skipped }
     }
 
-    /// The key slots with their numbers and digests.
+    /// The key slots with their numbers and digests, in the order in which they are tried.
     pub fn entries(&self) -> &[Entry]
         ensures { result.now ≡ self.now.slots }
     {
@@ -48,8 +48,8 @@ impl Order {
     }
 }
 
-/// How many of the image's first bytes have to be held to try these key slots: up to the end of the
-/// key material that ends last.
+/// How many of the image's first bytes must be loaded to try these key slots: up to the end of the
+/// last key material. At most 33,554,432.
 pub fn held_end(order: &Order) -> usize
     ensures value { result ≡ key_areas_end order.now.slots }
     ensures within { result ≤ max_area_len }

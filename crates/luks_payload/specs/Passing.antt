@@ -23,7 +23,7 @@ abbrev pub is_cut : {T : Type 0} → Result T VolumeFault → Bool
 is_cut (Err CutBeforePayload) = true
 is_cut _ = false
 
--- letting go of the next `count` bytes of a source was broken off
+-- discarding the next `count` bytes of a source was aborted
 abbrev pub StopsDiscarding : ℕ → List ℕ → Option (List ℕ) → VolumeFault → Type 0
 StopsDiscarding count known left CutBeforePayload = (length known < count) × ConsumedExactly known left (length known)
 StopsDiscarding count known left Read = ConsumedFewer known left count
@@ -31,28 +31,28 @@ StopsDiscarding count known left (Tail _) = ⊥
 StopsDiscarding count known left (Short _) = ⊥
 StopsDiscarding count known left Write = ⊥
 
--- at a place of an image the next bytes are those in front, and the source has left what is behind them
+-- at an offset of an image the next bytes are `front`, and what is behind them remains in the source
 pub record PositionedAt (image front : List ℕ) (place : ℕ) (left' : Option (List ℕ)) : Type 0 where
   pub next : front ≡ take (length front) (drop place image)
   pub took : ConsumedExactly image left' (place + length front)
 
--- the bytes of a unit are at first those in front
+-- the bytes of a unit start with those of `front`
 abbrev pub BeginsWith : List ℕ → List ℕ → Type 0
 BeginsWith front unit = take (length front) unit ≡ take (length unit) front
 
--- the plain bytes of some unit of `len` bytes were written that begins with those in front
+-- the plaintext of some unit of `len` bytes was written that starts with the bytes of `front`
 abbrev pub AddsUnit : Cipher → ℕ → ℕ → List ℕ → Option (List ℕ) → Option (List ℕ) → Type 0
 AddsUnit cipher number len front before after = (unit : List ℕ) × (length unit ≡ len) × BeginsWith front unit
     × Appended before after (unit_plain cipher number unit)
 
--- `got` bytes of a sector were gathered: those in front, and then the next ones of the source
+-- a sector was filled with `got` bytes: those of `front`, and then the next ones of the source
 pub record FilledSector (len : ℕ) (front known : List ℕ) (left' : Option (List ℕ)) (sector : List ℕ) (got : ℕ)
     : Type 0 where
   pub all : got ≡ min len (length (front ++ known))
   pub bytes : take got sector ≡ take got (front ++ known)
   pub took : ConsumedExactly known left' (got - length front)
 
--- passing on a sector of `len` bytes was broken off
+-- forwarding a sector of `len` bytes was aborted
 abbrev pub StopsInSector : Cipher → ℕ → ℕ → List ℕ → List ℕ → Option (List ℕ) → Option (List ℕ) → Option (List ℕ)
     → VolumeFault → Type 0
 StopsInSector cipher number len front known left before after Read = ConsumedFewer known left (len - length front)
@@ -64,7 +64,8 @@ StopsInSector cipher number len front known left before after CutBeforePayload =
 StopsInSector cipher number len front known left before after (Tail _) = ⊥
 StopsInSector cipher number len front known left before after (Short _) = ⊥
 
--- what passing on the sector of a unit number did, whose first bytes stand in front: it is whole, torn or broken off
+-- the effect of forwarding the sector of a unit number, which starts with the bytes of `front`: it is whole, incomplete
+-- or aborted
 pub record SectorEffect (cipher : Cipher) (number len : ℕ) (front : List ℕ) (answer : Result ℕ VolumeFault)
     (left left' before after : Option (List ℕ)) (unwritten : Type 0) : Type 0 where
   pub most : IfOk answer (λ got. got ≤ len)
@@ -79,7 +80,7 @@ pub record SectorEffect (cipher : Cipher) (number len : ℕ) (front : List ℕ) 
   pub unread : IfErr answer (λ fault. fault ≡ Read → unwritten)
   pub only : IfErr answer (λ fault. (fault ≡ Read) ⊎ (fault ≡ Write))
 
--- the most sectors that are passed on: those of a fixed size, and else as many as a count of them can say
+-- the most sectors that are forwarded: those of a fixed size, and otherwise the greatest count of 64 bits
 abbrev pub limit_within : Option ℕ → ℕ → ℕ
 limit_within None sector = 2 ^ 64 - 1
 limit_within (Some size) sector = size / sector

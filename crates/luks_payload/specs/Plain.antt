@@ -22,7 +22,7 @@ sector_start s i = s.offset + i * sector_len s
 abbrev pub unit_number : Segment → ℕ → ℕ
 unit_number s i = (s.iv_tweak + i * (sector_len s / 512)) % 2 ^ 64
 
--- the plain bytes of a unit that is stored: the one place where the cipher enters
+-- the plaintext of a stored unit: the one place where the cipher enters
 unfoldable pub unit_plain : Cipher → ℕ → List ℕ → List ℕ
 unit_plain cipher number unit = sector_decrypted cipher.0 cipher.1 number unit
 
@@ -31,11 +31,11 @@ abbrev pub sector_plaintext : Segment → Cipher → List ℕ → ℕ → List �
 sector_plaintext s cipher image i = unit_plain cipher (unit_number s i) (take (sector_len s) (drop
     (sector_start s i) image))
 
--- how many bytes of the image stand behind the payload's start
+-- how many bytes of the image are behind the payload's start
 abbrev pub payload_len : Segment → List ℕ → ℕ
 payload_len s image = length image - s.offset
 
--- how many of so many bytes are the payload's
+-- how many of these bytes are the payload's
 abbrev pub within_size : Option ℕ → ℕ → ℕ
 within_size None len = len
 within_size (Some size) len = min size len

@@ -14,8 +14,8 @@ use Rattle.luks_payload.specs.declared.state.State.TheVariants.{BeforePayload, I
 use Rattle.luks_payload.specs.declared.state.Step.{Step}
 use Rattle.luks_payload.specs.declared.state.Step.TheVariants.{Sector, End}
 
--- a pump: the payload and its cipher, how many bytes of the image before the payload were taken when it was made, how
--- many sectors it has passed on, where it stands, and which of the payload's next bytes were taken before it was made
+-- a pump: the payload and its cipher, how many bytes of the image before the payload were consumed when it was made,
+-- how many sectors it has forwarded, its state, and which of the payload's next bytes were consumed before it was made
 pub record PumpModel : Type 0 where
   pub segment : Segment
   pub cipher : Cipher
@@ -41,16 +41,16 @@ next_offset (Faulted _) consumed next = next
 abbrev pub position : PumpModel → ℕ
 position p = next_offset p.state p.consumed (sector_start p.segment p.count)
 
--- how many bytes of the image were taken
+-- how many bytes of the image were consumed
 abbrev pub consumed_by : PumpModel → ℕ
 consumed_by p = position p + length p.front
 
--- a running pump stands in an image whose other bytes the source has left
+-- a running pump is in an image whose other bytes remain in the source
 pub record StandsIn (image : List ℕ) (pump : PumpModel) (left' : Option (List ℕ)) : Type 0 where
   pub running : IsTrue (is_running pump.state)
   pub stands : PositionedAt image pump.front (position pump) left'
 
--- where a pump stands after a skip
+-- the state of a pump after a skip
 abbrev pub state_after_skip : {T : Type 0} → State → Result T VolumeFault → State
 state_after_skip BeforePayload (Ok _) = InPayload
 state_after_skip BeforePayload (Err fault) = Faulted fault
@@ -65,7 +65,7 @@ SkipsAgain InPayload answer untouched = (answer ≡ Ok tt) × untouched
 SkipsAgain Ended answer untouched = (answer ≡ Ok tt) × untouched
 SkipsAgain (Faulted fault) answer untouched = (answer ≡ Err fault) × untouched
 
--- a skip took the image up to the payload's start, or was broken off
+-- a skip consumed the image up to the payload's start, or was aborted
 abbrev pub SkipEffect : PumpModel → List ℕ → Result (Unit {0}) VolumeFault → Option (List ℕ) → Type 0
 SkipEffect p image (Ok _) left = ConsumedExactly image left p.segment.offset
 SkipEffect p image (Err CutBeforePayload) left = (length image < p.segment.offset)
@@ -89,7 +89,7 @@ StepsAgain InPayload answer untouched = Unit {0}
 StepsAgain Ended answer untouched = (answer ≡ Ok End) × untouched
 StepsAgain (Faulted fault) answer untouched = (answer ≡ Err fault) × untouched
 
--- a step writes only where it passes a sector on
+-- a step writes only if it forwards a sector
 abbrev pub WritesSectors : Result Step VolumeFault → Type 0 → Type 0
 WritesSectors (Ok Sector) unwritten = Unit {0}
 WritesSectors (Ok End) unwritten = unwritten
@@ -99,8 +99,8 @@ WritesSectors (Err (Short _)) unwritten = unwritten
 WritesSectors (Err Read) unwritten = unwritten
 WritesSectors (Err Write) unwritten = Unit {0}
 
--- how the payload ends where so many sectors were passed on: at its limit, or where the source has less than one sector
--- more
+-- how the payload ends if so many sectors were forwarded: at its limit, or if less than one sector remains in the
+-- source
 abbrev pub EndsAt : Segment → ℕ → Result Step VolumeFault → Type 0
 EndsAt s count answer = ((count ≡ max_sectors s) × (answer ≡ Ok End))
     ⊎ ((count < max_sectors s)
@@ -117,7 +117,7 @@ MayAnswer state s count (Err (Short bytes)) = EndsAt s count (Err (Short bytes))
 MayAnswer state s count (Err Read) = Unit {0}
 MayAnswer state s count (Err Write) = Unit {0}
 
--- whether a step with so many sectors passed on before found the end of its source: not where a limit ends the payload
+-- whether a step with so many sectors forwarded before hit the end of its source: not if a limit ends the payload
 abbrev pub hits_eof_at : Segment → ℕ → Result Step VolumeFault → Bool
 hits_eof_at s count (Ok Sector) = false
 hits_eof_at s count (Ok End) = nat_lt count (max_sectors s)
@@ -127,20 +127,20 @@ hits_eof_at s count (Err (Short _)) = true
 hits_eof_at s count (Err Read) = false
 hits_eof_at s count (Err Write) = false
 
--- sector `count` was taken from the image, of which `reach` bytes had been, and nothing past it
+-- sector `count` was consumed from the image, of which `reach` bytes had been, and nothing past it
 pub record TakesSector (image : List ℕ) (segment : Segment) (count reach : ℕ) (left : Option (List ℕ)) : Type 0 where
   pub is_one : count < sectors_of segment image
   pub took : ConsumedExactly image left (max reach (sector_start segment (count + 1)))
 
--- the payload came to its stated end after `count` sectors, and all of it was taken from an image of which `reach`
--- bytes had been
+-- the payload came to its specified end after `count` sectors, and all of it was consumed from an image of which
+-- `reach` bytes had been
 pub record EndEffect (image : List ℕ) (segment : Segment) (count reach : ℕ) (answer : Result Step VolumeFault)
     (left : Option (List ℕ)) : Type 0 where
   pub all : count ≡ sectors_of segment image
   pub as_stated : answer ≡ ending_of segment image
   pub took : ConsumedExactly image left (max reach (payload_end_of segment image))
 
--- what a step did in an image of which so many bytes had been taken, with so many sectors passed on before
+-- the effect of a step in an image of which so many bytes had been consumed, with so many sectors forwarded before
 abbrev pub StepEffect : Segment → Cipher → ℕ → ℕ → List ℕ → Result Step VolumeFault → Option (List ℕ) → Option (List ℕ)
     → Option (List ℕ) → Type 0
 StepEffect s cipher count reach image (Ok Sector) left before after =

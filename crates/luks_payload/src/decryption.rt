@@ -1,4 +1,4 @@
-//! A sector's decryption where its bytes stand.
+//! Decryption of a sector in place.
 
 use luks_cipher::SectorCipher;
 use luks_io::change::Change;

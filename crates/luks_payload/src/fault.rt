@@ -1,4 +1,4 @@
-//! How passing on a payload can fail.
+//! How forwarding a payload can fail.
 
 use luks_io::sink::WriteFault;
 use luks_io::source::ReadFault;

@@ -1,7 +1,7 @@
-//! The payload of a volume: the sectors that it stores, one after the other, as their plain text.
+//! The payload of a volume: its stored sectors, one after the other, as plaintext.
 //!
-//! A [`Pump`](pump::Pump) takes an image once and forwards, and writes each sector's plain bytes as
-//! it comes.
+//! A [`Pump`](pump::Pump) reads an image once and forwards, and writes the plaintext of each sector
+//! as it comes.
 #![tactic(auto)]
 
 mod decryption;

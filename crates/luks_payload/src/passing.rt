@@ -14,7 +14,7 @@ use luks_cipher::SectorCipher;
 use luks_io::sink::{Sink, put_all};
 use luks_io::source::{Source, fill};
 
-/// Takes so many bytes and lets them go. The piece is room for some of them at a time.
+/// Reads so many bytes and discards them. The piece is a buffer for some of them at a time.
 pub(crate) fn discard<S: Source>(
     source: &mut S,
     count: u64,
@@ -42,8 +42,8 @@ pub(crate) fn discard<S: Source>(
     Ok(())
 }
 
-/// Fills a sector with the bytes in front, and then with the next ones of the source. Answers how
-/// many there were: fewer than the sector has only where the source is at its end.
+/// Fills a sector with the bytes of `front`, and then with the next ones of the source. Answers how
+/// many there were: fewer than the sector has only if the source is at its end.
 fn gather<S: Source>(front: &[u8], sector: &mut [u8], source: &mut S) -> Result<usize, VolumeFault>
     ensures most { IfOk result (λ got. got ≤ length sector.old) }
     ensures gathered { IfOk result (λ got. IfKnown (S.to_come source.old)
@@ -65,9 +65,9 @@ fn gather<S: Source>(front: &[u8], sector: &mut [u8], source: &mut S) -> Result<
     Ok(held + got)
 }
 
-/// Takes the sector of this unit number, whose first bytes stand in front, and writes its plain
-/// bytes where it is whole. Where the source holds all of it, it is decrypted there, and else in
-/// `sector`. Answers how many bytes there were.
+/// Consumes the sector of this unit number, which starts with the bytes of `front`, and writes its
+/// plaintext if it is whole. If the source has all of it buffered, it is decrypted there, and
+/// otherwise in `sector`. Answers how many bytes there were.
 pub(crate) fn pass_sector<S: Source, O: Sink>(
     cipher: &SectorCipher,
     number: u64,
@@ -89,7 +89,8 @@ pub(crate) fn pass_sector<S: Source, O: Sink>(
     ensures writes { O.failures sink.new ≡ counted (is_pump_write_failure result)
         (O.failures sink.old) }
 {
-    // Bytes in front are not the source's: a sector that begins with them is gathered.
+    // Bytes of `front` are not the source's: a sector that starts with them is filled in the
+    // buffer.
     if front.is_empty() {
         let decryption = Decryption { cipher, number };
         if let Some(answer) = source.pass_on(sector.len(), &decryption, sink) {

@@ -24,11 +24,11 @@ use std::marker::Model;
 /// Room for the longest sector.
 const ROOM: usize = 4096;
 
-/// Passes a payload on, sector by sector. It holds one sector and takes no memory.
+/// Forwards a payload, sector by sector. It holds one sector and allocates nothing.
 ///
 /// A clause sees its segment, its cipher, how many bytes of the image were consumed before it was
-/// made, how many sectors it has passed on, where it stands, and which of the payload's next bytes
-/// were consumed before it was made.
+/// made, how many sectors it has forwarded, its state, and which of the payload's next bytes were
+/// consumed before it was made.
 #[derive(Drop)]
 pub struct Pump<'a> {
     segment: Segment,
@@ -62,8 +62,8 @@ impl<'a> Model for Pump<'a> {
         × (p.state ≡ BeforePayload → (p.count ≡ 0) × (p.front.now ≡ [])) };
 }
 
-/// Passes on the sector of this number, whose first bytes stand in front, or says how the payload
-/// ends before it. The buffer has room for it.
+/// Forwards the sector of this number, which starts with the bytes of `front`, or says how the
+/// payload ends before it. The buffer is long enough for it.
 fn next_sector<S: Source, O: Sink>(
     segment: &Segment,
     cipher: &SectorCipher,
@@ -113,8 +113,8 @@ fn next_sector<S: Source, O: Sink>(
 }
 
 impl<'a> Pump<'a> {
-    /// A pump of this payload under this cipher, for an image of which so many bytes are consumed
-    /// already, none of them the payload's.
+    /// A pump of this payload under this cipher, for an image of which `consumed` bytes are
+    /// consumed already, none of them the payload's.
     pub fn new(segment: Segment, cipher: SectorCipher, consumed: u64) -> Pump<'a>
         requires { consumed ≤ segment.offset }
         ensures { result ≡ record {
@@ -138,7 +138,7 @@ impl<'a> Pump<'a> {
     }
 
     /// A pump of this payload under this cipher, for an image of which the payload's first bytes
-    /// are consumed already: they come before those that the source has left.
+    /// are consumed already: they come before those that remain in the source.
     pub fn with_front(segment: Segment, cipher: SectorCipher, front: &'a [u8]) -> Pump<'a>
         ensures { result ≡ record {
           segment = segment;
@@ -160,11 +160,13 @@ impl<'a> Pump<'a> {
         }
     }
 
-    /// Takes the image's bytes up to the payload's start and no more. Once that is done, it touches
+    /// Consumes the image's bytes up to the payload's start and no more. After that it touches
     /// nothing.
     ///
-    /// [`CutBeforePayload`](VolumeFault::CutBeforePayload) says that the image ends before,
-    /// [`Read`](VolumeFault::Read) that a read failed. A pump that has failed repeats its fault.
+    /// # Errors
+    ///
+    /// [`CutBeforePayload`](VolumeFault::CutBeforePayload) if the image ends before,
+    /// [`Read`](VolumeFault::Read) if a read failed. A pump that has failed repeats its fault.
     pub fn skip<S: Source>(&mut self, source: &mut S) -> Result<(), VolumeFault>
         ensures pump { self.new
             ≡ record self.old { state = state_after_skip self.old.state result } }
@@ -215,11 +217,17 @@ impl<'a> Pump<'a> {
         }
     }
 
-    /// Passes the next sector on, or ends. The first step skips to the payload if no skip came
+    /// Forwards the next sector, or ends. The first step skips to the payload if no skip came
     /// before.
     ///
-    /// A sector that is torn is not written. A pump that has ended or failed gives its last answer
+    /// An incomplete sector is not written. A pump that has ended or failed gives its last answer
     /// again, and touches nothing.
+    ///
+    /// # Errors
+    ///
+    /// [`CutBeforePayload`](VolumeFault::CutBeforePayload), [`Tail`](VolumeFault::Tail) or
+    /// [`Short`](VolumeFault::Short) if the image is truncated; [`Read`](VolumeFault::Read) or
+    /// [`Write`](VolumeFault::Write) if a read or a write failed.
     pub fn step<S: Source, O: Sink>(
         &mut self,
         source: &mut S,

@@ -5,13 +5,13 @@ use crate::fault::VolumeFault;
 /// What one step did.
 #[derive(Clone, Copy, PartialEq, Eq, Debug)]
 pub enum Step {
-    /// The next sector was taken, and its plain bytes were written.
+    /// The next sector was consumed, and its plaintext was written.
     Sector,
     /// The payload has ended well, and all of it is written.
     End,
 }
 
-/// Where a pump stands.
+/// The state of a pump.
 #[derive(Clone, Copy, PartialEq, Eq, Debug)]
 pub enum State {
     /// Bytes of the image may still come before the payload.
@@ -20,6 +20,6 @@ pub enum State {
     InPayload,
     /// The payload has ended well.
     Ended,
-    /// It was broken off by this fault.
+    /// This fault ended it.
     Faulted(VolumeFault),
 }

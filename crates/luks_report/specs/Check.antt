@@ -1,4 +1,4 @@
--- What `luksCheck` prints of what is amiss with a header, and how it ends.
+-- What `luksCheck` prints of the findings of a header, and how it ends.
 use Rattle.std.specs.Prelude.{ℕ, ◌==◌, ◌∷◌, ◌++◌, [], List, codes, if◌then◌else◌, length}
 use Rattle.luks_header.specs.declared.header.Header.{Header}
 pub use Rattle.luks_check.specs.Check.{findings_of}

@@ -1,4 +1,4 @@
--- The messages of luksrd, as they stand on standard error, and the exit status of each.
+-- The messages of luksrd, as printed on standard error, and the exit status of each.
 use Rattle.std.specs.Prelude.{ℕ, List, [], ◌∷◌, ◌++◌, codes, flat_map}
 use Rattle.std.specs.Fmt.{decimal}
 use Rattle.luks_header.specs.SegmentFault.{fault_text}
@@ -34,7 +34,7 @@ skips_text (skip ∷ skips) = codes "; skipped: " ++ skip_text skip ++ more_skip
 unfoldable pub opened_line : ℕ → List ℕ
 opened_line number = codes "Key slot " ++ decimal number ++ codes " opens the volume." ++ 10 ∷ []
 
--- what is told of an input that does not open, by its name as it was given
+-- the message for an input that cannot be opened, by its name as given
 unfoldable pub not_opened_line : List ℕ → List ℕ
 not_opened_line name = message_line (codes "cannot open " ++ name)
 

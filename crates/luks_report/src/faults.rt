@@ -13,7 +13,7 @@ use luks_payload::fault::VolumeFault;
 use std::alloc::AllocError;
 
 impl Message {
-    /// What is said where no key slot is tried or none opens, by the key slot that was named.
+    /// The message if no key slot is tried or none opens, by the key slot that was named.
     pub fn of_opening(named: Option<u8>, fault: OpenFault) -> Message
         ensures { result ≡ message_for_opening named fault }
     {

@@ -1,11 +1,11 @@
-//! A line of text that takes no memory.
+//! A line of text that allocates nothing.
 
 ghost use Rattle.std.specs.Prelude.{◌≡◌, ◌+◌, ◌≤◌, ◌++◌, [], length, decimal};
 
 use itoa::Buffer;
 use std::marker::Model;
 
-/// How many bytes a line has room for: more than any message needs.
+/// The capacity of a line in bytes: more than any message needs.
 const ROOM: usize = 2048;
 
 /// A line that is put together piece by piece. A clause sees its bytes.

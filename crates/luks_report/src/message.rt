@@ -6,14 +6,14 @@ ghost use Rattle.luks_report.specs.Texts.{status_of};
 use luks_header::refusal::{SegmentFault, SkipReason};
 use luks_open::skipped::SkippedSlots;
 
-/// How a run ended. It prints as the line that is told of it, newline included, or as nothing.
+/// How a run ended. It prints as its line, newline included, or as nothing.
 #[derive(Clone, Copy, Debug, PartialEq, Eq)]
 pub enum Message {
-    /// All was done. Nothing is told.
+    /// Success; no message.
     Done,
-    /// `isLuks` of what is no LUKS. Nothing is told but by the status.
+    /// `isLuks` found no LUKS header; only the status reports it.
     No,
-    /// The words are no command line of luksrd. The usage text is told.
+    /// The arguments are not a luksrd command. The message is the usage text.
     Usage,
     /// The payload cannot be read.
     SegmentRefused(SegmentFault),
@@ -37,11 +37,11 @@ pub enum Message {
     Json,
     /// The image ends before its payload begins.
     CutBeforePayload,
-    /// The image ends inside a sector, of which it has so many bytes.
+    /// The image ends inside a sector: it has this many bytes of it.
     Tail(u64),
-    /// The image ends so many bytes before the end of a payload of fixed size.
+    /// The image ends this many bytes before the end of a payload of fixed size.
     Short(u64),
-    /// A check of a header found something amiss.
+    /// A check of a header has findings.
     Findings,
     /// A key to be split is empty or longer than 512 bytes.
     KeyLength,

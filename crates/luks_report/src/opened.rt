@@ -1,4 +1,4 @@
-//! What is printed where a volume was opened.
+//! The line that is printed if a volume was opened.
 
 ghost use Rattle.std.specs.Prelude.{◌≡◌, IfOk, string_bytes};
 ghost use Rattle.luks_report.specs.Texts.{opened_line};

@@ -3,7 +3,7 @@
 use crate::message::Message;
 use luks_args::planning::PlanFault;
 
-/// The exit status of a run and what is told of it.
+/// The exit status of a run and its message.
 #[derive(Clone, Copy, Debug, PartialEq, Eq)]
 pub struct Report {
     /// 0: all was done; 1: refused; 2: no key opens the volume; 3: no memory; 4: the input is not

@@ -1,4 +1,4 @@
-//! The lines that messages are told as.
+//! The lines of messages.
 
 ghost use Rattle.std.specs.Prelude.{◌≡◌, ◌+◌, ◌<◌, ◌≤◌, ◌++◌, OnOk, IfErr, codes, decimal, is_err};
 ghost use Rattle.std.specs.Prelude.{length, take};
@@ -13,9 +13,11 @@ use luks_io::sink::{Sink, WriteFault, put_all};
 use luks_open::skipped::SkippedSlots;
 
 impl Message {
-    /// Writes the line of the message, where it has one, newline included.
+    /// Writes the line of the message, if it has one, newline included.
     ///
-    /// A [`WriteFault`] says how many of its bytes went out before a write failed.
+    /// # Errors
+    ///
+    /// A [`WriteFault`] if a write failed: it says how many bytes of the line were written before.
     pub fn print<O: Sink>(&self, out: &mut O) -> Result<(), WriteFault>
         ensures ok { OnOk result (Appended (O.written out.old) (O.written out.new)
             (line_of self.now)) }
@@ -27,7 +29,7 @@ impl Message {
         put_all(out, self.line().as_slice())
     }
 
-    /// The line of the message, newline included, or nothing where it has none.
+    /// The line of the message, newline included, or nothing if it has none.
     #[tactic(auto, using(crate::proofs::Lengths::reason_len, crate::proofs::Lengths::fault_len))]
     pub fn line(&self) -> Line
         ensures { result ≡ line_of self.now }

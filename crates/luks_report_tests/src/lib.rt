@@ -1,7 +1,7 @@
 //! Tests of `luks_dump`, `luks_check` and `luks_report`: what is printed of a header, and how a
 //! check ends, by their public calls.
 //!
-//! A crate of their own: what they stand on is not proved once more with them.
+//! They are a crate of their own, so that the crates below are not proved once more with them.
 #![tactic(auto)]
 
 #[cfg(test)]

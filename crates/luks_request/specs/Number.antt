@@ -13,7 +13,7 @@ is_number text = nat_lt 0 (length text) && (nat_le (length text) 10 && list_all 
 abbrev pub number_of : List ℕ → Option ℕ
 number_of text = if is_number text then Some (digits_value 10 text) else None
 
--- the number, where it is in the range
+-- the number, if it is in the range
 abbrev pub if_within : ℕ → ℕ → ℕ → Option ℕ
 if_within least most n = if nat_le least n && nat_le n most then Some n else None
 
@@ -21,7 +21,7 @@ if_within least most n = if nat_le least n && nat_le n most then Some n else Non
 abbrev pub number_within : ℕ → ℕ → List ℕ → Option ℕ
 number_within least most text = option_and_then (if_within least most) (number_of text)
 
--- the same of a text that may be left out, where the number may be left out too
+-- the same of a text that may be left out, if the number may be left out too
 abbrev pub optional_within : ℕ → ℕ → Option (List ℕ) → Option (Option ℕ)
 optional_within least most None = Some None
 optional_within least most (Some text) = option_map (λ n. Some n) (number_within least most text)

@@ -59,7 +59,7 @@ image_of (luks_cat o) = o.image
 image_of (af_split s) = s.key
 image_of (af_merge m) = m.stripes_file
 
--- FILE of `--header`, where it is given: the header stands there, apart from the image
+-- FILE of `--header`, if it is given: the detached header
 abbrev pub header_file_of : Request → Option Text
 header_file_of (is_luks r) = r.header
 header_file_of (luks_uuid r) = r.header
@@ -69,11 +69,11 @@ header_file_of (test_passphrase o) = o.header
 header_file_of (luks_cat o) = o.header
 header_file_of _ = None
 
--- the header stands apart from the image
+-- the header is detached
 abbrev pub has_header_file : Request → Bool
 has_header_file request = is_some (header_file_of request)
 
--- the second input, where there is one: FILE of `--key-file` or `--random`
+-- the second input, if there is one: FILE of `--key-file` or `--random`
 abbrev pub secret_of : Request → Option Text
 secret_of (test_passphrase o) = Some o.key_file
 secret_of (luks_cat o) = Some o.key_file

@@ -7,11 +7,11 @@ ghost use Rattle.luks_request.specs.Request.{reuses_stdin, request_of, secret_of
 use crate::number::{IterationLimit, KeyBytes, SlotNumber, StripeCount};
 use luks_kdf::Hash;
 
-/// What luksrd is asked for. The texts are those of the command line; an input named `-` is
-/// standard input.
+/// A request to luksrd. The texts are those of the command line; an input named `-` is standard
+/// input.
 #[derive(Clone, Copy, PartialEq, Eq, Debug)]
 pub enum Command<'a> {
-    /// `isLuks`: tells whether the image has a LUKS header.
+    /// `isLuks`: reports whether the image has a LUKS header.
     IsLuks(Reading<'a>),
     /// `luksUUID`: prints the UUID of the header.
     LuksUuid(Reading<'a>),
@@ -34,7 +34,7 @@ pub enum Command<'a> {
 pub struct Reading<'a> {
     /// The name of the input with the volume.
     pub image: &'a str,
-    /// The name of the file with the header, where it stands apart from the image.
+    /// The name of the file with the header, if that is detached.
     pub header: Option<&'a str>,
 }
 
@@ -43,13 +43,13 @@ pub struct Reading<'a> {
 pub struct Opening<'a> {
     /// The name of the input with the volume.
     pub image: &'a str,
-    /// The name of the file with the header, where it stands apart from the image.
+    /// The name of the file with the header, if that is detached.
     pub header: Option<&'a str>,
     /// The name of the input with the passphrase.
     pub key_file: &'a str,
     /// The one key slot to try. Without it all are tried that can be.
     pub key_slot: Option<SlotNumber>,
-    /// The most iterations that a key slot or a digest may ask for.
+    /// The most iterations that a key slot or a digest may have.
     pub max_iterations: Option<IterationLimit>,
 }
 
@@ -96,7 +96,7 @@ impl<'a> Command<'a> {
         }
     }
 
-    /// The name of the file with the header, where it stands apart from the image.
+    /// The name of the file with the header, if that is detached.
     pub fn header(&self) -> Option<&'a str>
         ensures { option_map (λ input. input.now) result ≡ header_file_of (request_of self.now) }
     {
@@ -112,14 +112,14 @@ impl<'a> Command<'a> {
         }
     }
 
-    /// Whether the header stands apart from the image, in a file of its own.
+    /// Whether the header is detached: in another file than the image.
     pub fn is_detached(&self) -> bool
         ensures { result ≡ has_header_file (request_of self.now) }
     {
         self.header().is_some()
     }
 
-    /// The name of the second input, where there is one: FILE of `--key-file` or `--random`.
+    /// The name of the second input, if there is one: FILE of `--key-file` or `--random`.
     pub fn secret(&self) -> Option<&'a str>
         ensures { option_map (λ input. input.now) result ≡ secret_of (request_of self.now) }
     {

@@ -14,7 +14,7 @@ pub struct StripeCount {
 }
 
 impl StripeCount {
-    /// This number of stripes, or `None` where it is out of range.
+    /// This number of stripes, or `None` if it is out of range.
     pub fn new(number: u64) -> Option<StripeCount>
         ensures { option_map (λ stripes. stripes.count) result ≡ if_within 1 4000 number }
     {
@@ -51,7 +51,7 @@ pub struct KeyBytes {
 }
 
 impl KeyBytes {
-    /// This number of bytes, or `None` where it is out of range.
+    /// This number of bytes, or `None` if it is out of range.
     pub fn new(number: u64) -> Option<KeyBytes>
         ensures { option_map (λ key. key.bytes) result ≡ if_within 1 512 number }
     {
@@ -88,7 +88,7 @@ pub struct SlotNumber {
 }
 
 impl SlotNumber {
-    /// The slot of this number, or `None` where it is out of range.
+    /// The slot of this number, or `None` if it is out of range.
     pub fn new(number: u64) -> Option<SlotNumber>
         ensures { option_map (λ slot. slot.number) result ≡ if_within 0 31 number }
     {
@@ -125,7 +125,7 @@ pub struct IterationLimit {
 }
 
 impl IterationLimit {
-    /// This limit, or `None` where it is out of range.
+    /// This limit, or `None` if it is out of range.
     pub fn new(number: u64) -> Option<IterationLimit>
         ensures { option_map (λ limit. limit.iterations) result ≡ if_within 1 4294967295 number }
     {

@@ -1,9 +1,9 @@
--- What a run comes to.
+-- What an outcome is.
 use Rattle.std.specs.Prelude.{ℕ, List, []}
 use Rattle.luks_report.specs.declared.message.Message.{Message}
 
--- what is written, what is told, and how many bytes are taken of both inputs: of the image, or of the file with the
--- header where that stands apart, and of the second one; and of the payload's image that such a header has
+-- the output, the message, and how many bytes are consumed of both inputs: of the image, or of the file with a detached
+-- header, and of the second input; and, with a detached header, of the payload's image
 pub record Outcome : Type 0 where
   pub output : List ℕ
   pub message : Message

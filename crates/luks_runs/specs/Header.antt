@@ -1,4 +1,4 @@
--- What the commands on headers come to.
+-- The outcomes of the commands on headers.
 use Rattle.std.specs.Prelude.{ℕ, List, [], Result, Ok, Err}
 use Rattle.luks_header.specs.Header.{header_read_len, header_of}
 use Rattle.luks_header.specs.declared.header.Header.{Header}
@@ -14,23 +14,23 @@ use Rattle.luks_runs.specs.Reading.{Reading}
 use Rattle.luks_runs.specs.declared.headers.Page.{Page}
 use Rattle.luks_runs.specs.declared.headers.Page.TheVariants.{Uuid, Dump, Check}
 
--- what `isLuks` tells
+-- the message of `isLuks`
 abbrev pub answer_to_is_luks : Result Header HeaderFault → Message
 answer_to_is_luks (Ok _) = Done
 answer_to_is_luks (Err NotLuks) = No
 answer_to_is_luks (Err fault) = message_for_header fault
 
--- the text of a page
+-- the text of a printout
 abbrev pub printout_text : Page → Header → List ℕ
 printout_text Uuid = uuid_of
 printout_text Dump = dump_of
 printout_text Check = check_of
 
--- that it was printed is all that is told
+-- the message is only that it was printed
 abbrev pub always_done : Header → Message
 always_done header = Done
 
--- what is told once a page is printed
+-- the message once a text is printed
 abbrev pub printout_message : Page → Header → Message
 printout_message Uuid = always_done
 printout_message Dump = always_done
@@ -41,7 +41,7 @@ abbrev pub printed : (Header → List ℕ) → Result Header HeaderFault → Lis
 printed text (Ok header) = text header
 printed text (Err _) = []
 
--- the message of a command that prints a text of the header, which tells this of it
+-- the message of a command that prints a text of the header, which has this message for it
 abbrev pub message_printing : (Header → Message) → Result Header HeaderFault → Message
 message_printing told (Ok header) = told header
 message_printing told (Err fault) = message_for_header fault

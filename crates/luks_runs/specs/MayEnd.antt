@@ -33,13 +33,13 @@ abbrev pub CheckMessage : Message → Type 0
 CheckMessage Findings = Unit {0}
 CheckMessage message = PrintMessage message
 
--- printing a page
+-- printing a text
 abbrev pub PageMessage : Page → Message → Type 0
 PageMessage Uuid = PrintMessage
 PageMessage Dump = PrintMessage
 PageMessage Check = CheckMessage
 
--- passing on a payload
+-- forwarding a payload
 abbrev pub PayloadMessage : Message → Type 0
 PayloadMessage Done = Unit {0}
 PayloadMessage CutBeforePayload = Unit {0}

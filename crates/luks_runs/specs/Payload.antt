@@ -1,4 +1,4 @@
--- What passing on a payload leaves in its devices.
+-- The effects of forwarding a payload on its devices.
 use Rattle.std.specs.Prelude.{◌≡◌, ℕ, ◌+◌, ◌-◌, ◌*◌, ◌/◌, ◌^◌, ◌<◌, ◌≤◌, List, length, max, take, Option}
 use Rattle.luks_cipher.specs.Sector.{Cipher}
 use Rattle.luks_io.specs.Bytes.{Appended, ConsumedExactly, max_count, saturating_inc}
@@ -10,13 +10,13 @@ use Rattle.luks_report.specs.declared.message.Message.{Message}
 use Rattle.luks_report.specs.declared.message.Message.TheVariants.{Done, ReadFailed, WriteFailed}
 use Rattle.luks_runs.specs.Run.{HitsEofOnce}
 
--- how many bytes of an image, however long it is, are asked for at most to pass on a payload of this size from this
--- offset on, where so many of the first ones are held: those behind them, up to the payload's end
+-- how many bytes of an image, however long it is, are requested at most to forward a payload of this size from this
+-- offset on, if so many of the first ones are loaded: those behind them, up to the payload's end
 abbrev pub most_needed : Option ℕ → ℕ → ℕ → ℕ
 most_needed size offset held = end_within size offset max_count - held
 
--- passing on the payload of an image, of which so many bytes were taken before, ended with this message: all of it was
--- written and taken, or it was broken off within a sector
+-- forwarding the payload of an image, of which so many bytes were consumed before, ended with this message: all of it
+-- was written and consumed, or it was aborted within a sector
 abbrev pub PassesPayload : Segment → Cipher → List ℕ → ℕ → Option (List ℕ) → Option (List ℕ) → Option (List ℕ)
     → Message → Type 0
 PassesPayload s cipher image held left before after ReadFailed =
@@ -32,7 +32,7 @@ PassesPayload s cipher image held left before after message =
     (message ≡ message_at_end (ending_of s image)) × ConsumedExactly image left (max held (payload_end_of s image))
     × Appended before after (plain_of s cipher image)
 
--- the same of every image whose first bytes are these, which are held, and of which the source has the rest
+-- the same for every image that starts with these bytes, which are loaded, and of which the source has the rest
 abbrev pub PassesHeld : Segment → Cipher → List ℕ → Option (List ℕ) → Option (List ℕ) → Option (List ℕ)
     → Option (List ℕ) → Message → Type 0
 PassesHeld s cipher held rest left before after message =
@@ -40,8 +40,8 @@ PassesHeld s cipher held rest left before after message =
     → ConsumedExactly image rest (length held)
     → PassesPayload s cipher image (length held) left before after message
 
--- how often passing on a payload found the end of the image: once where it is told that the image ended, not where a
--- read or a write failed, and where all was well at most once, since a payload of fixed size may end before its image
+-- how often forwarding a payload hit the end of the image: once if the message is that the image ended, never if a read
+-- or a write failed, and at most once if the run succeeded, since a payload of fixed size may end before its image
 abbrev pub FindsPayloadEnd : Message → ℕ → ℕ → Type 0
 FindsPayloadEnd Done before after = HitsEofOnce before after
 FindsPayloadEnd ReadFailed before after = after ≡ before

@@ -4,11 +4,11 @@ use Rattle.luks_header.specs.Header.{detached_of, header_of}
 use Rattle.luks_header.specs.declared.header.Header.{Header}
 use Rattle.luks_area.specs.declared.fault.HeaderFault.{HeaderFault}
 
--- what is read of the bytes at whose front a header stands
+-- how a header is read from bytes that start with it
 abbrev pub Reading : Type 0
 Reading = List ℕ → Result Header HeaderFault
 
--- a header that was read stands apart from the payload's image
+-- a header that was read, as a detached one
 abbrev pub as_detached : Result Header HeaderFault → Result Header HeaderFault
 as_detached (Ok header) = Ok (detached_of header)
 as_detached (Err fault) = Err fault

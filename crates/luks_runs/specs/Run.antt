@@ -1,21 +1,21 @@
--- What a run leaves in its devices, and what it keeps to where it is broken off. Each device is spoken of by itself: a
--- run takes so many bytes of the image and of the second input, and writes these; what that means for a device is a
--- fact of its own.
+-- The effects of a run on its devices, and what it still satisfies if it is aborted. Each device is treated by itself:
+-- a run consumes so many bytes of the image and of the second input, and writes these; what that means for a device is
+-- a separate fact.
 use Rattle.std.specs.Prelude.{◌≡◌, ℕ, ◌<◌, ◌≤◌, List, length, take, Bool, true, false, MatchBool, ◌⊎◌, Result, Ok, Err}
 use Rattle.luks_io.specs.Bytes.{counted, saturating_inc}
 use Rattle.luks_runs.specs.Ending.{Outcome}
 use Rattle.luks_report.specs.declared.message.Message.{Message}
 use Rattle.luks_report.specs.declared.message.Message.TheVariants.{Done, OutOfMemory, ReadFailed, WriteFailed}
 
--- memory was refused, or a read or a write failed
+-- an allocation, a read or a write failed
 abbrev pub breaks_off : Message → Bool
 breaks_off OutOfMemory = true
 breaks_off ReadFailed = true
 breaks_off WriteFailed = true
 breaks_off _ = false
 
--- how prompt a run is that is broken off: a fact on its message, the bytes of the image and of the second input that it
--- took, and the length of what it wrote
+-- how prompt an aborted run is: a fact about its message, the bytes of the image and of the second input that it
+-- consumed, and the length of its output
 abbrev pub Promptness : Type 1
 Promptness = Message → ℕ → ℕ → ℕ → Type 0
 
@@ -23,18 +23,17 @@ Promptness = Message → ℕ → ℕ → ℕ → Type 0
 abbrev pub at_any_pace : Promptness
 at_any_pace _ _ _ _ = Unit {0}
 
--- a run that is refused memory writes nothing
+-- a run that runs out of memory writes nothing
 abbrev pub IsSilent : Message → ℕ → Type 0
 IsSilent OutOfMemory output = output ≡ 0
 IsSilent _ output = Unit {0}
 
--- so many of the bytes of the stated output were written: all of them at most, and fewer where a write failed
+-- so many bytes of the specified output were written: at most all of them, and fewer if a write failed
 abbrev pub IsPrefixLen : Message → ℕ → ℕ → Type 0
 IsPrefixLen WriteFailed output stated = output < stated
 IsPrefixLen _ output stated = output ≤ stated
 
--- a run that was broken off: what it wrote is a beginning of the stated output, and no input was taken further than
--- stated
+-- an aborted run: its output is a prefix of the specified one, and no input was consumed further than specified
 pub record Aborted (is_prompt' : Promptness) (o : Outcome) (message : Message) (TookImage TookSecret : ℕ → Type 0)
     (Wrote : List ℕ → Type 0) : Type 0 where
   pub image_taken : ℕ
@@ -49,7 +48,7 @@ pub record Aborted (is_prompt' : Promptness) (o : Outcome) (message : Message) (
   pub secret : TookSecret secret_taken
   pub output : Wrote (take output_len o.output)
 
--- a run that was not: the stated message, output and bytes taken
+-- a run that was not aborted: the specified message, output and bytes consumed
 pub record Completed (o : Outcome) (message : Message) (TookImage TookSecret : ℕ → Type 0)
     (Wrote : List ℕ → Type 0) : Type 0 where
   pub as_stated : message ≡ o.message
@@ -63,8 +62,8 @@ RunMatches is_prompt o message TookImage TookSecret Wrote =
     MatchBool (breaks_off message) (Aborted is_prompt o message TookImage TookSecret Wrote)
     (Completed o message TookImage TookSecret Wrote)
 
--- a run whose payload's image is another than the header's: as one over the header, and as many bytes are taken of the
--- payload's image as is stated, or no more where it is broken off
+-- a run whose payload is in another image than the header: as one over the header, and as many bytes of the payload's
+-- image are consumed as specified, or no more if it is aborted
 pub record DetachedRunMatches (is_prompt' : ℕ → Promptness) (o : Outcome) (message : Message)
     (TookImage TookPayload TookSecret : ℕ → Type 0) (Wrote : List ℕ → Type 0) : Type 0 where
   pub payload_taken : ℕ
@@ -73,7 +72,7 @@ pub record DetachedRunMatches (is_prompt' : ℕ → Promptness) (o : Outcome) (m
   pub payload : TookPayload payload_taken
   pub run : RunMatches (is_prompt' payload_taken) o message TookImage TookSecret Wrote
 
--- of an input that a command does not have, nothing is taken
+-- nothing is consumed of an input that a command does not have
 abbrev pub TookNone : ℕ → Type 0
 TookNone count = count ≡ 0
 
@@ -82,12 +81,12 @@ abbrev pub result_message : {T : Type 0} → Result T Message → Message
 result_message (Ok _) = Done
 result_message (Err message) = message
 
--- a failed read is told
+-- a failed read is reported
 abbrev pub is_run_read_failure : Message → Bool
 is_run_read_failure ReadFailed = true
 is_run_read_failure _ = false
 
--- a failed write is told
+-- a failed write is reported
 abbrev pub is_run_write_failure : Message → Bool
 is_run_write_failure WriteFailed = true
 is_run_write_failure _ = false
@@ -100,7 +99,7 @@ HitsEofOnce before after = (found : Bool) × (after ≡ counted found before)
 abbrev pub HitsEofTwice : ℕ → ℕ → Type 0
 HitsEofTwice before after = (first : Bool) × (second : Bool) × (after ≡ counted second (counted first before))
 
--- how many reads of the image and of the secret and how many writes have failed
+-- how many reads of the image and of the second input and how many writes have failed
 pub record Failures : Type 0 where
   pub image : ℕ
   pub secret : ℕ
@@ -109,7 +108,7 @@ pub record Failures : Type 0 where
 abbrev pub failures_of : ℕ → ℕ → ℕ → Failures
 failures_of image secret written = record { image = image; secret = secret; written = written }
 
--- the counts after a run with this message: one of them rose by one where a read or a write failed, and else none did
+-- the counts after a run with this message: one of them rose by one if a read or a write failed, and otherwise none did
 abbrev pub Counts : Message → Failures → Failures → Type 0
 Counts ReadFailed before after =
     (after ≡ record before { image = saturating_inc before.image }) ⊎ (after

@@ -9,7 +9,7 @@ use Rattle.luks_report.specs.declared.message.Message.TheVariants.{Done, KeyFile
 abbrev pub longest_key_file : ℕ
 longest_key_file = 8388608
 
--- how reading a key file failed: of one that is too long one byte more is taken than the longest has
+-- how reading a key file failed: if it is too long, one byte more is consumed than the longest one has
 abbrev pub NoSecretRead : List ℕ → Option (List ℕ) → Message → Type 0
 NoSecretRead secret left KeyFileLength = (longest_key_file < length secret)
     × ConsumedExactly secret left (longest_key_file + 1)
@@ -17,8 +17,8 @@ NoSecretRead secret left OutOfMemory = ConsumedAtMost secret left (min (length s
 NoSecretRead secret left ReadFailed = ConsumedAtMost secret left (min (length secret) (longest_key_file + 1))
 NoSecretRead secret left _ = ⊥
 
--- how often reading a key file found its end: once where all of it was read, and not where it was too long or a read
--- failed; where memory was refused, the end may be that of the last piece
+-- how often reading a key file hit its end: once if all of it was read, and never if it was too long or a read failed;
+-- if memory ran out, the end may be that of the last piece
 abbrev pub FindsSecretEnd : Message → ℕ → ℕ → Type 0
 FindsSecretEnd Done before after = after ≡ saturating_inc before
 FindsSecretEnd OutOfMemory before after = HitsEofOnce before after

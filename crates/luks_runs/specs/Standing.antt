@@ -1,4 +1,4 @@
--- What is read where a header stands.
+-- How a header is read, by its location.
 use Rattle.luks_header.specs.Header.{header_of}
 use Rattle.luks_runs.specs.Reading.{Reading, detached_header_of}
 use Rattle.luks_runs.specs.declared.standing.Standing.{Standing}

@@ -1,4 +1,4 @@
--- What the commands on stripes come to.
+-- The outcomes of the commands on stripes.
 use Rattle.std.specs.Prelude.{ℕ, ◌+◌, ◌-◌, ◌*◌, ◌/◌, ◌&&◌, ◌++◌, List, length, take, min, nat_lt, nat_le, if◌then◌else◌}
 use Rattle.luks_kdf.specs.Bytes.{xor}
 use Rattle.luks_stripes.specs.Stripes.{chain_of, merged}
@@ -34,14 +34,14 @@ split_key_outcome hash count key random =
       payload_taken = 0;
     }
 
--- `afSplit`: the key is the whole image, and the random bytes are the secret
+-- `afSplit`: the key is the whole first input, and the random bytes are the second one
 unfoldable pub split_outcome : Hash → ℕ → List ℕ → List ℕ → Outcome
 split_outcome hash count key random =
     if nat_lt 0 (length key) && nat_le (length key) longest_key
     then split_key_outcome hash count key random
     else no_output KeyLength (min (length key) (longest_key + 1)) 0
 
--- `afMerge`: the stripes are the beginning of the image
+-- `afMerge`: the stripes are the first bytes of the image
 unfoldable pub merge_outcome : Hash → ℕ → ℕ → List ℕ → Outcome
 merge_outcome hash count key_bytes image =
     let needed = count * key_bytes in

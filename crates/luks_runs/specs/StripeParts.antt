@@ -7,7 +7,7 @@ use Rattle.luks_report.specs.declared.message.Message.TheVariants.{KeyLength, Fe
 use Rattle.luks_report.specs.declared.message.Message.TheVariants.{WriteFailed}
 use Rattle.luks_runs.specs.Stripe.{longest_key}
 
--- how reading a key failed: of one that is too long one byte more is taken than the longest has
+-- how reading a key failed: if it is too long, one byte more is consumed than the longest one has
 abbrev pub NoKeyRead : List ℕ → Option (List ℕ) → Message → Type 0
 NoKeyRead key left KeyLength =
     (min (length key) (longest_key + 1) ≡ 0 ⊎ longest_key < length key)
@@ -15,13 +15,13 @@ NoKeyRead key left KeyLength =
 NoKeyRead key left ReadFailed = ConsumedAtMost key left (min (length key) (longest_key + 1))
 NoKeyRead key left _ = ⊥
 
--- so many random bytes were taken, and so many of them written
+-- so many random bytes were consumed, and so many of them written
 pub record Passed (random : List ℕ) (left before after : Option (List ℕ)) (taken written : ℕ) : Type 0 where
   pub took : ConsumedExactly random left taken
   pub added : Appended before after (take written random)
 
--- passing on one random stripe of `len` bytes was broken off: by the end of the random bytes, or by a failed read,
--- before any byte was written, or by a failed write
+-- forwarding one random stripe of `len` bytes was aborted: by the end of the random bytes, or by a failed read, before
+-- any byte was written, or by a failed write
 abbrev pub StopsInStripe : ℕ → List ℕ → Option (List ℕ) → Option (List ℕ) → Option (List ℕ) → Message → Type 0
 StopsInStripe len random left before after FewRandomBytes =
     (length random < len) × Passed random left before after (length random) 0
@@ -31,8 +31,8 @@ StopsInStripe len random left before after WriteFailed =
     (written : ℕ) × (written < len) × Passed random left before after len written
 StopsInStripe len random left before after _ = ⊥
 
--- passing on `count` random stripes of `len` bytes was broken off at stripe i, from 0: at the end of the random bytes
--- or by a failed read after the whole stripes, and by a failed write within the stripe
+-- forwarding `count` random stripes of `len` bytes was aborted at stripe i, from 0: at the end of the random bytes or
+-- by a failed read after the whole stripes, and by a failed write within the stripe
 abbrev pub StopsAtStripe : ℕ → ℕ → List ℕ → Option (List ℕ) → Option (List ℕ) → Option (List ℕ) → Message → Type 0
 StopsAtStripe count len random left before after FewRandomBytes =
     (i : ℕ) × (i < count) × (i * len ≤ length random) × (length random < (i + 1) * len)
@@ -45,14 +45,14 @@ StopsAtStripe count len random left before after WriteFailed =
     × Passed random left before after ((i + 1) * len) written
 StopsAtStripe count len random left before after _ = ⊥
 
--- taking `count` stripes of `len` bytes was broken off: by the end of the bytes, or by a failed read
+-- reading `count` stripes of `len` bytes was aborted: by the end of the bytes, or by a failed read
 abbrev pub StopsTaking : ℕ → ℕ → List ℕ → Option (List ℕ) → Message → Type 0
 StopsTaking count len known left FewStripes = (length known < count * len) × ConsumedExactly known left (length known)
 StopsTaking count len known left ReadFailed = ConsumedAtMost known left (count * len)
 StopsTaking count len known left _ = ⊥
 
--- a split that is broken off: where a write fails, nothing past the stripe of the last byte written was taken; where a
--- read fails, the whole random stripes that were taken are written
+-- an aborted split: if a write fails, nothing past the stripe of the last byte written was consumed; if a read fails,
+-- the whole random stripes that were consumed are written
 abbrev pub split_promptly : ℕ → Message → ℕ → ℕ → ℕ → Type 0
 split_promptly len WriteFailed image secret output = secret ≤ (output / len + 1) * len
 split_promptly len ReadFailed image secret output = output ≡ secret / len * len

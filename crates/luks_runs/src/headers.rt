@@ -21,7 +21,7 @@ use luks_report::dump::{dump_page, uuid_page};
 use luks_report::message::Message;
 use std::alloc::{AllocError, Global};
 
-/// `isLuks`: nothing is written; what is no LUKS is told by the status alone.
+/// `isLuks`: nothing is written; only the status reports that there is no LUKS header.
 pub fn is_luks<S: Source>(alloc: Global, image: &mut S) -> Result<(), Message>
     ensures run { (written : Option (List ℕ)) → IfKnown (S.to_come image.old) (λ known.
         RunMatches at_any_pace (is_luks_outcome known) (result_message result)
@@ -38,7 +38,7 @@ pub fn is_luks<S: Source>(alloc: Global, image: &mut S) -> Result<(), Message>
     }
 }
 
-/// What `isLuks` tells of an image without a header that can be read.
+/// The message of `isLuks` for an image without a readable header.
 fn refusal_of(fault: HeaderFault) -> Message
     ensures { result ≡ answer_to_is_luks (Err fault) }
 {
@@ -55,11 +55,11 @@ pub enum Page {
     Uuid,
     /// `luksDump`: all of it.
     Dump,
-    /// `luksCheck`: what is amiss with it.
+    /// `luksCheck`: its findings.
     Check,
 }
 
-/// The text of a page, and what is told once it is printed.
+/// The text of a printout, and the message once it is printed.
 fn page_text(alloc: Global, page: Page, header: &Header) -> Result<(String, Message), AllocError>
     ensures text { IfOk result (λ printed. string_bytes printed.0 ≡ printout_text page header.now) }
     ensures told { IfOk result (λ printed. printed.1 ≡ printout_message page header.now) }
@@ -81,7 +81,7 @@ fn ended(message: Message) -> Result<(), Message>
     }
 }
 
-/// `luksUUID`, `luksDump` and `luksCheck`: the page stands whole before its first byte is written.
+/// `luksUUID`, `luksDump` and `luksCheck`: the text is complete before its first byte is written.
 pub fn print<S: Source, O: Sink>(
     alloc: Global,
     page: Page,
@@ -105,7 +105,7 @@ pub fn print<S: Source, O: Sink>(
     print_page(alloc, page, &header, out)
 }
 
-/// Prints the page of a header: it stands whole before its first byte is written.
+/// Prints a text of a header: it is complete before its first byte is written.
 fn print_page<O: Sink>(
     alloc: Global,
     page: Page,

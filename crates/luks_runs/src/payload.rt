@@ -16,8 +16,8 @@ use luks_payload::pump::Pump;
 use luks_payload::state::{State, Step};
 use luks_report::message::Message;
 
-/// A pump of the payload of an image whose first bytes are held: those of the payload among them
-/// are passed on first.
+/// A pump of the payload of an image whose first bytes are loaded: those of the payload among them
+/// are forwarded first.
 fn pump_behind<'a>(segment: Segment, cipher: SectorCipher, held: &'a [u8]) -> Pump<'a>
     ensures segment { result.segment ≡ segment }
     ensures cipher { result.cipher ≡ cipher }
@@ -37,8 +37,8 @@ fn pump_behind<'a>(segment: Segment, cipher: SectorCipher, held: &'a [u8]) -> Pu
     Pump::with_front(segment, cipher, &held[segment.offset as usize..])
 }
 
-/// How many bytes of an image, however long it is, are asked for at most to pass its payload on,
-/// where so many of its first ones are held: those behind them, up to the payload's end.
+/// How many bytes of an image, however long it is, are requested at most to forward its payload, if
+/// so many of its first ones are loaded: those behind them, up to the payload's end.
 fn bytes_needed(segment: &Segment, held: usize) -> u64
     ensures { result ≡ most_needed segment.now.size segment.now.offset held }
 {
@@ -49,7 +49,7 @@ fn bytes_needed(segment: &Segment, held: usize) -> u64
     end.saturating_sub(held as u64)
 }
 
-/// Writes the payload of an image, whose first bytes are held, as plain text: each sector as it
+/// Writes the plaintext of the payload of an image, whose first bytes are loaded: each sector as it
 /// comes.
 pub fn write_payload<I: Source, O: Sink>(
     segment: Segment,

@@ -16,8 +16,13 @@ const LONGEST: usize = 8_388_608;
 /// How many bytes are read at once.
 const PIECE: usize = 4096;
 
-/// Reads the key file, which is all that the source gives, a last newline too. Of one that is too
-/// long, one byte more is taken than the longest has.
+/// Reads the key file, which is all that the source gives, including a newline at its end. If it is
+/// too long, one byte more is consumed than the longest one has.
+///
+/// # Errors
+///
+/// `Message::KeyFileLength` for more than 8,388,608 bytes, `Message::OutOfMemory`,
+/// `Message::ReadFailed`.
 pub fn read_secret<S: Source>(alloc: Global, source: &mut S) -> Result<Vec<u8>, Message>
     ensures few { IfOk result (λ secret. vec_len secret ≤ longest_key_file) }
     ensures ok { IfOk result (λ secret. IfKnown (S.to_come source.old)

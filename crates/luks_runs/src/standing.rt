@@ -1,4 +1,4 @@
-//! Where a header stands, and reading it there.
+//! Where a header is, and reading it there.
 
 ghost use Rattle.std.specs.Prelude.{◌≡◌, Ok, IfOk, IfErr, length, take};
 ghost use Rattle.luks_io.specs.Bytes.{ConsumedExactly, IfKnown, counted};
@@ -13,7 +13,7 @@ use luks_header::header::{Header, read_header};
 use luks_io::source::Source;
 use std::alloc::Global;
 
-/// Where a header stands.
+/// Where a header is.
 #[derive(Clone, Copy)]
 pub enum Standing {
     /// At the front of the payload's image.

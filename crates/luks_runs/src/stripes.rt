@@ -22,8 +22,8 @@ use luks_stripes::AfSplitter;
 /// The length of the longest key.
 const LONGEST_KEY: usize = 512;
 
-/// Reads a key, which is all that the source gives, into the front of the buffer. Answers its
-/// length. The buffer has room for one byte more than the longest key.
+/// Reads a key, which is all that the source gives, into the start of the buffer. Answers its
+/// length. The buffer has one byte more than the longest key.
 fn read_key<S: Source>(source: &mut S, buf: &mut [u8]) -> Result<usize, Message>
     requires { length buf.old ≡ longest_key + 1 }
     ensures length { IfOk result (λ len. (1 ≤ len) × (len ≤ longest_key)) }
@@ -47,7 +47,7 @@ fn read_key<S: Source>(source: &mut S, buf: &mut [u8]) -> Result<usize, Message>
     Ok(len)
 }
 
-/// Writes so many random stripes, each as it is whole, and answers the splitter that has taken
+/// Writes so many random stripes, each once it is whole, and answers the splitter that has absorbed
 /// them.
 fn pass_stripes<R: Source, O: Sink>(
     hash: Hash,
@@ -182,7 +182,7 @@ fn split_key<R: Source, O: Sink>(
     Ok(())
 }
 
-/// Takes so many stripes, one at a time, and answers the splitter that has taken them.
+/// Reads so many stripes, one at a time, and answers the splitter that has absorbed them.
 fn take_stripes<S: Source>(
     hash: Hash,
     count: usize,

@@ -11,8 +11,8 @@ use Rattle.luks_kdf.specs.declared.hash.Hash.{Hash}
 unfoldable pub padded : ℕ → List ℕ → List ℕ
 padded room bytes = bytes ++ replicate (room - length bytes) 0
 
--- the unit number of sector i, where the first sector has the number `first` and each has `step` more than the one
--- before. The numbers wrap at 2^64
+-- the unit number of sector i: `first` for the first sector, and `step` more for each further one. The numbers wrap at
+-- 2^64
 abbrev pub wrapping_number : ℕ → ℕ → ℕ → ℕ
 wrapping_number first step i = (first + i * step) % 2 ^ 64
 

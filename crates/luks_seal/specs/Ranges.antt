@@ -17,13 +17,13 @@ FitsText most text = (length text ≤ most) × ((i : ℕ) → i < length text �
 abbrev pub longest_plain : ℕ
 longest_plain = 8388608
 
--- a volume, or why there is none: wrong parameters exactly where they are wrong, and else nothing but refused memory
+-- a volume, or why there is none: wrong parameters exactly if they are wrong, and otherwise only running out of memory
 abbrev pub SealAnswer : {T : Type 0} → Type 0 → Result T SealFault → Type 0
 SealAnswer fits (Ok _) = fits
 SealAnswer fits (Err Parameters) = ¬ fits
 SealAnswer fits (Err Memory) = fits
 
--- the same where one of the ranges is known late: memory can run out before it is
+-- the same if one of the ranges is known late: memory can run out before it is
 abbrev pub SealsOrSaysLate : {T : Type 0} → Type 0 → Type 0 → Result T SealFault → Type 0
 SealsOrSaysLate fits late (Ok _) = fits × late
 SealsOrSaysLate fits late (Err Parameters) = ¬ (fits × late)

@@ -23,8 +23,8 @@ use Rattle.luks_header.specs.Segment.{segment_of}
 use Rattle.luks_header.specs.Slot.{verdict_at}
 use Rattle.luks_header.specs.declared.header.Header.{Header}
 
--- these plain bytes, whole units of `size` bytes, stand in the image from `place` on: unit i as its encryption under
--- the number `number i`
+-- these bytes of plaintext, whole units of `size` bytes, are stored in the image from `place` on: unit i as its
+-- encryption under the number `number i`
 pub record IsStoredEncrypted (cipher : Cipher) (number : ℕ → ℕ) (size place : ℕ) (plain image : List ℕ) : Type 0 where
   pub bytes : IsBytes plain
   pub whole : length plain % size ≡ 0
@@ -40,8 +40,8 @@ pub record IsMaterial (af : Hash) (parts : SlotParts) (key material : List ℕ) 
   pub split : IsSplit af random key (take (length key * parts.stripes) material)
   pub len : length material ≡ need_of (length key) parts.stripes
 
--- the key slot with these parts gives the key under this passphrase: in its area stands key material of the key, which
--- is encrypted under what PBKDF2 makes of the passphrase, its sectors numbered from 0
+-- the key slot with these parts gives the key under this passphrase: its area has key material of the key, which is
+-- encrypted under what PBKDF2 derives from the passphrase, its sectors numbered from 0
 pub record GivesKey (parts : SlotParts) (passphrase key image : List ℕ) : Type 0 where
   pub kdf : Hash
   pub af : Hash
@@ -76,13 +76,13 @@ pub record SealsKey (header : Header) (image key : List ℕ) (number : ℕ) (pas
 abbrev pub unit_number : Segment → ℕ → ℕ
 unit_number segment i = (segment.iv_tweak + i * (bytes_of segment.sector_size / 512)) % 2 ^ 64
 
--- the payload ends with the plain bytes, `end` bytes behind the image's start: where its size is not fixed, the image
--- ends there
+-- the payload ends with the plaintext, `end` bytes behind the image's start: if its size is not fixed, the image ends
+-- there
 abbrev pub EndsWith : Option ℕ → List ℕ → ℕ → List ℕ → Type 0
 EndsWith None plain end image = length image ≡ end
 EndsWith (Some size) plain end image = size ≡ length plain
 
--- in the payload stands the plain text, encrypted under the key
+-- the payload is the plaintext, encrypted under the key
 pub record SealsPlain (segment : Segment) (image key plain : List ℕ) : Type 0 where
   pub stands : IsStoredEncrypted (segment.mode, key) (unit_number segment) (bytes_of segment.sector_size) segment.offset
       plain image

@@ -16,8 +16,8 @@ pub struct Seal1<'a> {
     pub key: &'a [u8],
     /// How many stripes hold the key, from 1 to 4000.
     pub stripes: u32,
-    /// Where the payload begins, in sectors of 512 bytes: behind the areas of eight slots, and
-    /// 65,536 at most.
+    /// Where the payload starts, in sectors of 512 bytes: behind the areas of eight slots, and at
+    /// most 65,536.
     pub payload_sectors: u32,
     /// The UUID, of at most 40 bytes, none of them zero.
     pub uuid: &'a [u8],
@@ -71,8 +71,8 @@ pub struct Seal2<'a> {
     pub sector_size: SectorSize,
     /// The unit number of the payload's first sector.
     pub iv_tweak: u64,
-    /// Where the payload begins, in bytes: a multiple of 4096 behind all areas, and 33,554,432 at
-    /// most.
+    /// Where the payload starts, in bytes: a multiple of 4096 behind all areas, and at most
+    /// 33,554,432.
     pub offset: u64,
     /// Whether the header has the payload's length. Else the payload ends with the image.
     pub fixed: bool,
@@ -118,10 +118,10 @@ pub struct Slot2<'a> {
 /// Why there is no volume.
 #[derive(Clone, Copy, PartialEq, Eq, Debug)]
 pub enum SealFault {
-    /// A value is outside its range. No memory was taken, unless only the JSON text of LUKS2 does
+    /// A value is out of range. No memory was allocated, unless only the JSON text of LUKS2 does
     /// not fit.
     Parameters,
-    /// Memory was refused.
+    /// Memory ran out.
     Memory,
 }
 

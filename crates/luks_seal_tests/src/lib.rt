@@ -1,7 +1,7 @@
-//! Tests of `luks1_seal` and `luks2_seal`, and so of `luks_seal` beneath both: sealed volumes,
+//! Tests of `luks1_seal` and `luks2_seal`, and so of `luks_seal` below both: sealed volumes,
 //! through their public calls.
 //!
-//! A crate of their own: what they stand on is not proved once more with them.
+//! They are a crate of their own, so that the crates below are not proved once more with them.
 #![tactic(auto)]
 
 #[cfg(test)]

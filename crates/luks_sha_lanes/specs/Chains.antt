@@ -1,4 +1,4 @@
--- Chains of digests, each the HMAC of the one before it (RFC 2104, section 2), where the key's two blocks are given.
+-- Chains of digests, each the HMAC of the one before it (RFC 2104, section 2), by the key's two blocks.
 use Rattle.std.specs.Prelude.{ℕ, zero, suc, ◌*◌, List, [], ◌∷◌, ◌++◌, bit_xor, drop, slice_index, take}
 use Rattle.std.specs.Simd.Lanes.{zip2}
 
@@ -6,7 +6,7 @@ use Rattle.std.specs.Simd.Lanes.{zip2}
 unfoldable pub hmac_by : (List ℕ → List ℕ) → List ℕ → List ℕ → List ℕ → List ℕ
 hmac_by hash inner outer text = hash (outer ++ hash (inner ++ text))
 
--- the digest n turns after the digest u
+-- the digest n steps of the chain after the digest u
 unfoldable pub chain : (List ℕ → List ℕ) → List ℕ → List ℕ → List ℕ → ℕ → List ℕ
 chain hash inner outer u zero = u
 chain hash inner outer u (suc n) = hmac_by hash inner outer (chain hash inner outer u n)
@@ -17,18 +17,18 @@ chain_sum hash inner outer u t zero = t
 chain_sum hash inner outer u t (suc n) =
     zip2 bit_xor (chain_sum hash inner outer u t n) (chain hash inner outer u (suc n))
 
--- digest j of some digests of `size` bytes, which stand one after the other
+-- digest j of some digests of `size` bytes, which follow one another
 abbrev pub digest_at : ℕ → ℕ → List ℕ → List ℕ
 digest_at size j bytes = take size (drop (size * j) bytes)
 
 -- ---- the same on the words of digests: `behind h d` is the hash value of a digest, whose words are d, behind one
 -- ---- block, after which it was h
 
--- the words of HMAC of the digest whose words are d, where the key's two blocks come to the hash values inner and outer
+-- the words of HMAC of the digest whose words are d, by the hash values inner and outer of the key's two blocks
 unfoldable pub turn : (List ℕ → List ℕ → List ℕ) → List ℕ → List ℕ → List ℕ → List ℕ
 turn behind inner outer d = behind outer (behind inner d)
 
--- the words of the digest n turns on
+-- the words of the digest n steps further
 unfoldable pub turns : (List ℕ → List ℕ → List ℕ) → List ℕ → List ℕ → List ℕ → ℕ → List ℕ
 turns behind inner outer d zero = d
 turns behind inner outer d (suc n) = turn behind inner outer (turns behind inner outer d n)
@@ -38,7 +38,7 @@ unfoldable pub xor_words : ℕ → List ℕ → List ℕ → List ℕ
 xor_words zero x y = []
 xor_words (suc n) x y = xor_words n x y ++ bit_xor (slice_index x n) (slice_index y n) ∷ []
 
--- the sum t, of m words, with the words of the next n turns xored into it
+-- the sum t, of m words, with the words of the next n digests XORed into it
 unfoldable pub sums : ℕ → (List ℕ → List ℕ → List ℕ) → List ℕ → List ℕ → List ℕ → List ℕ → ℕ → List ℕ
 sums m behind inner outer d t zero = t
 sums m behind inner outer d t (suc n) =

@@ -1,4 +1,4 @@
--- Blocks side by side (FIPS 180-4): the words of each block stand in a lane of their own, in the low 32 bits of it.
+-- Blocks side by side (FIPS 180-4): the words of each block are in a lane of their own, in its low 32 bits.
 use Rattle.std.specs.Prelude.{◌≡◌, ℕ, ◌+◌, ◌*◌, ◌%◌, ◌^◌, ◌<◌, List, ◌++◌, length, map, slice_index}
 use Rattle.sha2.specs.Sha256.{digest_bytes, padding, word_at}
 

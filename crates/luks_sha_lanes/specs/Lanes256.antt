@@ -1,5 +1,5 @@
 -- SHA-256 (FIPS 180-4, section 6.2) of two blocks side by side, each in a lane of 64 bits. A word that is to be rotated
--- stands twice in its lane.
+-- is stored twice in its lane.
 use Rattle.std.specs.Prelude.{◌≡◌, ℕ, ◌+◌, ◌*◌, ◌^◌, List, [], slice_index, slice_index_or}
 use Rattle.sha2.specs.Sha256.{IsRoundsAt, rounds, schedule}
 use Rattle.luks_sha_lanes.specs.Lanes.{lane, word}

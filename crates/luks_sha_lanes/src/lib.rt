@@ -1,8 +1,8 @@
 //! SHA-256 and SHA-1 (FIPS 180-4) of one padded block from a chaining value, of several blocks side
-//! by side in the lanes of a vector, and chains of digests made by it: the turns of PBKDF2.
+//! by side in the lanes of a vector, and chains of digests made by it: the iterations of PBKDF2.
 //!
-//! Two blocks go side by side by SHA-256. By SHA-1 as many do as there are lanes: four, or one
-//! alone by the same code. Nothing here takes memory.
+//! SHA-256 processes two blocks side by side. SHA-1 processes as many as there are lanes: four, or
+//! one alone by the same code. Nothing here allocates memory.
 #![tactic(auto)]
 
 mod block1;

@@ -1,4 +1,4 @@
-//! The turns of chains of SHA-1 digests, on their words, a chain in each of `N` lanes.
+//! The steps of chains of SHA-1 digests, on their words, a chain in each of `N` lanes.
 
 ghost use Rattle.std.specs.Prelude.{◌≡◌, ℕ, ◌<◌, ◌≤◌, ◌++◌};
 ghost use Rattle.sha1.specs.Sha1.{compress};
@@ -59,7 +59,7 @@ fn xor_words<const N: usize>(x: &[Simd<u32, N>; 5], y: &[Simd<u32, N>; 5]) -> [S
     )
 }
 
-/// The sums with the words of the next `count` turns xored into them, where `last` is the digest
+/// The sums with the words of the next `count` digests XORed into them, where `last` is the digest
 /// before those.
 pub(crate) fn add_turns<const N: usize>(
     inner: &[Simd<u32, N>; 5],

@@ -1,4 +1,4 @@
-//! The turns of two chains of SHA-256 digests, on their words.
+//! The steps of two chains of SHA-256 digests, on their words.
 
 ghost use Rattle.std.specs.Prelude.{◌≡◌, ℕ, ◌<◌, ◌++◌, List, bit_xor};
 ghost use Rattle.sha2.specs.Sha256.{compress, digest_bytes, padding};
@@ -70,7 +70,7 @@ fn xor(a: u64x2, b: u64x2) -> u64x2
     a ^ b
 }
 
-/// The sums with the words of the next `count` turns xored into them, where `last` is the digest
+/// The sums with the words of the next `count` digests XORed into them, where `last` is the digest
 /// before those.
 pub(crate) fn add_turns(
     inner: &[u64x2; 8],

@@ -12,7 +12,7 @@ pub(crate) fn load_be(bytes: &[u8], i: usize) -> u32
 }
 
 /// The array of these. An array of vectors of `N` lanes is made here, at any type: the prover does
-/// not cover one that is written out where the lanes are not yet counted.
+/// not cover one that is written out while the number of lanes is generic.
 #[inline(always)]
 pub(crate) fn five<T: Copy>(a: T, b: T, c: T, d: T, e: T) -> [T; 5]
     ensures { result ≡ a ∷ b ∷ c ∷ d ∷ e ∷ [] }

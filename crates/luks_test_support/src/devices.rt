@@ -9,7 +9,7 @@ use luks_io::sink::Sink;
 use luks_io::source::{Source, count_end};
 use std::alloc::{AllocError, Global};
 
-// Counts a call that moves no byte, since it has none or no room for one.
+// Counts a call that moves no byte, since it has none or no capacity for one.
 fn count_empty(empty_calls: &mut u64, len: usize)
     ensures { empty_calls.new ≡ counted (len == 0) empty_calls.old }
 {
@@ -18,8 +18,8 @@ fn count_empty(empty_calls: &mut u64, len: usize)
     }
 }
 
-/// A source that gives at most `piece` bytes a call, or all that are asked for where `piece` is 0.
-/// Call number `failing`, from 0, fails, and later ones go on.
+/// A source that gives at most `piece` bytes a call, or all that are requested if `piece` is 0.
+/// Call number `failing`, from 0, fails, and later ones succeed.
 #[derive(Drop)]
 pub struct Flaky<'a> {
     left: &'a [u8],
@@ -30,7 +30,7 @@ pub struct Flaky<'a> {
     pub failures: u64,
     /// How many calls found the end.
     pub ends: u64,
-    /// How many calls had no room for a byte.
+    /// How many calls had no capacity for a byte.
     pub empty_calls: u64,
 }
 
@@ -94,8 +94,8 @@ impl<'a> Source for Flaky<'a> {
     }
 }
 
-/// A sink that takes at most `piece` bytes a call, and at least one. Call number `failing`, from 0,
-/// fails, and later ones go on.
+/// A sink that accepts at most `piece` bytes a call, and at least one. Call number `failing`, from
+/// 0, fails, and later ones succeed.
 #[derive(Drop)]
 pub struct Leaky {
     sink: MemSink,
@@ -109,7 +109,7 @@ pub struct Leaky {
 }
 
 impl Leaky {
-    /// A sink with room for so many bytes.
+    /// A sink with capacity for so many bytes.
     pub fn new(alloc: Global, room: usize, piece: usize, failing: u64) -> Result<Leaky, AllocError>
         ensures bytes { IfOk result (λ sink. ⟦<Leaky as Sink>⟧.written sink ≡ Some []) }
         ensures failures { IfOk result (λ sink. ⟦<Leaky as Sink>⟧.failures sink ≡ 0) }

@@ -3,7 +3,7 @@
 use luks_kdf::{Hash, digest};
 use std::alloc::{AllocError, Global};
 
-/// The length of each header with its JSON area, in bytes. The secondary header stands behind the
+/// The length of each header with its JSON area, in bytes. The secondary header is right behind the
 /// primary one.
 pub const SIZE: usize = 16_384;
 
@@ -44,7 +44,7 @@ pub fn write_header(image: &mut [u8], place: usize, sequence: u64, json: &str) {
     put(header, 448, &sum);
 }
 
-/// An image with room for both headers, and nothing in it.
+/// An image with space for both headers, and nothing in it.
 pub fn empty_image(alloc: Global) -> Result<Vec<u8>, AllocError> {
     vec![in alloc; 0; 2 * SIZE]
 }

@@ -1,7 +1,7 @@
 //! What the tests of several crates share: comparisons, devices of which one call fails, memory
-//! that is taken away, and headers of LUKS2.
+//! that is used up, and headers of LUKS2.
 //!
-//! Nothing but tests uses it.
+//! Only tests use it.
 #![tactic(auto)]
 
 pub mod devices;

@@ -1,4 +1,4 @@
-//! Comparisons of tests. What differs is told with both values, and with the case where a table
+//! Comparisons of tests. A difference is reported with both values, and with the case if a table
 //! has several; a test ends there by `expect`.
 
 use std::fmt::Debug;

@@ -1,9 +1,10 @@
-//! Scarce memory, for tests of what is answered where memory is refused.
+//! Scarce memory, for tests of the answers if memory runs out.
 //!
-//! The allocator is the system's and cannot be told to fail. So a test takes the whole address
-//! space away and gives it back in small pieces: with each piece a run gets a little further, until
-//! one meets no refusal. Nothing else can be allocated meanwhile: make what a test needs before,
-//! and assert after. Under `rt try`, whose allocator is another, nothing is refused.
+//! The allocator is the system's and cannot be made to fail. A test therefore takes the whole
+//! address space away and gives it back in small pieces: with each piece a run gets a little
+//! further, until one does not run out of memory. Nothing else can be allocated meanwhile: make
+//! what a test needs before, and assert after. Under `rt try`, whose allocator is another, memory
+//! does not run out.
 
 use std::alloc::{AllocError, Global};
 
@@ -15,7 +16,7 @@ const HALVINGS: u32 = 44;
 // Enough places for the blocks that fill the address space.
 const BLOCKS: usize = 1 << 18;
 
-/// Memory that is taken, so that there is none for others.
+/// Memory that is used up, so that there is none for others.
 #[derive(Drop)]
 pub struct Scarcity {
     pieces: Vec<Vec<u8>>,

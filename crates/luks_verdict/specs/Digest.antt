@@ -19,7 +19,7 @@ digest_of parts is = record {
   usable = usable_digest parts.iterations (length parts.value) is;
 }
 
--- the digest of which this was read, where its numbers are in range
+-- the digest of which this was read, if its numbers are in range
 unfoldable pub digest_from : DigestParts → Option KeyDigest
 digest_from parts = option_map (digest_of parts) (evidence_if (is_usable parts))
 

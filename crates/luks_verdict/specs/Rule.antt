@@ -29,12 +29,12 @@ min_digest_len = 20
 abbrev pub most_digest : ℕ
 most_digest = 64
 
--- the number is above the limit, where there is one
+-- the number is above the limit, if there is one
 abbrev pub exceeds : Option ℕ → ℕ → Bool
 exceeds None n = false
 exceeds (Some limit) n = nat_lt limit n
 
--- so many iterations are not made: none, more than four bytes can say, or more than the limit
+-- so many iterations are refused: none, more than four bytes can say, or more than the limit
 unfoldable pub is_beyond : Option ℕ → ℕ → Bool
 is_beyond limit iterations = iterations == 0 || nat_lt most_iterations iterations || exceeds limit iterations
 
@@ -47,7 +47,7 @@ unfoldable pub need_of : ℕ → ℕ → ℕ
 need_of key_bytes stripes = (key_bytes * stripes + 511) / 512 * 512
 
 -- key material from `offset` on does not fit: it starts below `start`, its area has fewer bytes than it needs, or it
--- ends past the payload's start, where that is known, or past what is held of an image
+-- ends past the payload's start, if that is known, or past the most bytes of an image that are loaded
 unfoldable pub is_misplaced : ℕ → Option ℕ → ℕ → ℕ → ℕ → Bool
 is_misplaced start payload offset size need =
     nat_lt offset start || nat_lt size need || exceeds payload (offset + need) || nat_lt max_area_len (offset + need)

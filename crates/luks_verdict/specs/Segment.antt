@@ -20,19 +20,19 @@ segment_with offset size iv_tweak sector_size mode whole = record {
   whole_sectors = whole;
 }
 
--- the same, where a test found that the length is one of whole sectors
+-- the same, if a test found that the length is one of whole sectors
 unfoldable pub segment_by : (offset : ℕ) (size : Option ℕ) (iv_tweak : ℕ) (sector_size : SectorSize) (mode : Mode)
     → are_sectors size sector_size ≡ true → Segment
 segment_by offset size iv_tweak sector_size mode is =
     segment_with offset size iv_tweak sector_size mode (are_whole size sector_size is)
 
--- the segment of these parts, where each is there and in range
+-- the segment of these parts, if each is there and in range
 abbrev pub segment_of_all : Option ℕ → Option (Option ℕ) → Option ℕ → Option SectorSize → Option Mode → Option Segment
 segment_of_all (Some offset) (Some size) (Some iv_tweak) (Some sector_size) (Some mode) =
     option_map (segment_by offset size iv_tweak sector_size mode) (evidence_if (are_sectors size sector_size))
 segment_of_all _ _ _ _ _ = None
 
--- the segment of which this was read, where each part is there and in range
+-- the segment of which this was read, if each part is there and in range
 unfoldable pub segment_from : SegmentParts → Option Segment
 segment_from parts = segment_of_all parts.offset parts.size parts.iv_tweak parts.sector_size parts.mode
 

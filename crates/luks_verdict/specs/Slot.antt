@@ -1,4 +1,4 @@
--- Key slots, made of what was read of them, and what becomes of them.
+-- Key slots, made of what was read of them, and the verdicts on them.
 use Rattle.std.specs.Prelude.{◌≡◌, ℕ, ◌+◌, Bool, true, Option, Some, None, option_map}
 use Rattle.luks_verdict.specs.Evidence.{evidence_if}
 use Rattle.luks_verdict.specs.Rule.{InRange, in_range, is_in_range, need_of}
@@ -27,21 +27,21 @@ are_in_range parts = is_in_range parts.iterations parts.stripes (parts_end parts
 abbrev pub slot_with : (parts : SlotParts) → InRange parts.iterations parts.stripes (parts_end parts) → Slot
 slot_with parts range = record { parts = parts; in_range = range }
 
--- the key slot of which this was read, where a test found its numbers in range
+-- the key slot of which this was read, if a test found its numbers in range
 unfoldable pub slot_of : (parts : SlotParts) → are_in_range parts ≡ true → Slot
 slot_of parts is = slot_with parts (in_range parts.iterations parts.stripes (parts_end parts) is)
 
--- the key slot of which this was read, where its numbers are in range
+-- the key slot of which this was read, if its numbers are in range
 unfoldable pub slot_from : SlotParts → Option Slot
 slot_from parts = option_map (slot_of parts) (evidence_if (are_in_range parts))
 
--- a key slot that there is no reason to skip can be tried. (Where there is none, the parts are there and in range.)
+-- a key slot that there is no reason to skip can be tried. (If there is no reason, the parts are there and in range.)
 abbrev pub judged : Option SkipReason → Option Slot → Verdict
 judged (Some reason) slot = Skipped reason
 judged None (Some slot) = Usable slot
 judged None None = Skipped Member
 
--- what becomes of a key slot, without what it takes to open it
+-- the verdict on a key slot, without what is needed to open it
 abbrev pub judgement_of : Verdict → Judgement
 judgement_of (Usable slot) = Open slot.parts.priority
 judgement_of Disabled = Unused

@@ -2,7 +2,7 @@
 use Rattle.std.specs.Prelude.{ℕ, zero, suc, Bool, List, [], ◌∷◌, ◌++◌, Option, Some, None, if◌then◌else◌}
 use Rattle.std.specs.List.{cons_option}
 
--- what the first line that holds names, where one does
+-- what the first line that holds names, if one does
 abbrev pub first_match : {T : Type 0} → List (Bool × T) → Option T
 first_match [] = None
 first_match ((holds, name) ∷ lines) = if holds then Some name else first_match lines

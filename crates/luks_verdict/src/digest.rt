@@ -10,8 +10,8 @@ use luks_kdf::Hash;
 /// What is read of a digest, before it is judged.
 #[derive(Drop, Debug)]
 pub struct DigestParts {
-    /// The hash function of PBKDF2. `None` is for LUKS1 alone, where the hash function's name is
-    /// not known.
+    /// The hash function of PBKDF2. `None` comes for LUKS1 alone, if the name of the hash function
+    /// is not known.
     pub hash: Option<Hash>,
     /// The iterations of PBKDF2.
     pub iterations: u32,
@@ -25,8 +25,8 @@ pub struct DigestParts {
 /// a value of 20 to 64 bytes.
 #[derive(Drop, Debug)]
 pub struct KeyDigest {
-    /// The hash function of PBKDF2. `None` is for LUKS1 alone, where the hash function's name is
-    /// not known.
+    /// The hash function of PBKDF2. `None` comes for LUKS1 alone, if the name of the hash function
+    /// is not known.
     pub hash: Option<Hash>,
     /// The iterations of PBKDF2.
     pub iterations: u32,
@@ -43,7 +43,7 @@ impl DigestParts {
     ghost use Rattle.luks_verdict.specs.declared.digest.DigestParts.{DigestParts};
 
     /// Whether a key slot is not tried against a digest of so many iterations and bytes: its
-    /// numbers are not in range, or more iterations than the limit would be made.
+    /// numbers are out of range, or it has more iterations than the limit.
     pub fn undigested(limit: Option<u32>, iterations: u32, len: usize) -> bool
         ensures { (parts : DigestParts) → parts.iterations ≡ iterations → length parts.value ≡ len
             → result ≡ is_undigested limit (digest_from parts) }
@@ -56,7 +56,7 @@ impl KeyDigest {
     ghost use Rattle.std.specs.Prelude.{◌≡◌};
     ghost use Rattle.luks_verdict.specs.Digest.{digest_from};
 
-    /// The digest of which this was read, where its numbers are in range.
+    /// The digest of which this was read, if its numbers are in range.
     #[tactic(auto, unfolding(crate::specs::Digest::digest_from))]
     pub fn from_parts(parts: DigestParts) -> Option<KeyDigest>
         ensures { result ≡ digest_from parts }

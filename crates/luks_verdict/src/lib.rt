@@ -1,5 +1,5 @@
-//! What becomes of key slots, digests and segments, whatever the format of their header: the rules
-//! over numbers, what is known of those that can be used, and why others cannot.
+//! Verdicts on key slots, digests and segments, whatever the format of their header: the rules over
+//! numbers, what is known of those that can be used, and why others cannot.
 #![tactic(auto)]
 
 pub mod bytes;

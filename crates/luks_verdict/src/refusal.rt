@@ -4,7 +4,7 @@ ghost use Rattle.std.specs.Prelude.{◌≡◌};
 ghost use Rattle.luks_verdict.specs.SegmentFault.{fault_text};
 ghost use Rattle.luks_verdict.specs.SkipReason.{reason_text};
 
-/// Why a key slot cannot be tried. Where there are several reasons, it is the first in this order.
+/// Why a key slot cannot be tried. If there are several reasons, it is the first in this order.
 #[derive(Clone, Copy, PartialEq, Eq, Debug)]
 pub enum SkipReason {
     /// LUKS1: the state is neither that of a slot in use nor that of one that is not.
@@ -62,7 +62,7 @@ impl SkipReason {
     }
 }
 
-/// Why a payload cannot be read. Where there are several faults, it is the first in this order.
+/// Why a payload cannot be read. If there are several faults, it is the first in this order.
 #[derive(Clone, Copy, PartialEq, Eq, Debug)]
 pub enum SegmentFault {
     /// LUKS2: the configuration has requirements.

@@ -18,7 +18,7 @@ pub const MOST_ITERATIONS: u64 = 4_294_967_295;
 /// The first byte behind the longest area.
 const LONGEST_AREA: u64 = HeaderArea::LONGEST as u64;
 
-/// Whether so many iterations are not made: none, more than four bytes can say, or more than the
+/// Whether so many iterations are refused: none, more than four bytes can say, or more than the
 /// limit.
 #[tactic(auto, unfolding(crate::specs::Rule::is_beyond))]
 pub fn beyond(limit: Option<u32>, iterations: u64) -> bool
@@ -47,8 +47,8 @@ pub fn need(key_bytes: u32, stripes: u32) -> u64
 }
 
 /// Whether key material from `offset` on does not fit: it starts below `start`, its area of `size`
-/// bytes is too small for the `need`, or it ends past the payload's start, where that is known, or
-/// past what an area of an image holds.
+/// bytes is too small for the `need`, or it ends past the payload's start, if that is known, or
+/// past byte 33,554,432.
 #[tactic(auto, unfolding(crate::specs::Rule::is_misplaced))]
 pub fn misplaced(start: u64, payload: Option<u64>, offset: u64, size: u64, need: u64) -> bool
     ensures { result ≡ is_misplaced start payload offset size need }

@@ -12,7 +12,7 @@ use luks_cipher::Mode;
 pub struct Segment {
     /// The first byte of the payload.
     pub offset: u64,
-    /// The length of the payload in bytes, or `None` where it goes to the image's end.
+    /// The length of the payload in bytes, or `None` if it goes to the image's end.
     pub size: Option<u64>,
     /// The unit number of the first sector.
     pub iv_tweak: u64,
@@ -23,12 +23,12 @@ pub struct Segment {
     ghost whole_sectors: { ForSome size (λ bytes. bytes % bytes_of sector_size ≡ 0) },
 }
 
-/// What is read of a segment, before it is judged: each part where it could be read.
+/// What is read of a segment, before it is checked: each part if it could be read.
 #[derive(Clone, Copy, Debug)]
 pub struct SegmentParts {
     /// The first byte of the payload.
     pub offset: Option<u64>,
-    /// The length of the payload in bytes, or `Some(None)` where it goes to the image's end.
+    /// The length of the payload in bytes, or `Some(None)` if it goes to the image's end.
     pub size: Option<Option<u64>>,
     /// The unit number of the first sector.
     pub iv_tweak: Option<u64>,
@@ -38,7 +38,7 @@ pub struct SegmentParts {
     pub mode: Option<Mode>,
 }
 
-// The length is a multiple of the sectors' length, where it is fixed.
+// The length is a multiple of the sectors' length, if it is fixed.
 fn in_sectors(size: Option<u64>, sector_size: SectorSize) -> bool
     ensures { result ≡ are_sectors size sector_size }
 {
@@ -52,7 +52,7 @@ impl Segment {
     ghost use Rattle.std.specs.Prelude.{◌≡◌};
     ghost use Rattle.luks_verdict.specs.Segment.{segment_from};
 
-    /// The segment of which this was read, where each part is there and in range.
+    /// The segment of which this was read, if each part is there and in range.
     #[tactic(auto, unfolding(crate::specs::Segment::segment_from))]
     pub fn from_parts(parts: SegmentParts) -> Option<Segment>
         ensures { result ≡ segment_from parts }

@@ -1,4 +1,4 @@
-//! Key slots and what becomes of them.
+//! Key slots and the verdicts on them.
 
 ghost use Rattle.std.specs.Prelude.{◌≡◌, ◌+◌};
 ghost use Rattle.luks_verdict.specs.Rule.{InRange, need_of};
@@ -12,17 +12,16 @@ use luks_kdf::Hash;
 /// What is read of a key slot, before it is judged.
 #[derive(Drop, Debug)]
 pub struct SlotParts {
-    /// How soon it is tried: 2 before 1, and 0 only where it is named.
+    /// Its priority: 2 is tried before 1, and 0 only if it is named.
     pub priority: u8,
-    /// The hash function by which the key material's key comes of a passphrase. `None` is for LUKS1
-    /// alone, where the hash function's name is not known.
+    /// The hash function by which PBKDF2 derives the key material's key. `None` comes for LUKS1
+    /// alone, if its name is not known.
     pub kdf_hash: Option<Hash>,
     /// The iterations by which it does.
     pub iterations: u32,
     /// The salt by which it does.
     pub salt: HeaderBytes,
-    /// The hash function of the stripes. `None` is for LUKS1 alone, where the hash function's name
-    /// is not known.
+    /// The hash function of the stripes. `None` comes for LUKS1 alone, if its name is not known.
     pub af_hash: Option<Hash>,
     /// How many stripes the key material has.
     pub stripes: u32,
@@ -34,13 +33,13 @@ pub struct SlotParts {
     pub area_offset: u64,
     /// How many bytes are set aside for the key material.
     pub area_size: u64,
-    /// The mode in which the key material is encrypted. `None` is for LUKS1 alone, where its name
+    /// The mode in which the key material is encrypted. `None` comes for LUKS1 alone, if its name
     /// is not known.
     pub area_mode: Option<Mode>,
 }
 
-/// What it takes to open a key slot. Its numbers are in range: 1 to 4000 stripes, at least one
-/// iteration, and key material that ends within what an area of an image can hold.
+/// What is needed to open a key slot. Its numbers are in range: 1 to 4000 stripes, at least one
+/// iteration, and key material that ends within 33,554,432 bytes.
 #[derive(Drop, Debug)]
 pub struct Slot {
     /// What was read of it.
@@ -54,7 +53,7 @@ impl Slot {
     ghost use Rattle.luks_verdict.specs.Rule.{need_of};
     ghost use Rattle.luks_verdict.specs.Slot.{slot_from};
 
-    /// The key slot of which this was read, where its numbers are in range.
+    /// The key slot of which this was read, if its numbers are in range.
     #[tactic(auto, unfolding(crate::specs::Slot::slot_from))]
     pub fn from_parts(parts: SlotParts) -> Option<Slot>
         ensures { result ≡ slot_from parts }
@@ -80,7 +79,7 @@ impl Slot {
     }
 }
 
-/// What becomes of a key slot.
+/// The verdict on a key slot.
 #[derive(Drop, Debug)]
 pub enum Verdict {
     /// It can be tried.
@@ -91,7 +90,7 @@ pub enum Verdict {
     Skipped(SkipReason),
 }
 
-/// What becomes of a key slot, without what it takes to open it.
+/// The verdict on a key slot, without what is needed to open it.
 #[derive(Clone, Copy, PartialEq, Eq, Debug)]
 pub enum Judgement {
     /// It can be tried, and has this priority.

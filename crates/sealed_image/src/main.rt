@@ -17,7 +17,7 @@ use std::{env, io};
 
 const UUID: &[u8] = b"0a1b2c3d-4e5f-4a6b-8c7d-9e0f1a2b3c4d";
 
-/// The volume key; a mode takes as many bytes as it needs.
+/// The volume key; a mode uses as many bytes as it needs.
 const KEY: [u8; 64] = *b"a volume key of AES-256 has two halves, thirty-two bytes in each";
 
 /// As many stripes as cryptsetup's own volumes have; it opens no others of LUKS2.
@@ -133,7 +133,7 @@ fn second(
     )
 }
 
-// The volume that the words ask for, where they name one.
+// The volume that the arguments ask for, if they name one.
 fn volume(alloc: Global, format: &str, mode: &str, sector: &str) -> Result<Vec<u8>, SealFault> {
     let mode = Mode::from_name(mode).ok_or(SealFault::Parameters)?;
     let sector_size = sector_size_of(sector).ok_or(SealFault::Parameters)?;

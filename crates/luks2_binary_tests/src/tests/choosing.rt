@@ -1,4 +1,4 @@
-//! Which header is chosen, and how many bytes that takes.
+//! Which header is chosen, and how many bytes are read for that.
 
 use super::fixture::{JSON, PRIMARY, SECONDARY, Sketch, assert_in, flip, image_of, read_from};
 use luks_area::fault::HeaderFault;
@@ -7,7 +7,7 @@ use luks_kdf::Hash;
 use luks2_binary::header::{Finding, Header2, Place};
 use std::process::Abort;
 
-// Where a header stands, its length, and what is amiss; or why there is none.
+// Which header it is, its length, and what is wrong; or why there is none.
 type Summary = Result<(Place, u32, Option<Finding>), HeaderFault>;
 
 const NONE: Summary = Err(HeaderFault::NotLuks);
@@ -20,7 +20,7 @@ const SECOND: Summary = Ok((Place::Secondary, 16_384, Some(Finding::PrimaryNotVa
 
 const NEXT: Summary = Ok((Place::Secondary, 32_768, Some(Finding::PrimaryNotValid)));
 
-// This is answered of an image, and takes so many bytes.
+// The answer for an image, and how many bytes are consumed.
 fn check(rt: &(impl Abort + AllocGlobal), case: usize, image: &[u8], want: Summary, taken: usize) {
     let mut source = MemSource::new(image);
     let summary = match read_from(rt.alloc(), &mut source) {
@@ -56,7 +56,7 @@ fn the_primary_of_two_equal_ones_is_chosen(rt: HostRuntime) {
     check_header(&rt, &header, area.as_slice());
 }
 
-// The secondary header's sequence number, where the primary one's is 7.
+// The secondary header's sequence number, if the primary one's is 7.
 static LATER: [(u64, Place); 5] = [
     (6, Place::Primary),
     (8, Place::Secondary),
@@ -88,7 +88,7 @@ const NEWER: &[Sketch<'static>] = &[
     },
 ];
 
-// The secondary header stands elsewhere than at the primary one's length.
+// The secondary header is at another offset than the primary one's length.
 const ELSEWHERE: &[Sketch<'static>] = &[
     PRIMARY,
     Sketch {
@@ -124,9 +124,9 @@ const MAGIC: &[Sketch<'static>] = &[Sketch {
 // Changes the length that the primary header has from 16,384 to 1,048,576 bytes.
 const LENGTH: &[(usize, u8)] = &[(13, 0x10), (14, 0x40)];
 
-// The headers of an image, the bits that are changed in it, its length, what is answered, and how
-// many bytes that takes. The search ends at the first valid header; one that fits and is not valid
-// is read to its end, as far as the image has it.
+// The headers of an image, the bits that are changed in it, its length, the answer, and how many
+// bytes are read for that. The search ends at the first valid header; one that fits and is not
+// valid is read to its end, as far as the image has it.
 static ROWS: [(&[Sketch<'static>], &[(usize, u8)], usize, Summary, usize); 18] = [
     (NEWER, &[(21_384, 1)], 1_000_000, FIRST, 32_768),
     (NEWER, &[], 20_000, FIRST, 20_000),

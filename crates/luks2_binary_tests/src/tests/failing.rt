@@ -1,4 +1,5 @@
-//! Checksums that another program computed, sources that give little or fail, and want of memory.
+//! Checksums that another program computed, sources that give little or fail, and running out of
+//! memory.
 
 use super::fixture::{
     JSON, PRIMARY, SECONDARY, Sketch, assert_in, assert_of, fault_of, flip, image_of, put,
@@ -131,7 +132,7 @@ fn a_json_area_without_a_zero_byte_is_text_to_its_end(rt: HostRuntime) {
     check_text(&rt, &header, area.as_slice());
 }
 
-// Where the header stands and what is amiss, in an image with one byte more than it has.
+// Which header it is and what is wrong, in an image with one byte more than it has.
 fn check_piece(
     rt: &(impl Abort + AllocGlobal),
     image: &[u8],
@@ -156,7 +157,7 @@ fn pieces_of_any_length_serve(rt: HostRuntime) {
     }
 }
 
-// A source of 40,000 bytes fails after so many; 32,768 are all that it is asked for.
+// A source of 40,000 bytes fails after so many; at most 32,768 are requested.
 fn check_failed(rt: &(impl Abort + AllocGlobal), bytes: &[u8], given: usize) {
     let mut source = Broken::new(bytes, given);
     let fault = fault_of(rt.alloc(), &mut source);
@@ -206,6 +207,7 @@ fn scarce_runs(rt: &(impl Abort + AllocGlobal), image: &[u8]) -> Option<u32> {
 #[test]
 fn want_of_memory_is_told(rt: HostRuntime) {
     let runs = scarce_runs(&rt, &image_of(&rt, 32_768, &[SECONDARY]));
-    // Another fault than want of memory, too little given back, or no refusal at all.
+    // Another fault than running out of memory, too little given back, or no run that ran out of
+    // memory.
     assert!(rt; runs.unwrap_or(0) > 0, "{runs:?}");
 }

@@ -1,7 +1,7 @@
 //! Images with headers of LUKS2, and what is read of them.
 //!
-//! Where a call is to succeed, an error ends the test on the spot: what is not handed up needs not
-//! be dropped on the way.
+//! If a call must succeed, an error ends the test at once: what is not returned need not be dropped
+//! on the way.
 
 use luks_area::area::HeaderArea;
 use luks_area::fault::HeaderFault;
@@ -118,7 +118,7 @@ pub fn read_from<S: Source>(
     Ok((header, area))
 }
 
-/// Why a source is not read, where it is not.
+/// Why a source is not read, if it is not.
 pub fn fault_of<S: Source>(alloc: Global, source: &mut S) -> Option<HeaderFault> {
     read_from(alloc, source).err()
 }

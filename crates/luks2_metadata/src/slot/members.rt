@@ -9,7 +9,7 @@ ghost use Rattle.serde_json.specs.View.{view as data_of};
 use luks2_json::member::{base64_len, decimal_text, is_type, text, whole_number};
 use serde_json::Value;
 
-/// How soon the slot is tried: 0, 1 or 2, and 1 where nothing is said.
+/// The priority of the slot: 0, 1 or 2, and 1 if it has none.
 #[tactic(auto, unfolding(crate::specs::Slot2::priority_of))]
 pub(super) fn priority(slot: &Value) -> Option<u8>
     ensures { result ≡ priority_of (data_of slot.now) }
@@ -33,7 +33,7 @@ fn is_af(af: &Value) -> bool
     is_type(af, "luks1") && whole_number(af, "stripes").is_some() && text(af, "hash").is_some()
 }
 
-// Where the key material lies, and how it is encrypted.
+// Where the key material is, and how it is encrypted.
 #[tactic(auto, unfolding(crate::specs::Slot2::is_area))]
 fn is_area(area: &Value) -> bool
     ensures { result ≡ is_area (data_of area.now) }
@@ -45,7 +45,7 @@ fn is_area(area: &Value) -> bool
         && whole_number(area, "key_size").is_some()
 }
 
-// What PBKDF2 takes.
+// The parameters of PBKDF2.
 #[tactic(auto, unfolding(crate::specs::Slot2::is_pbkdf2))]
 fn is_pbkdf2(kdf: &Value) -> bool
     ensures { result ≡ is_pbkdf2 (data_of kdf.now) }

@@ -15,7 +15,7 @@ use std::process::Abort;
 
 const UNDIGESTED: Judgement = Judgement::Skipped(SkipReason::Digest);
 
-// The iterations of the digest of a slot, where it has one.
+// The iterations of the digest of a slot, if it has one.
 fn iterations(rt: &(impl Abort + AllocGlobal), metadata: &Metadata, slot: u8) -> Option<u32> {
     match digest_for(rt.alloc(), metadata, slot).expect(rt, "memory") {
         Some(key) => Some(key.iterations),
@@ -23,7 +23,7 @@ fn iterations(rt: &(impl Abort + AllocGlobal), metadata: &Metadata, slot: u8) ->
     }
 }
 
-// Whether the first digest is listed as usable, where there is one.
+// Whether the first digest is listed as usable, if there is one.
 fn first_usable(rt: &(impl Abort + AllocGlobal), metadata: &Metadata) -> Option<bool> {
     match digests(rt.alloc(), metadata).expect(rt, "memory").first() {
         Some((_, listed)) => Some(listed.is_some()),

@@ -1,7 +1,7 @@
 //! JSON areas, and how they are changed. They are written with ' in place of ".
 //!
-//! Where a call is to succeed, an error ends the test on the spot: what is not handed up needs not
-//! be dropped on the way.
+//! If a call must succeed, an error ends the test at once: what is not returned need not be dropped
+//! on the way.
 
 use luks2_json::tree::Metadata;
 use luks2_segment::bounds::Bounds;
@@ -83,7 +83,7 @@ pub fn read(rt: &(impl Abort + AllocGlobal), text: &str) -> Metadata {
     Metadata::read(rt.alloc(), quoted(rt, text).as_bytes()).expect(rt, "metadata")
 }
 
-/// The text with a change `PART -> OTHER`, where it has the part last.
+/// The text with a change `PART -> OTHER`, if it has the part, at its last place.
 pub fn changed(rt: &(impl Abort + AllocGlobal), text: &str, change: &str) -> String {
     let change = change.split_once(" -> ").ok_or(change);
     let (part, other) = change.expect(rt, "a change");
@@ -92,7 +92,7 @@ pub fn changed(rt: &(impl Abort + AllocGlobal), text: &str, change: &str) -> Str
     joined(rt, &[before, other, behind])
 }
 
-/// The text with these changes, one after the other, where there are some.
+/// The text with these changes, one after the other, if there are some.
 pub fn text_with(rt: &(impl Abort + AllocGlobal), changes: &str) -> String {
     let mut text = joined(rt, &PARTS);
     for change in changes.split_terminator("; ") {

@@ -36,7 +36,7 @@ pub(super) fn verdict(
     word
 }
 
-// What it takes to open slot 2 of the text.
+// What is needed to open slot 2 of the text.
 fn check_values(rt: &impl Abort, slot: &Slot) {
     let parts = &slot.parts;
     let hashes = [parts.kdf_hash, parts.af_hash];
@@ -83,9 +83,9 @@ fn the_slots_as_they_are(rt: HostRuntime) {
     check_values(&rt, &slot.expect(&rt, "slot 2"));
 }
 
-// The volume key's length is one of the segment's mode, whatever the area's is. Where the segment
-// is refused, its mode and the payload's start are not known, and key areas end within 32 MiB; so
-// they do where the payload is in another image. An area has 256,000 bytes of key material.
+// The volume key's length is one of the segment's mode, whatever the area's is. If the segment is
+// refused, its mode and the payload's start are not known, and key areas end within 32 MiB, as they
+// do if the payload is in another image. An area has 256,000 bytes of key material.
 static ROWS: [&str; 113] = [
     "member: 'type':'luks2','key_size' -> 'type':'luks2','x'",
     "type: 'type':'luks2' -> 'type':'luks1'",

@@ -138,7 +138,7 @@ static NAMES: [(&str, Option<u8>); 11] = [
     ("\\u0033", Some(3)),
 ];
 
-// The one key slot of this name is found by this number alone, and passed over where it has none.
+// The one key slot of this name is found by this number alone, and ignored if it has none.
 fn check_name(rt: &(impl Abort + AllocGlobal), name: &str, number: Option<u8>) {
     let before = "{'segments':{},'digests':{},'keyslots':{'";
     let text = joined(rt, &[before, name, "':'here'}}"]);

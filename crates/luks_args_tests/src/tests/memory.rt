@@ -1,4 +1,4 @@
-//! What is answered where memory is refused.
+//! The answers if memory runs out.
 
 use super::{assert_of, words_of};
 use luks_args::planning::{PlanFault, plan};
@@ -12,8 +12,8 @@ const PIECES: usize = 1000;
 
 const PIECE_SIZE: usize = 136;
 
-// Plans as memory comes back until it suffices, and answers how often it was refused before;
-// `None` where another answer comes than the stated one.
+// Plans as memory comes back until it suffices, and answers how often it ran out before; `None` if
+// another answer comes than the specified one.
 fn refusals<'a>(
     alloc: Global,
     words: &'a [&'a str],

@@ -185,7 +185,7 @@ static NO_NUMBERS: [&str; 18] = [
     "4294967297",
 ];
 
-// What stands before a number and behind it.
+// What is before a number and behind it.
 static AROUND: [(&str, &str); 3] = [
     ("afSplit --hash sha1 --stripes=", " --random r k"),
     ("afMerge --hash sha1 --stripes=", " --key-bytes 1 s"),

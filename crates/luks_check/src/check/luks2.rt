@@ -1,4 +1,4 @@
-//! What is amiss with the two headers of LUKS2.
+//! What is wrong with the two headers of LUKS2.
 
 ghost use Rattle.std.specs.Prelude.{◌≡◌, ◌++◌, OnOk, string_bytes};
 ghost use Rattle.luks_check.specs.Check2.{header_finding};

@@ -15,7 +15,7 @@ fn word<'a>(rt: &impl Abort, line: &'a str, number: usize) -> &'a str {
     line.split(' ').nth(number).expect(rt, "a word")
 }
 
-// The cipher takes the plain unit of this number to the encrypted one, and that back.
+// The cipher encrypts the plain unit of this number to the encrypted one, and decrypts that back.
 pub fn check_unit(
     rt: &(impl Abort + AllocGlobal),
     case: &str,

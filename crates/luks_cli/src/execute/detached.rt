@@ -20,13 +20,13 @@ use luks_runs::headers::{self, Page};
 use luks_runs::standing::Standing;
 use std::alloc::Global;
 
-/// Runs a command whose header stands in a file of its own, over that file, the image with the
-/// payload, the second input and the output.
+/// Runs a command with a detached header over the header's file, the image with the payload, the
+/// second input and the output.
 ///
-/// As [`execute`](super::execute), but that the header and the key areas come from the file, and
-/// the payload from the image, at the segment's own place. The image is read by `luksCat` alone,
-/// once a key was found: if a write fails, no byte of it past the current sector was taken, and if
-/// a read of it fails, all its whole sectors that were taken are written. No clause here speaks of
+/// As [`execute`](super::execute), but the header and the key areas come from the file, and the
+/// payload from the image, at the segment's own offset. Only `luksCat` reads the image, after a key
+/// was found: if a write fails, no byte of it past the current sector was consumed, and if a read
+/// of it fails, all its whole sectors that were consumed are written. No clause here is about
 /// honestly sealed volumes.
 pub fn execute_detached<H: Source, I: Source, K: Source, O: Sink>(
     alloc: Global,
@@ -63,7 +63,7 @@ pub fn execute_detached<H: Source, I: Source, K: Source, O: Sink>(
     }
 }
 
-/// Does what a command asks for. What is told of a run that does not end well is its error.
+/// Performs a command. The error is the message of a run that does not succeed.
 fn perform_detached<H: Source, I: Source, K: Source, O: Sink>(
     alloc: Global,
     command: &Command<'_>,

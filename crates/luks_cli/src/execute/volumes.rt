@@ -41,7 +41,7 @@ use std::alloc::Global;
 /// A volume that is opened.
 #[derive(Drop)]
 struct Unlocked {
-    /// The first bytes of the image: all that are taken.
+    /// The first bytes of the image: all that were consumed.
     area: HeaderArea,
     segment: Segment,
     opened: Opened,
@@ -77,15 +77,15 @@ fn open_volume<I: Source, K: Source>(
     try_slots(opening, volume, image, &pass)
 }
 
-/// What is kept of a volume that is opened: the bytes of its image that are held, and its segment.
+/// The parts of an open volume that are kept: the loaded bytes of its image, and its segment.
 fn held_parts(volume: FoundVolume) -> (HeaderArea, Segment)
     ensures { result ≡ (volume.area, volume.segment) }
 {
     (volume.area, volume.segment)
 }
 
-/// Opens a volume by the passphrase that the key file has. Its header stands in this image, or in
-/// this file of its own.
+/// Opens a volume by the passphrase in the key file. Its header is at the start of this image, or
+/// is this file.
 fn unlock<I: Source, K: Source>(
     alloc: Global,
     standing: Standing,
@@ -173,7 +173,7 @@ pub(super) fn test_passphrase<I: Source, K: Source, O: Sink>(
     tell_slot(alloc, &unlocked, out)
 }
 
-/// Writes the payload of a volume that is opened. These first bytes of its image are held.
+/// Writes the payload of an open volume. These first bytes of its image are loaded.
 fn write_plain<I: Source, O: Sink>(
     unlocked: &Unlocked,
     held: &[u8],
@@ -229,7 +229,7 @@ pub(super) fn cat<I: Source, K: Source, O: Sink>(
     write_plain(&unlocked, unlocked.area.as_slice(), image, out)
 }
 
-/// `luksCat` of an image whose header stands in a file of its own.
+/// `luksCat` of an image with a detached header.
 pub(super) fn cat_detached<H: Source, I: Source, K: Source, O: Sink>(
     alloc: Global,
     opening: &Opening<'_>,

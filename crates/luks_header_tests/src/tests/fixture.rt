@@ -1,7 +1,7 @@
 //! A header of LUKS1.
 //!
-//! If a call is to succeed, an error ends the test on the spot: what is not handed up needs not
-//! be dropped on the way.
+//! If a call must succeed, an error ends the test at once: what is not returned need not be dropped
+//! on the way.
 
 use luks_header::header::{Header, read_header};
 use luks_io::memory::MemSource;

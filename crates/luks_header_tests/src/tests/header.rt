@@ -155,8 +155,8 @@ fn a_failed_read_is_reported(rt: HostRuntime) {
 
 const DIGITS: &[u8] = b"0123456789";
 
-// How many bytes are asked for, whether they are there, and how many are held then. Twice it is
-// asked for fewer than are held, or for as many.
+// How many bytes are requested, whether they are there, and how many are loaded then. Twice it
+// requests fewer than are loaded, or as many.
 static LACKING: [(usize, bool, usize); 8] = [
     (0, true, 0),
     (4, true, 4),

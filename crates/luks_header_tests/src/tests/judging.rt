@@ -1,4 +1,4 @@
-//! Which slots can be tried and where the payload lies, each bound from both sides.
+//! Which slots can be tried and where the payload is, each bound from both sides.
 
 use super::fixture::{changed, parse, volume_header};
 use luks_cipher::Mode;

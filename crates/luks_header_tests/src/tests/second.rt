@@ -12,8 +12,8 @@ use std::process::Abort;
 
 const TEXT: &str = r#"{"keyslots":{},"segments":{},"digests":{}}"#;
 
-// An image with a primary header of this text alone: where the secondary one should be are zeros,
-// and 100 of them behind it.
+// An image with a primary header of this text alone: the secondary one is replaced by zeros, and
+// 100 zeros are behind it.
 fn image_of(rt: &(impl Abort + AllocGlobal), json: &str) -> Vec<u8> {
     let mut image = empty_image(rt.alloc()).expect(rt, "an image");
     write_header(image.as_mut_slice(), 0, 7, json);

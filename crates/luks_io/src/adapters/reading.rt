@@ -12,13 +12,13 @@ use crate::DeviceFault;
 use crate::source::{Source, count_end};
 use std::io::Read;
 
-/// A device that answers one read at a time. Where a clause knows its answers, it says which of
-/// them are asked for and what is told of them.
+/// A device that answers one read at a time. If its answers are known, clauses say which of them
+/// are requested and what is reported of them.
 trait Reading {
-    /// The bytes that are still to come, where they are known.
+    /// The remaining bytes, if they are known.
     ghost bytes: { Self → Option (List ℕ) };
 
-    /// The answers of the calls from here on, where they are known.
+    /// The answers of the calls from here on, if they are known.
     ghost answers: { Self → Option (List Answer) };
 
     fn ask(&mut self, buf: &mut [u8]) -> Answer
@@ -36,7 +36,7 @@ impl<R: Read> Reading for R {
     }
 }
 
-/// Reads once, and again while the read is interrupted and a try is left. Ends and failures are
+/// Reads once, and again while the read is interrupted and a retry is left. Ends and failures are
 /// counted.
 fn read_counted<D: Reading>(
     device: &mut D,
@@ -66,7 +66,7 @@ fn read_counted<D: Reading>(
 }
 
 /// A source over a reader. It knows the bytes that the reader knows. Once the reader has said that
-/// no bytes are left it is not asked again, so a file that grows or a terminal ends once.
+/// no bytes remain, it is not asked again: a file that grows, or a terminal, ends once.
 #[derive(Drop)]
 pub struct ReadSource<R> {
     reader: R,

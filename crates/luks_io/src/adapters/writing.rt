@@ -12,13 +12,13 @@ use crate::DeviceFault;
 use crate::sink::Sink;
 use std::io::Write;
 
-/// A device that answers one write at a time. Where a clause knows its answers, it says which of
-/// them are asked for and what is told of them.
+/// A device that answers one write at a time. If its answers are known, clauses say which of them
+/// are requested and what is reported of them.
 trait Writing {
-    /// The bytes that were written, where they are known.
+    /// The bytes that were written, if they are known.
     ghost bytes: { Self → Option (List ℕ) };
 
-    /// The answers of the calls from here on, where they are known.
+    /// The answers of the calls from here on, if they are known.
     ghost answers: { Self → Option (List Answer) };
 
     fn ask(&mut self, buf: &[u8]) -> Answer
@@ -36,8 +36,8 @@ impl<W: Write> Writing for W {
     }
 }
 
-/// Writes once, and again while the write is interrupted and a try is left. Failures are counted,
-/// and that a device takes nothing is one. An empty buffer is not written.
+/// Writes once, and again while the write is interrupted and a retry is left. Failures are counted;
+/// a write that accepts nothing is one. An empty buffer is not written.
 fn write_counted<D: Writing>(
     device: &mut D,
     buf: &[u8],
@@ -98,7 +98,7 @@ impl<W: Write> Sink for WriteSink<W> {
 
     ghost failures = { λ s. s.failures };
 
-    /// Writes a beginning of the buffer. A writer that takes nothing of a buffer that has bytes has
+    /// Writes a prefix of the buffer. A writer that accepts nothing of a buffer with bytes has
     /// failed. An empty buffer does not reach the writer.
     fn write(&mut self, buf: &[u8]) -> Result<usize, DeviceFault>
         ensures bound { TakesSome result buf.now }

@@ -11,12 +11,12 @@ use std::process::Abort;
 
 const BYTES: &[u8] = b"abcdefghij";
 
-/// What is announced to a source, how many bytes it is asked for, and its answer. The source
-/// below has so many bytes left after so many calls.
+/// How much read-ahead is allowed to a source, how many bytes are requested, and its answer. The
+/// source below has so many bytes left after so many calls.
 type Step = (Option<u64>, usize, Result<usize, DeviceFault>, usize, u64);
 
-/// A source with room for four bytes, over one that gives at most so many bytes a call, or all, and
-/// fails at the call of this number. In the end that one has failed and found its end so often.
+/// A source with capacity for four bytes, over one that gives at most so many bytes a call, or all,
+/// and fails at the call of this number. In the end that one has failed and hit its end so often.
 type Row = (&'static str, (usize, u64), &'static [Step], (u64, u64));
 
 static ROWS: [Row; 7] = [

@@ -1,4 +1,4 @@
-//! Bytes that are passed on where they stand: only by a source that holds them all, and without a
+//! Bytes that are forwarded in place: only by a source that has all of them buffered, and without a
 //! call of the source below.
 
 use super::assert_at;
@@ -26,9 +26,9 @@ impl Change for Reversed {
     }
 }
 
-/// What is passed on by a source that holds five of ten letters, to a sink with room for so many
-/// bytes: how many bytes, and the answers. Then these bytes are written, by so many calls of which
-/// so many failed, and these are still held.
+/// What is forwarded by a source that has five of ten letters buffered, to a sink with capacity for
+/// so many bytes: how many bytes, and the answers. Then these bytes are written, by so many calls
+/// of which so many failed, and these are still buffered.
 type Row = (
     &'static str,
     usize,
@@ -69,7 +69,7 @@ fn gives(source: &mut AheadSource<Flaky<'_>>, next: &[u8], calls: u64) -> bool {
     source.read(buf) == Ok(next.len()) && *buf == *next && source.get_ref().calls() == calls
 }
 
-// The source has taken the first letter, and five ahead. What it does not hold it does not pass on.
+// The source has consumed the first letter, and five ahead. It forwards only what it has buffered.
 fn check_row(
     rt: &(impl Abort + AllocGlobal),
     (name, room, passes, (written, calls, failures), held): &Row,

@@ -82,7 +82,7 @@ fn check_front(rt: &impl Abort, hash: Hash, want: &[u8], len: usize, work: u128)
     check(rt, hash, b"password", b"salt", 3, &want[..2 * len], work);
 }
 
-// One byte more than two digests. A shorter key is a beginning of a longer one.
+// One byte more than two digests. A shorter key is a prefix of a longer one.
 static KEYS_ABOUT_A_DIGEST: [&[u8]; 5] = [
     b"6b4e26125c25cf21ae35ead955f479ea2e71f6ff9e400029f04810eece31355533bb2ed348e604da70",
     b"947cf079cfc7f2016dcd7ec418840443edaabb90c496f98cabeec4bfb1a5a4aaff68cca92cf05a6d725502f8e0a8873b2660b7887a9bfd1478",
@@ -203,7 +203,7 @@ fn mark_of(hash: Hash, turns: u32, step: usize) -> [u8; 32]
     mark
 }
 
-// The hash function, the turns, the step from each length to the next, and the mark.
+// The hash function, the iterations, the step from each length to the next, and the mark.
 static MARKS: [(Hash, u32, usize, &[u8]); 20] = [
     (
         Hash::Sha1,

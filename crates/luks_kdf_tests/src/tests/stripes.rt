@@ -155,7 +155,7 @@ fn most_stripes(rt: HostRuntime) {
     split(&rt, Hash::Sha1, &[0x5A], &[0; 3999], &mut stripes);
 }
 
-// A splitter that has taken in the stripes of 33 bytes, one at a time.
+// A splitter that has absorbed the stripes of 33 bytes, one at a time.
 fn splitter_after(rt: &impl Abort, stripes: &[u8]) -> AfSplitter
     ensures { length result.block ≡ 33 }
 {

@@ -1,4 +1,4 @@
-//! What passphrases open, and the work that it takes.
+//! What passphrases open, and the work that it costs.
 
 use super::volumes::{LONG_KEY, Question, SHORT_KEY, Volume, answer};
 use luks_header::refusal::SkipReason;
@@ -251,7 +251,7 @@ fn changed(rt: &(impl Abort + AllocGlobal), volume: &Volume, change: &Change) ->
     image
 }
 
-// Whether the answer is the stated one, with this key where a slot opens.
+// Whether the answer is the specified one, with this key if a slot opens.
 fn is_stated(answer: &Result<Opened, OpenFault>, stated: &Stated, key: &[u8]) -> bool {
     match stated {
         Stated::Opens(slot) => match answer {

@@ -1,4 +1,4 @@
-//! Which slots are tried of a header, and what is answered where there are none.
+//! Which slots of a header are tried, and the answer if there are none.
 
 use super::volumes::SHORT_KEY;
 use luks_header::header::{Header, read_header};
@@ -18,7 +18,7 @@ fn header(rt: &(impl Abort + AllocGlobal)) -> Header {
     header
 }
 
-/// The slots that are tried and how many bytes are held for them, or why there are none. Where none
+/// The slots that are tried and how many bytes are loaded for them, or why there are none. If none
 /// is named, these are skipped.
 enum Stated {
     Slots(&'static [u8], usize),
@@ -101,8 +101,8 @@ fn slots_come_by_rising_number_if_they_can_be_tried(rt: HostRuntime) {
     }
 }
 
-// Runs until one does not answer want of memory: how many slots are tried or why none is, and how
-// many runs were before it.
+// Runs until one does not run out of memory: how many slots are tried or why none is, and how many
+// runs were before it.
 fn first_answer(
     alloc: Global,
     header: &Header,
@@ -119,7 +119,7 @@ fn first_answer(
     (Err(OpenFault::Memory), 400)
 }
 
-// Each refused run answers want of memory.
+// Each run that runs out of memory answers so.
 #[test]
 fn memory_is_answered_where_it_is_refused(rt: HostRuntime) {
     let header = header(&rt);

@@ -5,8 +5,8 @@
 //! the passphrases that it was made with, and by no other. It does not open these two, since they
 //! have few stripes.
 //!
-//! Where a call is to succeed, an error ends the test on the spot: what is not handed up needs not
-//! be dropped on the way.
+//! If a call must succeed, an error ends the test at once: what is not returned need not be dropped
+//! on the way.
 
 use luks_header::area::HeaderArea;
 use luks_header::header::{Header, read_header};

@@ -78,18 +78,18 @@ pub struct Way {
     pub held: usize,
     /// How many bytes the source may hold.
     pub room: usize,
-    /// How many bytes the source below gives at once, or all where it is 0.
+    /// How many bytes the source below gives at once, or all if it is 0.
     pub piece: usize,
     /// Which read of the source below fails.
     pub bad_read: u64,
-    /// How many bytes the sink takes at once.
+    /// How many bytes the sink accepts at once.
     pub sink_piece: usize,
     /// Which write fails.
     pub bad_write: u64,
 }
 
-/// What a run comes to: how many sectors steps answer, the answer that ends it, and how many bytes
-/// are taken and written.
+/// The result of a run: how many sectors steps answer, the answer that ends it, and how many bytes
+/// are consumed and written.
 pub type End = (u32, Result<Step, VolumeFault>, usize, usize);
 
 /// What a run came to, and how many sectors the source passed on. It is sound if what it wrote is

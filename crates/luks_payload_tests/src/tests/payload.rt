@@ -10,11 +10,11 @@ use luks_payload::state::Step;
 use std::process::Abort;
 
 /// How a run over an image's first bytes ends: how many bytes these are, how many sectors are
-/// passed on, the answer that ends it, and how many bytes are taken.
+/// forwarded, the answer that ends it, and how many bytes are consumed.
 type Row = (usize, u32, Result<Step, VolumeFault>, usize);
 
-/// Sectors of a size, the unit number of the first one, the payload's size where it is fixed, the
-/// unit numbers of three sectors, and runs over them.
+/// Sectors of a size, the unit number of the first one, the payload's size if it is fixed, the unit
+/// numbers of three sectors, and runs over them.
 type Payload = (SectorSize, u64, Option<u64>, [u64; 3], &'static [Row]);
 
 const DYNAMIC_512: [Row; 8] = [
@@ -85,8 +85,8 @@ static PAYLOADS: [Payload; 7] = [
     WRAPPED_4096,
 ];
 
-/// How many bytes a source may hold, how many the one below it gives at once, all where it is 0,
-/// and how many a sink takes at once.
+/// How many bytes a source can buffer, how many the one below it gives at once, all if it is 0, and
+/// how many a sink accepts at once.
 type Shape = (usize, usize, usize);
 
 // Pieces alone; and then none is held; less than a sector of 512 bytes, and one and a part; three,
@@ -143,9 +143,9 @@ fn payloads_end_as_they_are_cut(rt: HostRuntime) {
     }
 }
 
-/// Sectors of a size, the payload's size where it is fixed, and a run over an image's first bytes:
-/// how many bytes these are, how many sectors are passed on, the answer that ends it, and where the
-/// source is left if that is not behind the bytes that are held. It ends so if so many are held.
+/// Sectors of a size, the payload's size if it is fixed, and a run over an image's first bytes: how
+/// many bytes these are, how many sectors are forwarded, the answer that ends it, and where the
+/// source is left if that is not behind the loaded bytes. It ends so if so many are loaded.
 type Front = (SectorSize, Option<u64>, [u64; 3], Row, &'static [usize]);
 
 static FRONTS: [Front; 5] = [
@@ -249,7 +249,7 @@ fn failed_reads_are_told_for_good(rt: HostRuntime) {
     );
 }
 
-// So are writes. What was taken is the same whatever the source holds.
+// Writes, too. What was consumed is the same whatever the source has buffered.
 static BAD_WRITES: [(u64, End); 5] = [
     (0, (0, Err(VolumeFault::Write), 1512, 0)),
     (2, (0, Err(VolumeFault::Write), 1512, 400)),
@@ -273,7 +273,7 @@ fn failed_writes_are_told_for_good(rt: HostRuntime) {
     }
 }
 
-// A sector is passed on exactly where it lies whole in what one call brought.
+// A sector is forwarded exactly if it is whole in what one call read.
 static PASSED: [(usize, usize, u32); 8] = [
     (0, 0, 0),
     (700, 0, 0),
@@ -300,8 +300,8 @@ fn sectors_that_are_held_are_passed_on(rt: HostRuntime) {
     }
 }
 
-// The source stands behind the header's 592 bytes. A second skip takes nothing, and after the end
-// neither a step nor a skip takes or writes anything.
+// The source is behind the header's 592 bytes. A second skip consumes nothing, and after the end
+// neither a step nor a skip consumes or writes anything.
 #[test]
 fn a_second_skip_and_a_step_after_the_end_touch_nothing(rt: HostRuntime) {
     let volume = volume_of(&rt, SectorSize::B512, &UNITS_512);

@@ -281,7 +281,7 @@ fn a_fixed_size_ends_the_payload(rt: HostRuntime) {
 /// The sizes of headers.
 const HEADERS: [u64; 7] = [16_384, 32_768, 65_536, 131_072, 262_144, 524_288, 1_048_576];
 
-// The secondary header is chosen where the primary one is broken.
+// The secondary header is chosen if the primary one is broken.
 #[test]
 fn both_headers_are_valid(rt: HostRuntime) {
     let plain = bytes(&rt, 1024);

@@ -1,4 +1,4 @@
-//! What is found in headers of LUKS1, and how a check tells that.
+//! The findings in headers of LUKS1, and how a check reports them.
 
 use super::fixture::check_findings;
 use luks_io::memory::MemSink;

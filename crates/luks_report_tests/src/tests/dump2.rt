@@ -55,7 +55,7 @@ const OTHER_LINES: &str = "Segment 0: offset=16777216 size=dynamic iv=0 \
     Digest 9: REFUSED\n\
     Digest 10: USABLE hash=sha1 iterations=1 bytes=20 keyslots= segments=a,\\x5cb,\n";
 
-// What stands before a segment, and behind it.
+// What is before a segment, and behind it.
 const BEFORE: &str = r#"{"keyslots":{},"digests":{},"segments":{"#;
 
 const BEHIND: &str = "}}";

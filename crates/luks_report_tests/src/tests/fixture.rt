@@ -14,7 +14,7 @@ pub fn read(rt: &(impl Abort + AllocGlobal), image: &[u8]) -> Header {
     header
 }
 
-/// Asserts that a page is as it has to be.
+/// Asserts that a text is as it has to be.
 pub fn assert_page(rt: &impl Abort, page: &str, wanted: &str) {
     assert!(rt; page == wanted, "{page}, and not {wanted}");
 }

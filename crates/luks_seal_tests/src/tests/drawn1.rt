@@ -1,5 +1,5 @@
-//! Volumes sealed of drawn parameters that are all in their ranges: where memory is ample, none is
-//! refused.
+//! Volumes sealed from generated parameters that are all in their ranges: if memory is ample, none
+//! is refused.
 
 use luks_cipher::Mode;
 use luks_kdf::Hash;

@@ -1,5 +1,5 @@
-//! Sealing where memory is refused: less and less of it, until a call meets no refusal. Each call
-//! that does answers want of memory, and never anything else.
+//! Sealing with less and less memory, until a call does not run out of it. Each call that does
+//! answers so, and never anything else.
 
 use super::counted;
 use luks_seal::parameters::{Seal1, Seal2, SealFault};
@@ -22,7 +22,7 @@ enum Volume<'a> {
     Second(&'a Seal2<'a>),
 }
 
-// Why a volume is not sealed, where it is not.
+// Why a volume is not sealed, if it is not.
 fn fault_of(alloc: Global, volume: Volume<'_>) -> Option<SealFault> {
     match volume {
         Volume::First(volume) => seal1(alloc, volume).err(),
@@ -30,8 +30,8 @@ fn fault_of(alloc: Global, volume: Volume<'_>) -> Option<SealFault> {
     }
 }
 
-// Calls until one does not answer want of memory: whether that one ends well, and so another one
-// after it, and how many were before them.
+// Calls until one does not run out of memory: whether that one succeeds, and another one after it
+// too, and how many were before them.
 fn first_answer(alloc: Global, volume: Volume<'_>, scarcity: &mut Scarcity) -> (bool, usize) {
     for refused in 0..PIECES {
         let fault = fault_of(alloc, volume);
@@ -45,7 +45,7 @@ fn first_answer(alloc: Global, volume: Volume<'_>, scarcity: &mut Scarcity) -> (
 }
 
 fn check(rt: &(impl Abort + AllocGlobal), volume: Volume<'_>) {
-    // The stack grows in a first call, since it cannot once all memory is taken.
+    // The stack grows in a first call, since it cannot once all memory is used.
     assert!(rt; fault_of(rt.alloc(), volume).is_none());
     let (is_well, refused) = {
         let mut scarcity = Scarcity::new(rt.alloc(), PIECES, PIECE).expect(rt, "memory");

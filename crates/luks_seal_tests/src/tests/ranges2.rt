@@ -156,7 +156,7 @@ type Given = (u32, u32, u32, u32, usize);
 
 const GOOD: Given = (31, 1, 2, 4, 96);
 
-// With a key of 32 bytes the area of four stripes takes 4096 bytes, and that of 200 takes 8192.
+// With a key of 32 bytes the area of four stripes has 4096 bytes, and that of 200 has 8192.
 const SHORT: Given = (9, 1, 2, 4, 96);
 
 const LONG: Given = (3, 1, 2, 200, 6368);

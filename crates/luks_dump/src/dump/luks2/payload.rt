@@ -50,7 +50,7 @@ fn describe(alloc: Global, segment: Segment) -> Result<String, AllocError>
     Ok(text)
 }
 
-// Its length in bytes, where it has one.
+// Its length in bytes, if it has one.
 fn size_text(alloc: Global, size: Option<u64>) -> Result<String, AllocError>
     ensures { IfOk result (λ text. string_bytes text ≡ size_text size) }
 {

@@ -31,7 +31,7 @@ pub(super) fn push_slots(
     Ok(())
 }
 
-// Adds the line of the key slot of a number, where there is one.
+// Adds the line of the key slot of a number, if there is one.
 fn push_slot(
     alloc: Global,
     page: &mut String,
@@ -48,7 +48,7 @@ fn push_slot(
     }
 }
 
-// What becomes of the key slot of a number, where there is one.
+// The verdict on the key slot of a number, if there is one.
 fn verdict(
     alloc: Global,
     metadata: &Metadata,
@@ -112,7 +112,7 @@ fn describe_usable(alloc: Global, parts: &SlotParts) -> Result<String, AllocErro
     Ok(text)
 }
 
-/// The name of a hash function, or nothing where that is not known.
+/// The name of a hash function, or nothing if that is not known.
 pub(super) fn hash_text(hash: Option<Hash>) -> &'static str
     ensures { result.now ≡ hash_text hash }
 {
