@@ -120,7 +120,7 @@ fn unlock<I: Source, K: Source>(
 {
     let mut volume = find_volume(alloc, standing, opening, image)?;
     let opened = open_volume(alloc, opening, &mut volume, image, secret);
-    // Whether or not it opened, the rest of the volume ends here, so that it does in one place.
+    // The rest of the found volume is dropped here, whether or not a slot opened.
     let (area, segment) = held_parts(volume);
     Ok(Unlocked {
         area,
