@@ -1,6 +1,7 @@
--- Ranges of a plain text, from those of its sectors.
+-- Ranges of a plaintext, from those of its sectors.
 use Rattle.std.proofs.Common.{◌≡◌, ℕ, ◌+◌, ◌-◌, ◌*◌, ◌/◌, ◌%◌, ◌<◌, ◌≤◌, ◌^◌, List, ◌++◌, length, take, drop}
-use Rattle.std.proofs.Common.{[], append-nil, inl, inr, length-append, length-drop, Option, None, Some, Result, Ok, Err, arith, sym, ap, ◌∙◌}
+use Rattle.std.proofs.Common.{[], append-nil, inl, inr, length-append, length-drop, Option, None, Some, Result, Ok, Err}
+use Rattle.std.proofs.Common.{arith, sym, ap, ◌∙◌}
 use Rattle.std.specs.Prelude.{OnOk}
 use Rattle.std.proofs.lemmas.Bool.{cases_lt}
 use Rattle.std.proofs.lemmas.List.{drop-drop, drop-take, drop_all, take-take}
@@ -156,7 +157,8 @@ pub joins : (s : Segment) (cipher : Cipher) (len : ℕ) (image : Option (List �
     → ReadsRange s cipher len image (offset + length a) result b
     → ReadsRange s cipher len image offset result (a ++ b)
 joins s cipher len image offset a b (Ok _) first second =
-    λ known there all. range_joined (plain_of s cipher known) a b offset (first known there all) (second known there all)
+    λ known there all.
+    range_joined (plain_of s cipher known) a b offset (first known there all) (second known there all)
 joins s cipher len image offset a b (Err PastEnd) first second = second
 joins s cipher len image offset a b (Err Read) first second = second
 joins s cipher len image offset a b (Err Shorter) first second = second
@@ -197,7 +199,7 @@ text_is_long s cipher image image_len len long is =
     is ∙ (ap (λ n. within_size s.size (n - s.offset) / sector_len s * sector_len s) (sym long)
     ∙ sym (plain_len s image cipher))
 
--- what was read of a range where the length is that of the text
+-- what was read of a range, if the length is that of the text
 module _ (s : Segment) (cipher : Cipher) (len : ℕ) (image : Option (List ℕ)) (offset : ℕ) (bytes : List ℕ)
     (long : (known : List ℕ) → image ≡ Some known → len ≡ length (plain_of s cipher known)) where
   all_of : (known : List ℕ) → image ≡ Some known → text_len s known ≡ len

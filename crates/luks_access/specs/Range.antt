@@ -1,4 +1,4 @@
--- Ranges of a plain text.
+-- Ranges of a plaintext.
 use Rattle.std.specs.Prelude.{ℕ, ◌≡◌, ◌*◌, List, drop, length, take, Option, Result, Ok, Err}
 use Rattle.luks_cipher.specs.Sector.{Cipher}
 use Rattle.luks_io.specs.Bytes.{IfKnown}
@@ -9,21 +9,21 @@ use Rattle.luks_access.specs.declared.fault.RangeFault.TheVariants.{PastEnd, Rea
 use Rattle.luks_access.specs.declared.image.ReadAtFault.{ReadAtFault}
 use Rattle.luks_access.specs.declared.image.ReadAtFault.TheVariants.{Failed, Ended}
 
--- a read of the image has failed so
+-- the fault of a range, after this fault of a read
 abbrev pub range_fault : ReadAtFault → RangeFault
 range_fault Failed = Read
 range_fault Ended = Shorter
 
--- these bytes are those of a text from this offset on, as many as they are
+-- the text has these bytes from this offset on
 abbrev pub IsRangeOf : List ℕ → ℕ → List ℕ → Type 0
 IsRangeOf text offset bytes = bytes ≡ take (length bytes) (drop offset text)
 
--- how long the plain text of an image is: all whole sectors of the payload
+-- the length of an image's plaintext: all whole sectors of the payload
 abbrev pub text_len : Segment → List ℕ → ℕ
 text_len s image = sectors_of s image * sector_len s
 
--- a range within a plain text of `len` bytes was read: it is that of the text, or a read failed. An image that knows
--- its bytes, and has that text, does not end before the range does
+-- a range within a plaintext of `len` bytes was read: it is that of the text, or a read failed. An image that knows its
+-- bytes, and has a plaintext of that length, does not end before the range does
 abbrev pub ReadsRange : Segment → Cipher → ℕ → Option (List ℕ) → ℕ → Result (Unit {0}) RangeFault → List ℕ → Type 0
 ReadsRange s cipher len image offset (Ok _) bytes =
     IfKnown image (λ known. text_len s known ≡ len → IsRangeOf (plain_of s cipher known) offset bytes)

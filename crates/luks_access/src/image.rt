@@ -15,14 +15,15 @@ pub enum ReadAtFault {
 
 /// An image whose bytes can be read from any offset on.
 pub trait ReadAt {
-    /// Its bytes, where it knows them.
+    /// Its bytes, if it knows them.
     ghost image: { Self → Option (List ℕ) };
 
     /// Its length in bytes.
     fn len(&self) -> u64
         ensures { IfKnown (image self.now) (λ known. result ≡ length known) };
 
-    /// Fills the buffer with the bytes from this offset on. After a fault the buffer holds anything.
+    /// Fills the buffer with the bytes from this offset on. After a fault the buffer may hold any
+    /// bytes.
     fn read_at(&self, offset: u64, buf: &mut [u8]) -> Result<(), ReadAtFault>
         ensures bytes { OnOk result (IfKnown (image self.now)
             (λ known. IsAt known offset buf.new)) }

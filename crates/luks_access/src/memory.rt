@@ -31,7 +31,7 @@ impl<'a> MemImage<'a> {
     }
 }
 
-// Where so many bytes from this offset on begin and end, if there are so many.
+// The bounds of `count` bytes from this offset on, if there are so many.
 fn bounds(len: usize, offset: u64, count: usize) -> Option<(usize, usize)>
     ensures { MatchOption result (len < offset + count)
         (λ place. (place.0 ≡ offset) × (place.1 ≡ offset + count) × (offset + count ≤ len)) }

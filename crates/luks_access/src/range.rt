@@ -1,4 +1,4 @@
-//! Reading a range of a plain text: the sectors that overlap it, and no others.
+//! Reading a range of a plaintext: the sectors that overlap it, and no others.
 
 ghost use Rattle.std.specs.Prelude.{◌≡◌, ◌+◌, ◌-◌, ◌%◌, ◌<◌, ◌≤◌, ◌^◌, length};
 ghost use Rattle.luks_payload.specs.Plain.{sector_len};
@@ -10,11 +10,11 @@ use crate::sectors::decrypt_sectors;
 use luks_cipher::SectorCipher;
 use luks_header::segment::Segment;
 
-/// Room for the longest sector.
+/// The length of the longest sector in bytes.
 const LONGEST: usize = 4096;
 
-/// Reads whole sectors into the buffer and decrypts them there. `len` is the plain text's length in
-/// the image, and `offset` that of the range in it.
+/// Reads whole sectors into the buffer and decrypts them there. `len` is the length of the
+/// plaintext in the image, and `offset` that of the range in it.
 fn read_sectors<I: ReadAt>(
     segment: &Segment,
     cipher: &SectorCipher,
@@ -42,7 +42,7 @@ fn read_sectors<I: ReadAt>(
     }
 }
 
-/// Reads a part of one sector, by a buffer for the whole of it.
+/// Reads a part of one sector, through a buffer for the whole of it.
 fn read_part<I: ReadAt>(
     segment: &Segment,
     cipher: &SectorCipher,
@@ -91,7 +91,7 @@ fn read_inside<I: ReadAt>(
     read_part(segment, cipher, image, len, offset, &mut sector, buf)
 }
 
-/// Reads a range that begins with a sector: the whole sectors in place, and then a part of one.
+/// Reads a range that begins with a sector: whole sectors in place, and then a part of one.
 fn read_aligned<I: ReadAt>(
     segment: &Segment,
     cipher: &SectorCipher,
@@ -119,7 +119,7 @@ fn read_aligned<I: ReadAt>(
     )
 }
 
-/// How many bytes of a range come before the first sector that begins in it.
+/// The length of a range before the first sector that begins in it.
 fn head_len(segment: &Segment, offset: u64, count: usize) -> usize
     ensures most { result ≤ count }
     ensures part { offset % sector_len segment.now + result ≤ sector_len segment.now }
@@ -133,11 +133,11 @@ fn head_len(segment: &Segment, offset: u64, count: usize) -> usize
     (size - skip).min(count)
 }
 
-/// Reads the range of the plain text from `offset` on that fills the buffer. `len` is the plain
-/// text's length in the image.
+/// Fills the buffer with the plaintext from `offset` on. `len` is the length of the plaintext in
+/// the image.
 ///
-/// Only the sectors that overlap the range are read. Whole ones are decrypted in the buffer. After a
-/// fault it holds anything.
+/// Only the sectors that overlap the range are read. Whole ones are decrypted in the buffer. After
+/// a fault it may hold any bytes.
 pub(crate) fn read_range<I: ReadAt>(
     segment: &Segment,
     cipher: &SectorCipher,
