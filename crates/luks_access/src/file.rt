@@ -22,9 +22,11 @@ impl FileImage {
 }
 
 impl ReadAt for FileImage {
-    ghost use Rattle.std.specs.Prelude.{None};
+    ghost use Rattle.std.specs.Prelude.{None, true};
 
     ghost image = { λ _. None };
+
+    ghost fails = { λ _. true };
 
     fn len(&self) -> u64 {
         self.len

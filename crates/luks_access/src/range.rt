@@ -27,7 +27,8 @@ fn read_sectors<I: ReadAt>(
     requires inside { offset + length buf.old ≤ len }
     requires whole { length buf.old % sector_len segment.now ≡ 0 }
     requires aligned { 0 < length buf.old → offset % sector_len segment.now ≡ 0 }
-    ensures { ReadsRange segment.now cipher.now len (I.image image.now) offset result buf.new }
+    ensures { ReadsRange segment.now cipher.now len (I.image image.now) (I.fails image.now) offset
+        result buf.new }
 {
     if buf.is_empty() {
         return Ok(());
@@ -58,7 +59,8 @@ fn read_part<I: ReadAt>(
     requires inside { offset + length buf.old ≤ len }
     requires part { offset % sector_len segment.now + length buf.old ≤ sector_len segment.now }
     requires room { length sector.old ≡ LONGEST }
-    ensures { ReadsRange segment.now cipher.now len (I.image image.now) offset result buf.new }
+    ensures { ReadsRange segment.now cipher.now len (I.image image.now) (I.fails image.now) offset
+        result buf.new }
 {
     let size = segment.sector_size.bytes();
     let skip = offset % size as u64;
@@ -82,7 +84,8 @@ fn read_inside<I: ReadAt>(
     requires multiple { len % sector_len segment.now ≡ 0 }
     requires inside { offset + length buf.old ≤ len }
     requires part { offset % sector_len segment.now + length buf.old ≤ sector_len segment.now }
-    ensures { ReadsRange segment.now cipher.now len (I.image image.now) offset result buf.new }
+    ensures { ReadsRange segment.now cipher.now len (I.image image.now) (I.fails image.now) offset
+        result buf.new }
 {
     if buf.is_empty() {
         return Ok(());
@@ -104,7 +107,8 @@ fn read_aligned<I: ReadAt>(
     requires multiple { len % sector_len segment.now ≡ 0 }
     requires inside { offset + length buf.old ≤ len }
     requires aligned { 0 < length buf.old → offset % sector_len segment.now ≡ 0 }
-    ensures { ReadsRange segment.now cipher.now len (I.image image.now) offset result buf.new }
+    ensures { ReadsRange segment.now cipher.now len (I.image image.now) (I.fails image.now) offset
+        result buf.new }
 {
     let size = segment.sector_size.bytes();
     let whole = buf.len() - buf.len() % size;
@@ -149,7 +153,8 @@ pub(crate) fn read_range<I: ReadAt>(
     requires counted { segment.now.offset + len < 2 ^ 64 }
     requires multiple { len % sector_len segment.now ≡ 0 }
     requires inside { offset + length buf.old ≤ len }
-    ensures { ReadsRange segment.now cipher.now len (I.image image.now) offset result buf.new }
+    ensures { ReadsRange segment.now cipher.now len (I.image image.now) (I.fails image.now) offset
+        result buf.new }
 {
     let head = head_len(segment, offset, buf.len());
     read_inside(segment, cipher, image, len, offset, &mut buf[..head])?;

@@ -231,6 +231,7 @@ impl Volume {
             → buf.new ≡ replicate (length buf.old) 0) }
         ensures whole { IfKnown (I.image image.now)
             (λ known. result ≢ Err RangeFault.Shorter) }
+        ensures failed { result ≡ Err RangeFault.Read → I.fails image.now ≡ true }
     {
         let len = self.len(image.len());
         if !is_within(len, offset, buf.len()) {

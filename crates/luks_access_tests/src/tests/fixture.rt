@@ -108,9 +108,11 @@ impl<'a> BadImage<'a> {
 }
 
 impl<'a> ReadAt for BadImage<'a> {
-    ghost use Rattle.std.specs.Prelude.{None};
+    ghost use Rattle.std.specs.Prelude.{None, true};
 
     ghost image = { λ _. None };
+
+    ghost fails = { λ _. true };
 
     fn len(&self) -> u64 {
         self.len
