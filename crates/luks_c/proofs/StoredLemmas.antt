@@ -90,6 +90,10 @@ module _ (offset : ℕ) (size : Option ℕ) (iv : ℕ) (z : SectorSize) (mode : 
   some_made are none =
       false≢true (sym (no_evidence (are_sectors size z) (lost (evidence_if (are_sectors size z)) none)) ∙ are)
 
+-- the segment of a struct's fields, in this sector size and mode
+abbrev made_in : LuksrdVolume → Option SectorSize → Option Mode → Option Segment
+made_in c z mode = segment_of_all (Some c.offset) (Some (size_in c)) (Some c.iv_tweak) z mode
+
 module _ (c : LuksrdVolume) (v : OpenVolume) (stored : Stores c v) where
   pub stored_sector : sector_size_in c.sector_size ≡ Some v.segment.sector_size
   stored_sector = ap sector_size_in stored.sector_size ∙ size_again v.segment.sector_size
@@ -104,14 +108,10 @@ module _ (c : LuksrdVolume) (v : OpenVolume) (stored : Stores c v) where
       by None has is = rw has refl
       by (Some size) has is = rw (has, is) refl
 
-  -- the segment of these fields, in this sector size and mode
-  abbrev made_in : Option SectorSize → Option Mode → Option Segment
-  made_in z mode = segment_of_all (Some c.offset) (Some (size_in c)) (Some c.iv_tweak) z mode
-
-  made_again : segment_in c ≡ made_in (Some v.segment.sector_size) (Some v.segment.mode)
+  made_again : segment_in c ≡ made_in c (Some v.segment.sector_size) (Some v.segment.mode)
   unfolding segment_from
   made_again =
-      ap (λ z. made_in z (mode_in c.mode)) stored_sector ∙ ap (made_in (Some v.segment.sector_size)) stored_mode
+      ap (λ z. made_in c z (mode_in c.mode)) stored_sector ∙ ap (made_in c (Some v.segment.sector_size)) stored_mode
 
   pub stored_segment : (s : Segment) → segment_in c ≡ Some s
       → IsOf c.offset (size_in c) c.iv_tweak v.segment.sector_size v.segment.mode s
