@@ -1,5 +1,5 @@
 /*
- * luksrd.h: any part of the plain text of a LUKS1 or LUKS2 volume, from C.
+ * luksrd.h: any part of the plaintext of a LUKS1 or LUKS2 volume, from C.
  *
  * A volume is opened from the first bytes of its image, or of its detached header. After that the
  * caller reads whole sectors of the payload, from byte `offset` of the image on, and decrypts them
@@ -27,13 +27,13 @@ extern "C" {
 #endif
 
 /* The first bytes of an image or of a detached header that decide all of opening: with them the
- * outcome is the same as with all its bytes. Of a shorter one, all its bytes do. */
+ * outcome is the same as with all its bytes. A shorter one is passed whole. */
 #define LUKSRD_HEADER_BYTES 33554432
 
 /* The longest passphrase in bytes, which is also that of a key file. */
 #define LUKSRD_PASSPHRASE_BYTES 8388608
 
-/* What a function answers. Those on opening are refusals of `luksrd luksCat`. */
+/* What a function returns. The codes 1 to 11 are refusals of `luksrd luksCat`. */
 enum luksrd_code {
   LUKSRD_OK = 0,
   LUKSRD_NOT_LUKS = 1,        /* the image has no LUKS header */
@@ -55,8 +55,8 @@ enum luksrd_code {
 
   /* a call that no caller should make */
   LUKSRD_BAD_OPTIONS = 15, /* a key slot number above 31 */
-  LUKSRD_BAD_VOLUME = 16,  /* a volume that luksrd_open did not fill */
-  LUKSRD_BAD_RANGE = 17    /* no whole sectors, or sector numbers above 2^64 - 1 */
+  LUKSRD_BAD_VOLUME = 16,  /* a struct that holds no open volume */
+  LUKSRD_BAD_RANGE = 17    /* no whole sectors, or sector numbers that are too large */
 };
 
 /* How a volume is opened. All zero: an attached header, every key slot, no limit. */
@@ -90,10 +90,10 @@ struct luksrd_volume {
   uint8_t key[64];      /* the volume key; the bytes past key_size are 0 */
 };
 
-/* What luksrd says: the exit status of `luksrd luksCat`, and the line that it prints on standard
+/* A message: the exit status of `luksrd luksCat`, and the line that it prints on standard
  * error, without its newline. The text is not ended by a zero byte: print it by "%.*s". */
 struct luksrd_message {
-  uint32_t status;    /* 0: all is well; 1: refused; 2: no key; 3: no memory; 4: the image is not as
+  uint32_t status;    /* 0: success; 1: refused; 2: no key; 3: no memory; 4: the image is not as
                        * it has to be */
   uint32_t len;       /* how many bytes the text has, at most 1016; 0 if the status is 0 */
   uint8_t text[1016]; /* it; the bytes past `len` are 0 */
@@ -105,36 +105,51 @@ struct luksrd_message {
  * first LUKSRD_HEADER_BYTES of it, or all of it if it is shorter. The passphrase is taken as it is,
  * a newline at its end too.
  *
- * Answers LUKSRD_OK, the volume is filled and the message is empty; or a refusal's code, the volume
- * is all zero and the message is luksrd's own. Time is that of PBKDF2, which the header decides:
- * seconds and more, if it asks for many iterations and no limit is given. */
+ * Returns LUKSRD_OK: the volume is filled and the message is empty. Or returns, with a volume that
+ * is all zero:
+ *   - LUKSRD_BAD_OPTIONS, exactly if has_key_slot is not 0 and key_slot is above 31. The message is
+ *     that of luksrd_status_text;
+ *   - a code from 1 to 11, with the message of `luksrd luksCat`.
+ * Time is that of PBKDF2, which the header decides: seconds and more, if it has many iterations and
+ * no limit is given. */
 uint32_t luksrd_open(const uint8_t *header, size_t header_len, const uint8_t *passphrase,
                      size_t passphrase_len, const struct luksrd_options *options,
                      struct luksrd_volume *volume, struct luksrd_message *message);
 
-/* How many bytes of plain text a volume has whose payload's image has `image_len` bytes: its whole
- * sectors, a multiple of the sector size. 0 if luksrd_open did not fill the volume. */
+/* How many bytes of plaintext a volume has whose payload's image has `image_len` bytes: its whole
+ * sectors, a multiple of the sector size. 0 if `sector_size` is none of its four values, as in a
+ * struct that luksrd_open has set to zero. */
 uint64_t luksrd_len(const struct luksrd_volume *volume, uint64_t image_len);
 
 /* How the payload ends in an image of `image_len` bytes.
  *
- * Answers LUKSRD_OK, with 0 in `bytes`, if it is whole; LUKSRD_ENDS_BEFORE_PAYLOAD, with 0;
+ * Returns LUKSRD_OK, with 0 in `bytes`, if it is whole; LUKSRD_ENDS_BEFORE_PAYLOAD, with 0;
  * LUKSRD_ENDS_INSIDE_SECTOR, with how many bytes of that sector there are; or
  * LUKSRD_ENDS_BEFORE_SEGMENT, with how many bytes of the payload are missing. The message is
- * that with which `luksrd luksCat` ends. LUKSRD_BAD_VOLUME if luksrd_open did not fill the volume. */
+ * that with which `luksrd luksCat` ends.
+ *
+ * Returns LUKSRD_BAD_VOLUME, with 0 in `bytes` and the message of luksrd_status_text, exactly if
+ * `sector_size` is none of its four values, as in a struct that luksrd_open has set to zero. */
 uint32_t luksrd_ending(const struct luksrd_volume *volume, uint64_t image_len, uint64_t *bytes,
                        struct luksrd_message *message);
 
 /* Decrypts whole sectors in place, the first of which is sector `first_sector` of the payload.
  *
- * `len` is a multiple of the sector size. The bytes are those of the image from byte
- * `offset + first_sector * sector_size` on: a caller that read fewer must not pass the others.
- * Answers LUKSRD_OK; or LUKSRD_BAD_RANGE or LUKSRD_BAD_VOLUME, and the bytes are as they were. */
+ * The bytes are those of the image from byte `offset + first_sector * sector_size` on: a caller
+ * that read fewer must not pass the others.
+ *
+ * Returns LUKSRD_OK. Or returns, with the bytes as they were:
+ *   - LUKSRD_BAD_VOLUME, if `sector_size` or `mode` is none of its values, `has_size` is 1 and
+ *     `size` is no multiple of the sector size, or `key_size` is no key length of the mode: 32 or
+ *     64 for XTS, 16 or 32 for CBC. A struct that luksrd_open has filled is never refused;
+ *   - otherwise LUKSRD_BAD_RANGE, if `len` is no multiple of the sector size, or
+ *     `first_sector + len / sector_size` is above 2^64 - 1. */
 uint32_t luksrd_decrypt(const struct luksrd_volume *volume, uint64_t first_sector, uint8_t *bytes,
                         size_t len);
 
 /* The status and the sentence of a code alone, without slot numbers, reasons and counts of bytes.
- * Of a number that is no code: status 1 and "luksrd: no such code". */
+ * LUKSRD_OK has status 0 and an empty sentence. A number that is no code has status 1 and the
+ * sentence "luksrd: no such code". */
 void luksrd_status_text(uint32_t code, struct luksrd_message *message);
 
 /* The version of this library: major * 65536 + minor * 256 + patch. */

@@ -94,69 +94,69 @@ refused_by options o image pass message a b has comes = record {
       ∙ comes on_opened;
 }
 
-module _ (options : Options) (o : OpeningRequest) (image pass : List ℕ) (i : Option (List ℕ)) (has : HasOptions o options)
-  where
-    -- there is no volume
-    pub refused_unfound : (message : Message) → breaks_off message ≡ false
-        → AbortsFinding (reading_of options.standing) o image i message → Refuses options image pass message
-    refused_unfound OutOfMemory never stop = cc
-    refused_unfound ReadFailed never stop = cc
-    refused_unfound WriteFailed never stop = cc
-    refused_unfound message never stop =
-        refused_by options o image pass message (header_read_len image) 0 has
-        (λ on_opened. outcome_is options.standing o image pass on_opened (Err message) stop.0)
+module _ (options : Options) (o : OpeningRequest) (image pass : List ℕ) (i : Option (List ℕ))
+    (has : HasOptions o options) where
+  -- there is no volume
+  pub refused_unfound : (message : Message) → breaks_off message ≡ false
+      → AbortsFinding (reading_of options.standing) o image i message → Refuses options image pass message
+  refused_unfound OutOfMemory never stop = cc
+  refused_unfound ReadFailed never stop = cc
+  refused_unfound WriteFailed never stop = cc
+  refused_unfound message never stop =
+      refused_by options o image pass message (header_read_len image) 0 has
+      (λ on_opened. outcome_is options.standing o image pass on_opened (Err message) stop.0)
 
-    module _ (header : Header) (segment : Segment) (tries : OrderModel) (found : reading_of options.standing image ≡ Ok header)
-        (is_segment : segment_of header ≡ Ok segment)
-        (ordered : order_of header o.key_slot o.max_iterations ≡ Ok tries) (area area' : List ℕ)
-        (front : area ≡ take (header_read_len image) image) where
-      -- the key slots were tried, and none of them opens
-      refused_slots : (short : length pass ≤ longest_key_file) (message : Message) → breaks_off message ≡ false
-          → TriesSlots o.key_slot tries pass area area' (drop (header_read_len image) image) i (Err message)
-          → Refuses options image pass message
-      refused_slots short message never (inl (LostRead, is, lost)) = cc
-      refused_slots short message never (inl (NoMemory, is, lost)) = cc
-      refused_slots short message never (inl (NoLuks, is, lost)) = absurd lost
-      refused_slots short message never (inl (IsCut, is, lost)) = absurd lost
-      refused_slots short message never (inl (NoJson, is, lost)) = absurd lost
-      refused_slots short message never (inr (grows, inl (is, few))) =
-          let v = volume_with header segment tries in
-          let cut = area_cut image area area' i (key_areas_end tries.slots) front grows few in
-          rw is (refused_by options o image pass _ (length image) (length pass) has
-          (λ on_opened. found_is options.standing o image pass header segment tries found is_segment ordered on_opened
-          ∙ found_cut on_opened o.key_slot v image pass short cut.0))
-      refused_slots short message never (inr (grows, inr (fault, is, enough, tried))) =
-          let v = volume_with header segment tries in
-          rw is (refused_by options o image pass _ (held_for image v) (length pass) has
-          (λ on_opened. tried_is options.standing o image pass header segment tries found is_segment ordered short area
-          area' i front grows enough (Err fault) tried on_opened))
+  module _ (header : Header) (segment : Segment) (tries : OrderModel)
+      (found : reading_of options.standing image ≡ Ok header) (is_segment : segment_of header ≡ Ok segment)
+      (ordered : order_of header o.key_slot o.max_iterations ≡ Ok tries) (area area' : List ℕ)
+      (front : area ≡ take (header_read_len image) image) where
+    -- the key slots were tried, and none of them opens
+    refused_slots : (short : length pass ≤ longest_key_file) (message : Message) → breaks_off message ≡ false
+        → TriesSlots o.key_slot tries pass area area' (drop (header_read_len image) image) i (Err message)
+        → Refuses options image pass message
+    refused_slots short message never (inl (LostRead, is, lost)) = cc
+    refused_slots short message never (inl (NoMemory, is, lost)) = cc
+    refused_slots short message never (inl (NoLuks, is, lost)) = absurd lost
+    refused_slots short message never (inl (IsCut, is, lost)) = absurd lost
+    refused_slots short message never (inl (NoJson, is, lost)) = absurd lost
+    refused_slots short message never (inr (grows, inl (is, few))) =
+        let v = volume_with header segment tries in
+        let cut = area_cut image area area' i (key_areas_end tries.slots) front grows few in
+        rw is (refused_by options o image pass _ (length image) (length pass) has
+        (λ on_opened. found_is options.standing o image pass header segment tries found is_segment ordered on_opened
+        ∙ found_cut on_opened o.key_slot v image pass short cut.0))
+    refused_slots short message never (inr (grows, inr (fault, is, enough, tried))) =
+        let v = volume_with header segment tries in
+        rw is (refused_by options o image pass _ (held_for image v) (length pass) has
+        (λ on_opened. tried_is options.standing o image pass header segment tries found is_segment ordered short area
+        area' i front grows enough (Err fault) tried on_opened))
 
-      -- the volume was not opened
-      pub refused_unopened : (message : Message) → breaks_off message ≡ false
-          → Unlocks o.key_slot tries pass area area' (drop (header_read_len image) image) i (Err message)
-          → Refuses options image pass message
-      refused_unopened message never (inl (short, tried)) = refused_slots short message never tried
-      refused_unopened message never (inr (long, is)) =
-          let v = volume_with header segment tries in
-          let same : message ≡ KeyFileLength = cc in
-          rw same (refused_by options o image pass KeyFileLength (header_read_len image) _ has
-          (λ on_opened. found_is options.standing o image pass header segment tries found is_segment ordered on_opened
-          ∙ found_long on_opened o.key_slot v image pass long))
+    -- the volume was not opened
+    pub refused_unopened : (message : Message) → breaks_off message ≡ false
+        → Unlocks o.key_slot tries pass area area' (drop (header_read_len image) image) i (Err message)
+        → Refuses options image pass message
+    refused_unopened message never (inl (short, tried)) = refused_slots short message never tried
+    refused_unopened message never (inr (long, is)) =
+        let v = volume_with header segment tries in
+        let same : message ≡ KeyFileLength = cc in
+        rw same (refused_by options o image pass KeyFileLength (header_read_len image) _ has
+        (λ on_opened. found_is options.standing o image pass header segment tries found is_segment ordered on_opened
+        ∙ found_long on_opened o.key_slot v image pass long))
 
-      -- the volume was opened
-      pub opened_by : (opened : Opened)
-          → Unlocks o.key_slot tries pass area area' (drop (header_read_len image) image) i (Ok opened)
-          → Opens options image pass (record { segment = segment; slot = opened.slot; key = opened.key })
-      opened_by opened (inl (short, (grows, enough, tried))) =
-          let v = volume_with header segment tries in
-          record {
-            held = held_for image v;
-            outcome = λ p of_p on_opened.
-                same_options options p o of_p has (reading_of options.standing) on_opened image pass
-                ∙ tried_is options.standing o image pass header segment tries found is_segment ordered short area area'
-                i front grows enough (Ok opened) tried on_opened;
-          }
-      opened_by opened (inr (long, is)) = cc
+    -- the volume was opened
+    pub opened_by : (opened : Opened)
+        → Unlocks o.key_slot tries pass area area' (drop (header_read_len image) image) i (Ok opened)
+        → Opens options image pass (record { segment = segment; slot = opened.slot; key = opened.key })
+    opened_by opened (inl (short, (grows, enough, tried))) =
+        let v = volume_with header segment tries in
+        record {
+          held = held_for image v;
+          outcome = λ p of_p on_opened.
+              same_options options p o of_p has (reading_of options.standing) on_opened image pass
+              ∙ tried_is options.standing o image pass header segment tries found is_segment ordered short area area'
+              i front grows enough (Ok opened) tried on_opened;
+        }
+    opened_by opened (inr (long, is)) = cc
 
 -- ---- what an open volume means
 

@@ -13,8 +13,8 @@ use Rattle.luks_header.specs.SectorSize.{bytes_of}
 use Rattle.luks_verdict.specs.declared.sector_size.SectorSize.{SectorSize}
 use Rattle.luks_verdict.specs.declared.sector_size.SectorSize.TheVariants.{B512, B1024, B2048, B4096}
 use Rattle.luks_verdict.specs.declared.segment.Segment.{Segment}
-use Rattle.luks_payload.specs.Plain.{payload_len, plain_of, sector_len, sector_plaintext, sector_start, sectors_of, unit_plain}
-use Rattle.luks_payload.specs.Plain.{unit_number, within_size}
+use Rattle.luks_payload.specs.Plain.{payload_len, plain_of, sector_len, sector_plaintext, sector_start, sectors_of}
+use Rattle.luks_payload.specs.Plain.{unit_number, unit_plain, within_size}
 use Rattle.luks_access.specs.Sectors.{AreStored, plain_at, plain_in, sector_in}
 
 pub record IsSectorLen (z : ℕ) : Type 0 where
@@ -143,7 +143,8 @@ module _ (s : Segment) (cipher : Cipher) (first : ℕ) (stored : List ℕ) where
       → now ≡ joined (sector_in s cipher first stored) j ++ drop (j * size) stored
       → now ≡ plain_in s cipher first stored
   all_decrypted now size count j is_size is_count whole is_last is_now =
-      let nothing : drop (j * size) stored ≡ [] = drop_all (j * size) stored (covers size count j (length stored) is_count whole is_last) in
+      let nothing : drop (j * size) stored ≡ [] =
+      drop_all (j * size) stored (covers size count j (length stored) is_count whole is_last) in
       is_now ∙ rw (nothing, append-nil, is_last, is_count, is_size) refl
     where
       covers : (size count j len : ℕ) → count ≡ len / size → len % size ≡ 0 → j ≡ count → len ≤ j * size
@@ -182,7 +183,8 @@ module _ (s : Segment) (cipher : Cipher) (image : List ℕ) where
   same_sector first stored n j len is low =
       let z = sector_len s in
       let inside : (j + 1) * sector_len s ≤ n * sector_len s = mul-le-mul_right (sector_len s) (omega arith) in
-      let room : j * sector_len s + sector_len s ≤ length stored = room_of j (sector_len s) n (length stored) len inside in
+      let room : j * sector_len s + sector_len s ≤ length stored =
+      room_of j (sector_len s) n (length stored) len inside in
       let m = length stored - j * sector_len s in
       let split : length stored ≡ j * sector_len s + m = omega (arith, room) in
       let here : drop (j * sector_len s) stored ≡ take m (drop (j * sector_len s) (drop (sector_start s first) image)) =
@@ -210,7 +212,8 @@ module _ (s : Segment) (cipher : Cipher) (image : List ℕ) where
       let len : length stored ≡ n * sector_len s = exactly (length stored) (sector_len s) whole in
       sym (joined_same (λ j. sector_plaintext s cipher image (first + j)) (sector_in s cipher first stored) n
       (λ j low. same_sector first stored n j len are.there low))
-      ∙ (sym (joined_part (sector_plaintext s cipher image) (sector_len s) first n (sectors_of s image) len_of are.within)
+      ∙ (sym
+      (joined_part (sector_plaintext s cipher image) (sector_len s) first n (sectors_of s image) len_of are.within)
       ∙ ap (λ k. take k (drop (first * sector_len s) (plain_of s cipher image))) (sym len))
     where
       exactly : (len z : ℕ) → len % z ≡ 0 → len ≡ len / z * z

@@ -1,6 +1,7 @@
--- Ranges of a plain text, from those of its sectors.
+-- Ranges of a plaintext, from those of its sectors.
 use Rattle.std.proofs.Common.{◌≡◌, ℕ, ◌+◌, ◌-◌, ◌*◌, ◌/◌, ◌%◌, ◌<◌, ◌≤◌, ◌^◌, List, ◌++◌, length, take, drop}
-use Rattle.std.proofs.Common.{[], append-nil, inl, inr, length-append, length-drop, Option, None, Some, Result, Ok, Err, arith, sym, ap, ◌∙◌}
+use Rattle.std.proofs.Common.{[], append-nil, inl, inr, length-append, length-drop, Option, None, Some, Result, Ok, Err}
+use Rattle.std.proofs.Common.{arith, sym, ap, ◌∙◌, Bool, true}
 use Rattle.std.specs.Prelude.{OnOk}
 use Rattle.std.proofs.lemmas.Bool.{cases_lt}
 use Rattle.std.proofs.lemmas.List.{drop-drop, drop-take, drop_all, take-take}
@@ -151,15 +152,17 @@ image_reaches s known len offset n all inside some short = omega (arith, text_wi
 -- ---- parts that were read
 
 -- the first part of a range was read, and then the rest, or that failed
-pub joins : (s : Segment) (cipher : Cipher) (len : ℕ) (image : Option (List ℕ)) (offset : ℕ) (a b : List ℕ)
-    (result : Result (Unit {0}) RangeFault) → ReadsRange s cipher len image offset (Ok tt) a
-    → ReadsRange s cipher len image (offset + length a) result b
-    → ReadsRange s cipher len image offset result (a ++ b)
-joins s cipher len image offset a b (Ok _) first second =
-    λ known there all. range_joined (plain_of s cipher known) a b offset (first known there all) (second known there all)
-joins s cipher len image offset a b (Err PastEnd) first second = second
-joins s cipher len image offset a b (Err Read) first second = second
-joins s cipher len image offset a b (Err Shorter) first second = second
+pub joins : (s : Segment) (cipher : Cipher) (len : ℕ) (image : Option (List ℕ)) (fails : Bool) (offset : ℕ)
+    (a b : List ℕ)
+    (result : Result (Unit {0}) RangeFault) → ReadsRange s cipher len image fails offset (Ok tt) a
+    → ReadsRange s cipher len image fails (offset + length a) result b
+    → ReadsRange s cipher len image fails offset result (a ++ b)
+joins s cipher len image fails offset a b (Ok _) first second =
+    λ known there all.
+    range_joined (plain_of s cipher known) a b offset (first known there all) (second known there all)
+joins s cipher len image fails offset a b (Err PastEnd) first second = second
+joins s cipher len image fails offset a b (Err Read) first second = second
+joins s cipher len image fails offset a b (Err Shorter) first second = second
 
 -- a list whose first n elements are these, with others in place of those behind them
 two_parts : (a rest b : List ℕ) (n : ℕ) → length a ≡ n
@@ -171,14 +174,15 @@ two_parts a rest b n long =
     ∙ ap (λ l. a ++ l) (ap (λ l. b ++ l) none ∙ append-nil b)
 
 -- the first n bytes of a buffer were read, and then the rest of it, or that failed
-pub reads_rest : (s : Segment) (cipher : Cipher) (len : ℕ) (image : Option (List ℕ)) (offset n : ℕ) (a rest b : List ℕ)
-    (result : Result (Unit {0}) RangeFault) → length a ≡ n → ReadsRange s cipher len image offset (Ok tt) a
-    → ReadsRange s cipher len image (offset + n) result b
-    → ReadsRange s cipher len image offset result
+pub reads_rest : (s : Segment) (cipher : Cipher) (len : ℕ) (image : Option (List ℕ)) (fails : Bool) (offset n : ℕ)
+    (a rest b : List ℕ)
+    (result : Result (Unit {0}) RangeFault) → length a ≡ n → ReadsRange s cipher len image fails offset (Ok tt) a
+    → ReadsRange s cipher len image fails (offset + n) result b
+    → ReadsRange s cipher len image fails offset result
     (take n (a ++ rest) ++ (b ++ drop (length (a ++ rest) - n) (drop n (a ++ rest))))
-reads_rest s cipher len image offset n a rest b result long first second =
-    let behind : ReadsRange s cipher len image (offset + length a) result b = rw long second in
-    rw (two_parts a rest b n long) (joins s cipher len image offset a b result first behind)
+reads_rest s cipher len image fails offset n a rest b result long first second =
+    let behind : ReadsRange s cipher len image fails (offset + length a) result b = rw long second in
+    rw (two_parts a rest b n long) (joins s cipher len image fails offset a b result first behind)
 
 -- a part of a sector that was read whole
 pub part_read : (text unit bytes : List ℕ) (offset skip n : ℕ) → IsRangeOf text (offset - skip) unit → skip ≤ offset
@@ -197,20 +201,27 @@ text_is_long s cipher image image_len len long is =
     is ∙ (ap (λ n. within_size s.size (n - s.offset) / sector_len s * sector_len s) (sym long)
     ∙ sym (plain_len s image cipher))
 
--- what was read of a range where the length is that of the text
-module _ (s : Segment) (cipher : Cipher) (len : ℕ) (image : Option (List ℕ)) (offset : ℕ) (bytes : List ℕ)
-    (long : (known : List ℕ) → image ≡ Some known → len ≡ length (plain_of s cipher known)) where
+-- what was read of a range, if the length is that of the text
+module _ (s : Segment) (cipher : Cipher) (len : ℕ) (image : Option (List ℕ)) (fails : Bool) (offset : ℕ)
+    (bytes : List ℕ) (long : (known : List ℕ) → image ≡ Some known → len ≡ length (plain_of s cipher known)) where
   all_of : (known : List ℕ) → image ≡ Some known → text_len s known ≡ len
   all_of known is = sym (long known is ∙ plain_len s known cipher)
 
-  pub range_read : (result : Result (Unit {0}) RangeFault) → ReadsRange s cipher len image offset result bytes
+  pub range_read : (result : Result (Unit {0}) RangeFault) → ReadsRange s cipher len image fails offset result bytes
       → OnOk result (IfKnown image (λ known. IsRangeOf (plain_of s cipher known) offset bytes))
   range_read (Ok _) reads = λ known is. reads known is (all_of known is)
   range_read (Err _) reads = tt
 
-  pub never_shorter : (result : Result (Unit {0}) RangeFault) → ReadsRange s cipher len image offset result bytes
+  pub never_shorter : (result : Result (Unit {0}) RangeFault) → ReadsRange s cipher len image fails offset result bytes
       → IfKnown image (λ known. result ≡ Err Shorter → ⊥)
   never_shorter (Ok _) reads = λ known is wrong. cc
   never_shorter (Err PastEnd) reads = absurd reads
   never_shorter (Err Read) reads = λ known is wrong. cc
   never_shorter (Err Shorter) reads = λ known is wrong. reads known is (all_of known is)
+
+  pub read_fails : (result : Result (Unit {0}) RangeFault) → ReadsRange s cipher len image fails offset result bytes
+      → result ≡ Err Read → fails ≡ true
+  read_fails (Ok _) reads is = cc
+  read_fails (Err PastEnd) reads is = absurd reads
+  read_fails (Err Read) reads is = reads
+  read_fails (Err Shorter) reads is = cc

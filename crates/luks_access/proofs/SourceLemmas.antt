@@ -1,6 +1,6 @@
 -- A source over an image gives the image's bytes.
-use Rattle.std.proofs.Common.{◌≡◌, ◌∙◌, ℕ, ◌+◌, ◌-◌, ◌<◌, ◌≤◌, List, ◌++◌, Option, None, Some, Result, Ok, Err, length, take, drop, min}
-use Rattle.std.proofs.Common.{arith, ap, sym, refl}
+use Rattle.std.proofs.Common.{◌≡◌, ◌∙◌, ℕ, ◌+◌, ◌-◌, ◌<◌, ◌≤◌, List, ◌++◌, Option, None, Some, Result, Ok, Err}
+use Rattle.std.proofs.Common.{length, take, drop, min, arith, ap, sym, refl}
 use Rattle.std.proofs.lemmas.List.{drop-drop, drop_all, take-append-drop}
 use Rattle.std.specs.Prelude.{IfErr, IfOk}
 use Rattle.std.specs.Io.KnownBytes.{Consumes, IsAtEnd}
@@ -22,7 +22,7 @@ gives_part (Some known) place count buf rest long bytes =
     ∙ ap (λ l. take count (drop place known) ++ l) (sym later)
     ∙ take-append-drop count (drop place known))
 
--- where none were, none are left
+-- if there were none, none are left
 pub none_left : (image : Option (List ℕ)) (place count asked len : ℕ)
     → IfKnown image (λ known. len ≡ length known) → count ≡ min (len - place) asked → count ≡ 0 → 0 < asked
     → IsAtEnd (behind (place + count) image)
@@ -34,7 +34,7 @@ none_left (Some known) place count asked len is fits none some =
 pub behind_none : (image : Option (List ℕ)) (known : List ℕ) → image ≡ Some known → behind 0 image ≡ Some known
 behind_none image known is = rw is refl
 
--- what holds where the source knows its bytes holds where the image does
+-- what holds if the source knows its bytes holds if the image does
 pub known_ok : {V M : Type 0} (r : Result V M) (Holds : V → List ℕ → Type 0) (image come : Option (List ℕ))
     → come ≡ behind 0 image → IfOk r (λ v. IfKnown come (Holds v)) → IfOk r (λ v. IfKnown image (Holds v))
 known_ok (Ok v) Holds image come is holds = λ known there. holds known (is ∙ behind_none image known there)

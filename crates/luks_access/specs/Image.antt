@@ -1,12 +1,12 @@
 -- Parts of a list of bytes.
 use Rattle.std.specs.Prelude.{ℕ, ◌≡◌, ◌+◌, ◌≤◌, List, drop, length, take, Option, Some, None}
 
--- these bytes are in the list from this offset on
+-- the list has these bytes from this offset on
 pub record IsAt (known : List ℕ) (offset : ℕ) (bytes : List ℕ) : Type 0 where
   pub within : offset + length bytes ≤ length known
   pub same : bytes ≡ take (length bytes) (drop offset known)
 
--- the bytes from this offset on, if any are known
+-- the bytes from this offset on, if they are known
 abbrev pub behind : ℕ → Option (List ℕ) → Option (List ℕ)
 behind offset (Some known) = Some (drop offset known)
 behind offset None = None

@@ -18,7 +18,7 @@ use Rattle.luks_payload.specs.Plain.{ending_of, plain_of}
 use Rattle.luks_payload.specs.declared.state.Step.TheVariants.{End}
 use Rattle.luks_access.specs.declared.options.Options.{Options}
 
--- a volume that is open: where its payload lies, the key slot that opened, and the volume key
+-- a volume that is open: its segment, the key slot that opened, and the volume key
 pub record OpenVolume : Type 0 where
   pub segment : Segment
   pub slot : ℕ
@@ -28,24 +28,24 @@ pub record OpenVolume : Type 0 where
 abbrev pub cipher_of : OpenVolume → Cipher
 cipher_of v = (v.segment.mode, v.key)
 
--- its plain text in this image of its payload
+-- its plaintext in this image of its payload
 abbrev pub text_of : OpenVolume → List ℕ → List ℕ
 text_of v image = plain_of v.segment (cipher_of v) image
 
--- `luksCat` is asked with these options, whatever its files are called
+-- a request of `luksCat` with these options, whatever its files are called
 abbrev pub HasOptions : OpeningRequest → Options → Type 0
 HasOptions o options = (o.key_slot ≡ option_map (λ slot. slot.number) options.key_slot)
     × (o.max_iterations ≡ option_map (λ limit. limit.iterations) options.max_iterations)
 
--- each command that opens a volume, with these options, this header or image that it is in front of, and this
--- passphrase, opens this one
+-- each command that opens a volume opens this one, with these options and this passphrase, from this image or detached
+-- header
 pub record Opens (options : Options) (header pass : List ℕ) (v : OpenVolume) : Type 0 where
   pub held : ℕ
   pub outcome : (o : OpeningRequest) → HasOptions o options → (on_opened : OnOpened)
       → volume_outcome_by (reading_of options.standing) on_opened o header pass
       ≡ on_opened v.segment (record { slot = v.slot; key = v.key }) held
 
--- each such command is refused with this message, or it was memory or a read that failed here
+-- each such command ends with this message and no output
 pub record Refuses (options : Options) (header pass : List ℕ) (message : Message) : Type 0 where
   pub header_taken : ℕ
   pub secret_taken : ℕ
@@ -53,18 +53,18 @@ pub record Refuses (options : Options) (header pass : List ℕ) (message : Messa
       → volume_outcome_by (reading_of options.standing) on_opened o header pass
       ≡ no_output message header_taken secret_taken
 
--- the image of the payload: the one that the header is in front of, or another
+-- the image of the payload: the one that the header is attached to, or another
 abbrev pub payload_image_of : Standing → List ℕ → List ℕ → List ℕ
 payload_image_of Attached header image = header
 payload_image_of Detached header image = image
 
--- what `luksCat` comes to, with its header in front of the payload or in a file of its own beside this image
+-- the outcome of `luksCat`, with an attached header, or with a detached one beside this image
 abbrev pub cat_outcome_of : Standing → OpeningRequest → List ℕ → List ℕ → List ℕ → Outcome
 cat_outcome_of Attached o header image pass = volume_outcome (payload_outcome header pass) o header pass
 cat_outcome_of Detached o header image pass =
     volume_outcome_by detached_header_of (detached_payload_outcome image pass) o header pass
 
--- `luksCat` writes the volume's plain text, and ends as the payload does
+-- `luksCat` writes the volume's plaintext, and ends as the payload does
 abbrev pub IsCatOf : Options → List ℕ → List ℕ → OpenVolume → Type 0
 IsCatOf options header pass v =
     (o : OpeningRequest) (image : List ℕ) → HasOptions o options
@@ -73,13 +73,13 @@ IsCatOf options header pass v =
     × ((cat_outcome_of options.standing o header image pass).message
     ≡ message_at_end (ending_of v.segment (payload_image_of options.standing header image)))
 
--- of an honestly sealed volume the plain text is the one that was sealed, and it is whole
+-- the plaintext of an honestly sealed volume is the one that was sealed, and it is whole
 abbrev pub IsPlainOf : Options → List ℕ → List ℕ → OpenVolume → Type 0
 IsPlainOf options image pass v =
     (o : OpeningRequest) (plain : List ℕ) → options.standing ≡ Attached → HasOptions o options
     → IsHonest o image pass plain → (text_of v image ≡ plain) × (ending_of v.segment image ≡ Ok End)
 
--- and it is refused only if memory or a read failed
+-- and such a volume is refused only if memory or a read failed
 abbrev pub IsOnlyAborted : Options → List ℕ → List ℕ → Message → Type 0
 IsOnlyAborted options image pass message =
     (o : OpeningRequest) (plain : List ℕ) → options.standing ≡ Attached → HasOptions o options

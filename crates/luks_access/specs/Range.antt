@@ -1,5 +1,5 @@
--- Ranges of a plain text.
-use Rattle.std.specs.Prelude.{ℕ, ◌≡◌, ◌*◌, List, drop, length, take, Option, Result, Ok, Err}
+-- Ranges of a plaintext.
+use Rattle.std.specs.Prelude.{ℕ, ◌≡◌, ◌*◌, Bool, true, List, drop, length, take, Option, Result, Ok, Err}
 use Rattle.luks_cipher.specs.Sector.{Cipher}
 use Rattle.luks_io.specs.Bytes.{IfKnown}
 use Rattle.luks_verdict.specs.declared.segment.Segment.{Segment}
@@ -9,24 +9,25 @@ use Rattle.luks_access.specs.declared.fault.RangeFault.TheVariants.{PastEnd, Rea
 use Rattle.luks_access.specs.declared.image.ReadAtFault.{ReadAtFault}
 use Rattle.luks_access.specs.declared.image.ReadAtFault.TheVariants.{Failed, Ended}
 
--- a read of the image has failed so
+-- the fault of a range, after this fault of a read
 abbrev pub range_fault : ReadAtFault → RangeFault
 range_fault Failed = Read
 range_fault Ended = Shorter
 
--- these bytes are those of a text from this offset on, as many as they are
+-- the text has these bytes from this offset on
 abbrev pub IsRangeOf : List ℕ → ℕ → List ℕ → Type 0
 IsRangeOf text offset bytes = bytes ≡ take (length bytes) (drop offset text)
 
--- how long the plain text of an image is: all whole sectors of the payload
+-- the length of an image's plaintext: all whole sectors of the payload
 abbrev pub text_len : Segment → List ℕ → ℕ
 text_len s image = sectors_of s image * sector_len s
 
--- a range within a plain text of `len` bytes was read: it is that of the text, or a read failed. An image that knows
--- its bytes, and has that text, does not end before the range does
-abbrev pub ReadsRange : Segment → Cipher → ℕ → Option (List ℕ) → ℕ → Result (Unit {0}) RangeFault → List ℕ → Type 0
-ReadsRange s cipher len image offset (Ok _) bytes =
+-- a range within a plaintext of `len` bytes was read: it is that of the text, or a read failed that may fail. An image
+-- that knows its bytes, and has a plaintext of that length, does not end before the range does
+abbrev pub ReadsRange : Segment → Cipher → ℕ → Option (List ℕ) → Bool → ℕ → Result (Unit {0}) RangeFault → List ℕ
+    → Type 0
+ReadsRange s cipher len image fails offset (Ok _) bytes =
     IfKnown image (λ known. text_len s known ≡ len → IsRangeOf (plain_of s cipher known) offset bytes)
-ReadsRange s cipher len image offset (Err PastEnd) bytes = ⊥
-ReadsRange s cipher len image offset (Err Read) bytes = Unit {0}
-ReadsRange s cipher len image offset (Err Shorter) bytes = IfKnown image (λ known. text_len s known ≡ len → ⊥)
+ReadsRange s cipher len image fails offset (Err PastEnd) bytes = ⊥
+ReadsRange s cipher len image fails offset (Err Read) bytes = fails ≡ true
+ReadsRange s cipher len image fails offset (Err Shorter) bytes = IfKnown image (λ known. text_len s known ≡ len → ⊥)

@@ -1,4 +1,4 @@
--- What trying the key slots leaves in the device, by a passphrase that may be too long.
+-- What trying the key slots leaves in the device, under a passphrase that may be too long.
 use Rattle.std.specs.Prelude.{◌≡◌, ◌⊎◌, ◌<◌, ◌≤◌, ℕ, List, length, Option, Some, Result, Err}
 use Rattle.luks_open.specs.Order.{OrderModel}
 use Rattle.luks_open.specs.declared.opening.Opened.{Opened}

@@ -1,15 +1,15 @@
-//! Why a range of plain text is not read.
+//! Why a range of plaintext is not read.
 
 use crate::image::ReadAtFault;
 
-/// Why a range of a volume's plain text is not read.
+/// Why a range of a volume's plaintext is not read.
 #[derive(Clone, Copy, PartialEq, Eq, Debug)]
 pub enum RangeFault {
-    /// The range ends past the plain text. Nothing was read.
+    /// The range ends past the plaintext. Nothing was read.
     PastEnd,
     /// A read of the image failed.
     Read,
-    /// The image ends before the range's last sector does: it has become shorter.
+    /// The image has become shorter: it ends before the last sector of the range does.
     Shorter,
 }
 

@@ -6,7 +6,7 @@ use std::io::{self, ErrorKind, Seek, SeekFrom};
 use std::os::unix::fs::FileExt;
 
 /// An image in a file or on a block device, with the length that it had when it was opened. No
-/// clause says which bytes it has.
+/// clause says which bytes it holds.
 #[derive(Drop)]
 pub struct FileImage {
     file: File,
@@ -14,7 +14,7 @@ pub struct FileImage {
 }
 
 impl FileImage {
-    /// The image in this file. It fails if the file's end cannot be sought, as that of a pipe.
+    /// The image in this file. A file that cannot be sought, such as a pipe, is refused.
     pub fn new(mut file: File) -> io::Result<FileImage> {
         let len = file.seek(SeekFrom::End(0))?;
         Ok(FileImage { file, len })
@@ -22,9 +22,11 @@ impl FileImage {
 }
 
 impl ReadAt for FileImage {
-    ghost use Rattle.std.specs.Prelude.{None};
+    ghost use Rattle.std.specs.Prelude.{None, true};
 
     ghost image = { λ _. None };
+
+    ghost fails = { λ _. true };
 
     fn len(&self) -> u64 {
         self.len

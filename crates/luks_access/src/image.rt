@@ -1,6 +1,6 @@
 //! Images that are read at offsets.
 
-ghost use Rattle.std.specs.Prelude.{◌≡◌, ◌+◌, ◌<◌, List, ℕ, Option, Err, OnOk, length};
+ghost use Rattle.std.specs.Prelude.{◌≡◌, ◌+◌, ◌<◌, Bool, List, ℕ, Option, Err, OnOk, length, true};
 ghost use Rattle.luks_io.specs.Bytes.{IfKnown};
 ghost use Rattle.luks_access.specs.Image.{IsAt};
 
@@ -15,17 +15,22 @@ pub enum ReadAtFault {
 
 /// An image whose bytes can be read from any offset on.
 pub trait ReadAt {
-    /// Its bytes, where it knows them.
+    /// Its bytes, if it knows them.
     ghost image: { Self → Option (List ℕ) };
+
+    /// Whether a read of it may fail.
+    ghost fails: { Self → Bool };
 
     /// Its length in bytes.
     fn len(&self) -> u64
         ensures { IfKnown (image self.now) (λ known. result ≡ length known) };
 
-    /// Fills the buffer with the bytes from this offset on. After a fault the buffer holds anything.
+    /// Fills the buffer with the bytes from this offset on. After a fault the buffer may hold any
+    /// bytes.
     fn read_at(&self, offset: u64, buf: &mut [u8]) -> Result<(), ReadAtFault>
         ensures bytes { OnOk result (IfKnown (image self.now)
             (λ known. IsAt known offset buf.new)) }
+        ensures failed { result ≡ Err ReadAtFault.Failed → fails self.now ≡ true }
         ensures ended { result ≡ Err ReadAtFault.Ended → IfKnown (image self.now)
             (λ known. length known < offset + length buf.new) };
 }

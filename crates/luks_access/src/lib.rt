@@ -1,4 +1,4 @@
-//! Any part of a volume's plain text, from an image that is read at offsets.
+//! Any part of a volume's plaintext, from an image that is read at offsets.
 //!
 //! A [`Volume`](volume::Volume) is opened by a passphrase as `luksCat` opens it. Each range that it
 //! reads is that part of what `luksCat` writes.

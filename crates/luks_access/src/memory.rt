@@ -1,7 +1,7 @@
 //! Images in memory.
 
 ghost use Rattle.std.specs.Prelude.{◌≡◌, ◌+◌, ◌<◌, ◌≤◌, List, ℕ, Some, Err};
-ghost use Rattle.std.specs.Prelude.{IfErr, MatchOption, OnOk, length};
+ghost use Rattle.std.specs.Prelude.{IfErr, MatchOption, OnOk, false, length, true};
 ghost use Rattle.luks_io.specs.Bytes.{IfKnown};
 ghost use Rattle.luks_access.specs.Image.{IsAt};
 
@@ -31,7 +31,7 @@ impl<'a> MemImage<'a> {
     }
 }
 
-// Where so many bytes from this offset on begin and end, if there are so many.
+// The bounds of `count` bytes from this offset on, if there are so many.
 fn bounds(len: usize, offset: u64, count: usize) -> Option<(usize, usize)>
     ensures { MatchOption result (len < offset + count)
         (λ place. (place.0 ≡ offset) × (place.1 ≡ offset + count) × (offset + count ≤ len)) }
@@ -44,9 +44,11 @@ fn bounds(len: usize, offset: u64, count: usize) -> Option<(usize, usize)>
 }
 
 impl<'a> ReadAt for MemImage<'a> {
-    ghost use Rattle.std.specs.Prelude.{Some};
+    ghost use Rattle.std.specs.Prelude.{Some, false};
 
     ghost image = { λ image. Some image };
+
+    ghost fails = { λ _. false };
 
     fn len(&self) -> u64 {
         self.bytes.len() as u64
@@ -56,6 +58,7 @@ impl<'a> ReadAt for MemImage<'a> {
         ensures bytes { OnOk result (IfKnown (Some self.now) (λ known. IsAt known offset buf.new)) }
         ensures ended { result ≡ Err ReadAtFault.Ended → IfKnown (Some self.now)
             (λ known. length known < offset + length buf.new) }
+        ensures failed { result ≡ Err ReadAtFault.Failed → false ≡ true }
         ensures only { IfErr result (λ fault. fault ≡ ReadAtFault.Ended) }
     {
         let Some((start, end)) = bounds(self.bytes.len(), offset, buf.len()) else {

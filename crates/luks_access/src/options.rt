@@ -8,18 +8,18 @@ use luks_request::command::Opening;
 use luks_request::number::{IterationLimit, SlotNumber};
 use luks_runs::standing::Standing;
 
-/// How a volume is opened, as `luksCat` has it from its command line.
+/// How a volume is opened: what `luksCat` has from its command line.
 #[derive(Clone, Copy)]
 pub struct Options {
-    /// Whether the header is in front of the payload, or in an image of its own.
+    /// Whether the header is attached to the payload's image or detached.
     pub standing: Standing,
-    /// The one key slot to try. Without it all are tried that can be.
+    /// The one key slot to try. Without it, every key slot that can be tried is.
     pub key_slot: Option<SlotNumber>,
-    /// The most iterations that a key slot or a digest may ask for.
+    /// The most iterations that a key slot or a digest may have.
     pub max_iterations: Option<IterationLimit>,
 }
 
-/// What `luksCat` is asked for that has these options. It names no files.
+/// A request of `luksCat` with these options. It names no files.
 pub(crate) fn opening(options: &Options) -> Opening<'static>
     ensures { HasOptions (opening_request result) options.now }
 {

@@ -1,4 +1,4 @@
-//! Reading a range of a plain text: the sectors that overlap it, and no others.
+//! Reading a range of a plaintext: the sectors that overlap it, and no others.
 
 ghost use Rattle.std.specs.Prelude.{◌≡◌, ◌+◌, ◌-◌, ◌%◌, ◌<◌, ◌≤◌, ◌^◌, length};
 ghost use Rattle.luks_payload.specs.Plain.{sector_len};
@@ -10,11 +10,11 @@ use crate::sectors::decrypt_sectors;
 use luks_cipher::SectorCipher;
 use luks_header::segment::Segment;
 
-/// Room for the longest sector.
+/// The length of the longest sector in bytes.
 const LONGEST: usize = 4096;
 
-/// Reads whole sectors into the buffer and decrypts them there. `len` is the plain text's length in
-/// the image, and `offset` that of the range in it.
+/// Reads whole sectors into the buffer and decrypts them there. `len` is the length of the
+/// plaintext in the image, and `offset` that of the range in it.
 fn read_sectors<I: ReadAt>(
     segment: &Segment,
     cipher: &SectorCipher,
@@ -27,7 +27,8 @@ fn read_sectors<I: ReadAt>(
     requires inside { offset + length buf.old ≤ len }
     requires whole { length buf.old % sector_len segment.now ≡ 0 }
     requires aligned { 0 < length buf.old → offset % sector_len segment.now ≡ 0 }
-    ensures { ReadsRange segment.now cipher.now len (I.image image.now) offset result buf.new }
+    ensures { ReadsRange segment.now cipher.now len (I.image image.now) (I.fails image.now) offset
+        result buf.new }
 {
     if buf.is_empty() {
         return Ok(());
@@ -42,7 +43,7 @@ fn read_sectors<I: ReadAt>(
     }
 }
 
-/// Reads a part of one sector, by a buffer for the whole of it.
+/// Reads a part of one sector, through a buffer for the whole of it.
 fn read_part<I: ReadAt>(
     segment: &Segment,
     cipher: &SectorCipher,
@@ -58,7 +59,8 @@ fn read_part<I: ReadAt>(
     requires inside { offset + length buf.old ≤ len }
     requires part { offset % sector_len segment.now + length buf.old ≤ sector_len segment.now }
     requires room { length sector.old ≡ LONGEST }
-    ensures { ReadsRange segment.now cipher.now len (I.image image.now) offset result buf.new }
+    ensures { ReadsRange segment.now cipher.now len (I.image image.now) (I.fails image.now) offset
+        result buf.new }
 {
     let size = segment.sector_size.bytes();
     let skip = offset % size as u64;
@@ -82,7 +84,8 @@ fn read_inside<I: ReadAt>(
     requires multiple { len % sector_len segment.now ≡ 0 }
     requires inside { offset + length buf.old ≤ len }
     requires part { offset % sector_len segment.now + length buf.old ≤ sector_len segment.now }
-    ensures { ReadsRange segment.now cipher.now len (I.image image.now) offset result buf.new }
+    ensures { ReadsRange segment.now cipher.now len (I.image image.now) (I.fails image.now) offset
+        result buf.new }
 {
     if buf.is_empty() {
         return Ok(());
@@ -91,7 +94,7 @@ fn read_inside<I: ReadAt>(
     read_part(segment, cipher, image, len, offset, &mut sector, buf)
 }
 
-/// Reads a range that begins with a sector: the whole sectors in place, and then a part of one.
+/// Reads a range that begins with a sector: whole sectors in place, and then a part of one.
 fn read_aligned<I: ReadAt>(
     segment: &Segment,
     cipher: &SectorCipher,
@@ -104,7 +107,8 @@ fn read_aligned<I: ReadAt>(
     requires multiple { len % sector_len segment.now ≡ 0 }
     requires inside { offset + length buf.old ≤ len }
     requires aligned { 0 < length buf.old → offset % sector_len segment.now ≡ 0 }
-    ensures { ReadsRange segment.now cipher.now len (I.image image.now) offset result buf.new }
+    ensures { ReadsRange segment.now cipher.now len (I.image image.now) (I.fails image.now) offset
+        result buf.new }
 {
     let size = segment.sector_size.bytes();
     let whole = buf.len() - buf.len() % size;
@@ -119,7 +123,7 @@ fn read_aligned<I: ReadAt>(
     )
 }
 
-/// How many bytes of a range come before the first sector that begins in it.
+/// The length of a range before the first sector that begins in it.
 fn head_len(segment: &Segment, offset: u64, count: usize) -> usize
     ensures most { result ≤ count }
     ensures part { offset % sector_len segment.now + result ≤ sector_len segment.now }
@@ -133,11 +137,11 @@ fn head_len(segment: &Segment, offset: u64, count: usize) -> usize
     (size - skip).min(count)
 }
 
-/// Reads the range of the plain text from `offset` on that fills the buffer. `len` is the plain
-/// text's length in the image.
+/// Fills the buffer with the plaintext from `offset` on. `len` is the length of the plaintext in
+/// the image.
 ///
-/// Only the sectors that overlap the range are read. Whole ones are decrypted in the buffer. After a
-/// fault it holds anything.
+/// Only the sectors that overlap the range are read. Whole ones are decrypted in the buffer. After
+/// a fault it may hold any bytes.
 pub(crate) fn read_range<I: ReadAt>(
     segment: &Segment,
     cipher: &SectorCipher,
@@ -149,7 +153,8 @@ pub(crate) fn read_range<I: ReadAt>(
     requires counted { segment.now.offset + len < 2 ^ 64 }
     requires multiple { len % sector_len segment.now ≡ 0 }
     requires inside { offset + length buf.old ≤ len }
-    ensures { ReadsRange segment.now cipher.now len (I.image image.now) offset result buf.new }
+    ensures { ReadsRange segment.now cipher.now len (I.image image.now) (I.fails image.now) offset
+        result buf.new }
 {
     let head = head_len(segment, offset, buf.len());
     read_inside(segment, cipher, image, len, offset, &mut buf[..head])?;

@@ -12,7 +12,7 @@ use luks_payload::fault::VolumeFault;
 use luks_payload::state::Step;
 use luks_verdict::sector_size::SectorSize;
 
-/// The data unit number of a sector. Those of LUKS count in units of 512 bytes and wrap at 2^64.
+/// The data unit number of a sector. LUKS counts in units of 512 bytes, and wraps at 2^64.
 fn unit_number(segment: &Segment, sector: u64) -> u64
     ensures { result ≡ unit_number segment.now sector }
 {
@@ -20,7 +20,7 @@ fn unit_number(segment: &Segment, sector: u64) -> u64
     segment.iv_tweak.wrapping_add(sector.wrapping_mul(units))
 }
 
-/// The length in bytes of the plain text of a payload from `offset` on, whose size may be fixed, in
+/// The length in bytes of the plaintext of a payload from `offset` on, whose size may be fixed, in
 /// an image of this length: all whole sectors.
 pub fn text_len(offset: u64, size: Option<u64>, sector_size: SectorSize, image_len: u64) -> u64
     ensures value { result ≡ within_size size (image_len - offset) / bytes_of sector_size
@@ -72,8 +72,8 @@ fn decrypt_all(segment: &Segment, cipher: &SectorCipher, first: u64, bytes: &mut
     }
 }
 
-/// Decrypts whole sectors in place, the first of which is sector `first` of the payload. Those of an
-/// image become that part of its plain text.
+/// Decrypts whole sectors in place, the first of which is sector `first` of the payload. Stored
+/// sectors of an image become that part of its plaintext.
 pub fn decrypt_sectors(segment: &Segment, cipher: &SectorCipher, first: u64, bytes: &mut [u8])
     requires whole { length bytes.old % sector_len segment.now ≡ 0 }
     requires numbers { first + length bytes.old / sector_len segment.now < 2 ^ 64 }

@@ -42,7 +42,7 @@ impl<'a, I: ReadAt> Source for ImageSource<'a, I> {
 
     ghost ends = { λ s. s.ends };
 
-    /// Reads as many of the bytes that are left as the buffer has room for. An image that has become
+    /// Fills the buffer with the remaining bytes, as many as there are. An image that has become
     /// shorter fails.
     fn read(&mut self, buf: &mut [u8]) -> Result<usize, DeviceFault> {
         let left = self.image.len().saturating_sub(self.at);

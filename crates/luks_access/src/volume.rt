@@ -1,7 +1,7 @@
 //! Volumes that are open.
 
-ghost use Rattle.std.specs.Prelude.{◌≡◌, ◌≢◌, ◌+◌, ◌-◌, ◌%◌, ◌^◌, ◌<◌, ◌≤◌, List, ℕ, Ok, Err, IfOk, IfErr, OnOk};
-ghost use Rattle.std.specs.Prelude.{false, length, nat_le, replicate, true};
+ghost use Rattle.std.specs.Prelude.{◌≡◌, ◌≢◌, ◌+◌, ◌-◌, ◌%◌, ◌^◌, ◌<◌, ◌≤◌, List, ℕ, Ok, Err};
+ghost use Rattle.std.specs.Prelude.{IfErr, IfOk, OnOk, false, length, nat_le, replicate, true};
 ghost use Rattle.luks_cipher.specs.Sector.{is_mode_key_length};
 ghost use Rattle.luks_io.specs.Bytes.{IfKnown, counted};
 ghost use Rattle.luks_header.specs.Segment.{segment_of};
@@ -10,7 +10,8 @@ ghost use Rattle.luks_request.specs.Request.{opening_request};
 ghost use Rattle.luks_runs.specs.Run.{breaks_off, is_run_read_failure, result_message};
 ghost use Rattle.luks_unlock.specs.MayEnd.{OpeningMessage};
 ghost use Rattle.luks_payload.specs.Plain.{ending_of, sector_len};
-ghost use Rattle.luks_access.specs.Opens.{IsCatOf, IsOnlyAborted, IsPlainOf, Opens, Refuses, text_of};
+ghost use Rattle.luks_access.specs.Opens.{IsCatOf, IsOnlyAborted, IsPlainOf, Opens, Refuses};
+ghost use Rattle.luks_access.specs.Opens.{text_of};
 ghost use Rattle.luks_access.specs.Range.{IsRangeOf};
 ghost use Rattle.luks_access.specs.Unlocks.{Unlocks};
 
@@ -34,11 +35,10 @@ use luks_unlock::trying::try_slots;
 use std::alloc::Global;
 use std::marker::Model;
 
-/// The length of the longest passphrase in bytes, which is that of the longest key file.
+/// The length of the longest passphrase in bytes, which is also that of the longest key file.
 pub const LONGEST_PASSPHRASE: usize = 8_388_608;
 
-/// A volume that is open. A clause sees where its payload lies, the key slot that opened, and the
-/// volume key.
+/// A volume that is open. A clause sees its segment, the key slot that opened, and the volume key.
 #[derive(Drop)]
 pub struct Volume {
     segment: Segment,
@@ -75,7 +75,7 @@ fn volume_of(segment: Segment, opened: Opened) -> Volume
     }
 }
 
-/// The segment of a volume that was found, which ends here whether it was opened or not.
+/// The segment of a volume that was found. The rest of it is dropped, whether it was opened or not.
 fn payload_of(found: FoundVolume) -> Segment
     ensures { result ≡ found.segment }
 {
@@ -109,11 +109,11 @@ fn unlock<S: Source>(
 }
 
 impl Volume {
-    /// Opens the volume whose header comes first from this source, by a passphrase: the bytes of
-    /// its image, or of its detached header.
+    /// Opens a volume by a passphrase. The source gives the bytes of its image, or of its detached
+    /// header.
     ///
-    /// The volume is the one that `luksCat` opens with these options, and the message that with
-    /// which it ends. A passphrase longer than [`LONGEST_PASSPHRASE`] is refused, as a key file is.
+    /// The volume is the one that `luksCat` opens with these options, and a refusal is its message.
+    /// A passphrase longer than [`LONGEST_PASSPHRASE`] is refused, as a key file is.
     pub fn open_from<S: Source>(
         alloc: Global,
         options: &Options,
@@ -143,7 +143,8 @@ impl Volume {
         Ok(volume_of(segment, opened?))
     }
 
-    /// Opens a volume as [`Volume::open_from`] does, from its image or its detached header.
+    /// Opens a volume by a passphrase, as [`Volume::open_from`] does, from its image or its
+    /// detached header.
     pub fn open<I: ReadAt>(
         alloc: Global,
         options: &Options,
@@ -167,7 +168,7 @@ impl Volume {
         Volume::open_from(alloc, options, &mut ImageSource::new(image), pass)
     }
 
-    /// Where the payload lies in its image.
+    /// The segment: where the payload is in its image.
     pub fn segment(&self) -> Segment
         ensures { result ≡ self.now.segment }
     {
@@ -188,7 +189,7 @@ impl Volume {
         self.key.as_slice()
     }
 
-    /// The length in bytes of the plain text that an image of this length has: all whole sectors.
+    /// The length in bytes of the plaintext in an image of this length: all whole sectors.
     pub fn len(&self, image_len: u64) -> u64
         ensures value { (image : List ℕ) → length image ≡ image_len
             → result ≡ length (text_of self.now image) }
@@ -209,9 +210,9 @@ impl Volume {
         payload_ending(segment.offset, segment.size, segment.sector_size, image_len)
     }
 
-    /// Reads the bytes of the plain text from `offset` on, as many as the buffer has room for.
+    /// Fills the buffer with the plaintext from `offset` on.
     ///
-    /// [`RangeFault::PastEnd`] leaves the buffer as it was: the range ends past the plain text, and
+    /// [`RangeFault::PastEnd`] leaves the buffer as it was: the range ends past the plaintext, and
     /// nothing was read. After any other fault the buffer is all zero.
     pub fn read_at<I: ReadAt>(
         &self,
@@ -230,6 +231,7 @@ impl Volume {
             → buf.new ≡ replicate (length buf.old) 0) }
         ensures whole { IfKnown (I.image image.now)
             (λ known. result ≢ Err RangeFault.Shorter) }
+        ensures failed { result ≡ Err RangeFault.Read → I.fails image.now ≡ true }
     {
         let len = self.len(image.len());
         if !is_within(len, offset, buf.len()) {

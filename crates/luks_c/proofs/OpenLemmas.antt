@@ -1,7 +1,8 @@
 -- Opening from C: the first bytes of an image decide.
-use Rattle.std.proofs.Common.{◌≡◌, ◌≢◌, ◌∙◌, ℕ, List, false, arith}
+use Rattle.std.proofs.Common.{◌≡◌, ◌≢◌, ◌∙◌, ℕ, ◌<◌, List, true, false, length, arith}
 use Rattle.luks_access.specs.Opens.{OpenVolume, Opens, Refuses}
 use Rattle.luks_access.specs.declared.options.Options.{Options}
+use Rattle.luks_cipher.specs.Sector.{is_mode_key_length}
 use Rattle.luks_io.specs.Bytes.{counted}
 use Rattle.luks_report.specs.declared.message.Message.{Message}
 use Rattle.luks_report.specs.declared.message.Message.TheVariants.{Done, ReadFailed}
@@ -10,39 +11,43 @@ use Rattle.luks_unlock.proofs.FrontLemmas.{outcome_decided}
 use Rattle.luks_unlock.specs.MayEnd.{OpeningMessage}
 use Rattle.luks_c.specs.Answers.{BeginsAs, Opened, Refused}
 use Rattle.luks_c.specs.Codes.{code_for}
-use Rattle.luks_c.specs.Message.{Tells}
+use Rattle.luks_c.specs.Message.{StoresMessage}
 use Rattle.luks_c.specs.Options.{AreOptions}
-use Rattle.luks_c.specs.Stored.{Stores}
+use Rattle.luks_c.specs.Stored.{Filled}
 use Rattle.luks_c.specs.declared.message.LuksrdMessage.{LuksrdMessage}
 use Rattle.luks_c.specs.declared.options.LuksrdOptions.{LuksrdOptions}
 use Rattle.luks_c.specs.declared.volume.LuksrdVolume.{LuksrdVolume}
 
 module _ (c : LuksrdOptions) (header pass : List ℕ) (message : LuksrdMessage) (options : Options)
     (are : AreOptions c options) where
-  pub opened_for : (volume : LuksrdVolume) (v : OpenVolume) → Opens options header pass v → Stores volume v
-      → Tells message Done → Opened c header pass volume message
-  opened_for volume v opens stored told = record {
+  pub opened_for : (volume : LuksrdVolume) (v : OpenVolume) → Opens options header pass v → Filled volume v
+      → is_mode_key_length v.segment.mode (length v.key) ≡ true → StoresMessage message Done
+      → Opened c header pass volume message
+  opened_for volume v opens filled key says = record {
     options = options;
     are = are;
     opened = v;
-    stored = stored;
+    filled = filled;
+    key = key;
     opens = λ image begins. record {
       held = opens.held;
       outcome = λ o has on_opened. outcome_decided options.standing o image header pass on_opened begins
           ∙ opens.outcome o has on_opened;
     };
-    told = told;
+    says = says;
   }
 
-  pub refused_for : (refusal : Message) (code : ℕ) → code ≡ code_for refusal → Tells message refusal
-      → refusal ≢ ReadFailed → (breaks_off refusal ≡ false → Refuses options header pass refusal)
+  pub refused_for : (refusal : Message) (code : ℕ) → code ≡ code_for refusal → StoresMessage message refusal
+      → OpeningMessage refusal → refusal ≢ ReadFailed
+      → (breaks_off refusal ≡ false → Refuses options header pass refusal)
       → Refused c header pass code message
-  refused_for refusal code is told read refuses = record {
+  refused_for refusal code is says opening read refuses = record {
     options = options;
     are = are;
     refusal = refusal;
     is_code = is;
-    told = told;
+    says = says;
+    opening = opening;
     read = read;
     refuses = λ never image begins. record {
       header_taken = (refuses never).header_taken;
@@ -61,3 +66,8 @@ no_read _ count = λ is. cc
 pub some_code : (m : Message) → OpeningMessage m → code_for m ≢ 0
 some_code Done only = absurd only
 some_code _ only = λ is. absurd (omega arith)
+
+-- nor is it that of a call which no caller should make
+pub small_code : (m : Message) → code_for m < 15
+small_code Done = omega arith
+small_code _ = omega arith

@@ -1,9 +1,11 @@
 -- What is read of a volume that C keeps is what was stored.
-use Rattle.std.proofs.Common.{◌≡◌, ◌∙◌, ℕ, ◌+◌, ◌-◌, ◌*◌, ◌/◌, ◌%◌, ◌^◌, List, Option, None, Some, Result, Err, Bool, true, false}
-use Rattle.std.proofs.Common.{◌≤◌, sym, ap, arith, refl, length, drop, take}
+use Rattle.std.proofs.Common.{◌≡◌, ◌∙◌, ℕ, ◌+◌, ◌-◌, ◌*◌, ◌/◌, ◌%◌, ◌^◌, ◌<◌, ◌≤◌, Bool, true, false, List, length}
+use Rattle.std.proofs.Common.{Option, None, Some, Result, Err, sym, ap, arith, refl, drop, take}
 use Rattle.std.proofs.lemmas.Bool.Decides.{nat_tests}
-use Rattle.std.proofs.lemmas.Option.{same_Some}
-use Rattle.std.specs.Prelude.{if◌then◌else◌, nat_lt, option_map}
+use Rattle.std.proofs.lemmas.Bool.{false_from_ne_true, false≢true}
+use Rattle.std.proofs.lemmas.List.{length-take-le}
+use Rattle.std.proofs.lemmas.Option.{none-some, same_Some}
+use Rattle.std.specs.Prelude.{◌==◌, if◌then◌else◌, nat_lt, option_map, MatchOption}
 use Rattle.luks_access.proofs.PartLemmas.{part_of_plain}
 use Rattle.luks_access.proofs.RangeLemmas.{text_is_long}
 use Rattle.luks_access.specs.Opens.{OpenVolume, cipher_of, text_of}
@@ -14,7 +16,7 @@ use Rattle.luks_cipher.specs.declared.mode.Mode.{Mode}
 use Rattle.luks_cipher.specs.declared.mode.Mode.TheVariants.{XtsPlain64, XtsPlain, CbcEssivSha256, CbcPlain64}
 use Rattle.luks_verdict.specs.Evidence.{evidence_if}
 use Rattle.luks_verdict.specs.Segment.{segment_by, segment_from, segment_of_all}
-use Rattle.luks_verdict.specs.SectorSize.{are_sectors, bytes_of}
+use Rattle.luks_verdict.specs.SectorSize.{AreWhole, are_sectors, bytes_of}
 use Rattle.luks_verdict.specs.declared.sector_size.SectorSize.{SectorSize}
 use Rattle.luks_verdict.specs.declared.sector_size.SectorSize.TheVariants.{B512, B1024, B2048, B4096}
 use Rattle.luks_verdict.specs.declared.segment.Segment.{Segment}
@@ -23,6 +25,7 @@ use Rattle.luks_payload.specs.Plain.{ending_of, ending_within, sector_len, unit_
 use Rattle.luks_payload.specs.declared.fault.VolumeFault.{VolumeFault}
 use Rattle.luks_payload.specs.declared.fault.VolumeFault.TheVariants.{CutBeforePayload}
 use Rattle.luks_payload.specs.declared.state.Step.{Step}
+use Rattle.luks_c.specs.Answers.{decrypt_code, range_code, segment_code}
 use Rattle.luks_c.specs.Stored.{Stores, cipher_in, has_size_of, mode_in, mode_number, sector_size_in, segment_in}
 use Rattle.luks_c.specs.Stored.{size_in, size_of}
 use Rattle.luks_c.specs.declared.volume.LuksrdVolume.{LuksrdVolume}
@@ -66,6 +69,31 @@ module _ (offset : ℕ) (size : Option ℕ) (iv : ℕ) (z : SectorSize) (mode : 
   made_of : segment_of_all (Some offset) (Some size) (Some iv) (Some z) (Some mode) ≡ Some s → IsOf
   made_of made = made_where (evidence_if (are_sectors size z)) made
 
+-- evidence is missing only if the test fails
+no_evidence : (b : Bool) → evidence_if b ≡ None → b ≡ false
+no_evidence true none = absurd (none-some _ (sym none))
+no_evidence false none = refl
+
+-- a length of whole sectors passes the test
+whole_are : (size : Option ℕ) (z : SectorSize) → AreWhole size z → are_sectors size z ≡ true
+whole_are None z whole = refl
+whole_are (Some bytes) z whole = ap (λ n. n == 0) (whole bytes refl)
+
+module _ (offset : ℕ) (size : Option ℕ) (iv : ℕ) (z : SectorSize) (mode : Mode) where
+  lost : (w : Option (are_sectors size z ≡ true)) → option_map (segment_by offset size iv z mode) w ≡ None → w ≡ None
+  lost (Some is) none = absurd (none-some _ (sym none))
+  lost None none = refl
+
+  -- of such a length a segment is made
+  some_made : are_sectors size z ≡ true
+      → segment_of_all (Some offset) (Some size) (Some iv) (Some z) (Some mode) ≡ None → ⊥
+  some_made are none =
+      false≢true (sym (no_evidence (are_sectors size z) (lost (evidence_if (are_sectors size z)) none)) ∙ are)
+
+-- the segment of a struct's fields, in this sector size and mode
+abbrev made_in : LuksrdVolume → Option SectorSize → Option Mode → Option Segment
+made_in c z mode = segment_of_all (Some c.offset) (Some (size_in c)) (Some c.iv_tweak) z mode
+
 module _ (c : LuksrdVolume) (v : OpenVolume) (stored : Stores c v) where
   pub stored_sector : sector_size_in c.sector_size ≡ Some v.segment.sector_size
   stored_sector = ap sector_size_in stored.sector_size ∙ size_again v.segment.sector_size
@@ -80,14 +108,38 @@ module _ (c : LuksrdVolume) (v : OpenVolume) (stored : Stores c v) where
       by None has is = rw has refl
       by (Some size) has is = rw (has, is) refl
 
+  made_again : segment_in c ≡ made_in c (Some v.segment.sector_size) (Some v.segment.mode)
+  unfolding segment_from
+  made_again =
+      ap (λ z. made_in c z (mode_in c.mode)) stored_sector ∙ ap (made_in c (Some v.segment.sector_size)) stored_mode
+
   pub stored_segment : (s : Segment) → segment_in c ≡ Some s
       → IsOf c.offset (size_in c) c.iv_tweak v.segment.sector_size v.segment.mode s
-  unfolding segment_from
   stored_segment s is =
-      made_of c.offset (size_in c) c.iv_tweak v.segment.sector_size v.segment.mode s
-      (sym (ap (λ z. segment_of_all (Some c.offset) (Some (size_in c)) (Some c.iv_tweak) z (mode_in c.mode)) stored_sector
-      ∙ ap (segment_of_all (Some c.offset) (Some (size_in c)) (Some c.iv_tweak) (Some v.segment.sector_size)) stored_mode)
-      ∙ is)
+      made_of c.offset (size_in c) c.iv_tweak v.segment.sector_size v.segment.mode s (sym made_again ∙ is)
+
+  -- a segment can be made of them
+  pub some_segment : None ≡ segment_in c → ⊥
+  some_segment none =
+      some_made c.offset (size_in c) c.iv_tweak v.segment.sector_size v.segment.mode
+      (ap (λ size. are_sectors size v.segment.sector_size) stored_size
+      ∙ whole_are v.segment.size v.segment.sector_size v.segment.whole_sectors)
+      (sym made_again ∙ sym none)
+
+  -- and the code of decrypting is that of the range
+  pub stored_code : (first len : ℕ) → is_mode_key_length v.segment.mode c.key_size ≡ true
+      → decrypt_code c first len ≡ range_code v.segment.sector_size first len
+  stored_code first len key = by (segment_in c) refl
+    where
+      by : (s : Option Segment) → s ≡ segment_in c
+          → segment_code s c.key_size first len ≡ range_code v.segment.sector_size first len
+      by None none = absurd (some_segment none)
+      by (Some s) is =
+          let its = stored_segment s (sym is) in
+          let right : is_mode_key_length s.mode c.key_size ≡ true =
+          ap (λ mode. is_mode_key_length mode c.key_size) its.mode_is ∙ key in
+          ap (λ b. if b then range_code s.sector_size first len else 16) right
+          ∙ ap (λ z. range_code z first len) its.sector_is
 
 -- the sectors from number `first` on, by the first data unit number and the length of a sector
 abbrev plain_by : ℕ → ℕ → Cipher → ℕ → List ℕ → List ℕ
@@ -133,26 +185,21 @@ some_sector c v stored none = let wrong : None ≡ Some v.segment.sector_size = 
 
 -- stored sectors became that part of the plain text
 pub decrypted_for : (c : LuksrdVolume) (v : OpenVolume) (image : List ℕ) → Stores c v → (s : Segment) (cipher : Cipher)
-    (first size : ℕ) (old new : List ℕ) → Some s ≡ segment_in c → cipher ≡ cipher_in c s.mode
-    → size ≡ bytes_of s.sector_size → length old % size ≡ 0 → new ≡ plain_in s cipher first old
+    (first : ℕ) (old new : List ℕ) → Some s ≡ segment_in c → cipher ≡ cipher_in c s.mode
+    → length old % bytes_of s.sector_size ≡ 0 → new ≡ plain_in s cipher first old
     → AreStored v.segment image first old
     → new ≡ plain_at v.segment (cipher_of v) image (first * sector_len v.segment) (length old)
-decrypted_for c v image stored s cipher first size old new is_segment is_cipher is_size whole is_new are =
+decrypted_for c v image stored s cipher first old new is_segment is_cipher whole is_new are =
     let its = stored_segment c v stored s (sym is_segment) in
     let mode : (s.mode, take c.key_size c.key) ≡ cipher_of v =
     ap (λ (mode : Mode). (mode, take c.key_size c.key)) its.mode_is
     ∙ ap (λ (key : List ℕ). (v.segment.mode, key)) stored.key in
     let sectors : length old % sector_len v.segment ≡ 0 =
-    sym (ap (λ n. length old % n) (is_size ∙ ap bytes_of its.sector_is)) ∙ whole in
+    sym (ap (λ z. length old % bytes_of z) its.sector_is) ∙ whole in
     is_new
     ∙ (ap (λ (k : Cipher). plain_in s k first old) (is_cipher ∙ mode)
     ∙ (same_plain s v.segment (cipher_of v) first old (its.iv_is ∙ stored.iv_tweak) its.sector_is
     ∙ part_of_plain v.segment (cipher_of v) image first old sectors are))
-
--- the cipher that was made of a key
-pub made_cipher : (b : Bool) (cipher made : Cipher) → Some cipher ≡ (if b then Some made else None) → cipher ≡ made
-made_cipher true cipher made is = same_Some cipher made is
-made_cipher false cipher made is = cc
 
 -- a volume key has at most 64 bytes
 pub short_key : (mode : Mode) (n : ℕ) → is_mode_key_length mode n ≡ true → n ≤ 64

@@ -1,19 +1,25 @@
 -- What the functions for C answer.
-use Rattle.std.specs.Prelude.{ℕ, ◌≡◌, ◌≢◌, List, false, take, Result, Ok, Err}
+use Rattle.std.specs.Prelude.{ℕ, ◌≡◌, ◌≢◌, ◌+◌, ◌/◌, ◌%◌, ◌^◌, ◌==◌, Bool, false, true, if◌then◌else◌, nat_lt}
+use Rattle.std.specs.Prelude.{List, length, take, Option, None, Some, Result, Ok, Err}
 use Rattle.luks_access.specs.Opens.{IsCatOf, OpenVolume, Opens, Refuses}
 use Rattle.luks_access.specs.declared.options.Options.{Options}
 use Rattle.luks_area.specs.Area.{max_area_len}
+use Rattle.luks_cipher.specs.Sector.{is_mode_key_length}
 use Rattle.luks_report.specs.Faults.{message_for_payload}
 use Rattle.luks_report.specs.declared.message.Message.{Message}
 use Rattle.luks_report.specs.declared.message.Message.TheVariants.{Done, ReadFailed}
 use Rattle.luks_runs.specs.Run.{breaks_off}
+use Rattle.luks_unlock.specs.MayEnd.{OpeningMessage}
 use Rattle.luks_payload.specs.declared.fault.VolumeFault.{VolumeFault}
 use Rattle.luks_payload.specs.declared.fault.VolumeFault.TheVariants.{CutBeforePayload, Tail, Short, Read, Write}
 use Rattle.luks_payload.specs.declared.state.Step.{Step}
+use Rattle.luks_verdict.specs.SectorSize.{bytes_of}
+use Rattle.luks_verdict.specs.declared.sector_size.SectorSize.{SectorSize}
+use Rattle.luks_verdict.specs.declared.segment.Segment.{Segment}
 use Rattle.luks_c.specs.Codes.{code_for}
-use Rattle.luks_c.specs.Message.{Tells}
+use Rattle.luks_c.specs.Message.{StoresMessage}
 use Rattle.luks_c.specs.Options.{AreOptions}
-use Rattle.luks_c.specs.Stored.{Stores}
+use Rattle.luks_c.specs.Stored.{Filled, segment_in}
 use Rattle.luks_c.specs.declared.message.LuksrdMessage.{LuksrdMessage}
 use Rattle.luks_c.specs.declared.options.LuksrdOptions.{LuksrdOptions}
 use Rattle.luks_c.specs.declared.volume.LuksrdVolume.{LuksrdVolume}
@@ -23,29 +29,31 @@ use Rattle.luks_c.specs.declared.volume.LuksrdVolume.{LuksrdVolume}
 abbrev pub BeginsAs : List ℕ → List ℕ → Type 0
 BeginsAs image header = take max_area_len image ≡ take max_area_len header
 
--- a volume was opened: C keeps it, and it is the one that `luksCat` opens of each image that begins so
+-- a volume was opened: the struct holds it, and it is the one that `luksCat` opens of each image that begins so
 pub record Opened (c : LuksrdOptions) (header pass : List ℕ) (volume : LuksrdVolume) (message : LuksrdMessage) : Type 0
   where
     pub options : Options
     pub are : AreOptions c options
     pub opened : OpenVolume
-    pub stored : Stores volume opened
+    pub filled : Filled volume opened
+    pub key : is_mode_key_length opened.segment.mode (length opened.key) ≡ true
     pub opens : (image : List ℕ) → BeginsAs image header → Opens options image pass opened
-    pub told : Tells message Done
+    pub says : StoresMessage message Done
 
--- a volume was refused: the message is the one with which `luksCat` ends of each image that begins so, or memory was
--- refused
+-- a volume was refused: the message is the one with which `luksCat` ends of each image that begins so, or memory ran
+-- out
 pub record Refused (c : LuksrdOptions) (header pass : List ℕ) (code : ℕ) (message : LuksrdMessage) : Type 0 where
   pub options : Options
   pub are : AreOptions c options
   pub refusal : Message
   pub is_code : code ≡ code_for refusal
-  pub told : Tells message refusal
+  pub says : StoresMessage message refusal
+  pub opening : OpeningMessage refusal
   pub read : refusal ≢ ReadFailed
   pub refuses : breaks_off refusal ≡ false → (image : List ℕ) → BeginsAs image header
       → Refuses options image pass refusal
 
--- how many bytes an ending speaks of
+-- the number of bytes in an ending's message
 abbrev pub fault_bytes : VolumeFault → ℕ
 fault_bytes CutBeforePayload = 0
 fault_bytes (Tail bytes) = bytes
@@ -53,9 +61,27 @@ fault_bytes (Short bytes) = bytes
 fault_bytes Read = 0
 fault_bytes Write = 0
 
--- this ending is answered: its code, its number of bytes and its message
+-- the answer is this ending: its code, its number of bytes and its message
 abbrev pub EndsAs : Result Step VolumeFault → ℕ → ℕ → LuksrdMessage → Type 0
-EndsAs (Ok _) code bytes message = (code ≡ 0) × (bytes ≡ 0) × Tells message Done
+EndsAs (Ok _) code bytes message = (code ≡ 0) × (bytes ≡ 0) × StoresMessage message Done
 EndsAs (Err fault) code bytes message =
     (code ≡ code_for (message_for_payload fault)) × (bytes ≡ fault_bytes fault)
-    × Tells message (message_for_payload fault)
+    × StoresMessage message (message_for_payload fault)
+
+-- so many bytes are whole sectors of this size, and the number after that of the last is below 2^64
+abbrev pub is_range : SectorSize → ℕ → ℕ → Bool
+is_range size first len = if len % bytes_of size == 0 then nat_lt (first + len / bytes_of size) (2 ^ 64) else false
+
+-- the code of so many bytes from sector `first` on, in sectors of this size
+abbrev pub range_code : SectorSize → ℕ → ℕ → ℕ
+range_code size first len = if is_range size first len then 0 else 17
+
+-- the same in this segment, under a key of this length, if there is one and the key has a length of its mode
+abbrev pub segment_code : Option Segment → ℕ → ℕ → ℕ → ℕ
+segment_code None key_size first len = 16
+segment_code (Some s) key_size first len =
+    if is_mode_key_length s.mode key_size then range_code s.sector_size first len else 16
+
+-- the code with which decrypting so many bytes from sector `first` on ends, whatever the struct holds
+abbrev pub decrypt_code : LuksrdVolume → ℕ → ℕ → ℕ
+decrypt_code c first len = segment_code (segment_in c) c.key_size first len

@@ -1,5 +1,5 @@
--- The options that C says.
-use Rattle.std.specs.Prelude.{ℕ, ◌≡◌, ◌==◌, if◌then◌else◌, Option, None, Some, option_map}
+-- The options that C passes.
+use Rattle.std.specs.Prelude.{ℕ, ◌≡◌, ◌==◌, Bool, false, if◌then◌else◌, nat_lt, Option, None, Some, option_map}
 use Rattle.luks_access.specs.declared.options.Options.{Options}
 use Rattle.luks_request.specs.declared.number.SlotNumber.{SlotNumber}
 use Rattle.luks_runs.specs.declared.standing.Standing.{Standing}
@@ -10,13 +10,17 @@ use Rattle.luks_c.specs.declared.options.LuksrdOptions.{LuksrdOptions}
 abbrev pub IsNamed : LuksrdOptions → Option SlotNumber → Type 0
 IsNamed c slot = option_map (λ number. number.number) slot ≡ (if c.has_key_slot == 0 then None else Some c.key_slot)
 
+-- a key slot is named, by a number that no key slot has
+abbrev pub names_no_slot : LuksrdOptions → Bool
+names_no_slot c = if c.has_key_slot == 0 then false else nat_lt 31 c.key_slot
+
 -- where the header is
-abbrev pub standing_told : LuksrdOptions → Standing
-standing_told c = if c.detached == 0 then Attached else Detached
+abbrev pub standing_for : LuksrdOptions → Standing
+standing_for c = if c.detached == 0 then Attached else Detached
 
 -- these are the options: the limit 0 is none
 pub record AreOptions (c : LuksrdOptions) (options : Options) : Type 0 where
-  pub standing : options.standing ≡ standing_told c
+  pub standing : options.standing ≡ standing_for c
   pub key_slot : IsNamed c options.key_slot
   pub max_iterations : option_map (λ limit. limit.iterations) options.max_iterations
       ≡ (if c.max_iterations == 0 then None else Some c.max_iterations)

@@ -1,5 +1,5 @@
 -- A volume as C keeps it, field by field, and what is read of it again.
-use Rattle.std.specs.Prelude.{ℕ, ◌≡◌, ◌==◌, if◌then◌else◌, replicate, take, Option, None, Some}
+use Rattle.std.specs.Prelude.{ℕ, ◌≡◌, ◌-◌, ◌==◌, if◌then◌else◌, drop, length, replicate, take, Option, None, Some}
 use Rattle.luks_access.specs.Opens.{OpenVolume}
 use Rattle.luks_cipher.specs.Sector.{Cipher}
 use Rattle.luks_cipher.specs.declared.mode.Mode.{Mode}
@@ -27,7 +27,7 @@ abbrev pub size_of : Option ℕ → ℕ
 size_of None = 0
 size_of (Some size) = size
 
--- C keeps this volume
+-- the struct holds this volume
 pub record Stores (c : LuksrdVolume) (v : OpenVolume) : Type 0 where
   pub offset : c.offset ≡ v.segment.offset
   pub has_size : c.has_size ≡ has_size_of v.segment.size
@@ -38,10 +38,24 @@ pub record Stores (c : LuksrdVolume) (v : OpenVolume) : Type 0 where
   pub key_slot : c.key_slot ≡ v.slot
   pub key : take c.key_size c.key ≡ v.key
 
--- C keeps no volume: all is zero
+-- the same, and zeros in what no field of the volume needs
+pub record Filled (c : LuksrdVolume) (v : OpenVolume) : Type 0 where
+  pub stores : Stores c v
+  pub key_size : c.key_size ≡ length v.key
+  pub rest : drop c.key_size c.key ≡ replicate (64 - c.key_size) 0
+  pub reserved : c.reserved ≡ 0
+
+-- the struct holds no volume: all of it is zero
 pub record IsCleared (c : LuksrdVolume) : Type 0 where
+  pub offset : c.offset ≡ 0
+  pub size : c.size ≡ 0
+  pub iv_tweak : c.iv_tweak ≡ 0
+  pub has_size : c.has_size ≡ 0
   pub sector_size : c.sector_size ≡ 0
+  pub mode : c.mode ≡ 0
   pub key_size : c.key_size ≡ 0
+  pub key_slot : c.key_slot ≡ 0
+  pub reserved : c.reserved ≡ 0
   pub key : c.key ≡ replicate 64 0
 
 -- ---- read again

@@ -1,23 +1,23 @@
 //! What a function answers: the numbers of `enum luksrd_code`.
 
-ghost use Rattle.std.specs.Prelude.{◌≡◌, ◌≤◌, length};
-ghost use Rattle.luks_c.specs.Codes.{code_for};
+ghost use Rattle.std.specs.Prelude.{◌≡◌};
+ghost use Rattle.luks_c.specs.Codes.{code_for, sentence_for};
 
 use luks_access::Message;
 
-/// All is well.
+/// Success.
 pub(crate) const OK: u32 = 0;
 
-/// The options name a key slot above 31.
+/// The options name a key slot by a number above 31.
 pub(crate) const BAD_OPTIONS: u32 = 15;
 
-/// A volume is none that was opened.
+/// The struct holds no open volume.
 pub(crate) const BAD_VOLUME: u32 = 16;
 
-/// Bytes are no whole sectors, or their numbers are too large.
+/// The bytes are not whole sectors, or the sector numbers are too large.
 pub(crate) const BAD_RANGE: u32 = 17;
 
-/// The number of a refusal, or of an ending. A message that neither has is out of memory's.
+/// The number of a refusal or of an ending. Any other message gets that of "out of memory".
 pub(crate) fn code_of(message: &Message) -> u32
     ensures { result ≡ code_for message.now }
 {
@@ -40,9 +40,10 @@ pub(crate) fn code_of(message: &Message) -> u32
     }
 }
 
-/// The exit status and the sentence of a code alone.
+/// The exit status and the sentence of a number alone.
 pub(crate) fn sentence(code: u32) -> (u32, &'static str)
-    ensures { length result.1.now ≤ 100 }
+    ensures status { result.0 ≡ (sentence_for code).0 }
+    ensures text { result.1.now ≡ (sentence_for code).1 }
 {
     match code {
         0 => (0, ""),

@@ -1,15 +1,21 @@
-//! Any part of a volume's plain text, for C: what `c/luksrd.h` declares.
+//! Any part of a volume's plaintext, for C: what `c/luksrd.h` declares.
 //!
 //! The structs are plain numbers that C keeps. A contract here speaks of the bytes behind the
 //! pointers that C passes; that these are as the header asks is C's to keep.
 #![tactic(auto)]
 
-ghost use Rattle.std.specs.Prelude.{◌≡◌, ◌≢◌, ◌*◌, ◌≤◌, List, ℕ, length};
+ghost use Rattle.std.specs.Prelude.{◌≡◌, ◌≢◌, ◌+◌, ◌*◌, ◌/◌, ◌%◌, ◌^◌, ◌<◌, List, ℕ, None};
+ghost use Rattle.std.specs.Prelude.{length, true};
+ghost use Rattle.luks_cipher.specs.Sector.{is_mode_key_length};
 ghost use Rattle.luks_access.specs.Opens.{OpenVolume, cipher_of, text_of};
 ghost use Rattle.luks_access.specs.Sectors.{AreStored, plain_at};
 ghost use Rattle.luks_payload.specs.Plain.{ending_of, sector_len};
-ghost use Rattle.luks_c.specs.Answers.{EndsAs, Opened, Refused, fault_bytes};
-ghost use Rattle.luks_c.specs.Stored.{IsCleared, Stores};
+ghost use Rattle.luks_verdict.specs.SectorSize.{bytes_of};
+ghost use Rattle.luks_c.specs.Answers.{EndsAs, Opened, Refused, decrypt_code, fault_bytes};
+ghost use Rattle.luks_c.specs.Answers.{is_range, range_code};
+ghost use Rattle.luks_c.specs.Message.{StoresCode};
+ghost use Rattle.luks_c.specs.Options.{names_no_slot};
+ghost use Rattle.luks_c.specs.Stored.{IsCleared, Stores, sector_size_in};
 
 use crate::code::{BAD_OPTIONS, BAD_RANGE, BAD_VOLUME, OK, code_of, sentence};
 use crate::message::LuksrdMessage;
@@ -20,6 +26,7 @@ use luks_access::sectors::{decrypt_sectors, payload_ending, text_len};
 use luks_access::volume::Volume;
 use luks_io::memory::MemSource;
 use luks_payload::fault::VolumeFault;
+use luks_verdict::sector_size::SectorSize;
 use std::alloc::Global;
 
 mod code;
@@ -32,7 +39,7 @@ const VERSION: u32 = 0x0001_0000;
 
 /// Opens a volume by a passphrase, from the first bytes of its image or of its detached header.
 ///
-/// Each image with these first 33,554,432 bytes is opened so by `luksCat`.
+/// `luksCat` opens each image with these first 33,554,432 bytes in the same way.
 #[unsafe(no_mangle)]
 pub extern "C" fn luksrd_open(
     alloc: Global,
@@ -47,6 +54,9 @@ pub extern "C" fn luksrd_open(
     ensures refuses { result ≢ 0 → result ≢ BAD_OPTIONS
         → Refused options.now header.now passphrase.now result message.new }
     ensures cleared { result ≢ 0 → IsCleared volume.new }
+    ensures bad_slot { names_no_slot options.now ≡ true
+        → (result ≡ BAD_OPTIONS) × StoresCode message.new BAD_OPTIONS }
+    ensures bad_options { result ≡ BAD_OPTIONS → names_no_slot options.now ≡ true }
 {
     let Some(options) = options_in(options) else {
         volume.clear();
@@ -55,31 +65,35 @@ pub extern "C" fn luksrd_open(
     match Volume::open_from(alloc, &options, &mut MemSource::new(header), passphrase) {
         Ok(opened) => {
             volume.store(&opened);
-            message.tell(&Message::Done);
+            message.set(&Message::Done);
             OK
         }
         Err(refusal) => {
             volume.clear();
-            message.tell(&refusal);
+            message.set(&refusal);
             code_of(&refusal)
         }
     }
 }
 
-/// Answers a code with its own sentence.
+/// Stores the status and the sentence of a code, and returns the code.
 fn answer_code(code: u32, message: &mut LuksrdMessage) -> u32
-    ensures { result ≡ code }
+    ensures code { result ≡ code }
+    ensures message { StoresCode message.new code }
 {
     let (status, text) = sentence(code);
-    message.tell_text(status, text);
+    message.set_text(status, text);
     code
 }
 
-/// How many bytes of plain text the volume has, whose payload's image has this length.
+/// The length in bytes of the volume's plaintext, if its payload's image has this length. A struct
+/// without a sector size has none.
 #[unsafe(no_mangle)]
 pub extern "C" fn luksrd_len(volume: &LuksrdVolume, image_len: u64) -> u64
-    ensures { (v : OpenVolume) (image : List ℕ) → Stores volume.now v → length image ≡ image_len
+    ensures value { (v : OpenVolume) (image : List ℕ) → Stores volume.now v
+        → length image ≡ image_len
         → result ≡ length (text_of v image) }
+    ensures unfilled { sector_size_in volume.now.sector_size ≡ None → result ≡ 0 }
 {
     match volume::sector_size(volume) {
         Some(sector_size) => {
@@ -89,7 +103,7 @@ pub extern "C" fn luksrd_len(volume: &LuksrdVolume, image_len: u64) -> u64
     }
 }
 
-/// How the payload ends in an image of this length.
+/// How the payload ends in an image of this length, if the struct has a sector size.
 #[unsafe(no_mangle)]
 pub extern "C" fn luksrd_ending(
     volume: &LuksrdVolume,
@@ -97,8 +111,12 @@ pub extern "C" fn luksrd_ending(
     bytes: &mut u64,
     message: &mut LuksrdMessage,
 ) -> u32
-    ensures { (v : OpenVolume) (image : List ℕ) → Stores volume.now v → length image ≡ image_len
+    ensures value { (v : OpenVolume) (image : List ℕ) → Stores volume.now v
+        → length image ≡ image_len
         → EndsAs (ending_of v.segment image) result bytes.new message.new }
+    ensures unfilled { sector_size_in volume.now.sector_size ≡ None
+        → (result ≡ BAD_VOLUME) × (bytes.new ≡ 0) × StoresCode message.new BAD_VOLUME }
+    ensures bad_volume { result ≡ BAD_VOLUME → sector_size_in volume.now.sector_size ≡ None }
 {
     *bytes = 0;
     let Some(sector_size) = volume::sector_size(volume) else {
@@ -106,19 +124,19 @@ pub extern "C" fn luksrd_ending(
     };
     match payload_ending(volume.offset, volume::size(volume), sector_size, image_len) {
         Ok(_) => {
-            message.tell(&Message::Done);
+            message.set(&Message::Done);
             OK
         }
         Err(fault) => {
             *bytes = bytes_of(fault);
             let ending = Message::from(fault);
-            message.tell(&ending);
+            message.set(&ending);
             code_of(&ending)
         }
     }
 }
 
-/// The number of bytes that an ending speaks of.
+/// The number of bytes in an ending's message.
 fn bytes_of(fault: VolumeFault) -> u64
     ensures { result ≡ fault_bytes fault }
 {
@@ -128,8 +146,18 @@ fn bytes_of(fault: VolumeFault) -> u64
     }
 }
 
-/// Decrypts whole sectors in place, the first of which has this number. Where it answers another code
-/// than 0, the bytes are as they were.
+/// Whether so many bytes are whole sectors of this size, with numbers below 2^64 from this one on.
+fn is_range(sector_size: SectorSize, first: u64, len: usize) -> bool
+    ensures value { result ≡ is_range sector_size first len }
+    ensures whole { result ≡ true → len % bytes_of sector_size ≡ 0 }
+    ensures numbers { result ≡ true → first + len / bytes_of sector_size < 2 ^ 64 }
+{
+    let size = sector_size.bytes();
+    len % size == 0 && (len / size) as u64 <= u64::MAX - first
+}
+
+/// Decrypts whole sectors in place, the first of which has this number. After any other code than 0
+/// the bytes are as they were.
 #[unsafe(no_mangle)]
 pub extern "C" fn luksrd_decrypt(volume: &LuksrdVolume, first_sector: u64, bytes: &mut [u8]) -> u32
     ensures plain { result ≡ 0 → (v : OpenVolume) (image : List ℕ) → Stores volume.now v
@@ -137,6 +165,10 @@ pub extern "C" fn luksrd_decrypt(volume: &LuksrdVolume, first_sector: u64, bytes
         → bytes.new ≡ plain_at v.segment (cipher_of v) image
         (first_sector * sector_len v.segment) (length bytes.old) }
     ensures kept { result ≢ 0 → bytes.new ≡ bytes.old }
+    ensures code { result ≡ decrypt_code volume.now first_sector (length bytes.old) }
+    ensures filled { (v : OpenVolume) → Stores volume.now v
+        → is_mode_key_length v.segment.mode volume.now.key_size ≡ true
+        → result ≡ range_code v.segment.sector_size first_sector (length bytes.old) }
 {
     let Some(segment) = volume::segment(volume) else {
         return BAD_VOLUME;
@@ -144,17 +176,18 @@ pub extern "C" fn luksrd_decrypt(volume: &LuksrdVolume, first_sector: u64, bytes
     let Some(cipher) = volume::cipher(volume, segment.mode) else {
         return BAD_VOLUME;
     };
-    let size = segment.sector_size.bytes();
-    if bytes.len() % size != 0 || first_sector >= u64::MAX - (bytes.len() / size) as u64 {
+    if !is_range(segment.sector_size, first_sector, bytes.len()) {
         return BAD_RANGE;
     }
     decrypt_sectors(&segment, &cipher, first_sector, bytes);
     OK
 }
 
-/// The status and the sentence of a code alone.
+/// The status and the sentence of a number alone.
 #[unsafe(no_mangle)]
-pub extern "C" fn luksrd_status_text(code: u32, message: &mut LuksrdMessage) {
+pub extern "C" fn luksrd_status_text(code: u32, message: &mut LuksrdMessage)
+    ensures { StoresCode message.new code }
+{
     answer_code(code, message);
 }
 

@@ -1,29 +1,30 @@
-//! What luksrd says, as C keeps it.
+//! The messages of luksrd, as C keeps them.
 
-ghost use Rattle.std.specs.Prelude.{◌≡◌, ◌≤◌, length, min, take};
-ghost use Rattle.luks_c.specs.Message.{Tells, TellsText};
+ghost use Rattle.std.specs.Prelude.{◌≡◌, ◌-◌, drop, length, min, replicate, take};
+ghost use Rattle.luks_c.specs.Message.{StoresMessage, StoresText};
 
 use luks_access::Message;
 
-/// Room for a sentence.
+/// The length of the longest sentence in bytes.
 const ROOM: usize = 1016;
 
-/// What luksrd says: the exit status and the line of `luksrd luksCat`, without its newline.
+/// The exit status of `luksrd luksCat`, and the line that it prints, without its newline.
 #[repr(C)]
 pub struct LuksrdMessage {
     /// The exit status.
     pub status: u32,
     /// How many bytes the text has.
     pub len: u32,
-    /// The text, and zeros behind it.
+    /// The text, and zeros after it.
     pub text: [u8; 1016],
 }
 
-// Writes a text into the room for it, as much as fits, with zeros behind it. Answers its length.
+// Writes as much of a text as fits, and zeros after it. Returns the length of what it wrote of it.
 fn write_text(room: &mut [u8], text: &[u8]) -> u32
     requires { length room.old ≡ ROOM }
     ensures count { result ≡ min ROOM (length text.now) }
     ensures text { take result room.new ≡ take result text.now }
+    ensures rest { drop result room.new ≡ replicate (ROOM - result) 0 }
 {
     let len = text.len().min(room.len());
     room.fill(0);
@@ -32,9 +33,9 @@ fn write_text(room: &mut [u8], text: &[u8]) -> u32
 }
 
 impl LuksrdMessage {
-    /// Tells a message.
-    pub(crate) fn tell(&mut self, message: &Message)
-        ensures { Tells self.new message.now }
+    /// Stores a message.
+    pub(crate) fn set(&mut self, message: &Message)
+        ensures { StoresMessage self.new message.now }
     {
         let line = message.line();
         let bytes = line.as_slice();
@@ -43,9 +44,9 @@ impl LuksrdMessage {
         self.len = write_text(&mut self.text, &bytes[..end]);
     }
 
-    /// Tells a text of its own, with an exit status.
-    pub(crate) fn tell_text(&mut self, status: u32, text: &str)
-        ensures { TellsText self.new status text.now }
+    /// Stores an exit status and a text.
+    pub(crate) fn set_text(&mut self, status: u32, text: &str)
+        ensures { StoresText self.new status text.now }
     {
         self.status = status;
         self.len = write_text(&mut self.text, text.as_bytes());

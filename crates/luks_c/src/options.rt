@@ -1,7 +1,7 @@
-//! How a volume is opened, as C says it.
+//! How a volume is opened, as C passes it.
 
-ghost use Rattle.std.specs.Prelude.{IfSome};
-ghost use Rattle.luks_c.specs.Options.{AreOptions, IsNamed};
+ghost use Rattle.std.specs.Prelude.{◌≡◌, IfSome, MatchOption, false, true};
+ghost use Rattle.luks_c.specs.Options.{AreOptions, IsNamed, names_no_slot};
 
 use luks_access::options::Options;
 use luks_access::{IterationLimit, SlotNumber, Standing};
@@ -15,13 +15,14 @@ pub struct LuksrdOptions {
     pub has_key_slot: u32,
     /// The number of the key slot, 0 to 31.
     pub key_slot: u32,
-    /// The most iterations that a key slot or a digest may ask for, or 0.
+    /// The most iterations that a key slot or a digest may have, or 0.
     pub max_iterations: u32,
 }
 
-// The key slot that is named: none, or one that may not be a number of a key slot.
+// The key slot that is named, if any is, or `None` if its number is above 31.
 fn named_slot(options: &LuksrdOptions) -> Option<Option<SlotNumber>>
-    ensures { IfSome result (λ slot. IsNamed options.now slot) }
+    ensures { MatchOption result (names_no_slot options.now ≡ true) (λ slot.
+        (names_no_slot options.now ≡ false) × IsNamed options.now slot) }
 {
     if options.has_key_slot == 0 {
         return Some(None);
@@ -29,9 +30,11 @@ fn named_slot(options: &LuksrdOptions) -> Option<Option<SlotNumber>>
     Some(Some(SlotNumber::new(u64::from(options.key_slot))?))
 }
 
-/// The options that C says, if a key slot of the number that it names can be.
+/// The options that C passes, or `None` if they name a key slot by a number above 31.
 pub(crate) fn options_in(options: &LuksrdOptions) -> Option<Options>
-    ensures { IfSome result (λ made. AreOptions options.now made) }
+    ensures named { MatchOption result (names_no_slot options.now ≡ true)
+        (λ _. names_no_slot options.now ≡ false) }
+    ensures made { IfSome result (λ made. AreOptions options.now made) }
 {
     let key_slot = named_slot(options)?;
     let standing = if options.detached == 0 {

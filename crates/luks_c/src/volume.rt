@@ -1,7 +1,9 @@
 //! A volume that is open, as C keeps it.
 
-ghost use Rattle.std.specs.Prelude.{◌≡◌, ◌≤◌, IfSome, length, take};
-ghost use Rattle.luks_c.specs.Stored.{IsCleared, Stores, cipher_in, mode_in, mode_number};
+ghost use Rattle.std.specs.Prelude.{◌≡◌, ◌-◌, ◌≤◌, MatchOption, drop, false, length};
+ghost use Rattle.std.specs.Prelude.{replicate, take, true};
+ghost use Rattle.luks_cipher.specs.Sector.{is_mode_key_length};
+ghost use Rattle.luks_c.specs.Stored.{Filled, IsCleared, cipher_in, mode_in, mode_number};
 ghost use Rattle.luks_c.specs.Stored.{sector_size_in, segment_in, size_in};
 
 use luks_access::volume::Volume;
@@ -9,7 +11,7 @@ use luks_cipher::{Mode, SectorCipher};
 use luks_header::segment::{Segment, SegmentParts};
 use luks_verdict::sector_size::SectorSize;
 
-/// Room for a volume key.
+/// The length of the longest volume key in bytes.
 const ROOM: usize = 64;
 
 /// A volume that is open. All of it is plain numbers.
@@ -33,7 +35,7 @@ pub struct LuksrdVolume {
     pub key_slot: u32,
     /// 0.
     pub reserved: u32,
-    /// The volume key, and zeros behind it.
+    /// The volume key, and zeros after it.
     pub key: [u8; 64],
 }
 
@@ -101,7 +103,9 @@ pub(crate) fn segment(volume: &LuksrdVolume) -> Option<Segment>
 
 /// Its cipher, in this mode.
 pub(crate) fn cipher(volume: &LuksrdVolume, mode: Mode) -> Option<SectorCipher>
-    ensures { IfSome result (λ cipher. cipher ≡ cipher_in volume.now mode) }
+    ensures { MatchOption result (is_mode_key_length mode volume.now.key_size ≡ false)
+        (λ cipher. (is_mode_key_length mode volume.now.key_size ≡ true)
+        × (cipher ≡ cipher_in volume.now mode)) }
 {
     let len = volume.key_size as usize;
     if len > ROOM {
@@ -110,12 +114,13 @@ pub(crate) fn cipher(volume: &LuksrdVolume, mode: Mode) -> Option<SectorCipher>
     SectorCipher::new(mode, &volume.key[..len])
 }
 
-// Writes a key into the room for one, with zeros behind it. Answers its length.
+// Writes a key, and zeros after it. Returns its length.
 fn write_key(room: &mut [u8], key: &[u8]) -> u32
     requires there { length room.old ≡ ROOM }
     requires fits { length key.now ≤ ROOM }
     ensures count { result ≡ length key.now }
     ensures key { take result room.new ≡ key.now }
+    ensures rest { drop result room.new ≡ replicate (ROOM - result) 0 }
 {
     let len = key.len();
     room.fill(0);
@@ -127,7 +132,7 @@ impl LuksrdVolume {
     /// Stores a volume that is open.
     pub(crate) fn store(&mut self, volume: &Volume)
         requires { length volume.now.key ≤ ROOM }
-        ensures { Stores self.new volume.now }
+        ensures { Filled self.new volume.now }
     {
         let segment = volume.segment();
         self.offset = segment.offset;

@@ -159,7 +159,8 @@ module _ (image : List ℕ) (n : ℕ) (far : 8388608 ≤ n) where
       )
 
   -- the first bytes of an image have its header, at its cost
-  pub header_front : (header_of (take n image) ≡ header_of image) × (header_read_len (take n image) ≡ header_read_len image)
+  pub header_front : (header_of (take n image) ≡ header_of image)
+      × (header_read_len (take n image) ≡ header_read_len image)
   header_front = elim (cases_lt n (length image)) [
     | inl more ↦
         (let long = length-take-le n image (omega arith) in

@@ -1,4 +1,4 @@
--- Of an honestly sealed volume the payload is the plain text, and ends well.
+-- The payload of an honestly sealed volume is the plaintext, and it is whole.
 use Rattle.std.proofs.Common.{◌≡◌, ◌∙◌, ℕ, ◌+◌, ◌-◌, ◌/◌, ◌%◌, ◌≤◌, false, List, length, Option, None, Some, Ok, refl}
 use Rattle.std.proofs.Common.{ap, arith}
 use Rattle.std.specs.Prelude.{nat_lt}
@@ -9,8 +9,8 @@ use Rattle.luks_verdict.specs.declared.sector_size.SectorSize.{SectorSize}
 use Rattle.luks_verdict.specs.declared.sector_size.SectorSize.TheVariants.{B512, B1024, B2048, B4096}
 use Rattle.luks_verdict.specs.declared.segment.Segment.{Segment}
 use Rattle.luks_seal.specs.Sealed.{EndsWith, SealsPlain}
-use Rattle.luks_payload.specs.Plain.{ending_of, ending_within, plain_of, sector_len, sector_plaintext, unit_number, unit_plain}
-use Rattle.luks_payload.specs.Plain.{within_size}
+use Rattle.luks_payload.specs.Plain.{ending_of, ending_within, plain_of, sector_len, sector_plaintext}
+use Rattle.luks_payload.specs.Plain.{unit_number, unit_plain, within_size}
 use Rattle.luks_payload.specs.declared.state.Step.TheVariants.{End}
 use Rattle.luks_cipher.specs.Xts.{joined}
 use Rattle.luks_unlock.proofs.SealedUnits.{units_undone}

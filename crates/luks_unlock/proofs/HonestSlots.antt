@@ -74,7 +74,7 @@ module _ (passphrase key image : List ℕ) where
 
 -- ---- the first that opens
 
--- where no key slot before one that gives the key gives another, the first that opens gives the key
+-- if no key slot before one that gives the key gives another, the first that opens gives the key
 pub first_again : (before : List Entry) (entry : Entry) (after : List Entry) (image passphrase key : List ℕ)
     → AllByRecursion (GivesNoOther image passphrase key) before → slot_key entry image passphrase ≡ Some key
     → (number : ℕ) × (first_opening (before ++ entry ∷ after) image passphrase

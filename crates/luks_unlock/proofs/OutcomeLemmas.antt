@@ -32,7 +32,8 @@ use Rattle.luks_unlock.specs.Volume.{volume_outcome_by}
 
 module _ (on_opened : OnOpened) (named : Option ℕ) (v : Volume) (image secret : List ℕ) where
   pub found_long : longest_key_file < length secret
-      → found_outcome on_opened named v image secret ≡ no_output KeyFileLength (header_read_len image) (longest_key_file + 1)
+      → found_outcome on_opened named v image secret
+      ≡ no_output KeyFileLength (header_read_len image) (longest_key_file + 1)
   unfolding found_outcome
   found_long long = let yes : nat_lt longest_key_file (length secret) ≡ true = grind (arith, nat_tests) in rw yes refl
 
@@ -55,7 +56,8 @@ module _ (on_opened : OnOpened) (named : Option ℕ) (v : Volume) (image secret 
 
 -- ---- the area that is held
 
-module _ (image area area' : List ℕ) (i : Option (List ℕ)) (held : ℕ) (front : area ≡ take (header_read_len image) image) where
+module _ (image area area' : List ℕ) (i : Option (List ℕ)) (held : ℕ)
+    (front : area ≡ take (header_read_len image) image) where
   pub front_len : length area ≡ header_read_len image
   front_len = cost_held image area front
 
@@ -63,7 +65,8 @@ module _ (image area area' : List ℕ) (i : Option (List ℕ)) (held : ℕ) (fro
   pub area_more : (n : ℕ) → ConsumedOnto area area' (drop (header_read_len image) image) i n
       → (area' ≡ take (header_read_len image + n) image) × ConsumedExactly image i (header_read_len image + n)
   area_more n grows = (
-    grows.1 ∙ ap (λ l. l ++ take n (drop (header_read_len image) image)) front ∙ sym (take-add (header_read_len image) n image),
+    grows.1 ∙ ap (λ l. l ++ take n (drop (header_read_len image) image)) front
+        ∙ sym (take-add (header_read_len image) n image),
     record {
       within = omega (arith, grows.0.within, length-drop (header_read_len image) image, cost_there image);
       left = grows.0.left ∙ ap Some (drop-drop n (header_read_len image) image);
@@ -94,7 +97,8 @@ module _ (image area area' : List ℕ) (i : Option (List ℕ)) (held : ℕ) (fro
 
     -- the area is held
     pub area_held : held ≤ length area' → (held ≤ length image) × (length area' ≡ max (header_read_len image) held)
-        × (area' ≡ take (max (header_read_len image) held) image) × ConsumedExactly image i (max (header_read_len image) held)
+        × (area' ≡ take (max (header_read_len image) held) image)
+        × ConsumedExactly image i (max (header_read_len image) held)
     unfolding reached
     area_held enough =
         let more = area_more _ grows in

@@ -19,8 +19,9 @@ HasSegmentBy read image segment = (header : Header) × (read image ≡ Ok header
 abbrev pub HasSegment : List ℕ → Segment → Type 0
 HasSegment = HasSegmentBy header_of
 
--- finding the volume whose header is read so ended without one
+-- finding the volume whose header is read so was aborted with this message
 abbrev pub AbortsFinding : Reading → OpeningRequest → List ℕ → Option (List ℕ) → Message → Type 0
 AbortsFinding read o image left ReadFailed = ConsumedAtMost image left (header_read_len image)
 AbortsFinding read o image left OutOfMemory = ConsumedAtMost image left (header_read_len image)
-AbortsFinding read o image left message = (volume_by read o image ≡ Err message) × ConsumedExactly image left (header_read_len image)
+AbortsFinding read o image left message =
+    (volume_by read o image ≡ Err message) × ConsumedExactly image left (header_read_len image)

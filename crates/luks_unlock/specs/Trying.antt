@@ -10,16 +10,16 @@ use Rattle.luks_report.specs.Faults.{message_for_header, message_for_opening}
 use Rattle.luks_report.specs.declared.message.Message.{Message}
 use Rattle.luks_report.specs.declared.message.Message.TheVariants.{Cut}
 
--- the image was taken up to the end of the key areas, or up to its own end if that comes first
+-- the image was consumed up to the end of the key areas, or up to its own end if that comes first
 abbrev pub TookAreas : OrderModel → List ℕ → List ℕ → List ℕ → Option (List ℕ) → Type 0
 TookAreas tries area area' rest left =
     ConsumedOnto area area' rest left (min (key_areas_end tries.slots - length area) (length rest))
 
--- the key slots of a volume that was found were tried, whose header is held: the key areas are taken, and those slots
--- answer for this passphrase. Else a read of the key areas failed, or memory for them was refused, or the image ended
--- within them
-abbrev pub TriesSlots : Option ℕ → OrderModel → List ℕ → List ℕ → List ℕ → List ℕ → Option (List ℕ) → Result Opened Message
-    → Type 0
+-- the key slots of a volume whose header was read were tried: the key areas were consumed, and this is the result of
+-- those slots under this passphrase. Otherwise a read of the key areas failed, or memory for them ran out, or the image
+-- ended within them
+abbrev pub TriesSlots : Option ℕ → OrderModel → List ℕ → List ℕ → List ℕ → List ℕ → Option (List ℕ)
+    → Result Opened Message → Type 0
 TriesSlots named tries pass area area' rest left (Ok opened) = TookAreas tries area area' rest left
     × (key_areas_end tries.slots ≤ length area') × (opening_of tries area' pass ≡ Ok opened)
 TriesSlots named tries pass area area' rest left (Err message) =

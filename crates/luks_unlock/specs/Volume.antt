@@ -1,5 +1,5 @@
--- What the commands on volumes come to.
--- First what an image's header says of its volume, before any key slot is tried; then what becomes of a run.
+-- The outcomes of the commands on volumes.
+-- First what an image's header says of its volume, before any key slot is tried; then the outcome of a run.
 use Rattle.std.specs.Prelude.{ℕ, ◌+◌, List, length, max, nat_lt, if◌then◌else◌, Option, Result, Ok, Err}
 use Rattle.luks_header.specs.Header.{header_read_len, header_of}
 use Rattle.luks_header.specs.Segment.{segment_of}
@@ -23,7 +23,7 @@ use Rattle.luks_runs.specs.Reading.{Reading}
 use Rattle.luks_report.specs.declared.message.Message.{Message}
 use Rattle.luks_report.specs.declared.message.Message.TheVariants.{SegmentRefused}
 
--- a volume: its header, where its payload lies, and which key slots are tried
+-- a volume: its header, its segment, and which key slots are tried
 pub record Volume : Type 0 where
   pub header : Header
   pub segment : Segment
@@ -45,8 +45,8 @@ abbrev pub volume_in_header : OpeningRequest → Result Header HeaderFault → R
 volume_in_header o (Ok header) = volume_in_segment o header (segment_of header)
 volume_in_header o (Err fault) = Err (message_for_header fault)
 
--- the volume whose header is read so, or what is told where there is none: of its header first, then of its segment,
--- then of the order of its key slots
+-- the volume whose header is read so, or the message if there is none: about its header first, then about its segment,
+-- then about the order of its key slots
 unfoldable pub volume_by : Reading → OpeningRequest → List ℕ → Result Volume Message
 volume_by read o image = volume_in_header o (read image)
 
@@ -54,16 +54,16 @@ volume_by read o image = volume_in_header o (read image)
 abbrev pub volume_of : OpeningRequest → List ℕ → Result Volume Message
 volume_of = volume_by header_of
 
--- how many bytes of the image are taken to open the volume: the header and the key areas of the slots that are tried
+-- how many bytes of the image are consumed to open the volume: the header and the key areas of the slots that are tried
 abbrev pub held_for : List ℕ → Volume → ℕ
 held_for image volume = max (header_read_len image) (key_areas_end volume.tries.slots)
 
 -- what a command does with a volume that is opened: with its segment, its key, and the bytes of its image that were
--- taken so far
+-- consumed so far
 abbrev pub OnOpened : Type 0
 OnOpened = Segment → Opened → ℕ → Outcome
 
--- `testPassphrase`: the key slot that opens is told
+-- `testPassphrase`: the key slot that opens is reported
 abbrev pub slot_outcome : List ℕ → OnOpened
 slot_outcome secret segment opened held = record {
   output = opened_line opened.slot;
@@ -73,7 +73,7 @@ slot_outcome secret segment opened held = record {
   payload_taken = 0;
 }
 
--- `luksCat`: the payload is written as plain text
+-- `luksCat`: the payload is written as plaintext
 abbrev pub payload_outcome : List ℕ → List ℕ → OnOpened
 payload_outcome image secret segment opened held = record {
   output = plain_of segment (segment.mode, opened.key) image;
@@ -83,7 +83,7 @@ payload_outcome image secret segment opened held = record {
   payload_taken = 0;
 }
 
--- `luksCat` with a header in a file of its own: the image holds the payload alone
+-- `luksCat` with a detached header: the image holds the payload alone
 abbrev pub detached_payload_outcome : List ℕ → List ℕ → OnOpened
 detached_payload_outcome image secret segment opened held = record {
   output = plain_of segment (segment.mode, opened.key) image;

@@ -1,4 +1,4 @@
-//! Finding a volume: its header, where its payload lies, and which key slots are tried.
+//! Finding a volume: its header, its segment, and which key slots are tried.
 
 ghost use Rattle.std.specs.Prelude.{◌≡◌, ◌≢◌, ◌⊎◌, Option, Ok, Err, IfOk, IfErr};
 ghost use Rattle.std.specs.Prelude.{false, is_err, length, take};
@@ -25,14 +25,14 @@ use luks_request::command::Opening;
 use luks_runs::standing::{Standing, find_header};
 use std::alloc::Global;
 
-/// A volume whose header is read: where its payload lies, and which key slots are tried.
+/// A volume whose header was read: its segment, and which key slots are tried.
 #[derive(Drop)]
 pub struct FoundVolume {
     /// Its header.
     pub header: Header,
-    /// The first bytes of the image, or of the file with the header: all that were read.
+    /// The first bytes of the image, or of the file with the detached header: all that were read.
     pub area: HeaderArea,
-    /// Where its payload lies.
+    /// Where its payload is.
     pub segment: Segment,
     /// The key slots that are tried, in their order.
     pub order: Order,
@@ -81,8 +81,7 @@ fn find_slots(
     }
 }
 
-/// Reads the header of an image, or of a file of its own, and finds its segment and the key slots
-/// that are tried.
+/// Reads an attached or a detached header, and finds its segment and the key slots that are tried.
 pub fn find_volume<I: Source>(
     alloc: Global,
     standing: Standing,

@@ -18,7 +18,8 @@ use luks_open::tries::held_end;
 use luks_report::message::Message;
 use luks_request::command::Opening;
 
-/// Tries the key slots of a volume under a passphrase: takes the key areas behind its header first.
+/// Tries the key slots of a volume under a passphrase, after reading the key areas behind its
+/// header.
 pub fn try_slots<I: Source>(
     opening: &Opening<'_>,
     volume: &mut FoundVolume,

@@ -1,6 +1,6 @@
 use Rattle.std.proofs.Common.{◌∙◌, Some, ap, sym}
 use Rattle.luks_io.specs.Memory.{MemSourceModel}
-use Rattle.luks_c.proofs.OpenLemmas.{no_read, opened_for, refused_for, some_code}
+use Rattle.luks_c.proofs.OpenLemmas.{no_read, opened_for, refused_for, small_code, some_code}
 use Rattle.luks_c.proofs.StoredLemmas.{short_key}
 use Rattle.luks_c.proofs.luksrd_open.Goals as goal
 
@@ -9,10 +9,10 @@ store-requires c = short_key _ _ c.in-Ok.ensures.key
 
 pub returns-in-Ok-clause-opens : goal.returns-in-Ok-clause-opens
 returns-in-Ok-clause-opens c done =
-    opened_for c.args.options.now c.args.header.now c.args.passphrase.now c.tell.new.self c.in-Some.options
-    c.in-Some.ensures c.store.new.self _
+    opened_for c.args.options.now c.args.header.now c.args.passphrase.now c.set.new.self c.in-Some.options
+    c.in-Some.ensures.made c.store.new.self _
     (c.in-Ok.ensures.opens c.args.header.now (ap (λ (g : MemSourceModel). Some g.left) c.new.ensures)) c.store.ensures
-    c.tell.ensures
+    c.in-Ok.ensures.key c.set.ensures
 
 pub returns-in-Err-clause-opens : goal.returns-in-Err-clause-opens
 returns-in-Err-clause-opens c none =
@@ -20,7 +20,7 @@ returns-in-Err-clause-opens c none =
 
 pub returns-in-Err-clause-refuses : goal.returns-in-Err-clause-refuses
 returns-in-Err-clause-refuses c some other =
-    refused_for c.args.options.now c.args.header.now c.args.passphrase.now c.tell-in-Err.new.self c.in-Some.options
-    c.in-Some.ensures c.in-Err.refusal c.code_of.result c.code_of.ensures c.tell-in-Err.ensures
-    (no_read c.in-Err.refusal c.in-Err.ensures.reads)
+    refused_for c.args.options.now c.args.header.now c.args.passphrase.now c.set-in-Err.new.self c.in-Some.options
+    c.in-Some.ensures.made c.in-Err.refusal c.code_of.result c.code_of.ensures c.set-in-Err.ensures
+    c.in-Err.ensures.only (no_read c.in-Err.refusal c.in-Err.ensures.reads)
     (c.in-Err.ensures.refuses c.args.header.now (ap (λ (g : MemSourceModel). Some g.left) c.new.ensures))

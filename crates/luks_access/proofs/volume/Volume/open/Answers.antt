@@ -21,7 +21,8 @@ returns-clause-honest g c =
 
 pub returns-clause-refuses : goal.returns-clause-refuses
 returns-clause-refuses g c =
-    known_err c.open_from.result (λ message known. breaks_off message ≡ false → Refuses c.args.options.now known c.args.pass.now message)
+    known_err c.open_from.result
+    (λ message known. breaks_off message ≡ false → Refuses c.args.options.now known c.args.pass.now message)
     (g.I.ReadAt.image c.args.image.now) _ c.new.ensures.bytes c.open_from.ensures.refuses
 
 pub returns-clause-refuses_no_honest : goal.returns-clause-refuses_no_honest

@@ -1,0 +1,132 @@
+//! Sealed volumes, and images that fail.
+
+use luks_access::image::{ReadAt, ReadAtFault};
+use luks_access::memory::MemImage;
+use luks_access::options::Options;
+use luks_access::volume::Volume;
+use luks_access::{Message, Standing};
+use luks_seal::parameters::Seal2;
+use luks_seal_fixtures::bytes::counted;
+use luks_seal_fixtures::parameters::{parameters1, parameters2, slot1, slot2};
+use luks_verdict::sector_size::SectorSize;
+use luks1_seal::seal1;
+use luks2_seal::seal2;
+use std::cell::Cell;
+use std::process::Abort;
+
+/// The passphrase of key slot 2 of each volume here.
+pub const PASS: &[u8] = b"second";
+
+/// The options that open each volume here.
+pub const OPTIONS: Options = Options {
+    standing: Standing::Attached,
+    key_slot: None,
+    max_iterations: None,
+};
+
+/// So many bytes that count up.
+pub fn text(rt: &(impl Abort + AllocGlobal), len: usize) -> Vec<u8> {
+    counted(rt.alloc(), len).expect(rt, "memory")
+}
+
+/// A volume of LUKS1 with this text. Its payload begins at byte 36,864.
+pub fn image1(rt: &(impl Abort + AllocGlobal), plain: &[u8]) -> Vec<u8> {
+    let slots = [slot1(2, [0x22; 32], PASS)];
+    seal1(rt.alloc(), &parameters1(&slots, plain)).expect(rt, "a volume")
+}
+
+/// A volume of LUKS2 with this text, in sectors of this size, numbered from `iv_tweak` on. Its
+/// payload begins at byte 65,536, and has a fixed size or ends with the image.
+pub fn image2(
+    rt: &(impl Abort + AllocGlobal),
+    plain: &[u8],
+    sector_size: SectorSize,
+    iv_tweak: u64,
+    fixed: bool,
+) -> Vec<u8> {
+    let slots = [slot2(2, [0x22; 32], PASS)];
+    let parameters = Seal2 {
+        sector_size,
+        iv_tweak,
+        fixed,
+        ..parameters2(&slots, plain)
+    };
+    seal2(rt.alloc(), &parameters).expect(rt, "a volume")
+}
+
+/// Opens the volume of an image by its passphrase.
+pub fn opened(rt: &(impl Abort + AllocGlobal), options: &Options, image: &[u8]) -> Volume {
+    match Volume::open(rt.alloc(), options, &MemImage::new(image), PASS) {
+        Ok(volume) => volume,
+        Err(_) => panic!(rt; "not opened"),
+    }
+}
+
+/// The message with which a volume is refused, or that it was opened.
+pub fn refusal(
+    rt: &(impl Abort + AllocGlobal),
+    options: &Options,
+    image: &impl ReadAt,
+    pass: &[u8],
+) -> Message {
+    match Volume::open(rt.alloc(), options, image, pass) {
+        Ok(_) => Message::Done,
+        Err(message) => message,
+    }
+}
+
+/// An image of which a call fails, or that ends before its length.
+#[derive(Drop)]
+pub struct BadImage<'a> {
+    /// Its bytes.
+    pub bytes: &'a [u8],
+    /// The length that it reports.
+    pub len: u64,
+    /// Which call of `read_at` fails, from 1 on, or 0.
+    pub failing: u32,
+    /// How many calls there were.
+    pub calls: Cell<u32>,
+    /// No byte before this one can be read.
+    pub first: u64,
+    /// No byte from this one on can be read.
+    pub end: u64,
+}
+
+impl<'a> BadImage<'a> {
+    /// An image of these bytes, of which no call fails yet.
+    pub fn new(bytes: &'a [u8]) -> BadImage<'a> {
+        let len = bytes.len() as u64;
+        BadImage {
+            bytes,
+            len,
+            failing: 0,
+            calls: Cell::new(0),
+            first: 0,
+            end: len,
+        }
+    }
+}
+
+impl<'a> ReadAt for BadImage<'a> {
+    ghost use Rattle.std.specs.Prelude.{None, true};
+
+    ghost image = { λ _. None };
+
+    ghost fails = { λ _. true };
+
+    fn len(&self) -> u64 {
+        self.len
+    }
+
+    fn read_at(&self, offset: u64, buf: &mut [u8]) -> Result<(), ReadAtFault> {
+        let call = self.calls.get().saturating_add(1);
+        self.calls.set(call);
+        let end = offset.saturating_add(buf.len() as u64);
+        if call == self.failing || offset < self.first || self.end < end {
+            // What a failed read leaves in the buffer is not plaintext.
+            buf.fill(0xbd);
+            return Err(ReadAtFault::Failed);
+        }
+        MemImage::new(self.bytes).read_at(offset, buf)
+    }
+}
