@@ -5,7 +5,9 @@ use super::runs::{
     CAT, CAT_DETACHED, DONE, Ends, Inputs, WRITE_FAILED, check_told, report_of, sink, words_of,
 };
 use super::same::{assert_in, assert_same_in};
-use super::volume::{PASSPHRASE, PLAIN_LEN, changed, front2, payload_of, plain_of, sealed2};
+use super::volume::{
+    NAMES_64_KIB, PASSPHRASE, PLAIN_LEN, changed, front2, payload_of, plain_of, sealed2,
+};
 use luks_io::ahead::AheadSource;
 use luks_io::memory::MemSource;
 use luks_report::message::Message;
@@ -41,8 +43,7 @@ fn check_ahead(
     let mut secret = MemSource::new(secret);
     let mut out = sink(rt, space);
     let words = words_of(rt, line);
-    let inputs = (&mut header, &mut image, &mut secret);
-    let report = report_of(rt, &words, inputs, &mut out);
+    let report = report_of(rt, &words, &mut header, &mut image, &mut secret, &mut out);
     check_told(rt, &case, &report, told);
     assert_same_in(rt, &case, at(out.as_slice(), 0, PLAIN_LEN), plain);
     assert_same_in(rt, &case, image.get_ref().left(), left);
@@ -67,8 +68,16 @@ fn check_rooms(
     (most, least)
 }
 
-// The payload starts at byte 36,864 of an image of 38,400 bytes. Each sector is a call of its own
-// if nothing is taken ahead.
+// A volume of 80,000 bytes with a payload of this size. Its damaged primary header names 65,536
+// bytes, so as many are read before the payload is.
+fn searched(rt: &(impl Abort + AllocGlobal), size: &str) -> Vec<u8> {
+    let sealed = sealed2(rt, size);
+    changed(rt, &sealed, 80_000, NAMES_64_KIB)
+}
+
+// The payload starts at byte 36,864 of an image of 38,400 bytes, and each sector is a call of its
+// own if nothing is taken ahead. A payload ends within what a search has read, and one of 66
+// sectors ends behind it.
 #[test]
 fn no_more_is_taken_than_the_payload(rt: HostRuntime) {
     let plain = plain_of(&rt, PLAIN_LEN);
@@ -77,27 +86,10 @@ fn no_more_is_taken_than_the_payload(rt: HostRuntime) {
     let two = check_rooms(&rt, &sealed2(&rt, "1024"), at(&plain, 0, 1024), 512);
     assert_same_in(&rt, &"each by itself", two.0.saturating_sub(one.0), 1);
     assert_same_in(&rt, &"all at once", one.1, two.1);
-}
-
-// A volume of 80,000 bytes with a payload of this size. Its damaged primary header names 65,536
-// bytes, so as many are read before the payload is.
-fn searched(rt: &(impl Abort + AllocGlobal), size: &str) -> Vec<u8> {
-    changed(
-        rt,
-        &sealed2(rt, size),
-        80_000,
-        &[(8, &[0, 0, 0, 0, 0, 1, 0, 0])],
-    )
-}
-
-// A payload that ends within what is held, and one of 66 sectors that ends behind it.
-#[test]
-fn no_more_is_taken_than_a_search_needs(rt: HostRuntime) {
-    let plain = plain_of(&rt, PLAIN_LEN);
-    let within = searched(&rt, "1024");
-    check_rooms(&rt, &within, at(&plain, 0, 1024), 80_000 - 65_536);
-    let behind = searched(&rt, "33792");
-    check_rooms(&rt, &behind, &plain, 80_000 - 36_864 - 33_792);
+    let sectors = at(&plain, 0, 1024);
+    check_rooms(&rt, &searched(&rt, "1024"), sectors, 80_000 - 65_536);
+    let behind = 80_000 - 36_864 - 33_792;
+    check_rooms(&rt, &searched(&rt, "33792"), &plain, behind);
 }
 
 // Beside a detached header the payload starts at the image's first byte, and is one call if it is
@@ -138,8 +130,7 @@ fn check_failed_read(
     let words = words_of(rt, CAT);
     let mut secret = MemSource::new(PASSPHRASE);
     let mut header = MemSource::new(&[]);
-    let inputs = (&mut header, &mut source, &mut secret);
-    let report = report_of(rt, &words, inputs, &mut out);
+    let report = report_of(rt, &words, &mut header, &mut source, &mut secret, &mut out);
     let consumed = image.len() - source.get_ref().left().min(image.len());
     let sectors = consumed.saturating_sub(36_864) / 512;
     let whole = at(plain, 0, sectors.saturating_mul(512));

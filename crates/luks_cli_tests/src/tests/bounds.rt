@@ -3,7 +3,7 @@
 use super::passphrases::{NOT_OPENED, OPENED};
 use super::runs::{ALL, CAT, Ends, Inputs, OFFSET, TEST, WRITE_FAILED, check, check_within};
 use super::volume::{
-    NEWEST, PASSPHRASE, PLAIN_LEN, USUAL, USUAL_LEN, changed, plain_of, put, sealed,
+    Changes, NEWEST, PASSPHRASE, PLAIN_LEN, USUAL, USUAL_LEN, changed, plain_of, put, sealed,
 };
 use luks_seal_fixtures::bytes::at;
 use std::process::Abort;
@@ -95,8 +95,8 @@ static FAR: [Number; 2] = [
     (SLOT_OFFSET, 65_037, AREA, 592),
 ];
 
-// The number 100,000.
-const BEHIND: &[u8] = &[0, 1, 0x86, 0xa0];
+// The payload starts at sector 100,000.
+const LATE: Changes = &[(PAYLOAD_OFFSET, &[0, 1, 0x86, 0xa0])];
 
 // With the number at the place, the key slot or the segment is refused right behind the header, or
 // the key slot is tried.
@@ -123,7 +123,7 @@ fn check_numbers(rt: &(impl Abort + AllocGlobal), image: &[u8], rows: &[Number])
 fn each_number_has_its_bounds(rt: HostRuntime) {
     let image = sealed(&rt, NEWEST, USUAL, PASSPHRASE);
     check_numbers(&rt, &image, &NUMBERS);
-    let far = changed(&rt, &image, 33_554_433, &[(PAYLOAD_OFFSET, BEHIND)]);
+    let far = changed(&rt, &image, 33_554_433, LATE);
     check_numbers(&rt, &far, &FAR)
 }
 

@@ -8,8 +8,8 @@ use super::runs::{CAT, CAT_DETACHED, Inputs, OPENS, TEST, TEST_DETACHED};
 use super::scarce::check_refusals;
 use super::stripes::{FF, LAST, MERGE_2, SPLIT_2, ZEROS, joined};
 use super::volume::{
-    NEWEST, PASSPHRASE, PLAIN_LEN, SMALL, SMALL_LEN, changed, front2, payload_of, plain_of, sealed,
-    sealed2, text_of,
+    AT_START, NEWEST, PASSPHRASE, PLAIN_LEN, SMALL, SMALL_LEN, changed, front2, payload_of,
+    plain_of, sealed, sealed2, text_of,
 };
 use luks_report::message::Message;
 use std::process::Abort;
@@ -142,7 +142,7 @@ fn check_attached(rt: &(impl Abort + AllocGlobal), first: Hardship, second: Hard
 fn check_detached(rt: &(impl Abort + AllocGlobal), first: Hardship, second: Hardship) {
     let plain = plain_of(rt, PLAIN_LEN);
     let volume = sealed(rt, NEWEST, SMALL, PASSPHRASE);
-    let header = changed(rt, &volume, 4608, &[(104, &[0; 4])]);
+    let header = changed(rt, &volume, 4608, AT_START);
     let inputs: Inputs<'_> = [&header, payload_of(&volume), PASSPHRASE];
     let way = (first, DETACHED);
     check_line(rt, way, CAT_DETACHED, inputs, &plain, (0, 0));

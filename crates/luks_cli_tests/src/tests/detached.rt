@@ -6,8 +6,8 @@ use super::runs::{
     TEST_DETACHED, TORN_511, check,
 };
 use super::volume::{
-    NEWEST, PASSPHRASE, PLAIN_LEN, USUAL, USUAL_LEN, changed, followed, front2, payload_of,
-    plain_of, sealed,
+    AT_START, NEWEST, PASSPHRASE, PLAIN_LEN, USUAL, USUAL_LEN, changed, followed, front2,
+    payload_of, plain_of, sealed,
 };
 use luks_seal_fixtures::bytes::at;
 use std::process::Abort;
@@ -37,6 +37,8 @@ Slot 6: DISABLED
 Slot 7: DISABLED
 ";
 
+const OPENS: &str = "Key slot 0 opens the volume.\n";
+
 /// A line, how many bytes there are of the detached header and of the image, what the run prints
 /// and reports, and how many bytes it leaves.
 type Row = (
@@ -57,12 +59,7 @@ static ROWS: [Row; 8] = [
     ("luksUUID --header h i", WHOLE, ("a-uuid\n", DONE), UNREAD),
     ("luksDump --header h i", WHOLE, (DUMP, DONE), UNREAD),
     ("luksCheck --header h i", WHOLE, ("clean\n", DONE), UNREAD),
-    (
-        TEST_DETACHED,
-        WHOLE,
-        ("Key slot 0 opens the volume.\n", DONE),
-        (0, 1536, 0),
-    ),
+    (TEST_DETACHED, WHOLE, (OPENS, DONE), (0, 1536, 0)),
     (CAT_1, WHOLE, ("", DISABLED), UNREAD),
     (CAT_DETACHED, (260_095, 1536), ("", CUT), (0, 1536, 0)),
     (CAT_DETACHED, (260_096, 0), ("", DONE), (0, 0, 0)),
@@ -94,28 +91,28 @@ fn check_unread(rt: &(impl Abort + AllocGlobal), header: &[u8], payload: &[u8]) 
     check(rt, "luksCheck i", front, amiss, (0, 259_504, 13))
 }
 
-fn check_written(rt: &(impl Abort + AllocGlobal), header: &[u8], payload: &[u8], plain: &[u8]) {
+// A volume is its own header too, whose payload is not where the header ends.
+fn check_written(rt: &(impl Abort + AllocGlobal), image: &[u8], header: &[u8], plain: &[u8]) {
+    let payload = payload_of(image);
     let whole: Inputs<'_> = [header, payload, PASSPHRASE];
     check(rt, CAT_DETACHED, whole, (plain, DONE), (0, 0, 0));
     let torn: Inputs<'_> = [header, at(payload, 0, 1535), PASSPHRASE];
     let ends = (at(plain, 0, 1024), TORN_511);
-    check(rt, CAT_DETACHED, torn, ends, (0, 0, 0))
+    check(rt, CAT_DETACHED, torn, ends, (0, 0, 0));
+    let itself: Inputs<'_> = [image, image, PASSPHRASE];
+    let left = (USUAL_LEN - 260_096, 0, 0);
+    check(rt, CAT_DETACHED, itself, (plain, DONE), left)
 }
 
 #[test]
 fn a_header_may_be_detached(rt: HostRuntime) {
     let image = sealed(&rt, NEWEST, USUAL, PASSPHRASE);
-    let header = changed(&rt, &image, 260_096, &[(104, &[0; 4])]);
+    let header = changed(&rt, &image, 260_096, AT_START);
     for row in &ROWS {
         check_row(&rt, (&header, payload_of(&image)), *row);
     }
     check_unread(&rt, &header, payload_of(&image));
-    let plain = plain_of(&rt, PLAIN_LEN);
-    check_written(&rt, &header, payload_of(&image), &plain);
-    // A volume is its own header, whose payload is not where the header ends.
-    let itself: Inputs<'_> = [&image, &image, PASSPHRASE];
-    let left = (USUAL_LEN - 260_096, 0, 0);
-    check(&rt, CAT_DETACHED, itself, (&plain, DONE), left)
+    check_written(&rt, &image, &header, &plain_of(&rt, PLAIN_LEN))
 }
 
 const SHORT: &str = "4 luksrd: image ends 512 bytes before the segment does\n";

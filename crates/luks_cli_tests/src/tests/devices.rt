@@ -46,15 +46,6 @@ impl Failing {
             u64::MAX
         }
     }
-
-    // The message of its failure.
-    fn told(self) -> Message {
-        if self.device == 2 {
-            Message::WriteFailed
-        } else {
-            Message::ReadFailed
-        }
-    }
 }
 
 // The source was asked for nothing in vain: for no bytes, nor once more after its end, nor again
@@ -75,32 +66,20 @@ fn check_brought(rt: &impl Abort, failing: Failing, out: &Leaky) {
 // What was written, and how many bytes of the payload were consumed.
 type Moved<'a> = (&'a [u8], usize);
 
-// The failed call is reported, and what was written is a prefix of the whole: after a read of the
-// image all whole sectors that were consumed, and after another read nothing. After a write, no
-// byte past the current sector was consumed.
+// The failed call is reported. After a read of the image all whole sectors that were consumed are
+// written, and after another read nothing. After a write, no byte past the current sector was
+// consumed.
 fn check_failed(rt: &impl Abort, failing: Failing, report: Report, (written, consumed): Moved<'_>) {
-    assert_in(rt, &failing, report == Report::of(failing.told()));
+    let told = if failing.device == 2 {
+        Message::WriteFailed
+    } else {
+        Message::ReadFailed
+    };
+    assert_in(rt, &failing, report == Report::of(told));
     match failing.device {
         0 => assert_same_in(rt, &failing, written.len(), consumed / 512 * 512),
         2 => assert_in(rt, &failing, consumed <= (written.len() / 512 + 1) * 512),
         _ => assert_same_in(rt, &failing, (written.len(), consumed), (0, 0)),
-    }
-}
-
-// How a run ends of which a call may have failed.
-fn check_ending(
-    rt: &impl Abort,
-    trial: Trial<'_>,
-    failing: Failing,
-    (report, failed): (Report, bool),
-    (written, consumed): Moved<'_>,
-) {
-    assert_in(rt, &failing, trial.whole.starts_with(written));
-    if failed {
-        check_failed(rt, failing, report, (written, consumed));
-    } else {
-        assert_in(rt, &failing, report == Report::of(trial.message));
-        assert_same_in(rt, &failing, written, trial.whole);
     }
 }
 
@@ -116,8 +95,14 @@ fn run_failing(
     let mut header = Flaky::new(trial.header, pieces.0, failing.call_of(3));
     let mut image = Flaky::new(trial.image, pieces.1, failing.call_of(0));
     let mut secret = Flaky::new(trial.secret, pieces.2, failing.call_of(1));
-    let inputs = (&mut header, &mut image, &mut secret);
-    let report = report_over(rt.alloc(), command, inputs, &mut out);
+    let report = report_over(
+        rt.alloc(),
+        command,
+        &mut header,
+        &mut image,
+        &mut secret,
+        &mut out,
+    );
     check_asked(rt, failing, &header);
     check_asked(rt, failing, &image);
     check_asked(rt, failing, &secret);
@@ -126,8 +111,14 @@ fn run_failing(
     let failed = of_input || out.failures() != 0;
     let consumed = trial.image.len() - image.left().min(trial.image.len());
     let moved = (out.as_slice(), consumed.saturating_sub(trial.start));
-    check_ending(rt, trial, failing, (report, failed), moved);
-    failed
+    assert_in(rt, &failing, trial.whole.starts_with(out.as_slice()));
+    if failed {
+        check_failed(rt, failing, report, moved);
+        return true;
+    }
+    assert_in(rt, &failing, report == Report::of(trial.message));
+    assert_same_in(rt, &failing, out.as_slice(), trial.whole);
+    false
 }
 
 // Runs with one failing call of this device each, counted upwards until a run meets none.
@@ -164,8 +155,14 @@ pub(super) fn check_pieces(rt: &(impl Abort + AllocGlobal), trial: Trial<'_>, pi
     let mut header = Flaky::new(trial.header, pieces.0, u64::MAX);
     let mut image = Flaky::new(trial.image, pieces.1, u64::MAX);
     let mut secret = Flaky::new(trial.secret, pieces.2, u64::MAX);
-    let inputs = (&mut header, &mut image, &mut secret);
-    let report = report_over(rt.alloc(), &command, inputs, &mut out);
+    let report = report_over(
+        rt.alloc(),
+        &command,
+        &mut header,
+        &mut image,
+        &mut secret,
+        &mut out,
+    );
     assert_same_in(rt, &pieces, report, Report::of(trial.message));
     assert_same_in(rt, &pieces, out.as_slice(), trial.whole);
     let lefts = (header.left(), image.left(), secret.left());

@@ -1,7 +1,7 @@
 //! The commands on headers, over LUKS1 and over what is no header.
 
 use super::runs::{ALL, CUT, DONE, FINDINGS, Inputs, NOT_LUKS, WRITE_FAILED, check, check_within};
-use super::volume::{changed, text_of};
+use super::volume::{Changes, changed, text_of};
 use luks_report::message::Message;
 use std::process::Abort;
 
@@ -76,9 +76,6 @@ pub(super) static PAGES: [(&str, Page, Message); 4] = [
     ("luksDump i", DUMP, Message::Done),
     ("luksCheck i", AMISS, Message::Findings),
 ];
-
-/// Bytes at places of a header.
-type Changes = &'static [(usize, &'static [u8])];
 
 // Texts that are empty, not in ASCII, or in no line.
 const ODD: Changes = &[

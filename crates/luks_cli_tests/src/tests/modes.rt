@@ -3,7 +3,8 @@
 use super::passphrases::{NOT_OPENED, OPENED, check_opening};
 use super::runs::{CAT_DETACHED, DONE, Inputs, check};
 use super::volume::{
-    KEY, NEWEST, PASSPHRASE, PLAIN_LEN, USUAL, changed, payload_of, plain_of, sealed,
+    AT_START, Changes, KEY, NEWEST, PASSPHRASE, PLAIN_LEN, USUAL, changed, payload_of, plain_of,
+    sealed,
 };
 use luks_cipher::Mode;
 use luks_seal_fixtures::bytes::at;
@@ -28,7 +29,7 @@ fn check_mode(rt: &(impl Abort + AllocGlobal), (mode, key_len, held): (Mode, usi
     let written = (plain.as_slice(), DONE);
     check_opening(rt, &image, written, ("", PASSPHRASE, OPENED, (held, 0)));
     check_opening(rt, &image, written, ("", b"wrong", NOT_OPENED, (held, 0)));
-    let header = changed(rt, &image, held, &[(104, &[0; 4])]);
+    let header = changed(rt, &image, held, AT_START);
     let inputs: Inputs<'_> = [&header, payload_of(&image), PASSPHRASE];
     check(rt, CAT_DETACHED, inputs, written, (0, 0, 0))
 }
@@ -48,7 +49,7 @@ const HASH: &str = "1 luksrd: segment refused: hash\n";
 
 /// What stands at places of a header, and what is reported: the cipher's name at 8, its mode at 40,
 /// the hash at 72, and the length of the key at 111.
-type Texts = (&'static [(usize, &'static [u8])], &'static str);
+type Texts = (Changes, &'static str);
 
 // In place of `cbc-essiv:sha256` and 32 bytes of key.
 static OF_CBC: [Texts; 7] = [

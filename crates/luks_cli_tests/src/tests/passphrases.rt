@@ -3,8 +3,8 @@
 use super::runs::{DONE, Ends, Inputs, NO_KEY, OPENS, TEST, check};
 use super::same::assert_same_in;
 use super::volume::{
-    NEWEST, PASSPHRASE, PLAIN_LEN, SMALL, SMALL_LEN, USUAL, USUAL_LEN, changed, plain_of, sealed,
-    text_of,
+    Changes, NEWEST, PASSPHRASE, PLAIN_LEN, SMALL, SMALL_LEN, USUAL, USUAL_LEN, changed, plain_of,
+    sealed, text_of,
 };
 use luks_seal_fixtures::bytes::at;
 use std::process::Abort;
@@ -59,51 +59,37 @@ const HELD: (usize, usize) = (260_096, 0);
 // If nothing is read behind the header.
 const REFUSED: (usize, usize) = (592, 13);
 
+const NOT_8: Ends<'static> = (b"", "1 luksrd: key slot 8 is not there\n");
+
+const NOT_31: Ends<'static> = (b"", "1 luksrd: key slot 31 is not there\n");
+
+const DISABLED_1: Ends<'static> = (b"", "1 luksrd: key slot 1 is disabled\n");
+
+const DISABLED_7: Ends<'static> = (b"", "1 luksrd: key slot 7 is disabled\n");
+
+const LIMITED: &str = "1 luksrd: no key slot can be tried; skipped: 0 (iterations)\n";
+
+const LIMITED_0: Ends<'static> = (b"", "1 luksrd: key slot 0 is skipped: iterations\n");
+
 static OF_USUAL: [Opening<'static>; 10] = [
     ("", PASSPHRASE, OPENED, HELD),
     ("", NEWLINE, NOT_OPENED, HELD),
     ("--key-slot 0 ", PASSPHRASE, OPENED, HELD),
     ("--max-iterations 1000 ", PASSPHRASE, OPENED, HELD),
-    (
-        "--key-slot 8 ",
-        PASSPHRASE,
-        (b"", "1 luksrd: key slot 8 is not there\n"),
-        REFUSED,
-    ),
-    (
-        "--key-slot 31 ",
-        PASSPHRASE,
-        (b"", "1 luksrd: key slot 31 is not there\n"),
-        REFUSED,
-    ),
-    (
-        "--key-slot 1 ",
-        PASSPHRASE,
-        (b"", "1 luksrd: key slot 1 is disabled\n"),
-        REFUSED,
-    ),
-    (
-        "--key-slot 7 ",
-        PASSPHRASE,
-        (b"", "1 luksrd: key slot 7 is disabled\n"),
-        REFUSED,
-    ),
-    (
-        "--max-iterations 999 ",
-        PASSPHRASE,
-        (
-            b"",
-            "1 luksrd: no key slot can be tried; skipped: 0 (iterations)\n",
-        ),
-        REFUSED,
-    ),
+    ("--key-slot 8 ", PASSPHRASE, NOT_8, REFUSED),
+    ("--key-slot 31 ", PASSPHRASE, NOT_31, REFUSED),
+    ("--key-slot 1 ", PASSPHRASE, DISABLED_1, REFUSED),
+    ("--key-slot 7 ", PASSPHRASE, DISABLED_7, REFUSED),
+    ("--max-iterations 999 ", PASSPHRASE, (b"", LIMITED), REFUSED),
     (
         "--key-slot 0 --max-iterations 999 ",
         PASSPHRASE,
-        (b"", "1 luksrd: key slot 0 is skipped: iterations\n"),
+        LIMITED_0,
         REFUSED,
     ),
 ];
+
+const CAT_STDIN: &str = "luksCat --key-file - i";
 
 #[test]
 fn a_usual_volume_opens_as_asked(rt: HostRuntime) {
@@ -112,13 +98,7 @@ fn a_usual_volume_opens_as_asked(rt: HostRuntime) {
     let plain = plain_of(&rt, PLAIN_LEN);
     check_openings(&rt, &image, (&plain, DONE), &OF_USUAL);
     let inputs: Inputs<'_> = [&[], &image, PASSPHRASE];
-    check(
-        &rt,
-        "luksCat --key-file - i",
-        inputs,
-        (&plain, DONE),
-        (0, 0, 0),
-    )
+    check(&rt, CAT_STDIN, inputs, (&plain, DONE), (0, 0, 0))
 }
 
 static OF_NEWLINE: [Opening<'static>; 2] = [
@@ -152,6 +132,9 @@ static OF_WRONG: [Opening<'static>; 3] = [
 const NONE_TRIED: &str =
     "1 luksrd: no key slot can be tried; skipped: 3 (state), 5 (stripes), 7 (stripes)\n";
 
+// Slot 0 is not in use.
+const WITHOUT_0: Changes = &[(208, &[0, 0, 0xde, 0xad])];
+
 static OF_NONE: [Opening<'static>; 1] = [("", PASSPHRASE, (b"", NONE_TRIED), REFUSED)];
 
 #[test]
@@ -161,7 +144,7 @@ fn small_volumes_open_as_asked(rt: HostRuntime) {
     check_openings(&rt, &image, (&plain, DONE), &OF_NEWLINE);
     let wrong = changed(&rt, &image, SMALL_LEN, &WRONG_SLOTS);
     check_openings(&rt, &wrong, (&plain, DONE), &OF_WRONG);
-    let none = changed(&rt, &wrong, SMALL_LEN, &[(208, &[0, 0, 0xde, 0xad])]);
+    let none = changed(&rt, &wrong, SMALL_LEN, WITHOUT_0);
     check_openings(&rt, &none, (&plain, DONE), &OF_NONE)
 }
 

@@ -76,7 +76,9 @@ pub(super) fn sink(rt: &(impl Abort + AllocGlobal), room: usize) -> MemSink {
 pub(super) fn report_over<H: Source, I: Source, K: Source, O: Sink>(
     alloc: Global,
     command: &Command<'_>,
-    (header, image, secret): (&mut H, &mut I, &mut K),
+    header: &mut H,
+    image: &mut I,
+    secret: &mut K,
     out: &mut O,
 ) -> Report {
     if command.is_detached() {
@@ -90,11 +92,13 @@ pub(super) fn report_over<H: Source, I: Source, K: Source, O: Sink>(
 pub(super) fn report_of<H: Source, I: Source, K: Source, O: Sink>(
     rt: &(impl Abort + AllocGlobal),
     words: &[&str],
-    (header, image, secret): (&mut H, &mut I, &mut K),
+    header: &mut H,
+    image: &mut I,
+    secret: &mut K,
     out: &mut O,
 ) -> Report {
     match plan(rt.alloc(), words) {
-        Ok(command) => report_over(rt.alloc(), &command, (header, image, secret), out),
+        Ok(command) => report_over(rt.alloc(), &command, header, image, secret, out),
         Err(fault) => Report::of_fault(fault),
     }
 }
@@ -126,8 +130,7 @@ pub(super) fn run_over(
     let mut header = Broken::new(header, ALL);
     let mut image = Broken::new(image, of_image);
     let mut secret = Broken::new(secret, of_secret);
-    let inputs = (&mut header, &mut image, &mut secret);
-    let report = report_of(rt, &words, inputs, out);
+    let report = report_of(rt, &words, &mut header, &mut image, &mut secret, out);
     (report, (header.left(), image.left(), secret.left()))
 }
 

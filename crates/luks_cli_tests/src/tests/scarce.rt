@@ -25,8 +25,7 @@ fn run_once(
     let mut header = MemSource::new(trial.header);
     let mut image = MemSource::new(trial.image);
     let mut secret = MemSource::new(trial.secret);
-    let inputs = (&mut header, &mut image, &mut secret);
-    let report = report_over(alloc, command, inputs, out);
+    let report = report_over(alloc, command, &mut header, &mut image, &mut secret, out);
     (report, image.left().len())
 }
 

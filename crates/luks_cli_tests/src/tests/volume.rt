@@ -96,6 +96,15 @@ pub(super) fn sealed(
     seal1(rt.alloc(), &volume).expect(rt, "a volume")
 }
 
+/// Bytes at places of a header.
+pub(super) type Changes = &'static [(usize, &'static [u8])];
+
+/// In a header of LUKS1, the payload starts at byte 0.
+pub(super) const AT_START: Changes = &[(104, &[0; 4])];
+
+/// A primary header of LUKS2 names a size of 65,536 bytes, so that its checksum no longer agrees.
+pub(super) const NAMES_64_KIB: Changes = &[(8, &[0, 0, 0, 0, 0, 1, 0, 0])];
+
 /// Puts bytes over those of an image from this place on, as far as they go.
 pub(super) fn put(image: &mut [u8], place: usize, bytes: &[u8]) {
     let start = place.min(image.len());

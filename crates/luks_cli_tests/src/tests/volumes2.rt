@@ -3,10 +3,10 @@
 
 use super::devices::{Trial, check_pieces};
 use super::passphrases::{NOT_OPENED, OPENED, Opening, check_openings};
-use super::runs::{ALL, BEFORE, CAT, DONE, Inputs, WRITE_FAILED, check, check_within};
+use super::runs::{ALL, BEFORE, CAT, DONE, Ends, Inputs, WRITE_FAILED, check, check_within};
 use super::volume::{
-    KEY, PASSPHRASE, PLAIN_LEN, SLOT, SMALL_LEN, changed, followed, front2_of, plain_of, sealed2,
-    text_of,
+    Changes, KEY, NAMES_64_KIB, PASSPHRASE, PLAIN_LEN, SLOT, SMALL_LEN, changed, followed,
+    front2_of, plain_of, sealed2, text_of,
 };
 use luks_kdf::Hash;
 use luks_report::message::Message;
@@ -47,32 +47,20 @@ fn sealed_at<'a>(
     seal2(rt.alloc(), &volume).expect(rt, "a volume")
 }
 
+const OPENS_1: Ends<'static> = (b"Key slot 1 opens the volume.\n", DONE);
+
+const OPENS_2: Ends<'static> = (b"Key slot 2 opens the volume.\n", DONE);
+
+const OPENS_3: Ends<'static> = (b"Key slot 3 opens the volume.\n", DONE);
+
+const OPENS_10: Ends<'static> = (b"Key slot 10 opens the volume.\n", DONE);
+
 // The key slots that are tried unasked end at byte 49,664, and slot 1 ends at byte 37,376.
 static OF_RANKED: [Opening<'static>; 5] = [
-    (
-        "",
-        b"one",
-        (b"Key slot 2 opens the volume.\n", DONE),
-        (49_664, 0),
-    ),
-    (
-        "",
-        b"two",
-        (b"Key slot 3 opens the volume.\n", DONE),
-        (49_664, 0),
-    ),
-    (
-        "--key-slot 10 ",
-        b"two",
-        (b"Key slot 10 opens the volume.\n", DONE),
-        (49_664, 0),
-    ),
-    (
-        "--key-slot 1 ",
-        b"hidden",
-        (b"Key slot 1 opens the volume.\n", DONE),
-        (37_376, 0),
-    ),
+    ("", b"one", OPENS_2, (49_664, 0)),
+    ("", b"two", OPENS_3, (49_664, 0)),
+    ("--key-slot 10 ", b"two", OPENS_10, (49_664, 0)),
+    ("--key-slot 1 ", b"hidden", OPENS_1, (37_376, 0)),
     ("", b"hidden", NOT_OPENED, (49_664, 0)),
 ];
 
@@ -97,46 +85,21 @@ const ARGON2ID: &str = "{\"type\":\"luks2\",\"key_size\":64,\
     \"kdf\":{\"type\":\"argon2id\",\"time\":4,\"memory\":1048576,\"cpus\":4,\
     \"salt\":\"UVFRUVFRUVFRUVFRUVFRUVFRUVFRUVFRUVFRUVFRUVE=\"}}";
 
+const NO_OTHER: &str = "2 luksrd: no key opens the volume; skipped: 0 (argon2id)\n";
+
+const NAMED: &str = "1 luksrd: key slot 0 is skipped: argon2id\n";
+
+const NONE_TRIED: &str = "1 luksrd: no key slot can be tried; skipped: 0 (argon2id)\n";
+
 // Slot 0 is by Argon2, and slots 2 and 10 are by PBKDF2 over the same key material.
 static OF_ARGON: [Opening<'static>; 4] = [
-    (
-        "",
-        PASSPHRASE,
-        (b"Key slot 2 opens the volume.\n", DONE),
-        (33_280, 0),
-    ),
-    (
-        "",
-        b"another",
-        (
-            b"",
-            "2 luksrd: no key opens the volume; skipped: 0 (argon2id)\n",
-        ),
-        (33_280, 0),
-    ),
-    (
-        "--key-slot 0 ",
-        PASSPHRASE,
-        (b"", "1 luksrd: key slot 0 is skipped: argon2id\n"),
-        (32_768, 13),
-    ),
-    (
-        "--key-slot 10 ",
-        PASSPHRASE,
-        (b"Key slot 10 opens the volume.\n", DONE),
-        (33_280, 0),
-    ),
+    ("", PASSPHRASE, OPENS_2, (33_280, 0)),
+    ("", b"another", (b"", NO_OTHER), (33_280, 0)),
+    ("--key-slot 0 ", PASSPHRASE, (b"", NAMED), (32_768, 13)),
+    ("--key-slot 10 ", PASSPHRASE, OPENS_10, (33_280, 0)),
 ];
 
-static OF_LONE: [Opening<'static>; 1] = [(
-    "",
-    PASSPHRASE,
-    (
-        b"",
-        "1 luksrd: no key slot can be tried; skipped: 0 (argon2id)\n",
-    ),
-    (32_768, 13),
-)];
+static OF_LONE: [Opening<'static>; 1] = [("", PASSPHRASE, (b"", NONE_TRIED), (32_768, 13))];
 
 // These key slots with these names, and no payload.
 fn check_slots(
@@ -173,6 +136,8 @@ fn a_fixed_size_ends_the_payload(rt: HostRuntime) {
     check(&rt, CAT, cut, (at(&plain, 0, 1024), SHORT), (0, 0, 0))
 }
 
+const NAMES_4_MIB: Changes = &[(8, &[0, 0, 0, 0, 0, 0x40, 0, 0])];
+
 // A volume whose key slot has as many stripes as there can be, and whose payload starts at byte
 // 1,048,576. The primary header names 4,194,304 bytes, and its checksum no longer agrees: the
 // search for the other one reads as much, of which 3,145,728 bytes are the payload's.
@@ -184,12 +149,7 @@ fn searched(rt: &(impl Abort + AllocGlobal), plain: &[u8]) -> Vec<u8> {
         ..slot(0, 1, b"one")
     }];
     let image = sealed_at(rt, &slots, (1_048_576, false), plain);
-    changed(
-        rt,
-        &image,
-        image.len(),
-        &[(8, &[0, 0, 0, 0, 0, 0x40, 0, 0])],
-    )
+    changed(rt, &image, image.len(), NAMES_4_MIB)
 }
 
 #[test]
@@ -226,7 +186,7 @@ fn check_searched(rt: &(impl Abort + AllocGlobal), image: &[u8], plain: &[u8]) {
 fn what_a_search_has_read_is_written(rt: HostRuntime) {
     let plain = plain_of(&rt, PLAIN_LEN);
     let sealed = sealed2(&rt, "dynamic");
-    let image = changed(&rt, &sealed, SMALL_LEN, &[(8, &[0, 0, 0, 0, 0, 1, 0, 0])]);
+    let image = changed(&rt, &sealed, SMALL_LEN, NAMES_64_KIB);
     check_openings(&rt, &image, (&plain, DONE), &OF_DAMAGED);
     check_searched(&rt, &image, &plain);
     let trial = Trial {
