@@ -98,7 +98,7 @@ fn no_more_is_taken_than_the_payload(rt: HostRuntime) {
 fn no_more_is_taken_beside_a_header(rt: HostRuntime) {
     let (image, header) = (sealed2(&rt, "dynamic"), front2(&rt, "0", "1024"));
     let plain = plain_of(&rt, 1024);
-    let inputs: Inputs<'_> = [&header, payload_of(&image), PASSPHRASE];
+    let inputs: Inputs<'_> = [header.as_slice(), payload_of(image.as_slice()), PASSPHRASE];
     for (room, calls) in [(0, 2), (1, 2), (512, 2), (1024, 1), (65_536, 1)] {
         let ends = (plain.as_slice(), DONE);
         let asked = check_ahead(&rt, CAT_DETACHED, inputs, (room, 4096), ends, 512);
@@ -110,7 +110,7 @@ fn no_more_is_taken_beside_a_header(rt: HostRuntime) {
 #[test]
 fn no_more_is_taken_if_a_write_fails(rt: HostRuntime) {
     let image = sealed2(&rt, "1024");
-    let inputs: Inputs<'_> = [&[], &image, PASSPHRASE];
+    let inputs: Inputs<'_> = [&[], image.as_slice(), PASSPHRASE];
     for (room, left) in [(0, 1024), (512, 1024), (65_536, 512)] {
         check_ahead(&rt, CAT, inputs, (room, 0), (&[], WRITE_FAILED), left);
     }

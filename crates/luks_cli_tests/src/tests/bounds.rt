@@ -156,7 +156,7 @@ static LIMITS: [Limit; 15] = [
 fn a_run_stops_at_a_failed_call(rt: HostRuntime) {
     let image = sealed(&rt, NEWEST, USUAL, PASSPHRASE);
     let plain = plain_of(&rt, PLAIN_LEN);
-    let inputs: Inputs<'_> = [&[], &image, PASSPHRASE];
+    let inputs: Inputs<'_> = [&[], image.as_slice(), PASSPHRASE];
     for (limits, written, told, (consumed, unread)) in &LIMITS {
         let ends = (at(&plain, 0, *written), *told);
         let left = (0, USUAL_LEN.saturating_sub(*consumed), *unread);

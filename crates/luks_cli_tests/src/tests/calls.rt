@@ -127,12 +127,12 @@ fn check_line(
 fn check_attached(rt: &(impl Abort + AllocGlobal), first: Hardship, second: Hardship) {
     let plain = plain_of(rt, PLAIN_LEN);
     let image = sealed(rt, NEWEST, SMALL, PASSPHRASE);
-    let inputs: Inputs<'_> = [&[], &image, PASSPHRASE];
+    let inputs: Inputs<'_> = [&[], image.as_slice(), PASSPHRASE];
     let way = (first, ATTACHED);
     check_line(rt, way, CAT, inputs, &plain, (36_864, 0));
     check_line(rt, way, TEST, inputs, OPENS, (36_864, SMALL_LEN - 4608));
     let image = sealed2(rt, "dynamic");
-    let inputs: Inputs<'_> = [&[], &image, PASSPHRASE];
+    let inputs: Inputs<'_> = [&[], image.as_slice(), PASSPHRASE];
     let way = (second, ATTACHED);
     check_line(rt, way, CAT, inputs, &plain, (36_864, 0));
     check_line(rt, way, TEST, inputs, OPENS, (36_864, SMALL_LEN - 33_280))
@@ -143,12 +143,12 @@ fn check_detached(rt: &(impl Abort + AllocGlobal), first: Hardship, second: Hard
     let plain = plain_of(rt, PLAIN_LEN);
     let volume = sealed(rt, NEWEST, SMALL, PASSPHRASE);
     let header = changed(rt, &volume, 4608, AT_START);
-    let inputs: Inputs<'_> = [&header, payload_of(&volume), PASSPHRASE];
+    let inputs: Inputs<'_> = [header.as_slice(), payload_of(&volume), PASSPHRASE];
     let way = (first, DETACHED);
     check_line(rt, way, CAT_DETACHED, inputs, &plain, (0, 0));
     check_line(rt, way, TEST_DETACHED, inputs, OPENS, (0, PLAIN_LEN));
     let header = front2(rt, "0", "dynamic");
-    let inputs: Inputs<'_> = [&header, payload_of(&volume), PASSPHRASE];
+    let inputs: Inputs<'_> = [header.as_slice(), payload_of(&volume), PASSPHRASE];
     let way = (second, DETACHED);
     check_line(rt, way, CAT_DETACHED, inputs, &plain, (0, 0));
     check_line(rt, way, TEST_DETACHED, inputs, OPENS, (0, PLAIN_LEN))
@@ -182,6 +182,6 @@ fn each_failed_call_of_stripes_is_reported(rt: HostRuntime) {
     let way = (Hardship::Failures, STRIPES);
     let split: Inputs<'_> = [&[], FF, ZEROS];
     check_line(&rt, way, SPLIT_2, split, &stripes, (usize::MAX, 0));
-    let merged: Inputs<'_> = [&[], &stripes, &[]];
+    let merged: Inputs<'_> = [&[], stripes.as_slice(), &[]];
     check_line(&rt, way, MERGE_2, merged, FF, (usize::MAX, 0))
 }

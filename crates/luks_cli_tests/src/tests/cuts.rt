@@ -104,7 +104,7 @@ fn a_truncated_fixed_size_is_reported(rt: HostRuntime) {
     let image = sealed2(&rt, "1024");
     check_cuts(&rt, &image, 16_384, &FIXED_CUTS);
     let plain = plain_of(&rt, 1024);
-    let inputs: Inputs<'_> = [&[], &image, PASSPHRASE];
+    let inputs: Inputs<'_> = [&[], image.as_slice(), PASSPHRASE];
     check(&rt, CAT, inputs, (&plain, DONE), (0, 512, 0))
 }
 

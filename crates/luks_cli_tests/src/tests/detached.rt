@@ -108,10 +108,11 @@ fn check_written(rt: &(impl Abort + AllocGlobal), image: &[u8], header: &[u8], p
 fn a_header_may_be_detached(rt: HostRuntime) {
     let image = sealed(&rt, NEWEST, USUAL, PASSPHRASE);
     let header = changed(&rt, &image, 260_096, AT_START);
+    let payload = payload_of(&image);
     for row in &ROWS {
-        check_row(&rt, (&header, payload_of(&image)), *row);
+        check_row(&rt, (&header, payload), *row);
     }
-    check_unread(&rt, &header, payload_of(&image));
+    check_unread(&rt, &header, payload);
     check_written(&rt, &image, &header, &plain_of(&rt, PLAIN_LEN))
 }
 
@@ -149,7 +150,7 @@ fn check_place(
 ) {
     let header = front2(rt, offset, size);
     let image = at(image, 1024usize.saturating_sub(before), 2560);
-    let inputs: Inputs<'_> = [&header, image, PASSPHRASE];
+    let inputs: Inputs<'_> = [header.as_slice(), image, PASSPHRASE];
     check(
         rt,
         CAT_DETACHED,

@@ -169,7 +169,7 @@ fn headers_are_printed_and_reported(rt: HostRuntime) {
 #[test]
 fn a_dump_is_written_as_far_as_there_is_room(rt: HostRuntime) {
     let header = changed(&rt, &[], 592, &FIELDS);
-    let inputs: Inputs<'_> = [&[], &header, &[]];
+    let inputs: Inputs<'_> = [&[], header.as_slice(), &[]];
     let ends: (&[u8], &str) = (b"Version: 1", WRITE_FAILED);
     check_within(&rt, (ALL, ALL, 10), "luksDump i", inputs, ends, (0, 0, 0))
 }
@@ -179,7 +179,7 @@ fn a_dump_is_written_as_far_as_there_is_room(rt: HostRuntime) {
 fn a_header_is_sought_so_far(rt: HostRuntime) {
     for (len, left) in [(1000, 0), (4_198_400, 0), (4_200_000, 1600)] {
         let zeros = changed(&rt, &[], len, &[]);
-        let inputs: Inputs<'_> = [&[], &zeros, &[]];
+        let inputs: Inputs<'_> = [&[], zeros.as_slice(), &[]];
         check(&rt, "isLuks i", inputs, (&[], NO), (0, left, 0));
     }
 }

@@ -67,7 +67,7 @@ static CUTS: [(&str, usize, Ends<'static>); 7] = [
 fn a_truncated_image_has_what_is_whole(rt: HostRuntime) {
     let image = image2(&rt);
     for (line, len, ends) in &CUTS {
-        let inputs: Inputs<'_> = [&[], at(&image, 0, *len), &[]];
+        let inputs: Inputs<'_> = [&[], at(image.as_slice(), 0, *len), &[]];
         check(&rt, line, inputs, *ends, (0, 0, 0));
     }
 }

@@ -30,7 +30,7 @@ fn check_mode(rt: &(impl Abort + AllocGlobal), (mode, key_len, held): (Mode, usi
     check_opening(rt, &image, written, ("", PASSPHRASE, OPENED, (held, 0)));
     check_opening(rt, &image, written, ("", b"wrong", NOT_OPENED, (held, 0)));
     let header = changed(rt, &image, held, AT_START);
-    let inputs: Inputs<'_> = [&header, payload_of(&image), PASSPHRASE];
+    let inputs: Inputs<'_> = [header.as_slice(), payload_of(image.as_slice()), PASSPHRASE];
     check(rt, CAT_DETACHED, inputs, written, (0, 0, 0))
 }
 

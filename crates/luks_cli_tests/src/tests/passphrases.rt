@@ -97,7 +97,7 @@ fn a_usual_volume_opens_as_asked(rt: HostRuntime) {
     assert_same_in(&rt, &"a usual volume", image.len(), USUAL_LEN);
     let plain = plain_of(&rt, PLAIN_LEN);
     check_openings(&rt, &image, (&plain, DONE), &OF_USUAL);
-    let inputs: Inputs<'_> = [&[], &image, PASSPHRASE];
+    let inputs: Inputs<'_> = [&[], image.as_slice(), PASSPHRASE];
     check(&rt, CAT_STDIN, inputs, (&plain, DONE), (0, 0, 0))
 }
 
@@ -174,7 +174,7 @@ fn long_key_files_are_read_up_to_the_limit(rt: HostRuntime) {
     let zeros = changed(&rt, &[], LONGEST + 4, &[]);
     let image = sealed(&rt, NEWEST, SMALL, at(&zeros, 0, LONGEST));
     for (len, ends, (consumed, unread)) in &LENGTHS {
-        let inputs: Inputs<'_> = [&[], &image, at(&zeros, 0, *len)];
+        let inputs: Inputs<'_> = [&[], image.as_slice(), at(zeros.as_slice(), 0, *len)];
         let left = (0, SMALL_LEN.saturating_sub(*consumed), *unread);
         check(&rt, TEST, inputs, *ends, left);
     }

@@ -130,9 +130,9 @@ fn a_fixed_size_ends_the_payload(rt: HostRuntime) {
     let slots = [slot(0, 1, b"one")];
     let sealed = sealed_at(&rt, &slots, (65_536, true), &plain);
     let image = followed(&rt, sealed, 65_536 + 3584, &BEHIND);
-    let whole: Inputs<'_> = [&[], &image, b"one"];
+    let whole: Inputs<'_> = [&[], image.as_slice(), b"one"];
     check(&rt, CAT, whole, (&plain, DONE), (0, 808, 0));
-    let cut: Inputs<'_> = [&[], at(&image, 0, 65_536 + 1024), b"one"];
+    let cut: Inputs<'_> = [&[], at(image.as_slice(), 0, 65_536 + 1024), b"one"];
     check(&rt, CAT, cut, (at(&plain, 0, 1024), SHORT), (0, 0, 0))
 }
 
@@ -156,7 +156,7 @@ fn searched(rt: &(impl Abort + AllocGlobal), plain: &[u8]) -> Vec<u8> {
 fn a_search_past_the_start_loses_nothing(rt: HostRuntime) {
     let plain = plain_of(&rt, 4_194_304);
     let image = searched(&rt, &plain);
-    let inputs: Inputs<'_> = [&[], &image, b"one"];
+    let inputs: Inputs<'_> = [&[], image.as_slice(), b"one"];
     let whole = (plain.as_slice(), DONE);
     check_within(&rt, (ALL, ALL, 4_194_304), CAT, inputs, whole, (0, 0, 0));
     let ends = (at(&plain, 0, 700), WRITE_FAILED);
@@ -192,10 +192,10 @@ fn what_a_search_has_read_is_written(rt: HostRuntime) {
     let trial = Trial {
         line: CAT,
         header: &[],
-        image: &image,
+        image: image.as_slice(),
         secret: PASSPHRASE,
         start: 36_864,
-        whole: &plain,
+        whole: plain.as_slice(),
         message: Message::Done,
         left: 0,
     };
