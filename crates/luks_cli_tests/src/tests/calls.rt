@@ -25,7 +25,7 @@ enum Hardship {
     Refusals(usize, usize),
 }
 
-static PIECES: [Pieces; 15] = [
+static WAYS: [Pieces; 15] = [
     (1, 1, 1, 1),
     (1, 1, 1, 700),
     (1, 1, 0, 4096),
@@ -44,7 +44,7 @@ static PIECES: [Pieces; 15] = [
 ];
 
 fn check_all_pieces(rt: &(impl Abort + AllocGlobal), trial: Trial<'_>) {
-    for pieces in &PIECES {
+    for pieces in &WAYS {
         check_pieces(rt, trial, *pieces);
     }
 }

@@ -10,11 +10,11 @@ use std::process::Abort;
 
 /// How many bytes of the image there are, how many plain bytes `luksCat` writes of them, and what
 /// it reports.
-type Cut = (usize, usize, &'static str);
+type Truncation = (usize, usize, &'static str);
 
 // `luksCat` of the truncated image consumes all of it. It reads the key file once it has the
 // header, which ends with this byte.
-fn check_cuts(rt: &(impl Abort + AllocGlobal), image: &[u8], header: usize, rows: &[Cut]) {
+fn check_cuts(rt: &(impl Abort + AllocGlobal), image: &[u8], header: usize, rows: &[Truncation]) {
     let plain = plain_of(rt, PLAIN_LEN);
     for (len, written, told) in rows {
         let inputs: Inputs<'_> = [&[], at(image, 0, *len), PASSPHRASE];
@@ -24,7 +24,7 @@ fn check_cuts(rt: &(impl Abort + AllocGlobal), image: &[u8], header: usize, rows
     }
 }
 
-static USUAL_CUTS: [Cut; 12] = [
+static USUAL_CUTS: [Truncation; 12] = [
     (0, 0, NOT_LUKS),
     (7, 0, NOT_LUKS),
     (8, 0, CUT),
@@ -43,7 +43,7 @@ const TORN_1: &str = "4 luksrd: image ends inside a sector: 1 bytes left over\n"
 
 // In the binary header, the JSON text, the secondary header, the key area, before the payload, and
 // in a sector.
-static CUTS: [Cut; 22] = [
+static CUTS: [Truncation; 22] = [
     (0, 0, NOT_LUKS),
     (7, 0, NOT_LUKS),
     (591, 0, NOT_LUKS),
@@ -76,7 +76,7 @@ const SHORT_512: &str = "4 luksrd: image ends 512 bytes before the segment does\
 
 const SHORT_1: &str = "4 luksrd: image ends 1 bytes before the segment does\n";
 
-static FIXED_CUTS: [Cut; 6] = [
+static FIXED_CUTS: [Truncation; 6] = [
     (36_863, 0, BEFORE),
     (36_864, 0, SHORT_1024),
     (37_375, 0, SHORT_513),

@@ -4,7 +4,7 @@ use luks_cipher::Mode;
 use luks_kdf::Hash;
 use luks_seal::parameters::{Seal1, Slot1};
 use luks_seal_fixtures::bytes::{at, counted};
-use luks_test_support::header2::{SIZE, image_of};
+use luks_test_support::header2::{self, image_of};
 use luks1_seal::seal1;
 use std::process::Abort;
 
@@ -193,7 +193,7 @@ pub(super) fn front2_of(
     let json = text_of(rt, &parts);
     let headers = image_of(rt.alloc(), 1, 1, json.as_str()).expect(rt, "room for headers");
     let first = sealed(rt, NEWEST, SMALL, PASSPHRASE);
-    followed(rt, headers, 2 * SIZE, at(&first, 4096, 512))
+    followed(rt, headers, 2 * header2::SIZE, at(&first, 4096, 512))
 }
 
 /// The same with slot 0.
