@@ -68,10 +68,15 @@ fn check_pages(
     rt: &(impl Abort + AllocGlobal),
     hardship: Hardship,
     (image, piece, left): (&[u8], usize, usize),
-    rows: &[(&'static str, Page, Message)],
+    rows: &[(&'static str, Page, bool)],
 ) {
-    for (line, page, message) in rows {
+    for (line, page, has_findings) in rows {
         let page = text_of(rt, page);
+        let message = if *has_findings {
+            Message::Findings
+        } else {
+            Message::Done
+        };
         let trial = Trial {
             line,
             header: &[],
@@ -79,7 +84,7 @@ fn check_pages(
             secret: &[],
             start: usize::MAX,
             whole: page.as_bytes(),
-            message: *message,
+            message,
             left,
         };
         check_trial(rt, hardship, trial, (0, piece, 5, 3));

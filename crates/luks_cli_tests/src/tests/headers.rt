@@ -2,7 +2,6 @@
 
 use super::runs::{ALL, CUT, DONE, FINDINGS, Inputs, NOT_LUKS, WRITE_FAILED, check, check_within};
 use super::volume::{Changes, changed, text_of};
-use luks_report::message::Message;
 use std::process::Abort;
 
 // The state of a key slot that is not in use.
@@ -69,12 +68,12 @@ const AMISS: Page = &["slot 2: state\n"];
 
 const EMPTY: Page = &[];
 
-/// What each command prints of that header, and how it ends.
-pub(super) static PAGES: [(&str, Page, Message); 4] = [
-    ("isLuks i", EMPTY, Message::Done),
-    ("luksUUID i", UUID, Message::Done),
-    ("luksDump i", DUMP, Message::Done),
-    ("luksCheck i", AMISS, Message::Findings),
+/// What each command prints of that header, and whether it has findings.
+pub(super) static PAGES: [(&str, Page, bool); 4] = [
+    ("isLuks i", EMPTY, false),
+    ("luksUUID i", UUID, false),
+    ("luksDump i", DUMP, false),
+    ("luksCheck i", AMISS, true),
 ];
 
 // Texts that are empty, not in ASCII, or in no line.

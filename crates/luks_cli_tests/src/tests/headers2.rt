@@ -2,7 +2,6 @@
 
 use super::headers::Page;
 use super::runs::{Ends, FINDINGS, Inputs, NOT_LUKS, check};
-use luks_report::message::Message;
 use luks_seal_fixtures::bytes::at;
 use luks_test_support::header2::{SIZE, image_of};
 use std::process::Abort;
@@ -30,12 +29,12 @@ const DUMP: &str = "Version: 2\nHeader: primary\nSequence: 258\nHeader size: 163
     Segment 0: offset=16777216 size=dynamic iv=0 encryption=aes-xts-plain64 sector=512\n\
     Digest 0: USABLE hash=sha256 iterations=1500 bytes=32 keyslots=7 segments=0\n";
 
-/// What each command prints of the image below, and how it ends.
-pub(super) static PAGES: [(&str, Page, Message); 4] = [
-    ("isLuks i", &[], Message::Done),
-    ("luksUUID i", &[UUID], Message::Done),
-    ("luksDump i", &[DUMP], Message::Done),
-    ("luksCheck i", &["clean\n"], Message::Done),
+/// What each command prints of the image below, and whether it has findings.
+pub(super) static PAGES: [(&str, Page, bool); 4] = [
+    ("isLuks i", &[], false),
+    ("luksUUID i", &[UUID], false),
+    ("luksDump i", &[DUMP], false),
+    ("luksCheck i", &["clean\n"], false),
 ];
 
 /// An image with both headers and ten bytes behind them.
