@@ -11,7 +11,6 @@ use super::volume::{
     AT_START, NEWEST, PASSPHRASE, PLAIN_LEN, SMALL, SMALL_LEN, changed, front2, payload_of,
     plain_of, sealed, sealed2, text_of,
 };
-use luks_report::message::Message;
 use std::process::Abort;
 
 /// What is done with a run.
@@ -43,7 +42,7 @@ static WAYS: [Pieces; 15] = [
     (0, 32_768, 0, 4096),
 ];
 
-fn check_all_pieces(rt: &(impl Abort + AllocGlobal), trial: Trial<'_>) {
+fn check_all_pieces(rt: &(impl Abort + AllocGlobal), trial: &Trial<'_>) {
     for pieces in &WAYS {
         check_pieces(rt, trial, *pieces);
     }
@@ -53,7 +52,7 @@ fn check_all_pieces(rt: &(impl Abort + AllocGlobal), trial: Trial<'_>) {
 fn check_trial(
     rt: &(impl Abort + AllocGlobal),
     hardship: Hardship,
-    trial: Trial<'_>,
+    trial: &Trial<'_>,
     pieces: Pieces,
 ) {
     match hardship {
@@ -72,11 +71,6 @@ fn check_pages(
 ) {
     for (line, page, has_findings) in rows {
         let page = text_of(rt, page);
-        let message = if *has_findings {
-            Message::Findings
-        } else {
-            Message::Done
-        };
         let trial = Trial {
             line,
             header: &[],
@@ -84,10 +78,10 @@ fn check_pages(
             secret: &[],
             start: usize::MAX,
             whole: page.as_bytes(),
-            message,
+            has_findings: *has_findings,
             left,
         };
-        check_trial(rt, hardship, trial, (0, piece, 5, 3));
+        check_trial(rt, hardship, &trial, (0, piece, 5, 3));
     }
 }
 
@@ -122,10 +116,10 @@ fn check_line(
         secret,
         start,
         whole,
-        message: Message::Done,
+        has_findings: false,
         left,
     };
-    check_trial(rt, hardship, trial, pieces)
+    check_trial(rt, hardship, &trial, pieces)
 }
 
 // Volumes of both formats.

@@ -20,9 +20,21 @@ pub(super) struct Trial<'a> {
     /// Where the payload starts in the image; of a command that writes none, the greatest number.
     pub(super) start: usize,
     pub(super) whole: &'a [u8],
-    pub(super) message: Message,
+    /// Whether it reports findings.
+    pub(super) has_findings: bool,
     /// How many bytes of the image it leaves. It leaves none of the others.
     pub(super) left: usize,
+}
+
+impl Trial<'_> {
+    /// The message of the run.
+    pub(super) fn message(&self) -> Message {
+        if self.has_findings {
+            Message::Findings
+        } else {
+            Message::Done
+        }
+    }
 }
 
 /// How many bytes a call moves of the detached header, the image, the second input and the output.
@@ -87,7 +99,7 @@ fn check_failed(rt: &impl Abort, failing: Failing, report: Report, (written, con
 fn run_failing(
     rt: &(impl Abort + AllocGlobal),
     command: &Command<'_>,
-    trial: Trial<'_>,
+    trial: &Trial<'_>,
     pieces: Pieces,
     failing: Failing,
 ) -> bool {
@@ -116,7 +128,7 @@ fn run_failing(
         check_failed(rt, failing, report, moved);
         return true;
     }
-    assert_in(rt, &failing, report == Report::of(trial.message));
+    assert_in(rt, &failing, report == Report::of(trial.message()));
     assert_same_in(rt, &failing, out.as_slice(), trial.whole);
     false
 }
@@ -125,7 +137,7 @@ fn run_failing(
 fn check_device(
     rt: &(impl Abort + AllocGlobal),
     command: &Command<'_>,
-    trial: Trial<'_>,
+    trial: &Trial<'_>,
     pieces: Pieces,
     device: u32,
 ) {
@@ -139,7 +151,7 @@ fn check_device(
 
 /// Runs with one failing call each, of each device in turn. Each reports what failed, and what it
 /// wrote is a prefix of the whole.
-pub(super) fn check_failures(rt: &(impl Abort + AllocGlobal), trial: Trial<'_>, pieces: Pieces) {
+pub(super) fn check_failures(rt: &(impl Abort + AllocGlobal), trial: &Trial<'_>, pieces: Pieces) {
     let words = words_of(rt, trial.line);
     let command = plan(rt.alloc(), &words).expect(rt, "a command");
     for device in 0..4 {
@@ -148,7 +160,7 @@ pub(super) fn check_failures(rt: &(impl Abort + AllocGlobal), trial: Trial<'_>, 
 }
 
 /// A run whose devices move in these pieces ends as stated.
-pub(super) fn check_pieces(rt: &(impl Abort + AllocGlobal), trial: Trial<'_>, pieces: Pieces) {
+pub(super) fn check_pieces(rt: &(impl Abort + AllocGlobal), trial: &Trial<'_>, pieces: Pieces) {
     let words = words_of(rt, trial.line);
     let command = plan(rt.alloc(), &words).expect(rt, "a command");
     let mut out = Leaky::new(rt.alloc(), 4096, pieces.3, u64::MAX).expect(rt, "room");
@@ -163,7 +175,7 @@ pub(super) fn check_pieces(rt: &(impl Abort + AllocGlobal), trial: Trial<'_>, pi
         &mut secret,
         &mut out,
     );
-    assert_same_in(rt, &pieces, report, Report::of(trial.message));
+    assert_same_in(rt, &pieces, report, Report::of(trial.message()));
     assert_same_in(rt, &pieces, out.as_slice(), trial.whole);
     let lefts = (header.left(), image.left(), secret.left());
     assert_same_in(rt, &pieces, lefts, (0, trial.left, 0));

@@ -19,7 +19,7 @@ const MOST: usize = 400;
 fn run_once(
     alloc: Global,
     command: &Command<'_>,
-    trial: Trial<'_>,
+    trial: &Trial<'_>,
     out: &mut MemSink,
 ) -> (Report, usize) {
     let mut header = MemSource::new(trial.header);
@@ -31,13 +31,13 @@ fn run_once(
 
 // If there is a second input, a run with all memory ends as it should. The stack grows in it, since
 // it cannot once all memory is taken.
-fn check_first(rt: &(impl Abort + AllocGlobal), command: &Command<'_>, trial: Trial<'_>) {
+fn check_first(rt: &(impl Abort + AllocGlobal), command: &Command<'_>, trial: &Trial<'_>) {
     if trial.secret.is_empty() {
         return;
     }
     let mut out = sink(rt, 4096);
     let (report, _) = run_once(rt.alloc(), command, trial, &mut out);
-    assert_in(rt, &trial.line, report == Report::of(trial.message));
+    assert_in(rt, &trial.line, report == Report::of(trial.message()));
     assert_same_in(rt, &trial.line, out.as_slice(), trial.whole);
 }
 
@@ -47,7 +47,7 @@ fn check_first(rt: &(impl Abort + AllocGlobal), command: &Command<'_>, trial: Tr
 fn run_until_done(
     alloc: Global,
     command: &Command<'_>,
-    trial: Trial<'_>,
+    trial: &Trial<'_>,
     scarcity: &mut Scarcity,
     out: &mut MemSink,
 ) -> (Report, usize, bool) {
@@ -69,7 +69,7 @@ fn run_until_done(
 /// writes nothing and leaves the image of a detached header as it was; the last run ends as stated.
 pub(super) fn check_refusals(
     rt: &(impl Abort + AllocGlobal),
-    trial: Trial<'_>,
+    trial: &Trial<'_>,
     (piece, least): (usize, usize),
 ) {
     let words = words_of(rt, trial.line);
@@ -80,7 +80,7 @@ pub(super) fn check_refusals(
         let mut scarcity = Scarcity::new(rt.alloc(), MOST, piece).expect(rt, "pieces");
         run_until_done(rt.alloc(), &command, trial, &mut scarcity, &mut out)
     };
-    assert_in(rt, &trial.line, report == Report::of(trial.message));
+    assert_in(rt, &trial.line, report == Report::of(trial.message()));
     assert_in(rt, &(trial.line, refused), least <= refused && sound);
     assert_same_in(rt, &trial.line, out.as_slice(), trial.whole);
 }

@@ -9,7 +9,6 @@ use super::volume::{
     front2_of, plain_of, sealed2, text_of,
 };
 use luks_kdf::Hash;
-use luks_report::message::Message;
 use luks_seal::parameters::{Seal2, Slot2};
 use luks_seal_fixtures::bytes::at;
 use luks_seal_fixtures::parameters::{parameters2, slot2};
@@ -196,10 +195,10 @@ fn what_a_search_has_read_is_written(rt: HostRuntime) {
         secret: PASSPHRASE,
         start: 36_864,
         whole: plain.as_slice(),
-        message: Message::Done,
+        has_findings: false,
         left: 0,
     };
     for piece in [1, 511, 4097] {
-        check_pieces(&rt, trial, (0, piece, 0, 4096));
+        check_pieces(&rt, &trial, (0, piece, 0, 4096));
     }
 }
