@@ -1,21 +1,16 @@
-//! Whole runs of the commands on headers.
+//! The commands on headers, over LUKS1 and over what is no header.
 
-use super::failing::check_failures;
-use super::runs::{Ends, check_left, check_room, check_run, check_words, first_of, sink};
-use super::scarce::{Inputs, check_refusals};
-use super::volume::put;
-use crate::tests::same::assert_in;
-use luks_report::message::Message;
-use std::alloc::AllocError;
+use super::runs::{ALL, CUT, DONE, FINDINGS, Inputs, NOT_LUKS, WRITE_FAILED, check, check_within};
+use super::volume::{Changes, changed, text_of};
 use std::process::Abort;
 
 // The state of a key slot that is not in use.
 const DISABLED: &[u8] = &[0, 0, 0xde, 0xad];
 
-/// What a header has at its places: the cipher aes-xts-plain64, SHA-256, payload offset 4096, 64 key
-/// bytes, the digest 00 to 13, a digest salt of bytes aa, 1000 iterations, a UUID field with no zero
-/// byte, slot 0 in use, slot 2 with state 1 and the others disabled.
-static FIELDS: [(usize, &[u8]); 20] = [
+/// What a header has at its places: the cipher aes-xts-plain64, SHA-256, payload offset 4096, 64
+/// key bytes, the digest 00 to 13, a digest salt of bytes aa, 1000 iterations, a UUID field with no
+/// zero byte, slot 0 in use, slot 2 with state 1 and the others disabled.
+pub(super) static FIELDS: [(usize, &[u8]); 20] = [
     (0, b"LUKS\xba\xbe\x00\x01"),
     (8, b"aes"),
     (40, b"xts-plain64"),
@@ -43,24 +38,10 @@ static FIELDS: [(usize, &[u8]); 20] = [
     (544, DISABLED),
 ];
 
-fn fill(header: &mut [u8]) {
-    for (place, bytes) in &FIELDS {
-        put(header, *place, bytes);
-    }
-}
+const TOP: &str = "Version: 1\nUUID: 0123456789012345678901234567890123456789\n\
+    Cipher: aes-xts-plain64\nHash: sha256\nPayload offset: 4096\n";
 
-fn make_header() -> [u8; 592] {
-    let mut header = [0; 592];
-    fill(&mut header);
-    header
-}
-
-const DUMP: &str = "\
-Version: 1
-UUID: 0123456789012345678901234567890123456789
-Cipher: aes-xts-plain64
-Hash: sha256
-Payload offset: 4096
+const REST: &str = "\
 Key bytes: 64
 MK digest: 000102030405060708090a0b0c0d0e0f10111213
 MK salt: aaaaaaaaaaaaaaaaaaaaaaaaaaaaaaaaaaaaaaaaaaaaaaaaaaaaaaaaaaaaaaaa
@@ -75,165 +56,129 @@ Slot 6: DISABLED
 Slot 7: DISABLED
 ";
 
-const UUID: &str = "0123456789012345678901234567890123456789\n";
+/// Parts of a page.
+pub(super) type Page = &'static [&'static str];
 
-fn check_printed(rt: &(impl Abort + AllocGlobal), header: &[u8]) {
-    let dump = (DUMP.as_bytes(), 0, "");
-    check_left(rt, "luksDump i", header, &[], dump, (0, 0));
-    let uuid = (UUID.as_bytes(), 0, "");
-    check_left(rt, "luksUUID i", header, &[], uuid, (0, 0))
-}
+const DUMP: Page = &[TOP, REST];
 
-#[test]
-fn prints_headers(rt: HostRuntime) {
-    let header = make_header();
-    check_printed(&rt, &header);
-    let mut image = [7; 593];
-    put(&mut image, 0, &header);
-    check_left(&rt, "isLuks i", &image, b"secret", (&[], 0, ""), (1, 6))
-}
+const UUID: Page = &["0123456789012345678901234567890123456789\n"];
 
-const ESCAPED: &str = "a\\x5cb\\x1f ~\\x7f\\x80\\xff\\x0a\n";
+// What is amiss with that header: one of its slots is damaged.
+const AMISS: Page = &["slot 2: state\n"];
 
-// The texts of a dump, of which two are empty and one has a byte that is none of a text.
-const TEXTS: &[u8] = b"\nCipher: -c\\xc3\nHash: \nPayload offset: 4096\n";
+const EMPTY: Page = &[];
 
-// The dump has these lines.
-fn check_dump(rt: &(impl Abort + AllocGlobal), header: &[u8]) {
-    let mut out = sink(rt, 4096);
-    check_words(rt, &["luksDump", "i"], (header, &[]), &mut out, (0, ""));
-    assert_in(rt, &"luksDump", has_part(out.as_slice(), TEXTS));
-}
-
-#[test]
-fn escapes_texts(rt: HostRuntime) {
-    let mut header = make_header();
-    put(&mut header, 168, b"a\\b\x1f \x7e\x7f\x80\xff\n\x00z");
-    check_run(&rt, "luksUUID i", &header, &[], (ESCAPED.as_bytes(), 0, ""));
-    put(&mut header, 8, b"\x00");
-    put(&mut header, 40, b"c\xc3\x00");
-    put(&mut header, 72, b"\x00");
-    check_dump(&rt, &header)
-}
-
-// Whether the part stands in the text.
-fn has_part(text: &[u8], part: &[u8]) -> bool {
-    !part.is_empty() && text.windows(part.len()).any(|other| other == part)
-}
-
-const CUT: &str = "luksrd: image ends inside the header or a key area\n";
-
-const NO_LUKS: &str = "luksrd: not a LUKS image\n";
-
-/// How many bytes of the header there are, and the status of `isLuks` and what it tells.
-static LENGTHS: [(usize, u8, &str); 6] = [
-    (0, 1, ""),
-    (7, 1, ""),
-    (8, 4, CUT),
-    (20, 4, CUT),
-    (591, 4, CUT),
-    (592, 0, ""),
+/// What each command prints of that header, and whether it has findings.
+pub(super) static PAGES: [(&str, Page, bool); 4] = [
+    ("isLuks i", EMPTY, false),
+    ("luksUUID i", UUID, false),
+    ("luksDump i", DUMP, false),
+    ("luksCheck i", AMISS, true),
 ];
 
-// The beginning of a header is told by each command.
-fn check_beginning(rt: &(impl Abort + AllocGlobal), header: &[u8], (status, told): (u8, &str)) {
-    check_left(rt, "isLuks i", header, &[], (&[], status, told), (0, 0));
-    if header.len() < 592 {
-        let told = if told.is_empty() { NO_LUKS } else { told };
-        check_run(rt, "luksUUID i", header, &[], (&[], 4, told));
-        check_run(rt, "luksDump i", header, &[], (&[], 4, told));
+// Texts that are empty, not in ASCII, or in no line.
+const ODD: Changes = &[
+    (168, b"a\\b\x1f \x7e\x7f\x80\xff\n\x00z"),
+    (8, b"\x00"),
+    (40, b"c\xc3\x00"),
+    (72, b"\x00"),
+];
+
+const ODD_UUID: &str = "a\\x5cb\\x1f ~\\x7f\\x80\\xff\\x0a\n";
+
+const ODD_DUMP: Page = &[
+    "Version: 1\nUUID: a\\x5cb\\x1f ~\\x7f\\x80\\xff\\x0a\nCipher: -c\\xc3\nHash: \n\
+    Payload offset: 4096\n",
+    REST,
+];
+
+/// Lines.
+type Lines = &'static [&'static str];
+
+const IS: Lines = &["isLuks i"];
+
+const UUIDS: Lines = &["luksUUID i"];
+
+const DUMPS: Lines = &["luksDump i"];
+
+const CHECKS: Lines = &["luksCheck i"];
+
+const ALL_THREE: Lines = &["isLuks i", "luksUUID i", "luksDump i"];
+
+const BOTH: Lines = &["luksUUID i", "luksDump i"];
+
+// Not LUKS by the status alone.
+const NO: &str = "1 ";
+
+/// Lines, what is changed in the header and how many bytes of it there are, and what each of them
+/// prints and reports.
+static ROWS: [(Lines, Changes, usize, Page, &str); 25] = [
+    (DUMPS, &[], 592, DUMP, DONE),
+    (UUIDS, &[], 592, UUID, DONE),
+    (IS, &[], 592, EMPTY, DONE),
+    (IS, &[], 593, EMPTY, DONE),
+    (DUMPS, ODD, 592, ODD_DUMP, DONE),
+    (UUIDS, ODD, 592, &[ODD_UUID], DONE),
+    (CHECKS, &[], 592, AMISS, FINDINGS),
+    (CHECKS, &[(304, DISABLED)], 592, &["clean\n"], DONE),
+    (IS, &[], 0, EMPTY, NO),
+    (BOTH, &[], 0, EMPTY, NOT_LUKS),
+    (IS, &[], 7, EMPTY, NO),
+    (BOTH, &[], 7, EMPTY, NOT_LUKS),
+    (ALL_THREE, &[], 8, EMPTY, CUT),
+    (ALL_THREE, &[], 20, EMPTY, CUT),
+    (ALL_THREE, &[], 591, EMPTY, CUT),
+    (IS, &[(0, b"l")], 592, EMPTY, NO),
+    (DUMPS, &[(0, b"l")], 592, EMPTY, NOT_LUKS),
+    (IS, &[(5, b"\xbf")], 592, EMPTY, NO),
+    (DUMPS, &[(5, b"\xbf")], 592, EMPTY, NOT_LUKS),
+    (IS, &[(6, b"\x01")], 592, EMPTY, NO),
+    (DUMPS, &[(6, b"\x01")], 592, EMPTY, NOT_LUKS),
+    (IS, &[(7, b"\x00")], 592, EMPTY, NO),
+    (DUMPS, &[(7, b"\x00")], 592, EMPTY, NOT_LUKS),
+    (IS, &[(7, b"\x03")], 592, EMPTY, NO),
+    (DUMPS, &[(7, b"\x03")], 592, EMPTY, NOT_LUKS),
+];
+
+// Each line prints and reports this. A command on a header reads no second input.
+fn check_lines(
+    rt: &(impl Abort + AllocGlobal),
+    lines: &[&str],
+    image: &[u8],
+    (page, told): (Page, &str),
+) {
+    let page = text_of(rt, page);
+    let inputs: Inputs<'_> = [&[], image, b"secret"];
+    let left = (0, image.len().saturating_sub(592), 6);
+    for line in lines {
+        check(rt, line, inputs, (page.as_bytes(), told), left);
     }
 }
-
-// A header with another byte at this place is none.
-fn check_other(rt: &(impl Abort + AllocGlobal), (place, byte): (usize, u8)) {
-    let mut other = make_header();
-    put(&mut other, place, &[byte]);
-    check_run(rt, "isLuks i", &other, &[], (&[], 1, ""));
-    check_run(rt, "luksDump i", &other, &[], (&[], 4, NO_LUKS));
-}
-
-/// Places of the magic bytes and of the version, and bytes that are not theirs.
-static OTHERS: [(usize, u8); 5] = [(0, b'l'), (5, 0xbf), (6, 1), (7, 0), (7, 3)];
 
 #[test]
-fn tells_what_is_no_header(rt: HostRuntime) {
-    let header = make_header();
-    for (len, status, told) in &LENGTHS {
-        check_beginning(&rt, first_of(&header, *len), (*status, *told));
-    }
-    for row in &OTHERS {
-        check_other(&rt, *row);
+fn headers_are_printed_and_reported(rt: HostRuntime) {
+    let header = changed(&rt, &[], 592, &FIELDS);
+    for (lines, changes, len, page, told) in &ROWS {
+        let image = changed(&rt, &header, *len, changes);
+        check_lines(&rt, lines, &image, (*page, *told));
     }
 }
 
-// So many zeros.
-fn zeros(rt: &(impl Abort + AllocGlobal), len: usize) -> Vec<u8> {
-    let zeros: Result<Vec<u8>, AllocError> = vec![in rt.alloc(); 0; len];
-    zeros.expect(rt, "room for zeros")
-}
-
-const NOT_LUKS: Ends<'static> = (&[], 1, "");
-
-fn check_zeros(rt: &(impl Abort + AllocGlobal), zeros: &[u8]) {
-    check_left(rt, "isLuks i", first_of(zeros, 1000), &[], NOT_LUKS, (0, 0));
-    let searched = first_of(zeros, 4_198_400);
-    check_left(rt, "isLuks i", searched, &[], NOT_LUKS, (0, 0));
-    check_left(rt, "isLuks i", zeros, &[], NOT_LUKS, (1600, 0))
+// The first ten bytes of a dump are written.
+#[test]
+fn a_dump_is_written_as_far_as_there_is_room(rt: HostRuntime) {
+    let header = changed(&rt, &[], 592, &FIELDS);
+    let inputs: Inputs<'_> = [&[], header.as_slice(), &[]];
+    let ends: (&[u8], &str) = (b"Version: 1", WRITE_FAILED);
+    check_within(&rt, (ALL, ALL, 10), "luksDump i", inputs, ends, (0, 0, 0))
 }
 
 // A header of LUKS2 is sought at nine places, and 4,096 bytes are read at the last of them.
 #[test]
-fn seeks_a_header_so_far(rt: HostRuntime) {
-    check_zeros(&rt, &zeros(&rt, 4_200_000))
-}
-
-// What is amiss with the header above: one of its slots is damaged.
-const FINDINGS: &str = "slot 2: state\n";
-
-#[test]
-fn tells_what_is_amiss(rt: HostRuntime) {
-    let mut header = make_header();
-    let ends = (FINDINGS.as_bytes(), 1, "luksrd: the header has findings\n");
-    check_left(&rt, "luksCheck i", &header, &[], ends, (0, 0));
-    put(&mut header, 304, &[0, 0, 0xde, 0xad]);
-    check_run(&rt, "luksCheck i", &header, &[], (b"clean\n", 0, ""));
-}
-
-#[test]
-fn tells_failed_devices(rt: HostRuntime) {
-    let header = make_header();
-    check_failures(&rt, "isLuks i", &header, &[], &[]);
-    check_failures(&rt, "luksUUID i", &header, &[], UUID.as_bytes());
-    check_failures(&rt, "luksDump i", &header, &[], DUMP.as_bytes())
-}
-
-// The first ten bytes of the dump are written.
-#[test]
-fn writes_of_a_dump_what_fits(rt: HostRuntime) {
-    let header = make_header();
-    assert_in(&rt, &DUMP, DUMP.as_bytes().starts_with(b"Version: 1"));
-    let ends = (Message::WriteFailed, DUMP.as_bytes());
-    check_room(&rt, &["luksDump", "i"], (&header, &[]), 10, ends);
-}
-
-// A run of this line prints this page and ends with this message once memory is not refused.
-fn check_scarce(
-    rt: &(impl Abort + AllocGlobal),
-    header: &[u8],
-    line: &str,
-    page: &str,
-    message: Message,
-) {
-    let inputs: Inputs<'_> = [&[], header, &[]];
-    check_refusals(rt, line, inputs, (1100, 1), message, page.as_bytes())
-}
-
-#[test]
-fn answers_memory_where_it_is_refused(rt: HostRuntime) {
-    let header = make_header();
-    check_scarce(&rt, &header, "isLuks i", "", Message::Done);
-    check_scarce(&rt, &header, "luksUUID i", UUID, Message::Done);
-    check_scarce(&rt, &header, "luksDump i", DUMP, Message::Done);
-    check_scarce(&rt, &header, "luksCheck i", FINDINGS, Message::Findings)
+fn a_header_is_sought_so_far(rt: HostRuntime) {
+    for (len, left) in [(1000, 0), (4_198_400, 0), (4_200_000, 1600)] {
+        let zeros = changed(&rt, &[], len, &[]);
+        let inputs: Inputs<'_> = [&[], zeros.as_slice(), &[]];
+        check(&rt, "isLuks i", inputs, (&[], NO), (0, left, 0));
+    }
 }

@@ -1,20 +1,22 @@
 //! Sealed volumes of two key slots, which are written out under either passphrase: of both formats,
 //! in each mode, with sectors of each length.
 
-use super::runs::check_over;
-use crate::tests::volume::{KEY, plain_of};
-use crate::tests::volumes2::{RANDOM, parameters, slot};
+use super::runs::{CAT, DONE, Inputs, check};
+use super::volume::{KEY, plain_of};
+use super::volumes2::{RANDOM, slot};
 use luks_cipher::Mode;
-use luks_io::memory::MemSource;
 use luks_kdf::Hash;
-use luks_report::message::Message;
 use luks_seal::parameters::{Seal1, Seal2, Slot1, Slot2};
+use luks_seal_fixtures::bytes::at;
+use luks_seal_fixtures::parameters::{parameters1, parameters2, slot1};
 use luks_verdict::sector_size::SectorSize;
 use luks1_seal::seal1;
 use luks2_seal::seal2;
 use std::process::Abort;
 
-const PASSPHRASES: [&[u8]; 2] = [b"one", b"another"];
+const ONE: &[u8] = b"one";
+
+const OTHER: &[u8] = b"another";
 
 /// The modes, and how many bytes of key each is tried with.
 static MODES: [(Mode, usize); 4] = [
@@ -31,33 +33,23 @@ static SECTOR_SIZES: [SectorSize; 4] = [
     SectorSize::B4096,
 ];
 
-fn slot1<'a>(number: u32, passphrase: &'a [u8], random: &'a [u8]) -> Slot1<'a> {
-    Slot1 {
-        number,
-        iterations: 3,
-        salt: [0x51; 32],
-        passphrase,
-        random,
-    }
-}
-
 fn first(rt: &(impl Abort + AllocGlobal), (mode, key): (Mode, &[u8]), plain: &[u8]) -> Vec<u8> {
     let random = &RANDOM[..3 * key.len().min(64)];
     let slots = [
-        slot1(2, PASSPHRASES[0], random),
-        slot1(5, PASSPHRASES[1], random),
+        Slot1 {
+            random,
+            ..slot1(2, [0x51; 32], ONE)
+        },
+        Slot1 {
+            random,
+            ..slot1(5, [0x51; 32], OTHER)
+        },
     ];
     let volume = Seal1 {
         hash: Hash::Sha1,
         mode,
         key,
-        stripes: 4,
-        payload_sectors: 72,
-        uuid: b"a-uuid",
-        digest_salt: [0xd1; 32],
-        digest_iterations: 2,
-        slots: &slots,
-        plain,
+        ..parameters1(&slots, plain)
     };
     seal1(rt.alloc(), &volume).expect(rt, "a volume")
 }
@@ -72,11 +64,11 @@ fn second(
     let slots = [
         Slot2 {
             random,
-            ..slot(7, 1, PASSPHRASES[0])
+            ..slot(7, 1, ONE)
         },
         Slot2 {
             random,
-            ..slot(31, 1, PASSPHRASES[1])
+            ..slot(31, 1, OTHER)
         },
     ];
     let volume = Seal2 {
@@ -86,65 +78,31 @@ fn second(
         iv_tweak: 18_446_744_073_709_551_612,
         area_mode: Mode::CbcPlain64,
         area_key_size: 32,
-        ..parameters(&slots, plain)
+        ..parameters2(&slots, plain)
     };
     seal2(rt.alloc(), &volume).expect(rt, "a volume")
 }
 
-const CAT: [&str; 4] = ["luksCat", "--key-file", "f", "i"];
-
-// The passphrase gives the plain bytes of a volume in this mode.
-fn check_passphrase(
-    rt: &(impl Abort + AllocGlobal),
-    mode: Mode,
-    image: &[u8],
-    passphrase: &[u8],
-    plain: &[u8],
-) {
-    let mut source = MemSource::new(image);
-    let mut secret = MemSource::new(passphrase);
-    let inputs = (&mut source, &mut secret);
-    check_over(rt, &mode, &CAT, inputs, 8192, (Message::Done, plain))
-}
-
 // Either passphrase gives the plain bytes.
-fn check_written(rt: &(impl Abort + AllocGlobal), mode: Mode, image: &[u8], plain: &[u8]) {
-    check_passphrase(rt, mode, image, PASSPHRASES[0], plain);
-    check_passphrase(rt, mode, image, PASSPHRASES[1], plain)
+fn check_written(rt: &(impl Abort + AllocGlobal), image: &[u8], plain: &[u8]) {
+    let inputs: Inputs<'_> = [&[], image, ONE];
+    check(rt, CAT, inputs, (plain, DONE), (0, 0, 0));
+    let inputs: Inputs<'_> = [&[], image, OTHER];
+    check(rt, CAT, inputs, (plain, DONE), (0, 0, 0))
 }
 
-// The volume key, or its first bytes.
-fn key_of(len: usize) -> &'static [u8] {
-    &KEY[..KEY.len().min(len)]
-}
-
-fn check_first(rt: &(impl Abort + AllocGlobal), plain: &[u8]) {
-    for (mode, len) in &MODES {
-        let image = first(rt, (*mode, key_of(*len)), plain);
-        check_written(rt, *mode, &image, plain);
-    }
-}
-
-#[test]
-fn a_volume_of_luks1_is_written_out_in_each_mode(rt: HostRuntime) {
-    check_first(&rt, &plain_of(&rt, 8192))
-}
-
-// A volume in this mode is written out with sectors of each length.
-fn check_second(rt: &(impl Abort + AllocGlobal), mode: Mode, len: usize, plain: &[u8]) {
+// A volume in this mode is written out; of LUKS2, with sectors of each length.
+fn check_mode(rt: &(impl Abort + AllocGlobal), cipher: (Mode, &[u8]), plain: &[u8]) {
+    check_written(rt, &first(rt, cipher, plain), plain);
     for sector_size in &SECTOR_SIZES {
-        let image = second(rt, (mode, key_of(len)), *sector_size, plain);
-        check_written(rt, mode, &image, plain);
-    }
-}
-
-fn check_seconds(rt: &(impl Abort + AllocGlobal), plain: &[u8]) {
-    for (mode, len) in &MODES {
-        check_second(rt, *mode, *len, plain);
+        check_written(rt, &second(rt, cipher, *sector_size, plain), plain);
     }
 }
 
 #[test]
-fn a_volume_of_luks2_is_written_out_in_each_mode_and_size(rt: HostRuntime) {
-    check_seconds(&rt, &plain_of(&rt, 8192))
+fn volumes_of_both_formats_are_written_out(rt: HostRuntime) {
+    let plain = plain_of(&rt, 8192);
+    for (mode, len) in &MODES {
+        check_mode(&rt, (*mode, at(KEY, 0, *len)), &plain);
+    }
 }

@@ -1,5 +1,6 @@
-//! Comparisons that end a test. They stand here and not in `luks_test_support`, since no library may end
-//! the process, and what they compare holds references, which an error that is expected may not.
+//! Comparisons that end a test. They are here and not in `luks_test_support`, since no library may
+//! end the process, and what they compare holds references, which an error that is expected may
+//! not.
 
 use std::fmt::Debug;
 use std::process::Abort;

@@ -3,32 +3,36 @@
 use luks_cipher::Mode;
 use luks_kdf::Hash;
 use luks_seal::parameters::{Seal1, Slot1};
-use luks_seal_fixtures::bytes::counted;
+use luks_seal_fixtures::bytes::{at, counted};
+use luks_test_support::header2::{self, image_of};
 use luks1_seal::seal1;
 use std::process::Abort;
 
 /// The volume key.
-pub(crate) const KEY: &[u8] = b"a volume key of AES-256 has two halves, thirty-two bytes in each";
+pub(super) const KEY: &[u8] = b"a volume key of AES-256 has two halves, thirty-two bytes in each";
+
+/// The newest mode, with that key.
+pub(super) const NEWEST: (Mode, &[u8]) = (Mode::XtsPlain64, KEY);
 
 /// The passphrase of the key slot.
-pub(crate) const PASSPHRASE: &[u8] = b"correct horse";
+pub(super) const PASSPHRASE: &[u8] = b"correct horse";
 
 /// How many plain bytes there are: three sectors.
-pub(crate) const PLAIN_LEN: usize = 1536;
+pub(super) const PLAIN_LEN: usize = 1536;
 
 /// How a volume is made: its stripes, its payload's start in sectors, and the iterations of its key
 /// slot and its digest.
 #[derive(Clone, Copy)]
-pub(crate) struct Size {
-    pub(crate) stripes: u32,
-    pub(crate) payload_sectors: u32,
-    pub(crate) slot_iterations: u32,
-    pub(crate) digest_iterations: u32,
+pub(super) struct Size {
+    stripes: u32,
+    payload_sectors: u32,
+    slot_iterations: u32,
+    digest_iterations: u32,
 }
 
 /// As volumes usually are: the key material ends at byte 260,096, the payload starts at byte
 /// 2,097,152, and the image has 2,098,688 bytes.
-pub(crate) const USUAL: Size = Size {
+pub(super) const USUAL: Size = Size {
     stripes: 4000,
     payload_sectors: 4096,
     slot_iterations: 1000,
@@ -36,81 +40,46 @@ pub(crate) const USUAL: Size = Size {
 };
 
 /// How many bytes the image of a usual volume has.
-pub(crate) const USUAL_LEN: usize = 2_098_688;
+pub(super) const USUAL_LEN: usize = 2_098_688;
 
 /// As small as a volume can be: the key material ends at byte 4,608, the payload starts at byte
 /// 36,864, and the image has 38,400 bytes.
-pub(crate) const SMALL: Size = Size {
+pub(super) const SMALL: Size = Size {
     stripes: 4,
     payload_sectors: 72,
     slot_iterations: 2,
     digest_iterations: 1,
 };
 
+/// How many bytes the image of a small volume has.
+pub(super) const SMALL_LEN: usize = 38_400;
+
 /// These parts of a text, one behind the other.
-pub(crate) fn text_of(rt: &(impl Abort + AllocGlobal), parts: &[&str]) -> String {
+pub(super) fn text_of(rt: &(impl Abort + AllocGlobal), parts: &[&str]) -> String {
     parts.concat(rt.alloc()).expect(rt, "room for a text")
 }
 
 /// So many plain bytes, of which no two sectors are alike.
-pub(crate) fn plain_of(rt: &(impl Abort + AllocGlobal), len: usize) -> Vec<u8> {
+pub(super) fn plain_of(rt: &(impl Abort + AllocGlobal), len: usize) -> Vec<u8> {
     counted(rt.alloc(), len).expect(rt, "room for plain bytes")
 }
 
-/// The plain bytes.
-pub(crate) fn plain_bytes(rt: &(impl Abort + AllocGlobal)) -> Vec<u8> {
-    plain_of(rt, PLAIN_LEN)
-}
-
-/// A volume in the newest mode whose key slot 0 alone is in use.
-pub(crate) fn sealed(rt: &(impl Abort + AllocGlobal), size: Size, passphrase: &[u8]) -> Vec<u8> {
-    sealed_in(rt, Mode::XtsPlain64, KEY, size, passphrase)
-}
-
-/// A volume in this mode under this key.
-pub(crate) fn sealed_in(
+/// A volume in this mode under this key, whose key slot 0 alone is in use.
+pub(super) fn sealed(
     rt: &(impl Abort + AllocGlobal),
-    mode: Mode,
-    key: &[u8],
+    (mode, key): (Mode, &[u8]),
     size: Size,
     passphrase: &[u8],
 ) -> Vec<u8> {
     let count = key.len().min(64) * size.stripes.saturating_sub(1).min(4000) as usize;
-    let random = random_of(rt, count);
-    sealed_by(
-        rt,
-        (mode, key),
-        size,
-        (passphrase, &random),
-        &plain_bytes(rt),
-    )
-}
-
-// So many random bytes.
-fn random_of(rt: &(impl Abort + AllocGlobal), count: usize) -> Vec<u8> {
-    let mut random = Vec::new(rt.alloc());
-    for i in 0..count {
-        random
-            .push((i % 239) as u8)
-            .expect(rt, "room for random bytes");
-    }
-    random
-}
-
-// A volume of these plain bytes, with this passphrase and these random stripes.
-fn sealed_by(
-    rt: &(impl Abort + AllocGlobal),
-    (mode, key): (Mode, &[u8]),
-    size: Size,
-    (passphrase, random): (&[u8], &[u8]),
-    plain: &[u8],
-) -> Vec<u8> {
+    let random = plain_of(rt, count);
+    let plain = plain_of(rt, PLAIN_LEN);
     let slots = [Slot1 {
         number: 0,
         iterations: size.slot_iterations,
         salt: [0x51; 32],
         passphrase,
-        random,
+        random: &random,
     }];
     let volume = Seal1 {
         hash: Hash::Sha256,
@@ -122,33 +91,53 @@ fn sealed_by(
         digest_salt: [0xd1; 32],
         digest_iterations: size.digest_iterations,
         slots: &slots,
-        plain,
+        plain: &plain,
     };
     seal1(rt.alloc(), &volume).expect(rt, "a volume")
 }
 
+/// Bytes at places of a header.
+pub(super) type Changes = &'static [(usize, &'static [u8])];
+
+/// In a header of LUKS1, the payload starts at byte 0.
+pub(super) const AT_START: Changes = &[(104, &[0; 4])];
+
+/// A primary header of LUKS2 names a size of 65,536 bytes, so that its checksum no longer agrees.
+pub(super) const NAMES_64_KIB: Changes = &[(8, &[0, 0, 0, 0, 0, 1, 0, 0])];
+
 /// Puts bytes over those of an image from this place on, as far as they go.
-pub(crate) fn put(image: &mut [u8], place: usize, bytes: &[u8]) {
+pub(super) fn put(image: &mut [u8], place: usize, bytes: &[u8]) {
     let start = place.min(image.len());
     let rest = &mut image[start..];
     let count = bytes.len().min(rest.len());
     rest[..count].copy_from_slice(&bytes[..count]);
 }
 
-/// The image with other bytes from this place on.
-pub(crate) fn changed(
+// Puts these bytes over those of an image, each from its place on.
+fn put_each(image: &mut [u8], changes: &[(usize, &[u8])]) {
+    for (place, bytes) in changes {
+        put(image, *place, bytes);
+    }
+}
+
+/// The first bytes of an image, so many of them, with zeros behind it, and with other bytes at
+/// these places.
+pub(super) fn changed(
     rt: &(impl Abort + AllocGlobal),
     image: &[u8],
-    place: usize,
-    bytes: &[u8],
+    len: usize,
+    changes: &[(usize, &[u8])],
 ) -> Vec<u8> {
-    let mut other = image.to_vec(rt.alloc()).expect(rt, "room for an image");
-    put(&mut other, place, bytes);
+    let mut other = at(image, 0, len)
+        .to_vec(rt.alloc())
+        .expect(rt, "room for an image");
+    other.resize(len, 0).expect(rt, "room for an image");
+    put_each(&mut other, changes);
     other
 }
 
 /// The image with zeros or without its end, so that it has so many bytes, and then these.
-pub(crate) fn followed(
+pub(super) fn followed(
     rt: &(impl Abort + AllocGlobal),
     mut image: Vec<u8>,
     len: usize,
@@ -159,4 +148,63 @@ pub(crate) fn followed(
         .extend_from_slice(bytes)
         .expect(rt, "room for an image");
     image
+}
+
+/// The payload of a volume.
+pub(super) fn payload_of(image: &[u8]) -> &[u8] {
+    at(image, image.len().saturating_sub(PLAIN_LEN), PLAIN_LEN)
+}
+
+/// A key slot of LUKS2, without its number. Its key material is that of a small volume, and stands
+/// right behind both headers. The salts and the digest are those of that volume, as Python's base64
+/// and hashlib modules gave them.
+pub(super) const SLOT: &str = "{\"type\":\"luks2\",\"key_size\":64,\
+    \"af\":{\"type\":\"luks1\",\"stripes\":4,\"hash\":\"sha256\"},\
+    \"area\":{\"type\":\"raw\",\"offset\":\"32768\",\"size\":\"512\",\
+    \"encryption\":\"aes-xts-plain64\",\"key_size\":64},\
+    \"kdf\":{\"type\":\"pbkdf2\",\"hash\":\"sha256\",\"iterations\":2,\
+    \"salt\":\"UVFRUVFRUVFRUVFRUVFRUVFRUVFRUVFRUVFRUVFRUVE=\"}}";
+
+const DIGEST: &str = "\"hash\":\"sha256\",\"iterations\":1,\
+    \"salt\":\"0dHR0dHR0dHR0dHR0dHR0dHR0dHR0dHR0dHR0dHR0dE=\",\
+    \"digest\":\"kh/wb/bbnsoJhTaSaOTgsjtZ5Ng=\"";
+
+/// Both headers of LUKS2 with the key material of a small volume, 33,280 bytes: with these key
+/// slots, these names of theirs, and a payload of this size from this offset on.
+pub(super) fn front2_of(
+    rt: &(impl Abort + AllocGlobal),
+    (slots, names): (&str, &str),
+    (offset, size): (&str, &str),
+) -> Vec<u8> {
+    let parts = [
+        "{\"keyslots\":{",
+        slots,
+        "},\"segments\":{\"0\":{\"type\":\"crypt\",\"offset\":\"",
+        offset,
+        "\",\"size\":\"",
+        size,
+        "\",\"iv_tweak\":\"0\",\"encryption\":\"aes-xts-plain64\",\"sector_size\":512}},\
+        \"digests\":{\"0\":{\"type\":\"pbkdf2\",\"keyslots\":[",
+        names,
+        "],\"segments\":[\"0\"],",
+        DIGEST,
+        "}}}",
+    ];
+    let json = text_of(rt, &parts);
+    let headers = image_of(rt.alloc(), 1, 1, json.as_str()).expect(rt, "room for headers");
+    let first = sealed(rt, NEWEST, SMALL, PASSPHRASE);
+    followed(rt, headers, 2 * header2::SIZE, at(&first, 4096, 512))
+}
+
+/// The same with slot 0.
+pub(super) fn front2(rt: &(impl Abort + AllocGlobal), offset: &str, size: &str) -> Vec<u8> {
+    let slots = text_of(rt, &["\"0\":", SLOT]);
+    front2_of(rt, (slots.as_str(), "\"0\""), (offset, size))
+}
+
+/// A volume of LUKS2 with a payload of this size: its key material ends at byte 33,280, its payload
+/// starts at byte 36,864, and the image has 38,400 bytes.
+pub(super) fn sealed2(rt: &(impl Abort + AllocGlobal), size: &str) -> Vec<u8> {
+    let first = sealed(rt, NEWEST, SMALL, PASSPHRASE);
+    followed(rt, front2(rt, "36864", size), 36_864, payload_of(&first))
 }
