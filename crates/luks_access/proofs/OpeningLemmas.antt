@@ -41,8 +41,8 @@ use Rattle.luks_payload.specs.declared.fault.VolumeFault.TheVariants.{Short as I
 use Rattle.luks_payload.specs.declared.state.Step.{Step}
 use Rattle.luks_payload.specs.declared.state.Step.TheVariants.{End}
 use Rattle.luks_access.specs.Opens.{HasOptions, IsCatOf, IsOnlyAborted, IsPlainOf, OpenVolume, Opens, Refuses}
-use Rattle.luks_access.specs.Opens.{cat_outcome_of, payload_image_of, text_of}
-use Rattle.luks_access.specs.Unlocks.{Unlocks}
+use Rattle.luks_access.specs.Opens.{cat_outcome_of, payload_image_of, plaintext_of}
+use Rattle.luks_access.specs.Unlocks.{UnlocksVolume}
 use Rattle.luks_access.specs.declared.options.Options.{Options}
 
 -- ---- only the named key slot and the limit matter of what is asked
@@ -133,7 +133,7 @@ module _ (options : Options) (o : OpeningRequest) (image pass : List ℕ) (i : O
 
     -- the volume was not opened
     pub refused_unopened : (message : Message) → breaks_off message ≡ false
-        → Unlocks o.key_slot tries pass area area' (drop (header_read_len image) image) i (Err message)
+        → UnlocksVolume o.key_slot tries pass area area' (drop (header_read_len image) image) i (Err message)
         → Refuses options image pass message
     refused_unopened message never (inl (short, tried)) = refused_slots short message never tried
     refused_unopened message never (inr (long, is)) =
@@ -145,7 +145,7 @@ module _ (options : Options) (o : OpeningRequest) (image pass : List ℕ) (i : O
 
     -- the volume was opened
     pub opened_by : (opened : Opened)
-        → Unlocks o.key_slot tries pass area area' (drop (header_read_len image) image) i (Ok opened)
+        → UnlocksVolume o.key_slot tries pass area area' (drop (header_read_len image) image) i (Ok opened)
         → Opens options image pass (record { segment = segment; slot = opened.slot; key = opened.key })
     opened_by opened (inl (short, (grows, enough, tried))) =
         let v = volume_with header segment tries in
@@ -164,7 +164,7 @@ module _ (o : OpeningRequest) (header image pass : List ℕ) (v : OpenVolume) (h
   cat_by : (standing : Standing)
       → ((on_opened : OnOpened) → volume_outcome_by (reading_of standing) on_opened o header pass
       ≡ on_opened v.segment (record { slot = v.slot; key = v.key }) held)
-      → ((cat_outcome_of standing o header image pass).output ≡ text_of v (payload_image_of standing header image))
+      → ((cat_outcome_of standing o header image pass).output ≡ plaintext_of v (payload_image_of standing header image))
       × ((cat_outcome_of standing o header image pass).message
       ≡ message_at_end (ending_of v.segment (payload_image_of standing header image)))
   cat_by Attached outcome =

@@ -30,15 +30,15 @@ pub record AreSectors (z offset n total : ℕ) : Type 0 where
   pub within : offset / z + n / z ≤ total
   pub few : offset / z + n / z ≤ offset + n
 
-pub are_sectors : (size : SectorSize) (offset n total : ℕ) → offset % bytes_of size ≡ 0 → n % bytes_of size ≡ 0
+pub are_stored_sectors : (size : SectorSize) (offset n total : ℕ) → offset % bytes_of size ≡ 0 → n % bytes_of size ≡ 0
     → offset + n ≤ total * bytes_of size → AreSectors (bytes_of size) offset n total
-are_sectors B512 offset n total start whole inside =
+are_stored_sectors B512 offset n total start whole inside =
     record { start = omega arith; within = omega arith; few = omega arith }
-are_sectors B1024 offset n total start whole inside =
+are_stored_sectors B1024 offset n total start whole inside =
     record { start = omega arith; within = omega arith; few = omega arith }
-are_sectors B2048 offset n total start whole inside =
+are_stored_sectors B2048 offset n total start whole inside =
     record { start = omega arith; within = omega arith; few = omega arith }
-are_sectors B4096 offset n total start whole inside =
+are_stored_sectors B4096 offset n total start whole inside =
     record { start = omega arith; within = omega arith; few = omega arith }
 
 -- the sector that a byte is in, of a text of `len` bytes, which is whole sectors
@@ -55,25 +55,25 @@ is_sector B2048 offset len whole inside = record { start = omega arith; within =
 is_sector B4096 offset len whole inside = record { start = omega arith; within = omega arith; skip = omega arith }
 
 -- a range that begins with a sector: whole ones, and then a part of one
-pub record IsSplit (z offset n : ℕ) : Type 0 where
+pub record IsParted (z offset n : ℕ) : Type 0 where
   pub most : n - n % z ≤ n
   pub whole : (n - n % z) % z ≡ 0
   pub part : (offset + (n - n % z)) % z + (n - (n - n % z)) ≤ z
 
-split_at : (size : SectorSize) (offset n : ℕ) → offset % bytes_of size ≡ 0 → IsSplit (bytes_of size) offset n
+split_at : (size : SectorSize) (offset n : ℕ) → offset % bytes_of size ≡ 0 → IsParted (bytes_of size) offset n
 split_at B512 offset n start = record { most = omega arith; whole = omega arith; part = omega arith }
 split_at B1024 offset n start = record { most = omega arith; whole = omega arith; part = omega arith }
 split_at B2048 offset n start = record { most = omega arith; whole = omega arith; part = omega arith }
 split_at B4096 offset n start = record { most = omega arith; whole = omega arith; part = omega arith }
 
-split_none : (size : SectorSize) (offset n : ℕ) → n ≤ 0 → IsSplit (bytes_of size) offset n
+split_none : (size : SectorSize) (offset n : ℕ) → n ≤ 0 → IsParted (bytes_of size) offset n
 split_none B512 offset n none = record { most = omega arith; whole = omega arith; part = omega arith }
 split_none B1024 offset n none = record { most = omega arith; whole = omega arith; part = omega arith }
 split_none B2048 offset n none = record { most = omega arith; whole = omega arith; part = omega arith }
 split_none B4096 offset n none = record { most = omega arith; whole = omega arith; part = omega arith }
 
 pub is_split : (size : SectorSize) (offset n : ℕ) → (0 < n → offset % bytes_of size ≡ 0)
-    → IsSplit (bytes_of size) offset n
+    → IsParted (bytes_of size) offset n
 is_split size offset n start =
     elim (cases_lt 0 n) [ inl some ↦ split_at size offset n (start some) | inr none ↦ split_none size offset n none ]
 
@@ -122,7 +122,7 @@ module _ (s : Segment) (known : List ℕ) (len : ℕ) (all : text_len s known �
       → offset % sector_len s ≡ 0 → length stored % sector_len s ≡ 0 → offset + length stored ≤ len
       → AreStored s known (offset / sector_len s) stored
   stored_at offset stored at start whole inside =
-      let are = are_sectors s.sector_size offset (length stored) (sectors_of s known) start whole (rw all inside) in
+      let are = are_stored_sectors s.sector_size offset (length stored) (sectors_of s known) start whole (rw all inside) in
       record {
         there = at.same
             ∙ ap (λ k. take (length stored) (drop (s.offset + k) known)) (sym are.start);

@@ -6,12 +6,12 @@ use Rattle.std.specs.Prelude.{IfErr, IfOk}
 use Rattle.std.specs.Io.KnownBytes.{Consumes, IsAtEnd}
 use Rattle.luks_io.specs.Bytes.{IfKnown}
 use Rattle.luks_kdf.proofs.BytesLemmas.{take_front}
-use Rattle.luks_access.specs.Image.{IsAt, behind}
+use Rattle.luks_access.specs.Image.{IsAt, remaining_from}
 
 -- the bytes that were read are the next ones
 pub gives_part : (image : Option (List ℕ)) (place count : ℕ) (buf rest : List ℕ) → length buf ≡ count
     → IfKnown image (λ known. IsAt known place buf)
-    → Consumes (behind place image) (behind (place + count) image) (take count (buf ++ rest))
+    → Consumes (remaining_from place image) (remaining_from (place + count) image) (take count (buf ++ rest))
 gives_part None place count buf rest long bytes = tt
 gives_part (Some known) place count buf rest long bytes =
     let is : buf ≡ take count (drop place known) =
@@ -25,22 +25,22 @@ gives_part (Some known) place count buf rest long bytes =
 -- if there were none, none are left
 pub none_left : (image : Option (List ℕ)) (place count asked len : ℕ)
     → IfKnown image (λ known. len ≡ length known) → count ≡ min (len - place) asked → count ≡ 0 → 0 < asked
-    → IsAtEnd (behind (place + count) image)
+    → IsAtEnd (remaining_from (place + count) image)
 none_left None place count asked len is fits none some = tt
 none_left (Some known) place count asked len is fits none some =
     drop_all (place + count) known (omega (arith, is known refl))
 
 -- an image that is read from its start gives all its bytes
-pub behind_none : (image : Option (List ℕ)) (known : List ℕ) → image ≡ Some known → behind 0 image ≡ Some known
+pub behind_none : (image : Option (List ℕ)) (known : List ℕ) → image ≡ Some known → remaining_from 0 image ≡ Some known
 behind_none image known is = rw is refl
 
 -- what holds if the source knows its bytes holds if the image does
 pub known_ok : {V M : Type 0} (r : Result V M) (Holds : V → List ℕ → Type 0) (image come : Option (List ℕ))
-    → come ≡ behind 0 image → IfOk r (λ v. IfKnown come (Holds v)) → IfOk r (λ v. IfKnown image (Holds v))
+    → come ≡ remaining_from 0 image → IfOk r (λ v. IfKnown come (Holds v)) → IfOk r (λ v. IfKnown image (Holds v))
 known_ok (Ok v) Holds image come is holds = λ known there. holds known (is ∙ behind_none image known there)
 known_ok (Err m) Holds image come is holds = tt
 
 pub known_err : {V M : Type 0} (r : Result V M) (Holds : M → List ℕ → Type 0) (image come : Option (List ℕ))
-    → come ≡ behind 0 image → IfErr r (λ m. IfKnown come (Holds m)) → IfErr r (λ m. IfKnown image (Holds m))
+    → come ≡ remaining_from 0 image → IfErr r (λ m. IfKnown come (Holds m)) → IfErr r (λ m. IfKnown image (Holds m))
 known_err (Ok v) Holds image come is holds = tt
 known_err (Err m) Holds image come is holds = λ known there. holds known (is ∙ behind_none image known there)

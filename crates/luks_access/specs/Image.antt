@@ -7,6 +7,6 @@ pub record IsAt (known : List ℕ) (offset : ℕ) (bytes : List ℕ) : Type 0 wh
   pub same : bytes ≡ take (length bytes) (drop offset known)
 
 -- the bytes from this offset on, if they are known
-abbrev pub behind : ℕ → Option (List ℕ) → Option (List ℕ)
-behind offset (Some known) = Some (drop offset known)
-behind offset None = None
+abbrev pub remaining_from : ℕ → Option (List ℕ) → Option (List ℕ)
+remaining_from offset (Some known) = Some (drop offset known)
+remaining_from offset None = None

@@ -29,8 +29,8 @@ abbrev pub cipher_of : OpenVolume → Cipher
 cipher_of v = (v.segment.mode, v.key)
 
 -- its plaintext in this image of its payload
-abbrev pub text_of : OpenVolume → List ℕ → List ℕ
-text_of v image = plain_of v.segment (cipher_of v) image
+abbrev pub plaintext_of : OpenVolume → List ℕ → List ℕ
+plaintext_of v image = plain_of v.segment (cipher_of v) image
 
 -- a request of `luksCat` with these options, whatever its files are called
 abbrev pub HasOptions : OpeningRequest → Options → Type 0
@@ -69,7 +69,7 @@ abbrev pub IsCatOf : Options → List ℕ → List ℕ → OpenVolume → Type 0
 IsCatOf options header pass v =
     (o : OpeningRequest) (image : List ℕ) → HasOptions o options
     → ((cat_outcome_of options.standing o header image pass).output
-    ≡ text_of v (payload_image_of options.standing header image))
+    ≡ plaintext_of v (payload_image_of options.standing header image))
     × ((cat_outcome_of options.standing o header image pass).message
     ≡ message_at_end (ending_of v.segment (payload_image_of options.standing header image)))
 
@@ -77,7 +77,7 @@ IsCatOf options header pass v =
 abbrev pub IsPlainOf : Options → List ℕ → List ℕ → OpenVolume → Type 0
 IsPlainOf options image pass v =
     (o : OpeningRequest) (plain : List ℕ) → options.standing ≡ Attached → HasOptions o options
-    → IsHonest o image pass plain → (text_of v image ≡ plain) × (ending_of v.segment image ≡ Ok End)
+    → IsHonest o image pass plain → (plaintext_of v image ≡ plain) × (ending_of v.segment image ≡ Ok End)
 
 -- and such a volume is refused only if memory or a read failed
 abbrev pub IsOnlyAborted : Options → List ℕ → List ℕ → Message → Type 0

@@ -8,8 +8,8 @@ use Rattle.luks_runs.specs.Secret.{longest_key_file}
 use Rattle.luks_unlock.specs.Trying.{TriesSlots}
 
 -- the key slots were tried under a passphrase that is not too long, or it is
-abbrev pub Unlocks : Option ℕ → OrderModel → List ℕ → List ℕ → List ℕ → List ℕ → Option (List ℕ) → Result Opened Message
+abbrev pub UnlocksVolume : Option ℕ → OrderModel → List ℕ → List ℕ → List ℕ → List ℕ → Option (List ℕ) → Result Opened Message
     → Type 0
-Unlocks named tries pass area area' rest left result =
+UnlocksVolume named tries pass area area' rest left result =
     ((length pass ≤ longest_key_file) × TriesSlots named tries pass area area' rest left result)
     ⊎ ((longest_key_file < length pass) × (result ≡ Err KeyFileLength))

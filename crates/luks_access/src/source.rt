@@ -1,7 +1,7 @@
 //! An image that is read at offsets, as a source of its bytes.
 
 ghost use Rattle.std.specs.Prelude.{◌≡◌};
-ghost use Rattle.luks_access.specs.Image.{behind};
+ghost use Rattle.luks_access.specs.Image.{remaining_from};
 
 use crate::image::ReadAt;
 use luks_io::DeviceFault;
@@ -21,7 +21,7 @@ impl<'a, I: ReadAt> ImageSource<'a, I> {
     /// A source over this image, with no failure and no end so far.
     pub fn new(image: &'a I) -> ImageSource<'a, I>
         ensures bytes { ⟦<ImageSource<'a, I> as Source>⟧.to_come result
-            ≡ behind 0 (I.image image.entry.now) }
+            ≡ remaining_from 0 (I.image image.entry.now) }
         ensures failures { ⟦<ImageSource<'a, I> as Source>⟧.failures result ≡ 0 }
     {
         ImageSource {
@@ -34,9 +34,9 @@ impl<'a, I: ReadAt> ImageSource<'a, I> {
 }
 
 impl<'a, I: ReadAt> Source for ImageSource<'a, I> {
-    ghost use Rattle.luks_access.specs.Image.{behind};
+    ghost use Rattle.luks_access.specs.Image.{remaining_from};
 
-    ghost to_come = { λ s. behind s.at (I.image s.image.now) };
+    ghost to_come = { λ s. remaining_from s.at (I.image s.image.now) };
 
     ghost failures = { λ s. s.failures };
 

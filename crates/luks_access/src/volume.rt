@@ -11,9 +11,9 @@ ghost use Rattle.luks_runs.specs.Run.{breaks_off, is_run_read_failure, result_me
 ghost use Rattle.luks_unlock.specs.MayEnd.{OpeningMessage};
 ghost use Rattle.luks_payload.specs.Plain.{ending_of, sector_len};
 ghost use Rattle.luks_access.specs.Opens.{IsCatOf, IsOnlyAborted, IsPlainOf, Opens, Refuses};
-ghost use Rattle.luks_access.specs.Opens.{text_of};
+ghost use Rattle.luks_access.specs.Opens.{plaintext_of};
 ghost use Rattle.luks_access.specs.Range.{IsRangeOf};
-ghost use Rattle.luks_access.specs.Unlocks.{Unlocks};
+ghost use Rattle.luks_access.specs.Unlocks.{UnlocksVolume};
 
 use crate::fault::RangeFault;
 use crate::image::ReadAt;
@@ -93,7 +93,7 @@ fn unlock<S: Source>(
     requires order { let o = opening_request opening.now in
         order_of found.old.header o.key_slot o.max_iterations ≡ Ok found.old.order }
     ensures run { IfKnown (S.to_come source.old) (λ rest.
-        Unlocks (opening_request opening.now).key_slot found.old.order pass.now
+        UnlocksVolume (opening_request opening.now).key_slot found.old.order pass.now
         found.old.area found.new.area rest (S.to_come source.new) result) }
     ensures kept { found.new.segment ≡ found.old.segment }
     ensures only { IfErr result OpeningMessage }
@@ -192,7 +192,7 @@ impl Volume {
     /// The length in bytes of the plaintext in an image of this length: all whole sectors.
     pub fn len(&self, image_len: u64) -> u64
         ensures value { (image : List ℕ) → length image ≡ image_len
-            → result ≡ length (text_of self.now image) }
+            → result ≡ length (plaintext_of self.now image) }
         ensures within { result ≤ image_len - self.now.segment.offset }
         ensures counted { self.now.segment.offset + result < 2 ^ 64 }
         ensures multiple { result % sector_len self.now.segment ≡ 0 }
@@ -221,12 +221,12 @@ impl Volume {
         buf: &mut [u8],
     ) -> Result<(), RangeFault>
         ensures plain { OnOk result (IfKnown (I.image image.now)
-            (λ known. IsRangeOf (text_of self.now known) offset buf.new)) }
+            (λ known. IsRangeOf (plaintext_of self.now known) offset buf.new)) }
         ensures within { OnOk result (IfKnown (I.image image.now)
-            (λ known. offset + length buf.new ≤ length (text_of self.now known))) }
+            (λ known. offset + length buf.new ≤ length (plaintext_of self.now known))) }
         ensures past { result ≡ Err RangeFault.PastEnd → (buf.new ≡ buf.old)
             × IfKnown (I.image image.now)
-            (λ known. length (text_of self.now known) < offset + length buf.old) }
+            (λ known. length (plaintext_of self.now known) < offset + length buf.old) }
         ensures blank { IfErr result (λ fault. fault ≢ RangeFault.PastEnd
             → buf.new ≡ replicate (length buf.old) 0) }
         ensures whole { IfKnown (I.image image.now)

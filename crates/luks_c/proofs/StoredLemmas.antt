@@ -8,7 +8,7 @@ use Rattle.std.proofs.lemmas.Option.{none-some, same_Some}
 use Rattle.std.specs.Prelude.{◌==◌, if◌then◌else◌, nat_lt, option_map, MatchOption}
 use Rattle.luks_access.proofs.PartLemmas.{part_of_plain}
 use Rattle.luks_access.proofs.RangeLemmas.{text_is_long}
-use Rattle.luks_access.specs.Opens.{OpenVolume, cipher_of, text_of}
+use Rattle.luks_access.specs.Opens.{OpenVolume, cipher_of, plaintext_of}
 use Rattle.luks_access.specs.Sectors.{AreStored, plain_at, plain_in}
 use Rattle.luks_cipher.proofs.ModeLemmas.{key_length_of_mode}
 use Rattle.luks_cipher.specs.Sector.{Cipher, is_mode_key_length}
@@ -27,7 +27,7 @@ use Rattle.luks_payload.specs.declared.fault.VolumeFault.TheVariants.{CutBeforeP
 use Rattle.luks_payload.specs.declared.state.Step.{Step}
 use Rattle.luks_c.specs.Answers.{decrypt_code, range_code, segment_code}
 use Rattle.luks_c.specs.Stored.{Stores, cipher_in, has_size_of, mode_in, mode_number, sector_size_in, segment_in}
-use Rattle.luks_c.specs.Stored.{size_in, size_of}
+use Rattle.luks_c.specs.Stored.{size_stored_in, size_of}
 use Rattle.luks_c.specs.declared.volume.LuksrdVolume.{LuksrdVolume}
 
 pub size_again : (size : SectorSize) → sector_size_in (bytes_of size) ≡ Some size
@@ -92,7 +92,7 @@ module _ (offset : ℕ) (size : Option ℕ) (iv : ℕ) (z : SectorSize) (mode : 
 
 -- the segment of a struct's fields, in this sector size and mode
 abbrev made_in : LuksrdVolume → Option SectorSize → Option Mode → Option Segment
-made_in c z mode = segment_of_all (Some c.offset) (Some (size_in c)) (Some c.iv_tweak) z mode
+made_in c z mode = segment_of_all (Some c.offset) (Some (size_stored_in c)) (Some c.iv_tweak) z mode
 
 module _ (c : LuksrdVolume) (v : OpenVolume) (stored : Stores c v) where
   pub stored_sector : sector_size_in c.sector_size ≡ Some v.segment.sector_size
@@ -101,10 +101,10 @@ module _ (c : LuksrdVolume) (v : OpenVolume) (stored : Stores c v) where
   stored_mode : mode_in c.mode ≡ Some v.segment.mode
   stored_mode = ap mode_in stored.mode ∙ mode_again v.segment.mode
 
-  pub stored_size : size_in c ≡ v.segment.size
+  pub stored_size : size_stored_in c ≡ v.segment.size
   stored_size = by v.segment.size stored.has_size stored.size
     where
-      by : (size : Option ℕ) → c.has_size ≡ has_size_of size → c.size ≡ size_of size → size_in c ≡ size
+      by : (size : Option ℕ) → c.has_size ≡ has_size_of size → c.size ≡ size_of size → size_stored_in c ≡ size
       by None has is = rw has refl
       by (Some size) has is = rw (has, is) refl
 
@@ -114,14 +114,14 @@ module _ (c : LuksrdVolume) (v : OpenVolume) (stored : Stores c v) where
       ap (λ z. made_in c z (mode_in c.mode)) stored_sector ∙ ap (made_in c (Some v.segment.sector_size)) stored_mode
 
   pub stored_segment : (s : Segment) → segment_in c ≡ Some s
-      → IsOf c.offset (size_in c) c.iv_tweak v.segment.sector_size v.segment.mode s
+      → IsOf c.offset (size_stored_in c) c.iv_tweak v.segment.sector_size v.segment.mode s
   stored_segment s is =
-      made_of c.offset (size_in c) c.iv_tweak v.segment.sector_size v.segment.mode s (sym made_again ∙ is)
+      made_of c.offset (size_stored_in c) c.iv_tweak v.segment.sector_size v.segment.mode s (sym made_again ∙ is)
 
   -- a segment can be made of them
   pub some_segment : None ≡ segment_in c → ⊥
   some_segment none =
-      some_made c.offset (size_in c) c.iv_tweak v.segment.sector_size v.segment.mode
+      some_made c.offset (size_stored_in c) c.iv_tweak v.segment.sector_size v.segment.mode
       (ap (λ size. are_sectors size v.segment.sector_size) stored_size
       ∙ whole_are v.segment.size v.segment.sector_size v.segment.whole_sectors)
       (sym made_again ∙ sym none)
@@ -157,7 +157,7 @@ same_plain s t cipher first bytes iv size =
 -- ---- what is computed of a volume that C keeps
 
 module _ (c : LuksrdVolume) (v : OpenVolume) (stored : Stores c v) (z : SectorSize) (size : Option ℕ)
-    (sector : Some z ≡ sector_size_in c.sector_size) (fixed : size ≡ size_in c) (image : List ℕ) (image_len : ℕ)
+    (sector : Some z ≡ sector_size_in c.sector_size) (fixed : size ≡ size_stored_in c) (image : List ℕ) (image_len : ℕ)
     (long : length image ≡ image_len) where
   z_is : z ≡ v.segment.sector_size
   z_is = same_Some z v.segment.sector_size (sector ∙ stored_sector c v stored)
@@ -166,7 +166,7 @@ module _ (c : LuksrdVolume) (v : OpenVolume) (stored : Stores c v) (z : SectorSi
   size_is_its = fixed ∙ stored_size c v stored
 
   pub len_for : (len : ℕ)
-      → len ≡ within_size size (image_len - c.offset) / bytes_of z * bytes_of z → len ≡ length (text_of v image)
+      → len ≡ within_size size (image_len - c.offset) / bytes_of z * bytes_of z → len ≡ length (plaintext_of v image)
   len_for len is =
       text_is_long v.segment (cipher_of v) image image_len len long (rw (z_is, size_is_its, stored.offset) at is)
 

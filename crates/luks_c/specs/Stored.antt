@@ -70,14 +70,14 @@ mode_in n =
     if n == 1 then Some XtsPlain64 else if n == 2 then Some XtsPlain else if n == 3 then Some CbcEssivSha256
     else if n == 4 then Some CbcPlain64 else None
 
-abbrev pub size_in : LuksrdVolume → Option ℕ
-size_in c = if c.has_size == 1 then Some c.size else None
+abbrev pub size_stored_in : LuksrdVolume → Option ℕ
+size_stored_in c = if c.has_size == 1 then Some c.size else None
 
 -- where the payload lies
 abbrev pub segment_in : LuksrdVolume → Option Segment
 segment_in c = segment_from record {
   offset = Some c.offset;
-  size = Some (size_in c);
+  size = Some (size_stored_in c);
   iv_tweak = Some c.iv_tweak;
   sector_size = sector_size_in c.sector_size;
   mode = mode_in c.mode;

@@ -7,7 +7,7 @@
 ghost use Rattle.std.specs.Prelude.{◌≡◌, ◌≢◌, ◌+◌, ◌*◌, ◌/◌, ◌%◌, ◌^◌, ◌<◌, List, ℕ, None};
 ghost use Rattle.std.specs.Prelude.{length, true};
 ghost use Rattle.luks_cipher.specs.Sector.{is_mode_key_length};
-ghost use Rattle.luks_access.specs.Opens.{OpenVolume, cipher_of, text_of};
+ghost use Rattle.luks_access.specs.Opens.{OpenVolume, cipher_of, plaintext_of};
 ghost use Rattle.luks_access.specs.Sectors.{AreStored, plain_at};
 ghost use Rattle.luks_payload.specs.Plain.{ending_of, sector_len};
 ghost use Rattle.luks_verdict.specs.SectorSize.{bytes_of};
@@ -92,7 +92,7 @@ fn answer_code(code: u32, message: &mut LuksrdMessage) -> u32
 pub extern "C" fn luksrd_len(volume: &LuksrdVolume, image_len: u64) -> u64
     ensures value { (v : OpenVolume) (image : List ℕ) → Stores volume.now v
         → length image ≡ image_len
-        → result ≡ length (text_of v image) }
+        → result ≡ length (plaintext_of v image) }
     ensures unfilled { sector_size_in volume.now.sector_size ≡ None → result ≡ 0 }
 {
     match volume::sector_size(volume) {

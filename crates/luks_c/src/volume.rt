@@ -4,7 +4,7 @@ ghost use Rattle.std.specs.Prelude.{◌≡◌, ◌-◌, ◌≤◌, MatchOption, 
 ghost use Rattle.std.specs.Prelude.{replicate, take, true};
 ghost use Rattle.luks_cipher.specs.Sector.{is_mode_key_length};
 ghost use Rattle.luks_c.specs.Stored.{Filled, IsCleared, cipher_in, mode_in, mode_number};
-ghost use Rattle.luks_c.specs.Stored.{sector_size_in, segment_in, size_in};
+ghost use Rattle.luks_c.specs.Stored.{sector_size_in, segment_in, size_stored_in};
 
 use luks_access::volume::Volume;
 use luks_cipher::{Mode, SectorCipher};
@@ -79,7 +79,7 @@ pub(crate) fn sector_size(volume: &LuksrdVolume) -> Option<SectorSize>
 
 /// The length of its payload, if that is fixed.
 pub(crate) fn size(volume: &LuksrdVolume) -> Option<u64>
-    ensures { result ≡ size_in volume.now }
+    ensures { result ≡ size_stored_in volume.now }
 {
     if volume.has_size == 1 {
         Some(volume.size)
