@@ -152,7 +152,10 @@ uint32_t luksrd_decrypt(const struct luksrd_volume *volume, uint64_t first_secto
  * sentence "luksrd: no such code". */
 void luksrd_status_text(uint32_t code, struct luksrd_message *message);
 
-/* The version of this library: major * 65536 + minor * 256 + patch. */
+/* The version of this header. */
+#define LUKSRD_VERSION 0x010100
+
+/* The version of the library, as LUKSRD_VERSION: major * 65536 + minor * 256 + patch. */
 uint32_t luksrd_version(void);
 
 #ifdef __cplusplus

@@ -180,7 +180,7 @@ static void read_volume(struct job *job)
 int main(int argc, char **argv)
 {
   must(argc == 4, "the arguments");
-  must(luksrd_version() >> 16 >= 1, "the version");
+  must(luksrd_version() == LUKSRD_VERSION, "the version");
   read_texts();
 
   struct luksrd_options options = { .detached = strcmp(argv[2], "-") != 0 };

@@ -83,6 +83,7 @@ same 'what it writes' "$(sha256sum <given)" "$(sha256sum <"$example/stdout")"
 
 # it bears the version of the program, and gives the names of luksrd.h alone
 same 'its version' "$(pkg-config --modversion luksrd)" "$(make -s -C "$sources" -f Makefile -f - version <<<$'version:\n\t@echo $(VERSION)')"
+same "its header's version" "$(sed -n 's/^#define LUKSRD_VERSION 0x\(..\)\(..\)\(..\)$/\1 \2 \3/p' "$sources/c/luksrd.h" | { read -r major minor patch; echo "$((16#$major)).$((16#$minor)).$((16#$patch))"; })" "$(pkg-config --modversion luksrd)"
 same 'what the library exports' "$(nm -D --defined-only "$shared" | awk '{ print $3 }' | sort | tr '\n' ' ')" \
     'luksrd_decrypt luksrd_ending luksrd_len luksrd_open luksrd_status_text luksrd_version '
 same 'the same of the archive' "$(nm -g --defined-only "$library" 2>&1 | awk 'NF == 3 { print $3 }' | sort | tr '\n' ' ')" \

@@ -37,7 +37,13 @@ pub fn text_len(offset: u64, size: Option<u64>, sector_size: SectorSize, image_l
     within - within % sector_size.bytes() as u64
 }
 
-/// How that payload ends in that image, as `luksCat` finds it.
+/// How that payload ends in that image, as `luksCat` reports it.
+///
+/// # Errors
+///
+/// [`VolumeFault::CutBeforePayload`] if the image ends before the payload's start,
+/// [`VolumeFault::Tail`] if it ends inside a sector and the size is not fixed,
+/// [`VolumeFault::Short`] if it ends before the end of a fixed size.
 pub fn payload_ending(
     offset: u64,
     size: Option<u64>,

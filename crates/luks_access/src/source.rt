@@ -18,7 +18,7 @@ pub struct ImageSource<'a, I> {
 }
 
 impl<'a, I: ReadAt> ImageSource<'a, I> {
-    /// A source over this image, with no failure and no end so far.
+    /// A source over this image, from its first byte on, with no failure and no end so far.
     pub fn new(image: &'a I) -> ImageSource<'a, I>
         ensures bytes { ⟦<ImageSource<'a, I> as Source>⟧.to_come result
             ≡ remaining_from 0 (I.image image.entry.now) }

@@ -201,7 +201,12 @@ impl Volume {
         text_len(segment.offset, segment.size, segment.sector_size, image_len)
     }
 
-    /// How the payload ends in an image of this length, as `luksCat` finds it.
+    /// How the payload ends in an image of `image_len` bytes, as `luksCat` reports it.
+    ///
+    /// # Errors
+    ///
+    /// [`VolumeFault::CutBeforePayload`], [`VolumeFault::Tail`] or [`VolumeFault::Short`] if the
+    /// image is truncated.
     pub fn ending(&self, image_len: u64) -> Result<Step, VolumeFault>
         ensures { (image : List ℕ) → length image ≡ image_len
             → result ≡ ending_of self.now.segment image }

@@ -35,7 +35,7 @@ pub mod options;
 pub mod volume;
 
 /// The version of this library: major * 65536 + minor * 256 + patch.
-const VERSION: u32 = 0x0001_0000;
+const VERSION: u32 = 0x0001_0100;
 
 /// Opens a volume by a passphrase, from the first bytes of its image or of its detached header.
 ///

@@ -1,6 +1,6 @@
 //! Tests of `luks_cli`: whole runs of commands, through its public calls.
 //!
-//! A crate of their own: what they stand on is not proved once more with them.
+//! They are a crate of their own, so that the crates below are not proved once more with them.
 #![tactic(auto)]
 
 #[cfg(test)]

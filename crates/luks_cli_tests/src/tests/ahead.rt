@@ -16,7 +16,7 @@ use luks_seal_fixtures::bytes::at;
 use luks_test_support::devices::Flaky;
 use std::process::Abort;
 
-// An image that gives all that is asked for, of which up to `room` bytes are taken ahead.
+// An image that gives all that is requested, of which up to `room` bytes are read ahead.
 fn ahead<'a>(
     rt: &(impl Abort + AllocGlobal),
     image: &'a [u8],

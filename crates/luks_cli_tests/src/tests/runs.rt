@@ -67,7 +67,7 @@ pub(super) fn words_of<'a>(rt: &(impl Abort + AllocGlobal), line: &'a str) -> Ve
         .expect(rt, "room for words")
 }
 
-/// A sink with so much room.
+/// A sink with so much capacity.
 pub(super) fn sink(rt: &(impl Abort + AllocGlobal), room: usize) -> MemSink {
     MemSink::new(rt.alloc(), room).expect(rt, "room for an output")
 }
