@@ -5,7 +5,7 @@ use Rattle.std.proofs.lemmas.Bool.Decides.{nat_tests}
 use Rattle.std.proofs.lemmas.Fmt.{decimal_digit}
 use Rattle.luks_kdf.specs.Hash.{digest_len}
 use Rattle.luks_kdf.specs.Pbkdf2.{derived_key}
-use Rattle.luks_kdf.proofs.HashLemmas.{sizes}
+use Rattle.luks_kdf.proofs.HashLemmas.{digest_sizes}
 use Rattle.luks_kdf.proofs.Pbkdf2Lemmas.{length-derived_key}
 use Rattle.luks_verdict.specs.Digest.{digest_of, is_usable}
 use Rattle.luks_verdict.specs.Rule.{is_beyond, is_digest}
@@ -80,7 +80,7 @@ module _ (p : Seal2) (fits : AreParameters2 p) (typed : AreTyped2 p) where
   usable =
       let len = length-derived_key p.digest_hash p.key.now p.digest_salt p.digest_iterations
       (digest_len p.digest_hash) in
-      let size = sizes p.digest_hash in
+      let size = digest_sizes p.digest_hash in
       in_range p.digest_iterations _ fits.turns typed.digest_iterations (omega (arith, len, size.least))
       (omega (arith, len, size.greatest))
 

@@ -79,7 +79,7 @@ fn check_row(
 }
 
 // The image is left as it is until the key is found, and none of it is needed to refuse what is no
-// header. In front of an image, such a header is amiss.
+// header. As an attached header, it is refused.
 fn check_unread(rt: &(impl Abort + AllocGlobal), header: &[u8], payload: &[u8]) {
     let wrong: Inputs<'_> = [header, payload, b"wrong"];
     check(rt, CAT_DETACHED, wrong, NOT_OPENED, (0, 1536, 0));

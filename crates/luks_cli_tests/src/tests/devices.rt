@@ -38,7 +38,7 @@ impl Trial<'_> {
 }
 
 /// How many bytes a call moves of the detached header, the image, the second input and the output.
-/// Of an input, 0 stands for all that are asked for.
+/// For an input, 0 means all that are requested.
 pub(super) type Pieces = (usize, usize, usize, usize);
 
 /// A call that fails: which device's (the image is 0, the second input 1, the output 2, the

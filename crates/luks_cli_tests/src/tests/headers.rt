@@ -63,7 +63,7 @@ const DUMP: Page = &[TOP, REST];
 
 const UUID: Page = &["0123456789012345678901234567890123456789\n"];
 
-// What is amiss with that header: one of its slots is damaged.
+// What is wrong with that header: one of its slots is damaged.
 const AMISS: Page = &["slot 2: state\n"];
 
 const EMPTY: Page = &[];

@@ -47,7 +47,7 @@ const ENCRYPTION: &str = "1 luksrd: segment refused: encryption\n";
 
 const HASH: &str = "1 luksrd: segment refused: hash\n";
 
-/// What stands at places of a header, and what is reported: the cipher's name at 8, its mode at 40,
+/// What is at offsets of a header, and what is reported: the cipher's name at 8, its mode at 40,
 /// the hash at 72, and the length of the key at 111.
 type Texts = (Changes, &'static str);
 

@@ -155,7 +155,7 @@ pub(super) fn payload_of(image: &[u8]) -> &[u8] {
     at(image, image.len().saturating_sub(PLAIN_LEN), PLAIN_LEN)
 }
 
-/// A key slot of LUKS2, without its number. Its key material is that of a small volume, and stands
+/// A key slot of LUKS2, without its number. Its key material is that of a small volume, and is
 /// right behind both headers. The salts and the digest are those of that volume, as Python's base64
 /// and hashlib modules gave them.
 pub(super) const SLOT: &str = "{\"type\":\"luks2\",\"key_size\":64,\
