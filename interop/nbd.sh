@@ -331,6 +331,14 @@ cat >suppressed <<'TEXT'
     fun:*alloc
     obj:*/nbdkit
 }
+{
+    a thread of nbdkit that still runs when it ends
+    Memcheck:Leak
+    fun:calloc
+    ...
+    fun:pthread_create*
+    obj:*/nbdkit
+}
 TEXT
 built checked.so '-O1 -g'
 instrumented valgrind "$work/checked.so" valgrind -q --leak-check=full --suppressions=suppressed --log-file=valgrind.%p
