@@ -5,7 +5,7 @@
 use luks_access::file::FileImage;
 use luks_access::options::Options;
 use luks_access::volume::Volume;
-use luks_access::{Message, Standing};
+use luks_access::{HeaderLocation, Message};
 use luks_io::adapters::WriteSink;
 use std::env;
 use std::fs::{self, File};
@@ -18,7 +18,7 @@ fn first_sector(rt: &HostRuntime, image: &str, passphrase: &str) -> Result<[u8; 
     let image = FileImage::new(file).map_err(|_| Message::ReadFailed)?;
     let passphrase = fs::read(rt, passphrase).map_err(|_| Message::ReadFailed)?;
     let options = Options {
-        standing: Standing::Attached,
+        location: HeaderLocation::Attached,
         key_slot: None,
         max_iterations: None,
     };

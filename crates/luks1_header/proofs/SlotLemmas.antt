@@ -5,9 +5,10 @@ use Rattle.std.specs.Prelude.{if◌then◌else◌, option_map, option_and_then, 
 use Rattle.std.proofs.lemmas.Bool.Decides.{nat_tests}
 use Rattle.std.proofs.lemmas.Option.{same_Some}
 use Rattle.luks_area.specs.Area.{max_area_len}
-use Rattle.luks_verdict.specs.Digest.{is_undigested}
-use Rattle.luks_verdict.specs.Rule.{exceeds, is_beyond, is_in_range, is_misplaced, is_unstriped, need_of}
-use Rattle.luks_verdict.specs.Slot.{are_in_range, material_end, judged, judgement_of, slot_of}
+use Rattle.luks_verdict.specs.Digest.{has_no_usable_digest}
+use Rattle.luks_verdict.specs.Rule.{exceeds, iterations_out_of_range, is_in_range, area_out_of_range}
+use Rattle.luks_verdict.specs.Rule.{stripes_out_of_range, need_of}
+use Rattle.luks_verdict.specs.Slot.{are_in_range, material_end, verdict_by, verdict_kind_of, slot_of}
 use Rattle.luks_verdict.proofs.MadeLemmas.{slot_from-yes}
 use Rattle.luks_verdict.proofs.TableLemmas.{first_not}
 use Rattle.luks_verdict.specs.declared.digest.KeyDigest.{KeyDigest}
@@ -16,8 +17,8 @@ use Rattle.luks_verdict.specs.declared.refusal.SkipReason.TheVariants.{State, St
 use Rattle.luks_verdict.specs.declared.slot.Slot.{Slot}
 use Rattle.luks_verdict.specs.declared.slot.Verdict.TheVariants.{Usable}
 use Rattle.luks_verdict.specs.declared.slot.Verdict.TheVariants.{Disabled as Unused}
-use Rattle.luks_verdict.specs.declared.slot.Judgement.TheVariants.{Usable as Open}
-use Rattle.luks1_header.specs.Slot1.{digest1_of, hash1_of, is_damaged, is_disabled, is_misplaced1, mode1_of}
+use Rattle.luks_verdict.specs.declared.slot.VerdictKind.TheVariants.{Usable as Open}
+use Rattle.luks1_header.specs.Slot1.{digest1_of, hash1_of, is_damaged, is_disabled, area1_out_of_range, mode1_of}
 use Rattle.luks1_header.specs.Slot1.{payload1_start, reason1_of, slot1_at, slot1_of, slot_parts1_of, verdict1_at}
 use Rattle.luks1_header.specs.Slot1.{verdict1_of}
 use Rattle.luks1_header.specs.declared.header.Header1.{Header1}
@@ -25,36 +26,36 @@ use Rattle.luks1_header.specs.declared.header.KeySlot.{KeySlot}
 
 -- none of the lines of its table holds
 record NoReason (header : Header1) (limit : Option ℕ) (slot : KeySlot) : Type 0 where
-  stripes : is_unstriped slot.stripes ≡ false
-  iterations : is_beyond limit slot.iterations ≡ false
-  area : is_misplaced1 header slot ≡ false
-  digest : is_undigested limit (digest1_of header) ≡ false
+  stripes : stripes_out_of_range slot.stripes ≡ false
+  iterations : iterations_out_of_range limit slot.iterations ≡ false
+  area : area1_out_of_range header slot ≡ false
+  digest : has_no_usable_digest limit (digest1_of header) ≡ false
 
 no_reason : (header : Header1) (limit : Option ℕ) (slot : KeySlot) → reason1_of header limit slot ≡ None
     → NoReason header limit slot
 unfolding reason1_of
 no_reason header limit slot none =
-    let last : List (Bool × SkipReason) = (is_undigested limit (digest1_of header), Digest) ∷ [] in
-    let fourth : List (Bool × SkipReason) = (is_misplaced1 header slot, Area) ∷ last in
-    let third : List (Bool × SkipReason) = (is_beyond limit slot.iterations, Iterations) ∷ fourth in
-    let state = first_not (is_damaged slot.state) State ((is_unstriped slot.stripes, Stripes) ∷ third) none in
-    let stripes = first_not (is_unstriped slot.stripes) Stripes third state.1 in
-    let iterations = first_not (is_beyond limit slot.iterations) Iterations fourth stripes.1 in
-    let area = first_not (is_misplaced1 header slot) Area last iterations.1 in
-    let digest = first_not (is_undigested limit (digest1_of header)) Digest [] area.1 in
+    let last : List (Bool × SkipReason) = (has_no_usable_digest limit (digest1_of header), Digest) ∷ [] in
+    let fourth : List (Bool × SkipReason) = (area1_out_of_range header slot, Area) ∷ last in
+    let third : List (Bool × SkipReason) = (iterations_out_of_range limit slot.iterations, Iterations) ∷ fourth in
+    let state = first_not (is_damaged slot.state) State ((stripes_out_of_range slot.stripes, Stripes) ∷ third) none in
+    let stripes = first_not (stripes_out_of_range slot.stripes) Stripes third state.1 in
+    let iterations = first_not (iterations_out_of_range limit slot.iterations) Iterations fourth stripes.1 in
+    let area = first_not (area1_out_of_range header slot) Area last iterations.1 in
+    let digest = first_not (has_no_usable_digest limit (digest1_of header)) Digest [] area.1 in
     record { stripes = stripes.0; iterations = iterations.0; area = area.0; digest = digest.0 }
 
 -- its key material is in its place
-placed : (header : Header1) (slot : KeySlot) → is_misplaced1 header slot ≡ false
+placed : (header : Header1) (slot : KeySlot) → area1_out_of_range header slot ≡ false
     → (exceeds (payload1_start header) (512 * slot.offset + need_of header.key_bytes slot.stripes) ≡ false)
     × (512 * slot.offset + need_of header.key_bytes slot.stripes ≤ max_area_len)
-unfolding is_misplaced1 is_misplaced
+unfolding area1_out_of_range area_out_of_range
 placed header slot is = (grind (arith, nat_tests), grind (arith, nat_tests))
 
 -- so its numbers are in range
 range_of : (header : Header1) (limit : Option ℕ) (slot : KeySlot) → NoReason header limit slot
     → are_in_range (slot_parts1_of header slot) ≡ true
-unfolding is_in_range is_beyond is_unstriped slot_parts1_of
+unfolding is_in_range iterations_out_of_range stripes_out_of_range slot_parts1_of
 range_of header limit slot none =
     let place = placed header slot none.area in
     let stripes = none.stripes in
@@ -71,11 +72,11 @@ slot_there header limit slot none =
     (is, slot_from-yes (slot_parts1_of header slot) is)
 
 -- what becomes of it, without what it takes to open it
-pub judged_usable : (header : Header1) (limit : Option ℕ) (slot : KeySlot) → is_disabled slot.state ≡ false
+pub usable_verdict : (header : Header1) (limit : Option ℕ) (slot : KeySlot) → is_disabled slot.state ≡ false
     → reason1_of header limit slot ≡ None
-    → judgement_of (verdict1_of header limit slot) ≡ Open 1
+    → verdict_kind_of (verdict1_of header limit slot) ≡ Open 1
 unfolding verdict1_of slot_of slot_parts1_of
-judged_usable header limit slot enabled none =
+usable_verdict header limit slot enabled none =
     let there = slot_there header limit slot none in
     rw (enabled, none, there.1) refl
 
@@ -92,9 +93,9 @@ pub record IsOf (header : Header1) (usable : Slot) : Type 0 where
   pub before_payload : exceeds (payload1_start header) (material_end usable) ≡ false
   pub digest : (digest : KeyDigest) × (digest1_of header ≡ Some digest)
 
-digest_there : (limit : Option ℕ) (digest : Option KeyDigest) → is_undigested limit digest ≡ false
+digest_there : (limit : Option ℕ) (digest : Option KeyDigest) → has_no_usable_digest limit digest ≡ false
     → (there : KeyDigest) × (digest ≡ Some there)
-unfolding is_undigested
+unfolding has_no_usable_digest
 digest_there limit None is = absurd cc
 digest_there limit (Some digest) is = (digest, refl)
 
@@ -108,7 +109,7 @@ of_verdict header limit slot usable is =
   where
     of_all : (disabled : Bool) (reason : Option SkipReason) → reason1_of header limit slot ≡ reason
         → (made : Option Slot) → slot1_of header slot ≡ made
-        → (if disabled then Unused else judged reason made) ≡ Usable usable
+        → (if disabled then Unused else verdict_by reason made) ≡ Usable usable
         → (reason1_of header limit slot ≡ None) × (slot1_of header slot ≡ Some usable)
     of_all true reason r made m h = absurd cc
     of_all false (Some reason) r made m h = absurd cc

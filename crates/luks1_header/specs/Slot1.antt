@@ -5,9 +5,9 @@ use Rattle.luks_cipher.specs.Sector.{mode_named}
 use Rattle.luks_cipher.specs.declared.mode.Mode.{Mode}
 use Rattle.luks_kdf.specs.Hash.{hash_named}
 use Rattle.luks_kdf.specs.declared.hash.Hash.{Hash}
-use Rattle.luks_verdict.specs.Digest.{digest_from, is_undigested}
-use Rattle.luks_verdict.specs.Rule.{is_beyond, is_misplaced, is_unstriped, need_of}
-use Rattle.luks_verdict.specs.Slot.{judged, slot_from}
+use Rattle.luks_verdict.specs.Digest.{digest_from, has_no_usable_digest}
+use Rattle.luks_verdict.specs.Rule.{iterations_out_of_range, area_out_of_range, stripes_out_of_range, need_of}
+use Rattle.luks_verdict.specs.Slot.{verdict_by, slot_from}
 use Rattle.luks_verdict.specs.Table.{first_match}
 use Rattle.luks_verdict.specs.declared.digest.DigestParts.{DigestParts}
 use Rattle.luks_verdict.specs.declared.digest.KeyDigest.{KeyDigest}
@@ -62,19 +62,19 @@ unfoldable pub payload1_start : Header1 → Option ℕ
 payload1_start header = if header.detached then None else Some (512 * header.payload_offset)
 
 -- the key material of a slot does not fit. Its area has just the bytes that it needs
-unfoldable pub is_misplaced1 : Header1 → KeySlot → Bool
-is_misplaced1 header slot =
-    is_misplaced header1_len (payload1_start header) (512 * slot.offset)
+unfoldable pub area1_out_of_range : Header1 → KeySlot → Bool
+area1_out_of_range header slot =
+    area_out_of_range header1_len (payload1_start header) (512 * slot.offset)
     (need_of header.key_bytes slot.stripes) (need_of header.key_bytes slot.stripes)
 
 -- the first reason to skip a slot that is not disabled
 unfoldable pub reason1_of : Header1 → Option ℕ → KeySlot → Option SkipReason
 reason1_of header limit slot = first_match (
     (is_damaged slot.state, State)
-    ∷ (is_unstriped slot.stripes, Stripes)
-    ∷ (is_beyond limit slot.iterations, Iterations)
-    ∷ (is_misplaced1 header slot, Area)
-    ∷ (is_undigested limit (digest1_of header), Digest)
+    ∷ (stripes_out_of_range slot.stripes, Stripes)
+    ∷ (iterations_out_of_range limit slot.iterations, Iterations)
+    ∷ (area1_out_of_range header slot, Area)
+    ∷ (has_no_usable_digest limit (digest1_of header), Digest)
     ∷ [])
 
 -- what the header says of a slot. The key material's key is as long as the volume key
@@ -100,7 +100,7 @@ slot1_of header slot = slot_from (slot_parts1_of header slot)
 -- the verdict on a slot
 unfoldable pub verdict1_of : Header1 → Option ℕ → KeySlot → Verdict
 verdict1_of header limit slot =
-    if is_disabled slot.state then Unused else judged (reason1_of header limit slot) (slot1_of header slot)
+    if is_disabled slot.state then Unused else verdict_by (reason1_of header limit slot) (slot1_of header slot)
 
 -- the verdict on the slot of this number, 0 to 7
 unfoldable pub verdict1_at : Header1 → Option ℕ → ℕ → Option Verdict

@@ -5,7 +5,7 @@ ghost use Rattle.luks1_header.specs.Header1.{header1_of, is_luks1, key_slot_of, 
 ghost use Rattle.luks1_header.specs.Header1.{slot_state};
 
 use luks_area::field::{bytes_at, number_at, text_at};
-use luks_area::text::Text;
+use luks_area::text::FixedText;
 
 /// What an image of LUKS1 begins with: the magic bytes and the version 1.
 const MAGIC_AND_VERSION: [u8; 8] = [0x4c, 0x55, 0x4b, 0x53, 0xba, 0xbe, 0x00, 0x01];
@@ -17,11 +17,11 @@ pub const HEADER1_LEN: usize = 592;
 #[derive(Drop, Debug)]
 pub struct Header1 {
     /// The cipher, as `aes`.
-    pub cipher_name: Text<32>,
+    pub cipher_name: FixedText<32>,
     /// How the cipher is used on sectors, as `xts-plain64`.
-    pub cipher_mode: Text<32>,
+    pub cipher_mode: FixedText<32>,
     /// The hash function of the key slots, the stripes and the digest.
-    pub hash_spec: Text<32>,
+    pub hash_spec: FixedText<32>,
     /// Where the payload starts, in sectors of 512 bytes.
     pub payload_offset: u32,
     /// The length of the volume key in bytes.
@@ -33,7 +33,7 @@ pub struct Header1 {
     /// The iterations of the digest.
     pub digest_iterations: u32,
     /// The volume's UUID.
-    pub uuid: Text<40>,
+    pub uuid: FixedText<40>,
     /// The key slots.
     pub slots: [KeySlot; 8],
     /// Whether the header is detached. No header says so itself: it is read as an attached one.

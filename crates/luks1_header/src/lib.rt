@@ -3,4 +3,4 @@
 #![tactic(auto)]
 
 pub mod header;
-pub mod judging;
+pub mod validation;

@@ -17,7 +17,7 @@ use Rattle.luks_kdf.proofs.Pbkdf2Lemmas.{length-derived_key}
 use Rattle.luks_seal.specs.Pieces.{padded, stripes_of}
 use Rattle.luks_seal.specs.declared.parameters.Seal1.{Seal1}
 use Rattle.luks_seal.specs.declared.parameters.Slot1.{Slot1}
-use Rattle.luks_seal.proofs.MaterialLemmas.{AreDrawn, length-material_of, length-stripes_of}
+use Rattle.luks_seal.proofs.MaterialLemmas.{AreDrawn, length-encrypted_material, length-stripes_of}
 use Rattle.luks_seal.proofs.SectorLemmas.{length-sectors_encrypted, pieces_length}
 use Rattle.luks_seal.proofs.SlicingLemmas.{length-padded}
 use Rattle.luks1_seal.specs.Layout1.{area1_of, area_key1_of, area_sectors_of, areas1_below, digest1_fields, fields1_of}
@@ -148,7 +148,7 @@ module _ (p : Seal1) (fits : AreParameters p) (typed : AreTyped1 p) where
       → length (material1_of p slot) ≡ (length p.key.now * p.stripes + 511) / 512 * 512
   unfolding material1_of
   length-material1 slot of_slot =
-      length-material_of p.mode (area_key1_of p slot) (stripes_of p.hash p.key.now p.stripes slot.random.now)
+      length-encrypted_material p.mode (area_key1_of p slot) (stripes_of p.hash p.key.now p.stripes slot.random.now)
       ∙ ap (λ n. (n + 511) / 512 * 512)
       (length-stripes_of p.hash p.key.now p.stripes slot.random.now (drawn1 slot of_slot))
 

@@ -5,7 +5,7 @@ use Rattle.std.specs.Prelude.{bytes_eq, option_map}
 use Rattle.std.proofs.lemmas.Bool.{le-ltb}
 use Rattle.std.proofs.lemmas.List.{take_all}
 use Rattle.std.proofs.lemmas.List.Elements.{All-map}
-use Rattle.luks_area.specs.Field.{at}
+use Rattle.luks_area.specs.Fields.{at}
 use Rattle.luks_verdict.specs.Digest.{digest_of}
 use Rattle.luks_verdict.specs.Rule.{need_of}
 use Rattle.luks_verdict.specs.Segment.{segment_by}
@@ -16,10 +16,10 @@ use Rattle.luks1_header.specs.Header1.{header1_of as read_header1}
 use Rattle.luks1_header.specs.Slot1.{digest_parts1_of, slot_parts1_of, verdict1_at, verdict1_of}
 use Rattle.luks1_header.specs.declared.header.Header1.{Header1}
 use Rattle.luks1_header.specs.declared.header.KeySlot.{KeySlot}
-use Rattle.luks_header.specs.Digest.{digest_for}
+use Rattle.luks_header.specs.HeaderDigests.{digest_for}
 use Rattle.luks_header.specs.Header.{header_of}
-use Rattle.luks_header.specs.Segment.{segment_of}
-use Rattle.luks_header.specs.Slot.{verdict_at}
+use Rattle.luks_header.specs.HeaderSegment.{segment_of}
+use Rattle.luks_header.specs.SlotVerdicts.{verdict_at}
 use Rattle.luks_header.specs.declared.header.Header.TheVariants.{V1}
 use Rattle.luks_seal.specs.Sealed.{GivesKey, Sealed, SealsKey, SealsPlain}
 use Rattle.luks_seal.specs.declared.parameters.Seal1.{Seal1}
@@ -28,12 +28,12 @@ use Rattle.luks_seal.proofs.MaterialLemmas.{gives_key}
 use Rattle.luks_seal.proofs.SectorLemmas.{sectors_stand}
 use Rattle.luks1_seal.specs.Layout1.{area_key1_of, area_sectors_of, image1_of, key_slot1_of, material1_of, payload1_bytes}
 use Rattle.luks1_seal.specs.Layout1.{slot1_numbered, start1_of}
-use Rattle.luks1_seal.specs.Passphrases.{passphrases1_of}
+use Rattle.luks1_seal.specs.Passphrases1.{passphrases1_of}
 use Rattle.luks1_seal.specs.Ranges1.{AreParameters, FitsSlot}
 use Rattle.luks1_seal.specs.Typed1.{AreTyped1, IsTypedSlot1}
 use Rattle.luks1_seal.proofs.Image1.{image_header, image_material, image_payload, material_within}
-use Rattle.luks1_seal.proofs.Judged1.{digest1_is, digest1_of_key, digest_usable, hash1_is, mode1_is, payload_starts}
-use Rattle.luks1_seal.proofs.Judged1.{ranged, segment1_is, verdict1_is}
+use Rattle.luks1_seal.proofs.Verdicts1.{digest1_is, digest1_of_key, digest_usable, hash1_is, mode1_is, payload_starts}
+use Rattle.luks1_seal.proofs.Verdicts1.{ranged, segment1_is, verdict1_is}
 use Rattle.luks1_seal.proofs.Layout1Lemmas.{drawn1, length-front1, length-image1}
 use Rattle.luks1_seal.proofs.Read1.{IsKeySlot, IsRead1, front1_of, header1_is, in_start, key_slot1_is}
 use Rattle.luks1_seal.proofs.Slots1.{numbered_itself}

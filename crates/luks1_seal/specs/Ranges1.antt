@@ -1,6 +1,6 @@
 -- What a volume of LUKS1 may be made from.
 use Rattle.std.specs.Prelude.{◌≡◌, ◌≢◌, ℕ, ◌+◌, ◌-◌, ◌*◌, ◌/◌, ◌%◌, ◌≤◌, List, [], ◌∷◌, All, length}
-use Rattle.luks_seal.specs.Ranges.{FitsKey, FitsText, longest_plain}
+use Rattle.luks_seal.specs.Ranges.{FitsKey, FitsText, max_plain_len}
 use Rattle.luks_seal.specs.declared.parameters.Seal1.{Seal1}
 use Rattle.luks_seal.specs.declared.parameters.Slot1.{Slot1}
 
@@ -15,7 +15,7 @@ FitsCounts p = (1 ≤ p.stripes) × (p.stripes ≤ 4000) × (1 ≤ p.digest_iter
 
 -- whole sectors, and not too many
 abbrev pub FitsPlain : ℕ → Type 0
-FitsPlain len = (len % 512 ≡ 0) × (len ≤ longest_plain)
+FitsPlain len = (len % 512 ≡ 0) × (len ≤ max_plain_len)
 
 -- one slot of a volume with so many random bytes for each
 abbrev pub FitsSlot : ℕ → Slot1 → Type 0

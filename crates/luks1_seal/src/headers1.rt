@@ -20,7 +20,7 @@ const ENABLED: u32 = 0x00ac_71f3;
 const DISABLED: u32 = 0x0000_dead;
 
 /// The slot of this number, if it is in use.
-pub(crate) fn numbered<'a>(seal: &Seal1<'a>, number: u32) -> Option<&'a Slot1<'a>>
+pub(crate) fn slot1_numbered<'a>(seal: &Seal1<'a>, number: u32) -> Option<&'a Slot1<'a>>
     requires { AreParameters seal.now }
     ensures value { option_copied result ≡ slot1_numbered number seal.now.slots.now }
     ensures fits { IfSome result
@@ -117,7 +117,7 @@ fn push_state(
     ensures { OnOk result (header.new.items
         ≡ header.old.items ++ state1_of (slot1_numbered number seal.now.slots.now)) }
 {
-    match numbered(seal, number) {
+    match slot1_numbered(seal, number) {
         Some(slot) => push_enabled(header, slot),
         None => push_disabled(alloc, header),
     }
@@ -155,7 +155,7 @@ fn push_key_slots(alloc: Global, header: &mut Vec<u8>, seal: &Seal1<'_>) -> Resu
 
 /// The header with its eight key slots, and zeros to sector 8.
 #[tactic(auto, unfolding(crate::specs::Layout1::header1_bytes))]
-pub(crate) fn header_of(alloc: Global, seal: &Seal1<'_>) -> Result<Vec<u8>, AllocError>
+pub(crate) fn header1_bytes(alloc: Global, seal: &Seal1<'_>) -> Result<Vec<u8>, AllocError>
     requires { AreParameters seal.now }
     ensures { IfOk result (λ header. header.items ≡ header1_bytes seal.now) }
 {

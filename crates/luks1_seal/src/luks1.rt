@@ -6,15 +6,17 @@ ghost use Rattle.luks_seal.specs.Ranges.{SealAnswer};
 ghost use Rattle.luks_seal.specs.Sealed.{Sealed};
 ghost use Rattle.luks1_seal.specs.Layout1.{area1_of, area_key1_of, areas1_below, image1_of};
 ghost use Rattle.luks1_seal.specs.Layout1.{material1_of, payload1_bytes, slot1_numbered};
-ghost use Rattle.luks1_seal.specs.Passphrases.{passphrases1_of};
+ghost use Rattle.luks1_seal.specs.Passphrases1.{passphrases1_of};
 ghost use Rattle.luks1_seal.specs.Ranges1.{AreParameters, FitsSlot};
 
-use crate::headers1::{header_of, numbered};
+use crate::headers1::{header1_bytes, slot1_numbered};
 use crate::ranges::{are_parameters, area_of};
 use crate::typed::typed1;
 use luks_kdf::{Work, pbkdf2};
 use luks_seal::parameters::{Seal1, SealFault, Slot1};
-use luks_seal::pieces::{cipher_of, encrypted, material_of, padded, push_padded, stripes_of};
+use luks_seal::pieces::{
+    cipher_of, encrypted, encrypted_material, padded, push_padded, stripes_of,
+};
 use luks_verdict::sector_size::SectorSize;
 use std::alloc::{AllocError, Global};
 
@@ -47,7 +49,7 @@ fn slot_material(alloc: Global, seal: &Seal1<'_>, slot: &Slot1<'_>) -> Result<Ve
 {
     let area_key = area_key_of(alloc, seal, slot)?;
     let stripes = stripes_of(alloc, seal.hash, seal.key, seal.stripes, slot.random)?;
-    material_of(alloc, seal.mode, &area_key, &stripes)
+    encrypted_material(alloc, seal.mode, &area_key, &stripes)
 }
 
 /// The key material of the slot of this number, or no bytes if it is not in use.
@@ -56,7 +58,7 @@ fn material_at(alloc: Global, seal: &Seal1<'_>, number: u32) -> Result<Vec<u8>, 
     ensures { IfOk result (λ material. material.items
         ≡ option_map_or (material1_of seal.now) (slot1_numbered number seal.now.slots.now) []) }
 {
-    match numbered(seal, number) {
+    match slot1_numbered(seal, number) {
         Some(slot) => slot_material(alloc, seal, slot),
         None => Ok(Vec::new(alloc)),
     }
@@ -106,7 +108,7 @@ fn image_of(alloc: Global, seal: &Seal1<'_>) -> Result<Vec<u8>, AllocError>
     requires { AreParameters seal.now }
     ensures { IfOk result (λ image. image.items ≡ image1_of seal.now) }
 {
-    let mut front = header_of(alloc, seal)?;
+    let mut front = header1_bytes(alloc, seal)?;
     push_areas(alloc, &mut front, seal)?;
     let mut image = padded(alloc, &front, seal.payload_sectors as usize * 512)?;
     let payload = payload_of(alloc, seal)?;

@@ -2,7 +2,7 @@
 use Rattle.std.proofs.Common.{◌≡◌, ℕ, ◌<◌, ◌≤◌, List, [], ◌∷◌, None, Err, Bool, false, refl, length, min, arith}
 use Rattle.luks_area.specs.declared.fault.HeaderFault.TheVariants.{NotLuks}
 use Rattle.luks2_binary.specs.Choice2.{header2_of, is_valid}
-use Rattle.luks2_binary.specs.Cost2.{header2_read_len}
+use Rattle.luks2_binary.specs.ReadLen2.{header2_read_len}
 use Rattle.luks2_binary.specs.Header2.{sizes}
 use Rattle.luks2_binary.proofs.ChoiceLemmas.{chosen_other, reach_some}
 use Rattle.luks2_binary.proofs.SearchLemmas.{least_is}

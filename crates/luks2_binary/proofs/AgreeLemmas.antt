@@ -5,9 +5,9 @@ use Rattle.std.specs.Prelude.{if◌then◌else◌, not, IsTrue, ◌↔◌}
 use Rattle.std.specs.Bool.{then_some}
 use Rattle.std.proofs.lemmas.Bool.{le-leb, lt-leb}
 use Rattle.std.proofs.lemmas.List.{drop-take, take-take}
-use Rattle.luks_area.specs.Field.{at}
+use Rattle.luks_area.specs.Fields.{at}
 use Rattle.luks2_binary.specs.Choice2.{fits, is_valid, size_at}
-use Rattle.luks2_binary.specs.Cost2.{probe_end}
+use Rattle.luks2_binary.specs.ReadLen2.{probe_end}
 use Rattle.luks2_binary.specs.Header2.{size_in}
 use Rattle.luks2_binary.specs.Front2.{IsPrefixOf, valid_size}
 use Rattle.luks2_binary.proofs.FrontLemmas.{short_from_not}

@@ -2,12 +2,14 @@
 use Rattle.std.proofs.Common.{◌≡◌, ◌∙◌, ℕ, ◌+◌, ◌-◌, ◌<◌, ◌≤◌, List, ◌++◌, Option, Some, Bool, true, false, ap, sym}
 use Rattle.std.proofs.Common.{refl, take, drop, length, length-take-le, length-append, length-drop, take_all, min, inl}
 use Rattle.std.proofs.Common.{inr, arith}
-use Rattle.std.specs.Prelude.{not, ◌&&◌, IsTrue, ◌↔◌}
+use Rattle.std.specs.Prelude.{not, ◌&&◌, cond, IsTrue, ◌↔◌, Result, Ok}
 use Rattle.std.proofs.lemmas.Bool.{cases_lt}
 use Rattle.std.proofs.Math.Seq.{take-add}
 use Rattle.std.proofs.lemmas.List.{drop-drop, length-take, take-take}
-use Rattle.luks_io.specs.Bytes.{counted}
-use Rattle.luks_area.specs.Area.{AbortsConsuming, ConsumedOnto}
+use Rattle.luks_io.specs.Devices.{counted}
+use Rattle.luks_io.specs.Counts.{IsLive, ReadsAsNeeded}
+use Rattle.luks_io.specs.declared.counts.ReadCounts.{ReadCounts}
+use Rattle.luks_area.specs.Area.{AbortsConsuming, ConsumedOnto, is_truncated}
 use Rattle.luks_area.specs.declared.fault.HeaderFault.{HeaderFault}
 use Rattle.luks_area.specs.declared.fault.HeaderFault.TheVariants.{NotLuks, Cut, Json, Read, Memory}
 use Rattle.luks2_binary.specs.Front2.{Extended, HoldsFront, IsPrefixOf}
@@ -61,12 +63,13 @@ holds_more image old new known ended' left left' count holds is took all =
     }
 
 -- a source gave some of the bytes that it knew, and all of them where its end was found
-pub grew_by : (old new : List ℕ) (ended' : Bool) (left left' : Option (List ℕ)) (ends ends' : ℕ)
-    → take (length old) new ≡ old
+pub grew_by : (old new : List ℕ) (ended' : Bool) (left left' : Option (List ℕ)) (failed' : Bool)
+    (counts counts' : ReadCounts) → take (length old) new ≡ old
     → ((known : List ℕ) → left ≡ Some known
     → (count : ℕ) × ConsumedOnto old new known left' count × (ended' ≡ true → length known ≤ count))
-    → ends' ≡ counted ended' ends → Extended old new false ended' left left' ends ends'
-grew_by old new ended' left left' ends ends' kept gave found = record {
+    → counts'.ends ≡ counted ended' counts.ends → counts'.failures ≡ counted failed' counts.failures
+    → ReadsAsNeeded counts counts' → Extended old new false ended' left left' failed' counts counts'
+grew_by old new ended' left left' failed' counts counts' kept gave found failed needed = record {
   fronts = λ image front. front_of old new image ended' kept front;
   longer = longer_than old new kept;
   holds = λ image holds.
@@ -74,21 +77,31 @@ grew_by old new ended' left left' ends ends' kept gave found = record {
       holds_more image old new (drop (length old) image) ended' left left' taken.0 holds holds.behind taken.1 taken.2;
   stays = λ wrong. absurd (cc);
   found = found;
+  failed = failed;
+  needed = λ live. needed (live refl);
 }
 
 -- where nothing is done nothing changes
-pub grew_none : (held : List ℕ) (ended : Bool) (left : Option (List ℕ)) (ends : ℕ)
-    → Extended held held ended ended left left ends ends
-grew_none held ended left ends = record {
+pub grew_none : (held : List ℕ) (ended : Bool) (left : Option (List ℕ)) (counts : ReadCounts)
+    → Extended held held ended ended left left false counts counts
+grew_none held ended left counts = record {
   fronts = λ image front. front;
   longer = omega arith;
   holds = λ image holds. holds;
   stays = λ is. is;
   found = found_none ended;
+  failed = refl;
+  needed = λ live. refl;
 } where
-  found_none : (b : Bool) → ends ≡ counted (not b && b) ends
+  found_none : (b : Bool) → counts.ends ≡ counted (not b && b) counts.ends
   found_none true = refl
   found_none false = refl
+
+-- an area remembers whether the image's end was hit
+pub ended_is : (r : Result Bool HeaderFault) (whole old new : Bool) → r ≡ Ok whole → old ≡ false
+    → new ≡ cond (is_truncated r) true old → new ≡ not whole
+ended_is r true old new is goes e = rw (is, goes) at e
+ended_is r false old new is goes e = rw is at e
 
 -- not whole is short
 pub short_from_not : (whole : Bool) (end len : ℕ) → (IsTrue whole ↔ (end ≤ len)) → not whole ≡ true → len < end
@@ -131,15 +144,26 @@ found_join false true true n n1 n2 s s1 h h1 = h1 ∙ h
 found_join false true false n n1 n2 s s1 h h1 = absurd (let wrong = s1 refl in cc)
 found_join false false e2 n n1 n2 s s1 h h1 = h1 ∙ ap (counted e2) h
 
+-- unless its end was hit, a source that no read failed of stays live
+stays_live : (e e1 : Bool) (n n1 : ReadCounts) → (e ≡ true → e1 ≡ true) → n1.ends ≡ counted (not e && e1) n.ends
+    → n1.failures ≡ n.failures → (e ≡ false → IsLive n) → e1 ≡ false → IsLive n1
+stays_live true e1 n n1 stays found same live goes = absurd (let wrong = stays refl in cc)
+stays_live false true n n1 stays found same live goes = absurd (cc)
+stays_live false false n n1 stays found same live goes =
+    record { failed = same ∙ (live refl).failed; ended = found ∙ (live refl).ended }
+
 -- more came to be held, and then more again
-pub grew_more : (a b c : List ℕ) (e e1 e2 : Bool) (l l1 l2 : Option (List ℕ)) (n n1 n2 : ℕ)
-    → Extended a b e e1 l l1 n n1 → Extended b c e1 e2 l1 l2 n1 n2 → Extended a c e e2 l l2 n n2
-grew_more a b c e e1 e2 l l1 l2 n n1 n2 first then = record {
+pub grew_more : (a b c : List ℕ) (e e1 e2 : Bool) (l l1 l2 : Option (List ℕ)) (failed' : Bool) (n n1 n2 : ReadCounts)
+    → Extended a b e e1 l l1 false n n1 → Extended b c e1 e2 l1 l2 failed' n1 n2
+    → Extended a c e e2 l l2 failed' n n2
+grew_more a b c e e1 e2 l l1 l2 failed' n n1 n2 first then = record {
   fronts = λ image front. first.fronts image (then.fronts image front);
   longer = omega (arith, first.longer, then.longer);
   holds = λ image holds. then.holds image (first.holds image holds);
   stays = λ is. then.stays (first.stays is);
-  found = found_join e e1 e2 n n1 n2 first.stays then.stays first.found then.found;
+  found = found_join e e1 e2 n.ends n1.ends n2.ends first.stays then.stays first.found then.found;
+  failed = then.failed ∙ ap (counted failed') first.failed;
+  needed = λ live. then.needed (stays_live e e1 n n1 first.stays first.found first.failed live) ∙ first.needed live;
 }
 
 -- what is held is its own front

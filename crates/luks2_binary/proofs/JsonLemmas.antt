@@ -6,10 +6,10 @@ use Rattle.std.proofs.lemmas.List.{drop-take, take-take}
 use Rattle.std.proofs.lemmas.Option.{option_and_then_some}
 use Rattle.luks_kdf.specs.declared.hash.Hash.{Hash}
 use Rattle.luks_area.specs.declared.fault.HeaderFault.TheVariants.{NotLuks}
-use Rattle.luks_area.specs.Field.{at, text_of}
+use Rattle.luks_area.specs.Fields.{at, text_of}
 use Rattle.luks2_binary.specs.Choice2.{with_valid_primary, binary_at, chosen2_of, found_at, header2_of, is_valid}
 use Rattle.luks2_binary.specs.Choice2.{least_valid, size_at}
-use Rattle.luks2_binary.specs.Cost2.{header2_read_len, reach2_of, probe_end}
+use Rattle.luks2_binary.specs.ReadLen2.{header2_read_len, reach2_of, probe_end}
 use Rattle.luks2_binary.specs.Header2.{binary_len, checksum_hash_in, header2_from, sequence_in, size_in, sizes}
 use Rattle.luks2_binary.specs.Text2.{json_area_of, json_text_of, header_offset}
 use Rattle.luks2_binary.specs.declared.header.Finding.{Finding}
@@ -49,7 +49,7 @@ made_of place finding binary header is = by (checksum_hash_in binary) refl where
   by None e = absurd (let made = rw e at is in cc)
 
 -- the header stands at this place of the image, where it is valid, and that is looked at as far as it goes
-record Stands (image : List ℕ) (header : Header2) (place : ℕ) : Type 0 where
+record HasHeaderAt (image : List ℕ) (header : Header2) (place : ℕ) : Type 0 where
   pub valid : is_valid image place ≡ true
   pub here : header_offset header.place header.size ≡ place
   pub size : header.size ≡ size_at image place
@@ -63,7 +63,7 @@ sequence_at image place = sequence_in (binary_at image place)
 module _ (image : List ℕ) (header : Header2) where
   -- a primary header
   primary_stands : (finding : Option Finding) → is_valid image 0 ≡ true
-      → header2_from Primary finding (binary_at image 0) ≡ Some header → Stands image header 0
+      → header2_from Primary finding (binary_at image 0) ≡ Some header → HasHeaderAt image header 0
   primary_stands finding valid is =
       let made = made_of Primary finding (binary_at image 0) header is in
       record {
@@ -77,7 +77,7 @@ module _ (image : List ℕ) (header : Header2) where
   -- a secondary header, which is as long as its place says
   secondary_stands : (finding : Option Finding) (place : ℕ) → is_valid image place ≡ true → (place ≡ 0 → ⊥)
       → place + place ≤ reach2_of image
-      → header2_from Secondary finding (binary_at image place) ≡ Some header → Stands image header place
+      → header2_from Secondary finding (binary_at image place) ≡ Some header → HasHeaderAt image header place
   secondary_stands finding place valid some reach is =
       let made = made_of Secondary finding (binary_at image place) header is in
       let fit = fits_parts image place (valid_parts image place valid).0 in
@@ -92,19 +92,19 @@ module _ (image : List ℕ) (header : Header2) where
 
   -- the header of an image with a valid primary one
   beside_stands : is_valid image 0 ≡ true → with_valid_primary image ≡ Some header
-      → (place : ℕ) × Stands image header place
+      → (place : ℕ) × HasHeaderAt image header place
   unfolding with_valid_primary
   beside_stands valid is = by (is_valid image (size_at image 0)) refl where
     earlier : is_valid image (size_at image 0) ≡ true
         → nat_lt (sequence_at image 0) (sequence_at image (size_at image 0)) ≡ false
         → (b : Bool) → nat_lt (sequence_at image (size_at image 0)) (sequence_at image 0) ≡ b
-        → (place : ℕ) × Stands image header place
+        → (place : ℕ) × HasHeaderAt image header place
     earlier both not_later true e = (0, primary_stands (Some SequencesDiffer) valid (rw (both, not_later, e) at is))
     earlier both not_later false e = (0, primary_stands None valid (rw (both, not_later, e) at is))
 
     later : is_valid image (size_at image 0) ≡ true → (b : Bool)
         → nat_lt (sequence_at image 0) (sequence_at image (size_at image 0)) ≡ b
-        → (place : ℕ) × Stands image header place
+        → (place : ℕ) × HasHeaderAt image header place
     later both true e =
         let range = valid_range image 0 valid in (
           size_at image 0,
@@ -115,13 +115,13 @@ module _ (image : List ℕ) (header : Header2) where
     later both false e =
         earlier both e (nat_lt (sequence_at image (size_at image 0)) (sequence_at image 0)) refl
 
-    by : (b : Bool) → is_valid image (size_at image 0) ≡ b → (place : ℕ) × Stands image header place
+    by : (b : Bool) → is_valid image (size_at image 0) ≡ b → (place : ℕ) × HasHeaderAt image header place
     by false e = (0, primary_stands (Some SecondaryNotValid) valid (rw e at is))
     by true e = later e (nat_lt (sequence_at image 0) (sequence_at image (size_at image 0))) refl
 
   -- the header that the search finds
   found_stands : is_valid image 0 ≡ false → (place : ℕ) → least_valid image ≡ Some place
-      → found_at image place ≡ Some header → Stands image header place
+      → found_at image place ≡ Some header → HasHeaderAt image header place
   found_stands none place least is =
       let one = first_is (is_valid image) (probe_end image) sizes place (sym (least_is image) ∙ least) in
       let some : place ≡ 0 → ⊥ =
@@ -132,19 +132,19 @@ module _ (image : List ℕ) (header : Header2) where
       (omega (arith, one.1, reach_fit image place fit.0, own, search_reach_is image, reach_other image none)) is
 
   -- the header that is chosen
-  chosen_stands : chosen2_of image ≡ Some header → (place : ℕ) × Stands image header place
+  chosen_stands : chosen2_of image ≡ Some header → (place : ℕ) × HasHeaderAt image header place
   chosen_stands is = by (is_valid image 0) refl where
-    by : (b : Bool) → is_valid image 0 ≡ b → (place : ℕ) × Stands image header place
+    by : (b : Bool) → is_valid image 0 ≡ b → (place : ℕ) × HasHeaderAt image header place
     by true e = beside_stands e (sym (chosen_primary image e) ∙ is)
     by false e =
         option_and_then_some (found_at image) (least_valid image) header (sym (chosen_other image e) ∙ is)
         (λ place least made. (place, found_stands e place least made))
 
   -- the header of an image
-  stands : header2_of image ≡ Ok header → (place : ℕ) × Stands image header place
+  stands : header2_of image ≡ Ok header → (place : ℕ) × HasHeaderAt image header place
   unfolding header2_of
   stands is = by (chosen2_of image) refl where
-    by : (chosen : Option Header2) → chosen2_of image ≡ chosen → (place : ℕ) × Stands image header place
+    by : (chosen : Option Header2) → chosen2_of image ≡ chosen → (place : ℕ) × HasHeaderAt image header place
     by (Some found) e =
         chosen_stands (e ∙ (let answer = sym (ap (λ o. ok_or o NotLuks) e) ∙ is in ap Some cc))
     by None e = absurd (let answer = sym (ap (λ o. ok_or o NotLuks) e) ∙ is in cc)

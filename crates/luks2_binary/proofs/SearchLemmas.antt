@@ -6,9 +6,9 @@ use Rattle.std.specs.Prelude.{is_some, nat_le, option_and_then}
 use Rattle.std.proofs.lemmas.Bool.{leb-true}
 use Rattle.std.proofs.lemmas.List.{drop_all}
 use Rattle.std.proofs.lemmas.List.Sums.{AllPass-from_list_all}
-use Rattle.luks_area.specs.Field.{at}
+use Rattle.luks_area.specs.Fields.{at}
 use Rattle.luks2_binary.specs.Choice2.{binary_at, found_at, is_tried, is_valid, least_valid, size_at}
-use Rattle.luks2_binary.specs.Cost2.{probe_end, search_reach}
+use Rattle.luks2_binary.specs.ReadLen2.{probe_end, search_reach}
 use Rattle.luks2_binary.specs.Front2.{IsPrefixOf, valid_size}
 use Rattle.luks2_binary.specs.Header2.{header2_from, sizes}
 use Rattle.luks2_binary.specs.declared.header.Finding.TheVariants.{PrimaryNotValid}

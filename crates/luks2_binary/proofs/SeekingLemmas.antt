@@ -1,16 +1,16 @@
 -- What is held and taken once the header of an image is found, or is not.
 use Rattle.std.proofs.Common.{◌≡◌, ◌∙◌, ℕ, ◌+◌, ◌-◌, ◌<◌, ◌≤◌, ◌⊎◌, inl, inr, List, ◌++◌, Option, Some, None, Ok, Err}
 use Rattle.std.proofs.Common.{Bool, true, false, ap, sym, subst, refl, take, drop, length, length-append, max, arith}
-use Rattle.std.specs.Prelude.{IfErr, IfOk, Result, ok_or}
+use Rattle.std.specs.Prelude.{[], IfErr, IfOk, Result, ok_or}
 use Rattle.std.proofs.Math.Seq.{drop-append_seam, take-append-add, take-append_seam}
-use Rattle.std.proofs.lemmas.List.{drop-drop}
-use Rattle.luks_io.specs.Bytes.{IfKnown}
+use Rattle.std.proofs.lemmas.List.{drop-drop, drop_all}
+use Rattle.luks_io.specs.Devices.{IfKnown}
 use Rattle.luks_area.specs.Area.{ConsumedOnto}
 use Rattle.luks_area.specs.declared.fault.HeaderFault.{HeaderFault}
 use Rattle.luks_area.specs.declared.fault.HeaderFault.TheVariants.{NotLuks, Cut, Json, Read, Memory}
 use Rattle.luks2_binary.specs.Choice2.{chosen2_of, header2_of}
-use Rattle.luks2_binary.specs.Cost2.{header2_read_len, reach2_of}
-use Rattle.luks2_binary.specs.Front2.{BreaksSeeking, HoldsFront, IsPrefixOf, TookCost}
+use Rattle.luks2_binary.specs.ReadLen2.{header2_read_len, reach2_of}
+use Rattle.luks2_binary.specs.Front2.{AbortsSeeking, HoldsFront, IsPrefixOf, ConsumedReadLen}
 use Rattle.luks2_binary.specs.declared.header.Header2.{Header2}
 use Rattle.luks2_binary.proofs.ChoiceLemmas.{reach_some}
 
@@ -46,9 +46,9 @@ if_answered image (Ok header) is = is
 if_answered image (Err fault) is = tt
 
 -- before anything is taken
-pub holds_start : (old rest : List ℕ) (left : Option (List ℕ)) → left ≡ Some rest
-    → HoldsFront (old ++ rest) old false left
-holds_start old rest left is = record {
+pub holds_start : (old rest : List ℕ) (ended : Bool) (left : Option (List ℕ)) → ended ≡ false → left ≡ Some rest
+    → HoldsFront (old ++ rest) old ended left
+holds_start old rest ended left goes is = record {
   front = record {
     begins = take-append_seam old rest;
     within = omega (arith, length-append old rest);
@@ -57,11 +57,17 @@ holds_start old rest left is = record {
   behind = is ∙ ap Some (sym (drop-append_seam old rest));
 }
 
+-- once the image's end was hit, its source has no bytes left
+pub nothing_behind : (image held : List ℕ) (ended : Bool) (left : Option (List ℕ)) → HoldsFront image held ended left
+    → ended ≡ true → left ≡ Some []
+nothing_behind image held ended left holds is =
+    holds.behind ∙ ap Some (drop_all (length held) image (omega (arith, ap length (holds.front.ends is))))
+
 module _ (old new rest : List ℕ) (ended : Bool) (left' : Option (List ℕ)) where
   -- what was taken went behind what was held
-  pub took_count : HoldsFront (old ++ rest) new ended left' → length old ≤ length new
+  pub consumed_count : HoldsFront (old ++ rest) new ended left' → length old ≤ length new
       → ConsumedOnto old new rest left' (length new - length old)
-  took_count holds longer =
+  consumed_count holds longer =
       let count = length new - length old in
       let split : length new ≡ length old + count = omega arith in (
         record {
@@ -75,46 +81,46 @@ module _ (old new rest : List ℕ) (ended : Bool) (left' : Option (List ℕ)) wh
       )
 
   -- all that the header costs was taken
-  pub took_cost : HoldsFront (old ++ rest) new ended left' → length old ≤ length new
-      → length new ≡ header2_read_len (old ++ rest) → TookCost (old ++ rest) old new rest left'
-  took_cost holds longer cost = (
+  pub consumed_read_len : HoldsFront (old ++ rest) new ended left' → length old ≤ length new
+      → length new ≡ header2_read_len (old ++ rest) → ConsumedReadLen (old ++ rest) old new rest left'
+  consumed_read_len holds longer cost = (
     sym holds.front.begins ∙ ap (λ n. take n (old ++ rest)) cost,
-    subst (λ n. ConsumedOnto old new rest left' (n - length old)) cost (took_count holds longer),
+    subst (λ n. ConsumedOnto old new rest left' (n - length old)) cost (consumed_count holds longer),
   )
 
   -- no more than that was taken before something failed, and less than was to be read where memory was refused
-  pub breaks_seeking : (fault : HeaderFault) → (fault ≡ Read) ⊎ (fault ≡ Memory)
+  pub aborts_seeking : (fault : HeaderFault) → (fault ≡ Read) ⊎ (fault ≡ Memory)
       → HoldsFront (old ++ rest) new ended left' → length old ≤ length new → length new ≤ header2_read_len (old ++ rest)
       → (fault ≡ Memory → length new < reach2_of (old ++ rest))
-      → BreaksSeeking (old ++ rest) old new rest left' fault
-  breaks_seeking Read which holds longer within early =
-      (length new - length old, omega arith, took_count holds longer)
-  breaks_seeking Memory which holds longer within early =
-      (length new - length old, omega (arith, early refl), took_count holds longer)
-  breaks_seeking NotLuks which holds longer within early = absurd (elim which [ inl e ↦ cc | inr e ↦ cc ])
-  breaks_seeking Cut which holds longer within early = absurd (elim which [ inl e ↦ cc | inr e ↦ cc ])
-  breaks_seeking Json which holds longer within early = absurd (elim which [ inl e ↦ cc | inr e ↦ cc ])
+      → AbortsSeeking (old ++ rest) old new rest left' fault
+  aborts_seeking Read which holds longer within early =
+      (length new - length old, omega arith, consumed_count holds longer)
+  aborts_seeking Memory which holds longer within early =
+      (length new - length old, omega (arith, early refl), consumed_count holds longer)
+  aborts_seeking NotLuks which holds longer within early = absurd (elim which [ inl e ↦ cc | inr e ↦ cc ])
+  aborts_seeking Cut which holds longer within early = absurd (elim which [ inl e ↦ cc | inr e ↦ cc ])
+  aborts_seeking Json which holds longer within early = absurd (elim which [ inl e ↦ cc | inr e ↦ cc ])
 
 -- the image has the header that was answered, or none
 module _ (old new : List ℕ) (left left' : Option (List ℕ)) (chosen : Option Header2)
     (answer : Result Header2 HeaderFault)
     (is : answer ≡ ok_or chosen NotLuks)
     (known : (rest : List ℕ) → left ≡ Some rest
-    → (header2_of (old ++ rest) ≡ answer) × TookCost (old ++ rest) old new rest left') where
-  pub header_taken : IfOk answer (λ header. IfKnown left (λ rest. (header2_of (old ++ rest) ≡ Ok header)
-      × TookCost (old ++ rest) old new rest left'))
-  header_taken = by answer known where
+    → (header2_of (old ++ rest) ≡ answer) × ConsumedReadLen (old ++ rest) old new rest left') where
+  pub header_consumed : IfOk answer (λ header. IfKnown left (λ rest. (header2_of (old ++ rest) ≡ Ok header)
+      × ConsumedReadLen (old ++ rest) old new rest left'))
+  header_consumed = by answer known where
     by : (r : Result Header2 HeaderFault) → ((rest : List ℕ) → left ≡ Some rest
-        → (header2_of (old ++ rest) ≡ r) × TookCost (old ++ rest) old new rest left')
+        → (header2_of (old ++ rest) ≡ r) × ConsumedReadLen (old ++ rest) old new rest left')
         → IfOk r (λ header. IfKnown left (λ rest. (header2_of (old ++ rest) ≡ Ok header)
-        × TookCost (old ++ rest) old new rest left'))
+        × ConsumedReadLen (old ++ rest) old new rest left'))
     by (Ok header) facts = facts
     by (Err fault) facts = tt
 
   pub none_taken : IfErr answer (λ fault. IfKnown left (λ rest.
-      BreaksSeeking (old ++ rest) old new rest left' fault))
+      AbortsSeeking (old ++ rest) old new rest left' fault))
   none_taken = by chosen is where
     by : (o : Option Header2) → answer ≡ ok_or o NotLuks → IfErr answer (λ fault. IfKnown left (λ rest.
-        BreaksSeeking (old ++ rest) old new rest left' fault))
+        AbortsSeeking (old ++ rest) old new rest left' fault))
     by (Some header) e = rw e tt
     by None e = rw e (λ rest knows. (let facts = known rest knows in (facts.0 ∙ e, facts.1)))

@@ -5,7 +5,7 @@ use Rattle.std.specs.Prelude.{nat_lt, ok_or, option_and_then}
 use Rattle.std.proofs.lemmas.Bool.{cases_lt, le-ltb}
 use Rattle.luks_area.specs.declared.fault.HeaderFault.TheVariants.{NotLuks}
 use Rattle.luks2_binary.specs.Choice2.{chosen2_of, found_at, header2_of, is_valid, least_valid, size_at}
-use Rattle.luks2_binary.specs.Cost2.{header2_read_len, reach2_of, probe_end, search_reach}
+use Rattle.luks2_binary.specs.ReadLen2.{header2_read_len, reach2_of, probe_end, search_reach}
 use Rattle.luks2_binary.specs.Front2.{IsPrefixOf}
 use Rattle.luks2_binary.specs.Header2.{header2_from, size_in, sizes}
 use Rattle.luks2_binary.specs.declared.header.Finding.TheVariants.{PrimaryNotValid}
@@ -162,8 +162,8 @@ module _ (image : List ℕ) where
   header2_of-take = ap (λ chosen. ok_or chosen NotLuks) is_stable.0
 
   -- and the same cost
-  pub cost2_of-take : header2_read_len (take (header2_read_len image) image) ≡ header2_read_len image
-  cost2_of-take = is_stable.1
+  pub header2_read_len-take : header2_read_len (take (header2_read_len image) image) ≡ header2_read_len image
+  header2_read_len-take = is_stable.1
 
   -- and end before all that is looked at where it does
   pub falls_short-take : nat_lt (length (take (header2_read_len image) image)) (reach2_of (take

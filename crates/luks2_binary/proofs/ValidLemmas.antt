@@ -4,7 +4,7 @@ use Rattle.std.specs.Prelude.{bytes_eq, is_some, nat_le}
 use Rattle.std.specs.List.{list_any}
 use Rattle.std.proofs.lemmas.Bool.{leb-true, eqb-true, lt-leb, ne_eqb}
 use Rattle.std.proofs.lemmas.Bool.Decides.{nat_tests}
-use Rattle.luks_area.specs.Field.{at}
+use Rattle.luks_area.specs.Fields.{at}
 use Rattle.luks2_binary.specs.Checksum2.{checksum_matches}
 use Rattle.luks2_binary.specs.Choice2.{beginning_at, binary_at, fits, is_binary_of, is_valid, size_at}
 use Rattle.luks2_binary.specs.Header2.{checksum_hash_in, hdr_offset_in, size_in, sizes}

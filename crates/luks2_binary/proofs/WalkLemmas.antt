@@ -2,7 +2,7 @@
 use Rattle.std.proofs.Common.{◌≡◌, ℕ, ◌&&◌, List, [], ◌∷◌, Option, Some, None, Bool, true, false, refl, max}
 use Rattle.std.specs.Prelude.{if◌then◌else◌, filter, map, nat_lt, not}
 use Rattle.std.specs.List.{find, list_any}
-use Rattle.luks2_binary.specs.Cost2.{greatest}
+use Rattle.luks2_binary.specs.ReadLen2.{greatest}
 use Rattle.luks2_binary.specs.Header2.{sizes}
 
 -- the first place with a valid header

@@ -1,12 +1,14 @@
 -- What is loaded of an image while its header is sought.
 use Rattle.std.specs.Prelude.{◌≡◌, ◌+◌, ◌-◌, ◌<◌, ◌≤◌, ◌&&◌, ℕ, Bool, true, false, not, if◌then◌else◌, List, Option}
 use Rattle.std.specs.Prelude.{Some, None, Result, Ok, Err, drop, length, max, nat_lt, take}
-use Rattle.luks_io.specs.Bytes.{counted}
+use Rattle.luks_io.specs.Devices.{counted}
+use Rattle.luks_io.specs.Counts.{IsLive}
+use Rattle.luks_io.specs.declared.counts.ReadCounts.{ReadCounts}
 use Rattle.luks_area.specs.Area.{ConsumedOnto}
 use Rattle.luks_area.specs.declared.fault.HeaderFault.{HeaderFault}
 use Rattle.luks_area.specs.declared.fault.HeaderFault.TheVariants.{NotLuks, Cut, Json, Read, Memory}
 use Rattle.luks2_binary.specs.Choice2.{header2_of, is_valid, size_at}
-use Rattle.luks2_binary.specs.Cost2.{header2_read_len, reach2_of}
+use Rattle.luks2_binary.specs.ReadLen2.{header2_read_len, reach2_of}
 
 -- the loaded bytes are the start of the image, and all of it if its end was hit
 pub record IsPrefixOf (held : List ℕ) (ended : Bool) (image : List ℕ) : Type 0 where
@@ -19,14 +21,17 @@ pub record HoldsFront (image held : List ℕ) (ended : Bool) (left : Option (Lis
   pub front : IsPrefixOf held ended image
   pub behind : left ≡ Some (drop (length held) image)
 
--- more of an image was loaded, from a source that counts how often it hit the end
-pub record Extended (held held' : List ℕ) (ended ended' : Bool) (left left' : Option (List ℕ)) (ends ends' : ℕ) : Type 0
-  where
-    pub fronts : (image : List ℕ) → IsPrefixOf held' ended' image → IsPrefixOf held ended image
-    pub longer : length held ≤ length held'
-    pub holds : (image : List ℕ) → HoldsFront image held ended left → HoldsFront image held' ended' left'
-    pub stays : ended ≡ true → ended' ≡ true
-    pub found : ends' ≡ counted (not ended && ended') ends
+-- more of an image was loaded, unless a read failed, from a source that counts its reads. It is read only as needed,
+-- and so not after its end was hit
+pub record Extended (held held' : List ℕ) (ended ended' : Bool) (left left' : Option (List ℕ)) (failed' : Bool)
+    (counts counts' : ReadCounts) : Type 0 where
+  pub fronts : (image : List ℕ) → IsPrefixOf held' ended' image → IsPrefixOf held ended image
+  pub longer : length held ≤ length held'
+  pub holds : (image : List ℕ) → HoldsFront image held ended left → HoldsFront image held' ended' left'
+  pub stays : ended ≡ true → ended' ≡ true
+  pub found : counts'.ends ≡ counted (not ended && ended') counts.ends
+  pub failed : counts'.failures ≡ counted failed' counts.failures
+  pub needed : (ended ≡ false → IsLive counts) → counts'.needless ≡ counts.needless
 
 -- the length of the header at an offset, if a valid one is there
 abbrev pub valid_size : List ℕ → ℕ → Option ℕ
@@ -54,35 +59,35 @@ abbrev pub StaysBelow : List ℕ → Bool → (List ℕ → ℕ) → Type 0
 StaysBelow held ended reach = OfEach held ended (λ image. length held < reach image)
 
 -- the rest of an image, as much of it as is read for the header, went behind what was loaded
-abbrev pub TookCost : List ℕ → List ℕ → List ℕ → List ℕ → Option (List ℕ) → Type 0
-TookCost image held held' rest left = (held' ≡ take (header2_read_len image) image)
+abbrev pub ConsumedReadLen : List ℕ → List ℕ → List ℕ → List ℕ → Option (List ℕ) → Type 0
+ConsumedReadLen image held held' rest left = (held' ≡ take (header2_read_len image) image)
     × ConsumedOnto held held' rest left (header2_read_len image - length held)
 
 -- some of the rest went behind it: no more than that
-abbrev pub TookBelow : List ℕ → List ℕ → List ℕ → List ℕ → Option (List ℕ) → Type 0
-TookBelow image held held' rest left = (count : ℕ) × (count ≤ header2_read_len image - length held)
+abbrev pub ConsumedUpToReadLen : List ℕ → List ℕ → List ℕ → List ℕ → Option (List ℕ) → Type 0
+ConsumedUpToReadLen image held held' rest left = (count : ℕ) × (count ≤ header2_read_len image - length held)
     × ConsumedOnto held held' rest left count
 
 -- some of the rest went behind it, and less is loaded than the image is to be read
-abbrev pub TookEarly : List ℕ → List ℕ → List ℕ → List ℕ → Option (List ℕ) → Type 0
-TookEarly image held held' rest left = (count : ℕ) × (length held + count < reach2_of image)
+abbrev pub ConsumedBeforeReach : List ℕ → List ℕ → List ℕ → List ℕ → Option (List ℕ) → Type 0
+ConsumedBeforeReach image held held' rest left = (count : ℕ) × (length held + count < reach2_of image)
     × ConsumedOnto held held' rest left count
 
 -- seeking the header ended without one. If the image has none, as many of its bytes are loaded as must be read to know
 -- that; a failed read ended it somewhere before, or memory ran out while more was yet to be read
-abbrev pub BreaksSeeking : List ℕ → List ℕ → List ℕ → List ℕ → Option (List ℕ) → HeaderFault → Type 0
-BreaksSeeking image held held' rest left NotLuks = (header2_of image ≡ Err NotLuks)
-    × TookCost image held held' rest left
-BreaksSeeking image held held' rest left Cut = ⊥
-BreaksSeeking image held held' rest left Json = ⊥
-BreaksSeeking image held held' rest left Read = TookBelow image held held' rest left
-BreaksSeeking image held held' rest left Memory = TookEarly image held held' rest left
+abbrev pub AbortsSeeking : List ℕ → List ℕ → List ℕ → List ℕ → Option (List ℕ) → HeaderFault → Type 0
+AbortsSeeking image held held' rest left NotLuks = (header2_of image ≡ Err NotLuks)
+    × ConsumedReadLen image held held' rest left
+AbortsSeeking image held held' rest left Cut = ⊥
+AbortsSeeking image held held' rest left Json = ⊥
+AbortsSeeking image held held' rest left Read = ConsumedUpToReadLen image held held' rest left
+AbortsSeeking image held held' rest left Memory = ConsumedBeforeReach image held held' rest left
 
 -- the image ended before all that was asked of it was there
-abbrev pub finds_end : {T : Type 0} → Result T HeaderFault → List ℕ → Bool
-finds_end (Err Read) held = false
-finds_end (Err Memory) held = false
-finds_end (Err NotLuks) held = nat_lt (length held) (reach2_of held)
-finds_end (Err Cut) held = false
-finds_end (Err Json) held = false
-finds_end (Ok _) held = nat_lt (length held) (reach2_of held)
+abbrev pub hits_eof : {T : Type 0} → Result T HeaderFault → List ℕ → Bool
+hits_eof (Err Read) held = false
+hits_eof (Err Memory) held = false
+hits_eof (Err NotLuks) held = nat_lt (length held) (reach2_of held)
+hits_eof (Err Cut) held = false
+hits_eof (Err Json) held = false
+hits_eof (Ok _) held = nat_lt (length held) (reach2_of held)

@@ -24,7 +24,7 @@ pub(crate) fn valid_header(
 /// The header of an image whose primary one is valid and of this length: the secondary one if that
 /// is valid with a higher sequence number, and otherwise the primary.
 #[tactic(auto, unfolding(crate::specs::Choice2::with_valid_primary))]
-pub(crate) fn beside_primary(bytes: &[u8], size: usize) -> Option<Header2>
+pub(crate) fn with_valid_primary(bytes: &[u8], size: usize) -> Option<Header2>
     requires valid { is_valid bytes.now 0 ≡ true }
     requires long { size ≡ size_at bytes.now 0 }
     requires range { size ≤ 4194304 }

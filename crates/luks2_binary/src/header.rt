@@ -1,13 +1,13 @@
 //! The binary header of LUKS2 (LUKS2 On-Disk Format Specification 1.1, section 2.1).
 
 ghost use Rattle.std.specs.Prelude.{◌≡◌, ◌≤◌, ◌==◌, length, position};
-ghost use Rattle.luks_area.specs.Field.{at, text_of};
+ghost use Rattle.luks_area.specs.Fields.{at, text_of};
 ghost use Rattle.luks2_binary.specs.Header2.{end2_of, checksum_hash_in, header2_from, hdr_offset_in, sequence_in};
 ghost use Rattle.luks2_binary.specs.Header2.{size_in};
 ghost use Rattle.luks2_binary.specs.Text2.{json_text_of};
 
 use luks_area::field::{bytes_at, number64_at, text_at};
-use luks_area::text::Text;
+use luks_area::text::FixedText;
 use luks_kdf::Hash;
 
 /// The length of a binary header in bytes. Its JSON area follows it.
@@ -43,15 +43,15 @@ pub struct Header2 {
     /// The number that rises with each change of the header.
     pub sequence: u64,
     /// The volume's label.
-    pub label: Text<48>,
+    pub label: FixedText<48>,
     /// The hash function of the checksum.
     pub hash: Hash,
     /// Bytes that make the two headers differ.
     pub salt: [u8; 64],
     /// The volume's UUID.
-    pub uuid: Text<40>,
+    pub uuid: FixedText<40>,
     /// The volume's subsystem, a second label.
-    pub subsystem: Text<48>,
+    pub subsystem: FixedText<48>,
     /// What is wrong with the two headers, if anything.
     pub finding: Option<Finding>,
     /// Whether the header is detached. No header says so itself: it is read as an attached one.
@@ -60,7 +60,7 @@ pub struct Header2 {
 
 /// The hash function of a header's checksum, if its name is known.
 #[tactic(auto, unfolding(crate::specs::Header2::checksum_hash_in))]
-pub(crate) fn hash_in(binary: &[u8]) -> Option<Hash>
+pub(crate) fn checksum_hash_in(binary: &[u8]) -> Option<Hash>
     requires { 4096 ≤ length binary.now }
     ensures { result ≡ checksum_hash_in binary.now }
 {
@@ -87,7 +87,7 @@ pub(crate) fn sequence_in(binary: &[u8]) -> u64
 
 /// The place that a header gives for itself.
 #[tactic(auto, unfolding(crate::specs::Header2::hdr_offset_in))]
-pub(crate) fn place_in(binary: &[u8]) -> u64
+pub(crate) fn hdr_offset_in(binary: &[u8]) -> u64
     requires { 4096 ≤ length binary.now }
     ensures { result ≡ hdr_offset_in binary.now }
 {
@@ -106,7 +106,7 @@ impl Header2 {
         requires sized { size_in binary.now ≤ 4194304 }
         ensures { result ≡ header2_from place finding binary.now }
     {
-        let hash = hash_in(binary)?;
+        let hash = checksum_hash_in(binary)?;
         Some(Header2 {
             place,
             size: size_in(binary) as u32,

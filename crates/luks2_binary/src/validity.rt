@@ -4,13 +4,13 @@ ghost use Rattle.std.specs.Prelude.{◌≡◌, ◌+◌, ◌≤◌, ◌++◌, ◌
 ghost use Rattle.std.specs.Prelude.{if◌then◌else◌, length, Some, None};
 ghost use Rattle.std.specs.List.{list_any};
 ghost use Rattle.luks_kdf.specs.Hash.{hash_of, digest_len};
-ghost use Rattle.luks_area.specs.Field.{at};
+ghost use Rattle.luks_area.specs.Fields.{at};
 ghost use Rattle.luks2_binary.specs.Checksum2.{checksum_matches, no_checksum, without_checksum};
 ghost use Rattle.luks2_binary.specs.Choice2.{beginning_at, binary_at, fits, is_binary_of, is_valid};
 ghost use Rattle.luks2_binary.specs.Choice2.{size_at};
 ghost use Rattle.luks2_binary.specs.Header2.{checksum_hash_in, size_in, sizes};
 
-use crate::header::{BINARY_LEN, hash_in, place_in, size_in};
+use crate::header::{BINARY_LEN, checksum_hash_in, hdr_offset_in, size_in};
 use luks_kdf::{Hash, digest};
 
 /// The lengths that a header and its JSON area can have together, in bytes. They are also the
@@ -55,8 +55,8 @@ fn is_binary_of(place: u64, binary: &[u8]) -> bool
     begins(place, binary)
         && is_size(size)
         && (place == 0 || size == place)
-        && place_in(binary) == place
-        && hash_in(binary).is_some()
+        && hdr_offset_in(binary) == place
+        && checksum_hash_in(binary).is_some()
 }
 
 /// The 4,096 bytes at a place.
@@ -101,12 +101,12 @@ fn agrees(hash: Hash, header: &[u8], sum: &mut [u8]) -> bool
 
 // The checksum of a header and its JSON area is the stored one.
 #[tactic(auto, unfolding(crate::specs::Checksum2::checksum_matches))]
-fn is_intact(header: &[u8]) -> bool
+fn checksum_matches(header: &[u8]) -> bool
     requires { 4096 ≤ length header.now }
     ensures { result ≡ checksum_matches header.now }
 {
     let mut sum = [0; 64];
-    match hash_in(header) {
+    match checksum_hash_in(header) {
         Some(hash) => agrees(hash, header, &mut sum[..hash.size()]),
         None => false,
     }
@@ -121,7 +121,7 @@ pub(crate) fn is_valid(bytes: &[u8], place: usize) -> bool
     let Some(size) = fitting_size(bytes, place) else {
         return false;
     };
-    place + size <= bytes.len() && is_intact(&bytes[place..place + size])
+    place + size <= bytes.len() && checksum_matches(&bytes[place..place + size])
 }
 
 /// The length of the header at the offset, if one fits.

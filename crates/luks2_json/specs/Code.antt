@@ -53,10 +53,10 @@ first gnil = gnil
 first (gnum n) = gnil
 first (gcons a b) = a
 
-abbrev rest_of : Gv → Gv
-rest_of gnil = gnil
-rest_of (gnum n) = gnil
-rest_of (gcons a b) = b
+abbrev cons_rest : Gv → Gv
+cons_rest gnil = gnil
+cons_rest (gnum n) = gnil
+cons_rest (gcons a b) = b
 
 abbrev number_in : Gv → ℕ
 number_in gnil = 0
@@ -72,18 +72,18 @@ is_pair (gcons a b) = 1
 mutual
   pub same_value : (x y : Data) → code_of x ≡ code_of y → x ≡ y
   same_value null null p = refl
-  same_value (boolean a) (boolean b) p = ap boolean (coded_bool.inj a b (ap rest_of p))
-  same_value (number a) (number b) p = ap number (num_code.inj a b (ap rest_of p))
-  same_value (string a) (string b) p = ap string ((coded_list coded_ℕ).inj a b (ap rest_of p))
-  same_value (array a) (array b) p = ap array (same_items a b (ap rest_of p))
-  same_value (object a) (object b) p = ap object (same_members a b (ap rest_of p))
+  same_value (boolean a) (boolean b) p = ap boolean (coded_bool.inj a b (ap cons_rest p))
+  same_value (number a) (number b) p = ap number (num_code.inj a b (ap cons_rest p))
+  same_value (string a) (string b) p = ap string ((coded_list coded_ℕ).inj a b (ap cons_rest p))
+  same_value (array a) (array b) p = ap array (same_items a b (ap cons_rest p))
+  same_value (object a) (object b) p = ap object (same_members a b (ap cons_rest p))
   same_value x y p = absurd (let differ = ap (λ (g : Gv). number_in (first g)) p in omega arith)
 
   same_items : (x y : Items) → items_code_of x ≡ items_code_of y → x ≡ y
   same_items no_items no_items p = refl
   same_items (item a more) (item b others) p =
       let value : a ≡ b = same_value a b (ap first p) in
-      let rest : more ≡ others = same_items more others (ap rest_of p) in
+      let rest : more ≡ others = same_items more others (ap cons_rest p) in
       cc
   same_items x y p = absurd (let differ = ap is_pair p in omega arith)
 
@@ -91,8 +91,8 @@ mutual
   same_members no_members no_members p = refl
   same_members (member k a more) (member l b others) p =
       let name : k ≡ l = (coded_list coded_ℕ).inj k l (ap first p) in
-      let value : a ≡ b = same_value a b (ap (λ (g : Gv). first (rest_of g)) p) in
-      let rest : more ≡ others = same_members more others (ap (λ (g : Gv). rest_of (rest_of g)) p) in
+      let value : a ≡ b = same_value a b (ap (λ (g : Gv). first (cons_rest g)) p) in
+      let rest : more ≡ others = same_members more others (ap (λ (g : Gv). cons_rest (cons_rest g)) p) in
       cc
   same_members x y p = absurd (let differ = ap is_pair p in omega arith)
 

@@ -5,7 +5,7 @@ ghost use Rattle.luks2_json.specs.Derivation.{hash_member, iterations_in, salt_i
 ghost use Rattle.luks2_json.specs.Member.{base64_member};
 ghost use Rattle.serde_json.specs.View.{view as data_of};
 
-use crate::member::{base64_text, text, whole_number};
+use crate::member::{base64_member, integer_member, string_member};
 use luks_kdf::Hash;
 use luks_verdict::bytes::HeaderBytes;
 use serde_json::Value;
@@ -13,10 +13,10 @@ use std::alloc::{AllocError, Global};
 
 /// The hash function that the object's member `hash` names, if it is known.
 #[tactic(auto, unfolding(crate::specs::Derivation::hash_member))]
-pub fn hash_in(object: &Value) -> Option<Hash>
+pub fn hash_member(object: &Value) -> Option<Hash>
     ensures { result ≡ hash_member (data_of object.now) }
 {
-    Hash::from_name(text(object, "hash")?)
+    Hash::from_name(string_member(object, "hash")?)
 }
 
 /// The object's iterations of PBKDF2, or 0 if they are missing.
@@ -24,7 +24,7 @@ pub fn hash_in(object: &Value) -> Option<Hash>
 pub fn iterations_in(object: &Value) -> u64
     ensures { result ≡ iterations_in (data_of object.now) }
 {
-    whole_number(object, "iterations").unwrap_or(0)
+    integer_member(object, "iterations").unwrap_or(0)
 }
 
 /// The bytes under this name in base64, or none if they are missing.
@@ -32,7 +32,7 @@ pub fn bytes_in(alloc: Global, object: &Value, name: &str) -> Result<HeaderBytes
     ensures { IfOk result (λ bytes. bytes
         ≡ unwrap_or (base64_member name.now (data_of object.now)) []) }
 {
-    match base64_text(alloc, object, name)? {
+    match base64_member(alloc, object, name)? {
         Some(bytes) => HeaderBytes::new(alloc, bytes.as_slice()),
         None => HeaderBytes::new(alloc, &[]),
     }

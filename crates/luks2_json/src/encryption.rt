@@ -7,7 +7,7 @@ use luks_cipher::Mode;
 
 /// The mode that a text names behind `aes-`, if that is known.
 #[tactic(auto, unfolding(crate::specs::Encryption::encryption_mode))]
-pub fn mode_of(encryption: &str) -> Option<Mode>
+pub fn encryption_mode(encryption: &str) -> Option<Mode>
     ensures { result ≡ encryption_mode encryption.now }
 {
     Mode::from_name(encryption.strip_prefix("aes-")?)

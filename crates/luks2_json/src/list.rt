@@ -51,7 +51,7 @@ pub fn has_texts(object: &Value, name: &str) -> bool
 
 /// There is a list under this name, and it has the text.
 #[tactic(auto, unfolding(crate::specs::List::array_contains))]
-pub fn lists(object: &Value, name: &str, text: &str) -> bool
+pub fn array_contains(object: &Value, name: &str, text: &str) -> bool
     ensures { result ≡ array_contains name.now text.now (data_of object.now) }
 {
     let Some(list) = object.get(name) else {

@@ -14,7 +14,7 @@ use std::alloc::{AllocError, Global};
 
 /// The whole number under this name.
 #[tactic(auto, unfolding(crate::specs::Member::integer_member))]
-pub fn whole_number(object: &Value, name: &str) -> Option<u64>
+pub fn integer_member(object: &Value, name: &str) -> Option<u64>
     ensures { result ≡ integer_member name.now (view object.now) }
 {
     object.get(name)?.as_u64()
@@ -22,7 +22,7 @@ pub fn whole_number(object: &Value, name: &str) -> Option<u64>
 
 /// The text under this name.
 #[tactic(auto, unfolding(crate::specs::Member::string_member))]
-pub fn text<'v>(object: &'v Value, name: &str) -> Option<&'v str>
+pub fn string_member<'v>(object: &'v Value, name: &str) -> Option<&'v str>
     ensures { option_map (λ t. t.now) result ≡ text_of name.now (view object.now) }
 {
     object.get(name)?.as_str()
@@ -33,7 +33,7 @@ pub fn text<'v>(object: &'v Value, name: &str) -> Option<&'v str>
 pub fn is_named(object: &Value, name: &str, expected: &str) -> bool
     ensures { result ≡ is_named name.now expected.now (view object.now) }
 {
-    match text(object, name) {
+    match string_member(object, name) {
         Some(text) => expected == text,
         None => false,
     }
@@ -66,10 +66,10 @@ fn number_of(text: &str) -> Option<u64>
 
 /// The number below 2^64 that the text under this name writes in 1 to 20 decimal digits.
 #[tactic(auto, unfolding(crate::specs::Member::decimal_member))]
-pub fn decimal_text(object: &Value, name: &str) -> Option<u64>
+pub fn decimal_member(object: &Value, name: &str) -> Option<u64>
     ensures { result ≡ decimal_member name.now (view object.now) }
 {
-    number_of(text(object, name)?)
+    number_of(string_member(object, name)?)
 }
 
 /// How many bytes are under this name in base64. This allocates nothing.
@@ -78,16 +78,20 @@ pub fn base64_len(object: &Value, name: &str) -> Option<usize>
     ensures { result ≡ option_map (λ (bytes : List ℕ). length bytes)
         (base64_member name.now (view object.now)) }
 {
-    encoded_len(text(object, name)?)
+    encoded_len(string_member(object, name)?)
 }
 
 /// The bytes under this name in base64.
 #[tactic(auto, unfolding(crate::specs::Member::base64_member))]
-pub fn base64_text(alloc: Global, object: &Value, name: &str) -> Result<Option<Vec<u8>>, AllocError>
+pub fn base64_member(
+    alloc: Global,
+    object: &Value,
+    name: &str,
+) -> Result<Option<Vec<u8>>, AllocError>
     ensures { IfOk result (λ bytes. option_map (λ b. b.items) bytes
         ≡ base64_member name.now (view object.now)) }
 {
-    match text(object, name) {
+    match string_member(object, name) {
         Some(text) => decoded(alloc, text),
         None => Ok(None),
     }

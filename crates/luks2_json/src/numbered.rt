@@ -7,16 +7,16 @@ ghost use Rattle.serde_json.specs.View.{members_view, view as data_of};
 
 use crate::tree::Metadata;
 use itoa::Buffer;
-use luks_verdict::rule::MOST_SLOTS;
+use luks_verdict::rule::MAX_SLOTS;
 use serde_json::{Map, Value};
 
 /// What the object of these names has for the number, which is below 32.
 #[tactic(auto, unfolding(crate::specs::Numbered::object_numbered))]
-pub fn numbered<'v>(tree: &'v Value, names: &str, number: u8) -> Option<&'v Value>
+pub fn object_numbered<'v>(tree: &'v Value, names: &str, number: u8) -> Option<&'v Value>
     ensures { option_map (λ value. data_of value.now) result
         ≡ object_numbered names.now (data_of tree.now) number }
 {
-    if number >= MOST_SLOTS {
+    if number >= MAX_SLOTS {
         return None;
     }
     let mut name = Buffer::new();
@@ -35,7 +35,7 @@ fn is_name(name: &str, number: u8) -> bool
 fn is_number(name: &str) -> bool
     ensures { result ≡ is_number_below max_slots name.now }
 {
-    for number in 0..MOST_SLOTS {
+    for number in 0..MAX_SLOTS {
         if is_name(name, number) {
             return true;
         }
@@ -54,7 +54,7 @@ fn any_other_name(members: &Map<String, Value>) -> bool
 /// Whether a member of `keyslots` is ignored, since its name is no number below 32. This allocates
 /// nothing.
 #[tactic(auto, unfolding(crate::specs::Numbered::has_key_out_of_range))]
-pub fn passes_over(metadata: &Metadata) -> bool
+pub fn has_key_out_of_range(metadata: &Metadata) -> bool
     ensures { result ≡ has_key_out_of_range metadata.now }
 {
     let Some(keyslots) = metadata.tree().get("keyslots") else {

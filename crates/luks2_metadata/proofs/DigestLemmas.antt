@@ -8,7 +8,7 @@ use Rattle.luks2_json.specs.Member.{base64_member, is_type, integer_member}
 use Rattle.std.proofs.lemmas.Bool.Decides.{nat_tests}
 use Rattle.luks_verdict.proofs.MadeLemmas.{digest_from-no, digest_from-some, digest_from-yes}
 use Rattle.luks_verdict.specs.Digest.{digest_from, digest_of}
-use Rattle.luks_verdict.specs.Rule.{is_beyond, is_digest, most_iterations, max_slots, usable_digest}
+use Rattle.luks_verdict.specs.Rule.{iterations_out_of_range, is_digest, max_iteration_count, max_slots, usable_digest}
 use Rattle.luks_verdict.specs.declared.digest.KeyDigest.{KeyDigest}
 use Rattle.luks2_json.proofs.NumberedLemmas.{lowest_found, lowest_made}
 use Rattle.luks2_json.specs.Numbered.{lowest, object_numbered}
@@ -29,11 +29,11 @@ unfolding digest2_of
 out_of_range digest is none = rw is (digest_from-no (digest_parts2_of digest) none)
 
 -- one with more iterations than four bytes can say
-too_many : (iterations len : ℕ) → most_iterations < iterations → is_digest iterations len ≡ false
-unfolding is_digest is_beyond
+too_many : (iterations len : ℕ) → max_iteration_count < iterations → is_digest iterations len ≡ false
+unfolding is_digest iterations_out_of_range
 too_many iterations len many = grind (arith, nat_tests)
 
-pub many_iterations : (digest : Data) → is_digest2 digest ≡ true → most_iterations < iterations_in digest
+pub many_iterations : (digest : Data) → is_digest2 digest ≡ true → max_iteration_count < iterations_in digest
     → digest2_of digest ≡ None
 many_iterations digest is many =
     out_of_range digest is (too_many (iterations_in digest) (length (value_in digest)) many)
@@ -45,7 +45,7 @@ pub digest_in_range : (digest : Data) → is_digest2 digest ≡ true
 unfolding digest2_of digest_of
 digest_in_range digest is held = rw (is, digest_from-yes (digest_parts2_of digest) held) refl
 
-pub few_iterations : (iterations len : ℕ) → is_digest iterations len ≡ true → iterations ≤ most_iterations
+pub few_iterations : (iterations len : ℕ) → is_digest iterations len ≡ true → iterations ≤ max_iteration_count
 few_iterations iterations len is = (usable_digest iterations len is).few_iterations
 
 -- ---- the lowest one

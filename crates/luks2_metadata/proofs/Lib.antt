@@ -1,2 +1,3 @@
 pub mod DigestLemmas
+pub mod SegmentLemmas
 pub mod SlotLemmas

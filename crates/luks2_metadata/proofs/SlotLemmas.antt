@@ -7,16 +7,17 @@ use Rattle.std.proofs.lemmas.Option.{same_Some}
 use Rattle.luks_area.specs.Area.{max_area_len}
 use Rattle.luks_cipher.specs.declared.mode.Mode.{Mode}
 use Rattle.luks_cipher.proofs.ModeLemmas.{longest_mode_key}
-use Rattle.luks_verdict.specs.Digest.{is_undigested}
-use Rattle.luks_verdict.specs.Rule.{exceeds, is_beyond, is_in_range, is_misplaced, is_unstriped, most_iterations}
+use Rattle.luks_verdict.specs.Digest.{has_no_usable_digest}
+use Rattle.luks_verdict.specs.Rule.{exceeds, iterations_out_of_range, is_in_range, area_out_of_range}
+use Rattle.luks_verdict.specs.Rule.{stripes_out_of_range, max_iteration_count}
 use Rattle.luks_verdict.specs.Rule.{need_of}
-use Rattle.luks_verdict.specs.Slot.{are_in_range, material_end, judged, judgement_of, slot_of}
+use Rattle.luks_verdict.specs.Slot.{are_in_range, material_end, verdict_by, verdict_kind_of, slot_of}
 use Rattle.luks_verdict.proofs.MadeLemmas.{slot_from-yes}
 use Rattle.luks_verdict.specs.declared.refusal.SkipReason.{SkipReason}
 use Rattle.luks_verdict.specs.declared.digest.KeyDigest.{KeyDigest}
 use Rattle.luks_verdict.specs.declared.slot.Slot.{Slot}
 use Rattle.luks_verdict.specs.declared.slot.Verdict.TheVariants.{Usable}
-use Rattle.luks_verdict.specs.declared.slot.Judgement.TheVariants.{Usable as Open}
+use Rattle.luks_verdict.specs.declared.slot.VerdictKind.TheVariants.{Usable as Open}
 use Rattle.luks_kdf.specs.declared.hash.Hash.{Hash}
 use Rattle.luks_cipher.specs.Sector.{is_mode_key_length}
 use Rattle.luks2_json.specs.Numbered.{object_numbered}
@@ -24,11 +25,12 @@ use Rattle.luks_verdict.proofs.TableLemmas.{none_holds}
 use Rattle.luks2_json.specs.Encryption.{is_length_for}
 use Rattle.luks2_json.specs.Member.{is_type}
 use Rattle.luks2_metadata.specs.Digest2.{digest2_for}
-use Rattle.luks2_segment.specs.declared.bounds.Bounds.{Bounds}
-use Rattle.luks2_segment.specs.Segment2.{payload2_of, payload_mode2_of}
+use Rattle.luks2_metadata.specs.declared.bounds.Bounds.{Bounds}
+use Rattle.luks2_metadata.specs.Segment2.{payload2_of, payload_mode2_of}
 use Rattle.luks2_metadata.specs.Slot2.{slot_reasons, af_hash_of, are_key_sizes, area_key_size_of, area_mode_of}
 use Rattle.luks2_metadata.specs.Slot2.{area_offset_of, area_size_of, has_members, has_unknown_hash, is_kdf_type}
-use Rattle.luks2_metadata.specs.Slot2.{is_misplaced2, iterations_of_slot, kdf_hash_of, key_size_of, priority_of, reason2_of}
+use Rattle.luks2_metadata.specs.Slot2.{area2_out_of_range, iterations_of_slot, kdf_hash_of, key_size_of, priority_of}
+use Rattle.luks2_metadata.specs.Slot2.{reason2_of}
 use Rattle.luks2_metadata.specs.Slot2.{slot2_at, slot2_of, slot_parts2_of, stripes_member, verdict2_at, verdict2_of}
 use Rattle.serde_json.specs.Data.{Data}
 
@@ -50,8 +52,8 @@ key_sizes_few mode slot is =
     let parts = both _ _ is in
     (key_length_few (area_mode_of slot) (area_key_size_of slot) parts.0, key_length_few mode (key_size_of slot) parts.1)
 
-pub stripes_few : (stripes : ℕ) → is_unstriped stripes ≡ false → stripes ≤ 4000
-unfolding is_unstriped
+pub stripes_few : (stripes : ℕ) → stripes_out_of_range stripes ≡ false → stripes ≤ 4000
+unfolding stripes_out_of_range
 stripes_few stripes is = grind (arith, nat_tests)
 
 not_not : (b : Bool) → not b ≡ false → b ≡ true
@@ -69,10 +71,10 @@ pub record NoReason (tree : Data) (bounds : Bounds) (limit : Option ℕ) (number
   pub hash : has_unknown_hash slot ≡ false
   pub encryption : is_none (area_mode_of slot) ≡ false
   pub key_size : not (are_key_sizes (payload_mode2_of tree bounds) slot) ≡ false
-  pub stripes : is_unstriped (stripes_member slot) ≡ false
-  pub iterations : is_beyond limit (iterations_of_slot slot) ≡ false
-  pub area : is_misplaced2 bounds.end (payload2_of tree bounds) slot ≡ false
-  pub digest : is_undigested limit (digest2_for tree number) ≡ false
+  pub stripes : stripes_out_of_range (stripes_member slot) ≡ false
+  pub iterations : iterations_out_of_range limit (iterations_of_slot slot) ≡ false
+  pub area : area2_out_of_range bounds.end (payload2_of tree bounds) slot ≡ false
+  pub digest : has_no_usable_digest limit (digest2_for tree number) ≡ false
 
 pub no_reason : (tree : Data) (bounds : Bounds) (limit : Option ℕ) (number : ℕ) (slot : Data)
     → reason2_of tree bounds limit number slot ≡ None → NoReason tree bounds limit number slot
@@ -97,7 +99,7 @@ no_reason tree bounds limit number slot none =
 -- so its numbers are in range
 pub range_of : (tree : Data) (bounds : Bounds) (limit : Option ℕ) (number : ℕ) (slot : Data)
     → NoReason tree bounds limit number slot → are_in_range (slot_parts2_of slot) ≡ true
-unfolding is_in_range is_beyond is_unstriped slot_parts2_of is_misplaced2 is_misplaced
+unfolding is_in_range iterations_out_of_range stripes_out_of_range slot_parts2_of area2_out_of_range area_out_of_range
 range_of tree bounds limit number slot none =
     let area = none.area in
     let stripes = none.stripes in
@@ -105,14 +107,14 @@ range_of tree bounds limit number slot none =
     grind (arith, nat_tests)
 
 -- fewer reasons hold without a limit
-beyond_none : (limit : Option ℕ) (iterations : ℕ) → is_beyond limit iterations ≡ false
-    → is_beyond None iterations ≡ false
-unfolding is_beyond
+beyond_none : (limit : Option ℕ) (iterations : ℕ) → iterations_out_of_range limit iterations ≡ false
+    → iterations_out_of_range None iterations ≡ false
+unfolding iterations_out_of_range
 beyond_none limit iterations is = grind (arith, nat_tests)
 
-undigested_none : (limit : Option ℕ) (digest : Option KeyDigest) → is_undigested limit digest ≡ false
-    → is_undigested None digest ≡ false
-unfolding is_undigested
+undigested_none : (limit : Option ℕ) (digest : Option KeyDigest) → has_no_usable_digest limit digest ≡ false
+    → has_no_usable_digest None digest ≡ false
+unfolding has_no_usable_digest
 undigested_none limit None is = is
 undigested_none limit (Some digest) is = beyond_none limit digest.iterations is
 
@@ -147,23 +149,24 @@ slot_there tree bounds limit number slot none =
     (is, rw (no_reason_none tree bounds limit number slot no) (slot_from-yes (slot_parts2_of slot) is))
 
 -- what becomes of it, without what it takes to open it
-pub judged_usable : (tree : Data) (bounds : Bounds) (limit : Option ℕ) (number : ℕ) (slot : Data)
+pub usable_verdict : (tree : Data) (bounds : Bounds) (limit : Option ℕ) (number : ℕ) (slot : Data)
     → reason2_of tree bounds limit number slot ≡ None
-    → judgement_of (verdict2_of tree bounds limit number slot) ≡ Open (unwrap_or (priority_of slot) 0)
+    → verdict_kind_of (verdict2_of tree bounds limit number slot) ≡ Open (unwrap_or (priority_of slot) 0)
 unfolding verdict2_of slot_of slot_parts2_of
-judged_usable tree bounds limit number slot none =
+usable_verdict tree bounds limit number slot none =
     let there = slot_there tree bounds limit number slot none in
     rw (none, there.1) refl
 
 -- the lengths of its keys, its stripes and its iterations fit into four bytes
 pub record IsSmall (slot : Data) : Type 0 where
-  pub iterations : iterations_of_slot slot ≤ most_iterations
+  pub iterations : iterations_of_slot slot ≤ max_iteration_count
   pub stripes : stripes_member slot ≤ 4000
   pub key : key_size_of slot ≤ 64
   pub area_key : area_key_size_of slot ≤ 64
 
-iterations_few : (limit : Option ℕ) (iterations : ℕ) → is_beyond limit iterations ≡ false → iterations ≤ most_iterations
-unfolding is_beyond
+iterations_few : (limit : Option ℕ) (iterations : ℕ) → iterations_out_of_range limit iterations ≡ false
+    → iterations ≤ max_iteration_count
+unfolding iterations_out_of_range
 iterations_few limit iterations is = grind (arith, nat_tests)
 
 pub small_of : (tree : Data) (bounds : Bounds) (number : ℕ) (slot : Data)
@@ -214,9 +217,10 @@ unfolding is_length_for
 known_area None bytes none is = absurd cc
 known_area (Some mode) bytes none is = (mode, refl, is)
 
-placed : (start : ℕ) (payload : Option ℕ) (offset size need : ℕ) → is_misplaced start payload offset size need ≡ false
+placed : (start : ℕ) (payload : Option ℕ) (offset size need : ℕ)
+    → area_out_of_range start payload offset size need ≡ false
     → (start ≤ offset) × (exceeds payload (offset + need) ≡ false)
-unfolding is_misplaced
+unfolding area_out_of_range
 placed start payload offset size need is =
     let past = neither (nat_lt offset start || nat_lt size need || exceeds payload (offset + need))
     (nat_lt max_area_len (offset + need)) is in
@@ -224,14 +228,14 @@ placed start payload offset size need is =
     let room = neither (nat_lt offset start) (nat_lt size need) before.0 in
     (ltb-false offset start room.0, before.1)
 
-digest_there : (limit : Option ℕ) (digest : Option KeyDigest) → is_undigested limit digest ≡ false
+digest_there : (limit : Option ℕ) (digest : Option KeyDigest) → has_no_usable_digest limit digest ≡ false
     → (there : KeyDigest) × (digest ≡ Some there)
-unfolding is_undigested
+unfolding has_no_usable_digest
 digest_there limit None is = absurd cc
 digest_there limit (Some digest) is = (digest, refl)
 
 -- a verdict that it can be tried says that there is no reason to skip it, and what it takes to open it
-of_verdict : (reason : Option SkipReason) (made : Option Slot) (usable : Slot) → judged reason made ≡ Usable usable
+of_verdict : (reason : Option SkipReason) (made : Option Slot) (usable : Slot) → verdict_by reason made ≡ Usable usable
     → (reason ≡ None) × (made ≡ Some usable)
 of_verdict (Some reason) made usable is = absurd cc
 of_verdict None (Some made) usable is = (refl, cc)
@@ -240,7 +244,7 @@ of_verdict None None usable is = absurd cc
 usable_is : (tree : Data) (bounds : Bounds) (limit : Option ℕ) (number : ℕ) (slot : Data) (usable : Slot)
     → verdict2_of tree bounds limit number slot ≡ Usable usable
     → IsOf2 tree bounds number usable × (slot2_of tree bounds number slot ≡ Some usable)
-unfolding verdict2_of slot_of slot_parts2_of are_key_sizes is_misplaced2
+unfolding verdict2_of slot_of slot_parts2_of are_key_sizes area2_out_of_range
 usable_is tree bounds limit number slot usable is =
     let verdict = of_verdict (reason2_of tree bounds limit number slot) (slot2_of tree bounds number slot) usable is in
     let no = no_reason tree bounds limit number slot verdict.0 in

@@ -1,2 +1,3 @@
 pub mod Digest2
+pub mod Segment2
 pub mod Slot2

@@ -3,9 +3,9 @@ use Rattle.std.specs.Prelude.{ℕ, ◌&&◌, ◌||◌, not, nat_le, Bool, List, 
 use Rattle.std.specs.Prelude.{is_some, if◌then◌else◌, option_and_then, option_map, unwrap_or}
 use Rattle.luks_cipher.specs.declared.mode.Mode.{Mode}
 use Rattle.luks_kdf.specs.declared.hash.Hash.{Hash}
-use Rattle.luks_verdict.specs.Digest.{is_undigested}
-use Rattle.luks_verdict.specs.Rule.{is_beyond, is_misplaced, is_unstriped, need_of}
-use Rattle.luks_verdict.specs.Slot.{judged, slot_from}
+use Rattle.luks_verdict.specs.Digest.{has_no_usable_digest}
+use Rattle.luks_verdict.specs.Rule.{iterations_out_of_range, area_out_of_range, stripes_out_of_range, need_of}
+use Rattle.luks_verdict.specs.Slot.{verdict_by, slot_from}
 use Rattle.luks_verdict.specs.Table.{first_match}
 use Rattle.luks_verdict.specs.declared.refusal.SkipReason.{SkipReason}
 use Rattle.luks_verdict.specs.declared.refusal.SkipReason.TheVariants.{Kind, Member, Argon2i, Argon2id, Kdf}
@@ -19,8 +19,8 @@ use Rattle.luks2_json.specs.Derivation.{hash_member, iterations_in, salt_in}
 use Rattle.luks2_metadata.specs.Digest2.{digest2_for}
 use Rattle.luks2_json.specs.Encryption.{is_length_for, encryption_mode}
 use Rattle.luks2_json.specs.Numbered.{object_numbered}
-use Rattle.luks2_segment.specs.declared.bounds.Bounds.{Bounds}
-use Rattle.luks2_segment.specs.Segment2.{payload2_of, payload_mode2_of}
+use Rattle.luks2_metadata.specs.declared.bounds.Bounds.{Bounds}
+use Rattle.luks2_metadata.specs.Segment2.{payload2_of, payload_mode2_of}
 use Rattle.serde_json.specs.Data.{Data}
 use Rattle.serde_json.specs.Find.{get}
 
@@ -122,9 +122,9 @@ are_key_sizes payload_mode slot =
     is_length_for (area_mode_of slot) (area_key_size_of slot) && is_length_for payload_mode (key_size_of slot)
 
 -- the key material does not fit
-unfoldable pub is_misplaced2 : ℕ → Option ℕ → Data → Bool
-is_misplaced2 end payload slot =
-    is_misplaced end payload (area_offset_of slot) (area_size_of slot)
+unfoldable pub area2_out_of_range : ℕ → Option ℕ → Data → Bool
+area2_out_of_range end payload slot =
+    area_out_of_range end payload (area_offset_of slot) (area_size_of slot)
     (need_of (key_size_of slot) (stripes_member slot))
 
 -- the reasons to skip the slot of this number, in a header with these bounds
@@ -138,10 +138,10 @@ slot_reasons tree bounds limit number slot =
     ∷ (has_unknown_hash slot, UnknownHash)
     ∷ (is_none (area_mode_of slot), Encryption)
     ∷ (not (are_key_sizes (payload_mode2_of tree bounds) slot), KeySize)
-    ∷ (is_unstriped (stripes_member slot), Stripes)
-    ∷ (is_beyond limit (iterations_of_slot slot), Iterations)
-    ∷ (is_misplaced2 bounds.end (payload2_of tree bounds) slot, Area)
-    ∷ (is_undigested limit (digest2_for tree number), Digest)
+    ∷ (stripes_out_of_range (stripes_member slot), Stripes)
+    ∷ (iterations_out_of_range limit (iterations_of_slot slot), Iterations)
+    ∷ (area2_out_of_range bounds.end (payload2_of tree bounds) slot, Area)
+    ∷ (has_no_usable_digest limit (digest2_for tree number), Digest)
     ∷ []
 
 -- the first of them that holds
@@ -174,7 +174,7 @@ slot2_of tree bounds number slot =
 -- the verdict on the slot of this number
 unfoldable pub verdict2_of : Data → Bounds → Option ℕ → ℕ → Data → Verdict
 verdict2_of tree bounds limit number slot =
-    judged (reason2_of tree bounds limit number slot) (slot2_of tree bounds number slot)
+    verdict_by (reason2_of tree bounds limit number slot) (slot2_of tree bounds number slot)
 
 -- the verdict on the key slot of this number, if there is one
 unfoldable pub verdict2_at : Data → Bounds → Option ℕ → ℕ → Option Verdict

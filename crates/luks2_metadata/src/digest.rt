@@ -10,11 +10,11 @@ ghost use Rattle.serde_json.specs.View.{view as data_of};
 use itoa::Buffer;
 use luks_verdict::bytes::HeaderBytes;
 use luks_verdict::digest::{DigestParts, KeyDigest};
-use luks_verdict::rule::{MOST_ITERATIONS, MOST_SLOTS, usable_digest};
-use luks2_json::derivation::{bytes_in, hash_in, iterations_in, salt_in};
-use luks2_json::list::{Names, has_texts, lists, texts_at};
-use luks2_json::member::{base64_len, is_type, whole_number};
-use luks2_json::numbered::numbered;
+use luks_verdict::rule::{MAX_ITERATIONS, MAX_SLOTS, usable_digest};
+use luks2_json::derivation::{bytes_in, hash_member, iterations_in, salt_in};
+use luks2_json::list::{Names, array_contains, has_texts, texts_at};
+use luks2_json::member::{base64_len, integer_member, is_type};
+use luks2_json::numbered::object_numbered;
 use luks2_json::tree::Metadata;
 use serde_json::Value;
 use std::alloc::{AllocError, Global};
@@ -54,8 +54,8 @@ fn is_digest(digest: &Value) -> bool
     is_type(digest, "pbkdf2")
         && has_texts(digest, "keyslots")
         && has_texts(digest, "segments")
-        && hash_in(digest).is_some()
-        && whole_number(digest, "iterations").is_some()
+        && hash_member(digest).is_some()
+        && integer_member(digest, "iterations").is_some()
         && base64_len(digest, "salt").is_some()
         && base64_len(digest, "digest").is_some()
 }
@@ -66,7 +66,8 @@ fn is_of_slot(digest: &Value, number: u8) -> bool
     ensures { result ≡ is_of_slot number (data_of digest.now) }
 {
     let mut name = Buffer::new();
-    lists(digest, "keyslots", name.format(number)) && lists(digest, "segments", "0")
+    array_contains(digest, "keyslots", name.format(number))
+        && array_contains(digest, "segments", "0")
 }
 
 // The digest, if it is usable.
@@ -78,11 +79,11 @@ fn usable(alloc: Global, digest: &Value) -> Result<Option<KeyDigest>, AllocError
         return Ok(None);
     }
     let iterations = iterations_in(digest);
-    if MOST_ITERATIONS < iterations {
+    if MAX_ITERATIONS < iterations {
         return Ok(None);
     }
     let parts = DigestParts {
-        hash: hash_in(digest),
+        hash: hash_member(digest),
         iterations: iterations as u32,
         salt: salt_in(alloc, digest)?,
         value: value_in(alloc, digest)?,
@@ -114,7 +115,7 @@ fn of_slot_at(
 ) -> Result<Option<KeyDigest>, AllocError>
     ensures { IfOk result (λ key. key ≡ own_digest_at (data_of tree.now) slot number) }
 {
-    match numbered(tree, "digests", number) {
+    match object_numbered(tree, "digests", number) {
         Some(digest) if is_of_slot(digest, slot) => usable(alloc, digest),
         _ => Ok(None),
     }
@@ -126,7 +127,7 @@ fn iterations_of_slot_at(tree: &Value, slot: u8, number: u8) -> Option<u32>
     ensures { result
         ≡ option_map iterations_of_digest (own_digest_at (data_of tree.now) slot number) }
 {
-    match numbered(tree, "digests", number) {
+    match object_numbered(tree, "digests", number) {
         Some(digest) if is_of_slot(digest, slot) => usable_iterations(digest),
         _ => None,
     }
@@ -141,7 +142,7 @@ pub fn digest_for(
 ) -> Result<Option<KeyDigest>, AllocError>
     ensures { IfOk result (λ key. key ≡ digest2_for metadata.now number) }
 {
-    for digest in 0..MOST_SLOTS {
+    for digest in 0..MAX_SLOTS {
         let found = of_slot_at(alloc, metadata.tree(), number, digest)?;
         if found.is_some() {
             return Ok(found);
@@ -154,7 +155,7 @@ pub fn digest_for(
 pub(crate) fn iterations_for(tree: &Value, number: u8) -> Option<u32>
     ensures { result ≡ option_map iterations_of_digest (digest2_for (data_of tree.now) number) }
 {
-    for digest in 0..MOST_SLOTS {
+    for digest in 0..MAX_SLOTS {
         let found = iterations_of_slot_at(tree, number, digest);
         if found.is_some() {
             return found;
@@ -186,7 +187,7 @@ fn numbered_digest(
 ) -> Result<Option<(u8, Option<Digest>)>, AllocError>
     ensures { IfOk result (λ digest. digest ≡ digest2_numbered (data_of tree.now) number) }
 {
-    match numbered(tree, "digests", number) {
+    match object_numbered(tree, "digests", number) {
         Some(digest) => Ok(Some((number, listed(alloc, digest)?))),
         None => Ok(None),
     }
@@ -199,7 +200,7 @@ pub fn digests(alloc: Global, metadata: &Metadata) -> Result<Vec<(u8, Option<Dig
     ensures few { IfOk result (λ digests. vec_len digests ≤ max_slots) }
 {
     let mut digests = Vec::new(alloc);
-    for number in 0..MOST_SLOTS {
+    for number in 0..MAX_SLOTS {
         if let Some(digest) = numbered_digest(alloc, metadata.tree(), number)? {
             digests.push(digest)?;
         }

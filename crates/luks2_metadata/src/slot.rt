@@ -1,13 +1,13 @@
 //! What becomes of the key slots of a header.
 
 ghost use Rattle.std.specs.Prelude.{◌≡◌, ◌≤◌, IfOk, option_map};
-ghost use Rattle.luks_verdict.specs.Digest.{is_undigested};
-ghost use Rattle.luks_verdict.specs.Rule.{most_iterations};
-ghost use Rattle.luks_verdict.specs.Slot.{judgement_of};
+ghost use Rattle.luks_verdict.specs.Digest.{has_no_usable_digest};
+ghost use Rattle.luks_verdict.specs.Rule.{max_iteration_count};
+ghost use Rattle.luks_verdict.specs.Slot.{verdict_kind_of};
 ghost use Rattle.luks2_metadata.specs.Digest2.{digest2_for};
 ghost use Rattle.luks2_metadata.specs.Slot2.{af_hash_of, are_key_sizes, area_key_size_of};
 ghost use Rattle.luks2_metadata.specs.Slot2.{area_mode_of, area_offset_of, area_size_of};
-ghost use Rattle.luks2_metadata.specs.Slot2.{has_unknown_hash, is_kdf_type, is_misplaced2};
+ghost use Rattle.luks2_metadata.specs.Slot2.{has_unknown_hash, is_kdf_type, area2_out_of_range};
 ghost use Rattle.luks2_metadata.specs.Slot2.{iterations_of_slot, kdf_hash_of, key_size_of, reason2_of};
 ghost use Rattle.luks2_metadata.specs.Slot2.{salt_of, slot2_at, slot2_of, slot_parts2_of};
 ghost use Rattle.luks2_metadata.specs.Slot2.{stripes_member, verdict2_at, verdict2_of};
@@ -15,20 +15,20 @@ ghost use Rattle.serde_json.specs.View.{view as data_of};
 
 mod members;
 
+use crate::bounds::Bounds;
 use crate::digest::iterations_for;
+use crate::payload::{payload, payload_mode};
 use luks_cipher::Mode;
 use luks_kdf::Hash;
 use luks_verdict::bytes::HeaderBytes;
 use luks_verdict::refusal::SkipReason;
-use luks_verdict::rule::{beyond, misplaced, need, unstriped};
-use luks_verdict::slot::{Judgement, Slot, SlotParts};
-use luks2_json::derivation::{hash_in, iterations_in, salt_in};
-use luks2_json::encryption::{is_length_for, mode_of};
-use luks2_json::member::{decimal_text, is_type, text, whole_number};
-use luks2_json::numbered::numbered;
+use luks_verdict::rule::{area_out_of_range, iterations_out_of_range, need, stripes_out_of_range};
+use luks_verdict::slot::{Slot, SlotParts, VerdictKind};
+use luks2_json::derivation::{hash_member, iterations_in, salt_in};
+use luks2_json::encryption::{encryption_mode, is_length_for};
+use luks2_json::member::{decimal_member, integer_member, is_type, string_member};
+use luks2_json::numbered::object_numbered;
 use luks2_json::tree::Metadata;
-use luks2_segment::bounds::Bounds;
-use luks2_segment::payload::{payload, payload_mode};
 use members::{has_members, priority};
 use serde_json::Value;
 use std::alloc::{AllocError, Global};
@@ -47,7 +47,7 @@ fn is_kdf_type(slot: &Value, expected: &str) -> bool
 fn kdf_hash(slot: &Value) -> Option<Hash>
     ensures { result ≡ kdf_hash_of (data_of slot.now) }
 {
-    hash_in(slot.get("kdf")?)
+    hash_member(slot.get("kdf")?)
 }
 
 // Its iterations, or 0 if they are missing.
@@ -74,7 +74,7 @@ fn salt(alloc: Global, slot: &Value) -> Result<HeaderBytes, AllocError>
 fn af_hash(slot: &Value) -> Option<Hash>
     ensures { result ≡ af_hash_of (data_of slot.now) }
 {
-    hash_in(slot.get("af")?)
+    hash_member(slot.get("af")?)
 }
 
 // How many stripes the key material has, or 0 if that is missing.
@@ -82,7 +82,7 @@ fn stripes(slot: &Value) -> u64
     ensures { result ≡ stripes_member (data_of slot.now) }
 {
     match slot.get("af") {
-        Some(af) => whole_number(af, "stripes").unwrap_or(0),
+        Some(af) => integer_member(af, "stripes").unwrap_or(0),
         None => 0,
     }
 }
@@ -91,7 +91,7 @@ fn stripes(slot: &Value) -> u64
 fn key_size(slot: &Value) -> u64
     ensures { result ≡ key_size_of (data_of slot.now) }
 {
-    whole_number(slot, "key_size").unwrap_or(0)
+    integer_member(slot, "key_size").unwrap_or(0)
 }
 
 // The length in bytes of the key material's key, or 0 if it is missing.
@@ -99,7 +99,7 @@ fn area_key_size(slot: &Value) -> u64
     ensures { result ≡ area_key_size_of (data_of slot.now) }
 {
     match slot.get("area") {
-        Some(area) => whole_number(area, "key_size").unwrap_or(0),
+        Some(area) => integer_member(area, "key_size").unwrap_or(0),
         None => 0,
     }
 }
@@ -108,7 +108,7 @@ fn area_key_size(slot: &Value) -> u64
 fn area_mode(slot: &Value) -> Option<Mode>
     ensures { result ≡ area_mode_of (data_of slot.now) }
 {
-    mode_of(text(slot.get("area")?, "encryption")?)
+    encryption_mode(string_member(slot.get("area")?, "encryption")?)
 }
 
 // The first byte of the key material, or 0 if it is missing.
@@ -116,7 +116,7 @@ fn area_offset(slot: &Value) -> u64
     ensures { result ≡ area_offset_of (data_of slot.now) }
 {
     match slot.get("area") {
-        Some(area) => decimal_text(area, "offset").unwrap_or(0),
+        Some(area) => decimal_member(area, "offset").unwrap_or(0),
         None => 0,
     }
 }
@@ -126,7 +126,7 @@ fn area_size(slot: &Value) -> u64
     ensures { result ≡ area_size_of (data_of slot.now) }
 {
     match slot.get("area") {
-        Some(area) => decimal_text(area, "size").unwrap_or(0),
+        Some(area) => decimal_member(area, "size").unwrap_or(0),
         None => 0,
     }
 }
@@ -149,14 +149,14 @@ fn are_key_sizes(payload_mode: Option<Mode>, slot: &Value) -> bool
 }
 
 // The key material does not fit.
-#[tactic(auto, unfolding(crate::specs::Slot2::is_misplaced2))]
-fn is_misplaced(header_end: u64, payload: Option<u64>, slot: &Value) -> bool
+#[tactic(auto, unfolding(crate::specs::Slot2::area2_out_of_range))]
+fn area2_out_of_range(header_end: u64, payload: Option<u64>, slot: &Value) -> bool
     requires short { key_size_of (data_of slot.now) ≤ 64 }
     requires few { stripes_member (data_of slot.now) ≤ 4000 }
-    ensures { result ≡ is_misplaced2 header_end payload (data_of slot.now) }
+    ensures { result ≡ area2_out_of_range header_end payload (data_of slot.now) }
 {
     let need = need(key_size(slot) as u32, stripes(slot) as u32);
-    misplaced(
+    area_out_of_range(
         header_end,
         payload,
         area_offset(slot),
@@ -166,12 +166,12 @@ fn is_misplaced(header_end: u64, payload: Option<u64>, slot: &Value) -> bool
 }
 
 // There is no digest to try the slot of this number against, or its iterations are not made.
-#[tactic(auto, unfolding(luks_verdict::specs::Digest::is_undigested))]
-fn is_undigested(tree: &Value, limit: Option<u32>, number: u8) -> bool
-    ensures { result ≡ is_undigested limit (digest2_for (data_of tree.now) number) }
+#[tactic(auto, unfolding(luks_verdict::specs::Digest::has_no_usable_digest))]
+fn has_no_usable_digest(tree: &Value, limit: Option<u32>, number: u8) -> bool
+    ensures { result ≡ has_no_usable_digest limit (digest2_for (data_of tree.now) number) }
 {
     match iterations_for(tree, number) {
-        Some(iterations) => beyond(limit, u64::from(iterations)),
+        Some(iterations) => iterations_out_of_range(limit, u64::from(iterations)),
         None => true,
     }
 }
@@ -203,13 +203,13 @@ fn reason(
         Some(SkipReason::Encryption)
     } else if !are_key_sizes(payload_mode(tree, bounds), slot) {
         Some(SkipReason::KeySize)
-    } else if unstriped(stripes(slot)) {
+    } else if stripes_out_of_range(stripes(slot)) {
         Some(SkipReason::Stripes)
-    } else if beyond(limit, iterations(slot)) {
+    } else if iterations_out_of_range(limit, iterations(slot)) {
         Some(SkipReason::Iterations)
-    } else if is_misplaced(bounds.end, payload(tree, bounds), slot) {
+    } else if area2_out_of_range(bounds.end, payload(tree, bounds), slot) {
         Some(SkipReason::Area)
-    } else if is_undigested(tree, limit, number) {
+    } else if has_no_usable_digest(tree, limit, number) {
         Some(SkipReason::Digest)
     } else {
         None
@@ -218,41 +218,41 @@ fn reason(
 
 // The verdict on a slot, without what is needed to open it.
 #[tactic(auto, unfolding(crate::specs::Slot2::verdict2_of))]
-fn judge_slot(
+fn slot_verdict_kind(
     tree: &Value,
     bounds: Bounds,
     limit: Option<u32>,
     number: u8,
     slot: &Value,
-) -> Judgement
-    ensures { result ≡ judgement_of
+) -> VerdictKind
+    ensures { result ≡ verdict_kind_of
         (verdict2_of (data_of tree.now) bounds limit number (data_of slot.now)) }
 {
     match reason(tree, bounds, limit, number, slot) {
-        Some(reason) => Judgement::Skipped(reason),
-        None => Judgement::Usable(priority(slot).unwrap_or(0)),
+        Some(reason) => VerdictKind::Skipped(reason),
+        None => VerdictKind::Usable(priority(slot).unwrap_or(0)),
     }
 }
 
 /// The verdict on the key slot of this number, if there is one, in a header with these bounds. A
 /// slot with more iterations than the limit is skipped. This allocates nothing.
 #[tactic(auto, unfolding(crate::specs::Slot2::verdict2_at))]
-pub fn judge(
+pub fn verdict_kind(
     metadata: &Metadata,
     bounds: Bounds,
     limit: Option<u32>,
     number: u8,
-) -> Option<Judgement>
-    ensures { result ≡ option_map judgement_of (verdict2_at metadata.now bounds limit number) }
+) -> Option<VerdictKind>
+    ensures { result ≡ option_map verdict_kind_of (verdict2_at metadata.now bounds limit number) }
 {
-    let slot = numbered(metadata.tree(), "keyslots", number)?;
-    Some(judge_slot(metadata.tree(), bounds, limit, number, slot))
+    let slot = object_numbered(metadata.tree(), "keyslots", number)?;
+    Some(slot_verdict_kind(metadata.tree(), bounds, limit, number, slot))
 }
 
 // What is said of a slot.
 #[tactic(auto, unfolding(crate::specs::Slot2::slot_parts2_of))]
 fn parts(alloc: Global, slot: &Value) -> Result<SlotParts, AllocError>
-    requires iterations { iterations_of_slot (data_of slot.now) ≤ most_iterations }
+    requires iterations { iterations_of_slot (data_of slot.now) ≤ max_iteration_count }
     requires stripes { stripes_member (data_of slot.now) ≤ 4000 }
     requires key { key_size_of (data_of slot.now) ≤ 64 }
     requires area_key { area_key_size_of (data_of slot.now) ≤ 64 }
@@ -302,7 +302,7 @@ pub fn slot(
 ) -> Result<Option<Slot>, AllocError>
     ensures { IfOk result (λ usable. usable ≡ slot2_at metadata.now bounds number) }
 {
-    match numbered(metadata.tree(), "keyslots", number) {
+    match object_numbered(metadata.tree(), "keyslots", number) {
         Some(slot) => usable(alloc, metadata.tree(), bounds, number, slot),
         None => Ok(None),
     }

@@ -14,7 +14,7 @@ use Rattle.luks_seal.specs.declared.parameters.Slot2.{Slot2}
 use Rattle.luks2_seal.specs.Metadata2.{ReadsBack, af_object, area_object, config_object, decimal_value, digest_object}
 use Rattle.luks2_seal.specs.Metadata2.{json_of, kdf_object, keyslot_object, keyslots_below, metadata_of, names_below}
 use Rattle.luks2_seal.specs.Metadata2.{segment_object, size_value}
-use Rattle.luks2_seal.specs.Numbered.{slot_numbered}
+use Rattle.luks2_seal.specs.SlotAreas.{slot_numbered}
 
 -- a member more
 either_depth : (o : Ordering) (a b c : Members) (n : ℕ) → members_depth a ≤ n → members_depth b ≤ n

@@ -8,7 +8,7 @@ use Rattle.luks_kdf.specs.Pbkdf2.{derived_key}
 use Rattle.luks_kdf.proofs.HashLemmas.{digest_sizes}
 use Rattle.luks_kdf.proofs.Pbkdf2Lemmas.{length-derived_key}
 use Rattle.luks_verdict.specs.Digest.{digest_of, is_usable}
-use Rattle.luks_verdict.specs.Rule.{is_beyond, is_digest}
+use Rattle.luks_verdict.specs.Rule.{iterations_out_of_range, is_digest}
 use Rattle.luks_verdict.specs.declared.digest.DigestParts.{DigestParts}
 use Rattle.luks_verdict.specs.declared.digest.KeyDigest.{KeyDigest}
 use Rattle.luks_verdict.proofs.MadeLemmas.{digest_from-yes}
@@ -24,7 +24,7 @@ use Rattle.luks_seal.specs.declared.parameters.Seal2.{Seal2}
 use Rattle.luks_seal.specs.declared.parameters.Slot2.{Slot2}
 use Rattle.luks_seal.proofs.DerivedLemmas.{derived_bytes}
 use Rattle.luks2_seal.specs.Metadata2.{digest_object, metadata_of}
-use Rattle.luks2_seal.specs.Numbered.{slot_numbered}
+use Rattle.luks2_seal.specs.SlotAreas.{slot_numbered}
 use Rattle.luks2_seal.specs.Ranges2.{AreParameters2}
 use Rattle.luks2_seal.specs.Typed2.{AreTyped2}
 use Rattle.luks2_seal.proofs.Slots2.{names_texts, slot_listed}
@@ -41,7 +41,7 @@ digest_parts p = record {
 
 in_range : (iterations len : ℕ) → 1 ≤ iterations → iterations < 2 ^ 32 → 20 ≤ len → len ≤ 64
     → is_digest iterations len ≡ true
-unfolding is_digest is_beyond
+unfolding is_digest iterations_out_of_range
 in_range iterations len some few least most = grind (arith, nat_tests)
 
 module _ (p : Seal2) (fits : AreParameters2 p) (typed : AreTyped2 p) where

@@ -7,7 +7,7 @@ use Rattle.std.specs.Option.{option_map_or}
 use Rattle.std.proofs.lemmas.Bool.{cases_lt}
 use Rattle.std.proofs.lemmas.List.{take_all}
 use Rattle.std.proofs.lemmas.List.Elements.{All-head, All-tail}
-use Rattle.luks_area.specs.Field.{at}
+use Rattle.luks_area.specs.Fields.{at}
 use Rattle.luks_cipher.proofs.ModeLemmas.{longest_mode_key}
 use Rattle.luks_verdict.specs.Rule.{need_of}
 use Rattle.luks_verdict.specs.SectorSize.{bytes_of}
@@ -16,18 +16,18 @@ use Rattle.luks_verdict.specs.declared.sector_size.SectorSize.TheVariants.{B512,
 use Rattle.luks_seal.specs.Pieces.{encrypted_material, padded, stripes_of}
 use Rattle.luks_seal.specs.declared.parameters.Seal2.{Seal2}
 use Rattle.luks_seal.specs.declared.parameters.Slot2.{Slot2}
-use Rattle.luks_seal.proofs.MaterialLemmas.{AreDrawn, length-material_of, length-stripes_of}
+use Rattle.luks_seal.proofs.MaterialLemmas.{AreDrawn, length-encrypted_material, length-stripes_of}
 use Rattle.luks_seal.proofs.SectorLemmas.{length-sectors_encrypted}
 use Rattle.luks_seal.proofs.SlicingLemmas.{at_at, at_behind, at_first, at_padded, at_second, length-padded}
 use Rattle.luks2_seal.specs.Layout2.{area_key_of, area_of, areas_below, header2_bytes, headers_of, image2_of, payload_of}
 use Rattle.luks2_seal.specs.Layout2.{primary_magic, secondary_magic}
 use Rattle.luks2_seal.specs.Metadata2.{FitsJson}
-use Rattle.luks2_seal.specs.Numbered.{area_size, area_start, slot_numbered}
+use Rattle.luks2_seal.specs.SlotAreas.{area_size, area_start, slot_numbered}
 use Rattle.luks2_seal.specs.Ranges2.{AreParameters2, FitsSlot2}
 use Rattle.luks2_seal.specs.Typed2.{AreTyped2}
 use Rattle.luks2_seal.proofs.Header2.{length-header, primary_start, secondary_start}
 use Rattle.luks2_seal.proofs.Slots2.{start_rises}
-use Rattle.luks2_seal.proofs.Judged2.{need_fits}
+use Rattle.luks2_seal.proofs.Verdicts2.{need_fits}
 
 -- what holds of each slot holds of the one of a number
 numbered_fits : (P : Slot2 → Type 0) (number : ℕ) (slots : List Slot2) (slot : Slot2) → All P slots
@@ -72,7 +72,7 @@ module _ (p : Seal2) (fits : AreParameters2 p) (json : FitsJson p) (typed : AreT
       ≡ need_of (length p.key.now) slot.stripes
   unfolding need_of
   length-material slot of_slot =
-      length-material_of p.area_mode (area_key_of p slot)
+      length-encrypted_material p.area_mode (area_key_of p slot)
       (stripes_of slot.af_hash p.key.now slot.stripes slot.random.now)
       ∙ ap (λ n. (n + 511) / 512 * 512)
       (length-stripes_of slot.af_hash p.key.now slot.stripes slot.random.now (drawn slot of_slot))

@@ -10,7 +10,7 @@ use Rattle.luks2_metadata.specs.Slot2.{kdf_hash_of, priority_of, slot_parts2_of}
 use Rattle.luks_seal.specs.declared.parameters.Seal2.{Seal2}
 use Rattle.luks_seal.specs.declared.parameters.Slot2.{Slot2}
 use Rattle.luks2_seal.specs.Metadata2.{af_object, area_object, kdf_object, keyslot_object}
-use Rattle.luks2_seal.specs.Numbered.{area_size, area_start, slot_numbered}
+use Rattle.luks2_seal.specs.SlotAreas.{area_size, area_start, slot_numbered}
 use Rattle.luks2_seal.specs.Ranges2.{FitsSlot2}
 use Rattle.luks2_seal.specs.Typed2.{IsTypedSlot2}
 use Rattle.luks2_seal.proofs.TextLemmas.{base64_read, decimal_read, hash_read, mode_read}

@@ -5,7 +5,7 @@ pub mod Slots2
 pub mod Keyslot2
 pub mod Segment2
 pub mod Digest2
-pub mod Judged2
+pub mod Verdicts2
 pub mod Depth2
 pub mod Header2
 pub mod Image2

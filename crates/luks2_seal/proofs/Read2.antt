@@ -8,7 +8,7 @@ use Rattle.std.proofs.lemmas.Bool.{le-leb, le-ltb, ne_eqb}
 use Rattle.std.proofs.lemmas.List.{get_or-append_right, get_or_append_left, take_at}
 use Rattle.std.proofs.lemmas.List.Sums.{position_or_len_is}
 use Rattle.std.proofs.lemmas.Str.{is_utf8-from_IsUtf8}
-use Rattle.luks_area.specs.Field.{at, be64, text_of}
+use Rattle.luks_area.specs.Fields.{at, be64, text_of}
 use Rattle.luks_kdf.specs.declared.hash.Hash.TheVariants.{Sha256}
 use Rattle.luks1_header.specs.Header1.{is_luks1}
 use Rattle.luks2_binary.specs.Choice2.{beginning_at, with_valid_primary, binary_at, chosen2_of, fits, header2_of, is_valid}
@@ -26,7 +26,7 @@ use Rattle.luks_seal.specs.declared.parameters.Seal2.{Seal2}
 use Rattle.luks_seal.proofs.SlicingLemmas.{at_at}
 use Rattle.luks2_seal.specs.Layout2.{header2_bytes, image2_of, primary_magic, secondary_magic}
 use Rattle.luks2_seal.specs.Metadata2.{FitsJson, ReadsBack, json_of, metadata_of}
-use Rattle.luks2_seal.specs.Numbered.{area_start}
+use Rattle.luks2_seal.specs.SlotAreas.{area_start}
 use Rattle.luks2_seal.specs.Ranges2.{AreParameters2}
 use Rattle.luks2_seal.specs.Typed2.{AreTyped2}
 use Rattle.luks2_seal.proofs.Header2.{IsStart, binary_begins, binary_hash, binary_sequence, binary_size, intact}

@@ -5,11 +5,11 @@ use Rattle.std.proofs.lemmas.List.Elements.{All-map}
 use Rattle.luks_verdict.specs.SectorSize.{bytes_of}
 use Rattle.luks_verdict.specs.Segment.{segment_by}
 use Rattle.luks_verdict.specs.declared.slot.SlotParts.{SlotParts}
-use Rattle.luks2_segment.specs.Segment2.{segment2_of}
+use Rattle.luks2_metadata.specs.Segment2.{segment2_of}
 use Rattle.luks2_metadata.specs.Slot2.{verdict2_at}
-use Rattle.luks_header.specs.Digest.{digest_for}
-use Rattle.luks_header.specs.Segment.{segment_of}
-use Rattle.luks_header.specs.Slot.{verdict_at}
+use Rattle.luks_header.specs.HeaderDigests.{digest_for}
+use Rattle.luks_header.specs.HeaderSegment.{segment_of}
+use Rattle.luks_header.specs.SlotVerdicts.{verdict_at}
 use Rattle.luks_header.specs.declared.header.Header.{Header}
 use Rattle.luks_header.specs.declared.header.Header.TheVariants.{V2}
 use Rattle.luks_seal.specs.Sealed.{EndsWith, GivesKey, Sealed, SealsKey, SealsPlain}
@@ -19,8 +19,8 @@ use Rattle.luks_seal.proofs.MaterialLemmas.{gives_key}
 use Rattle.luks_seal.proofs.SectorLemmas.{sectors_stand}
 use Rattle.luks2_seal.specs.Layout2.{area_key_of, image2_of, payload_of}
 use Rattle.luks2_seal.specs.Metadata2.{FitsJson, ReadsBack, metadata_of}
-use Rattle.luks2_seal.specs.Numbered.{slot_numbered}
-use Rattle.luks2_seal.specs.Passphrases.{passphrases2_of}
+use Rattle.luks2_seal.specs.SlotAreas.{slot_numbered}
+use Rattle.luks2_seal.specs.Passphrases2.{passphrases2_of}
 use Rattle.luks2_seal.specs.Ranges2.{AreParameters2, FitsSlot2}
 use Rattle.luks2_seal.specs.Typed2.{AreTyped2, IsTypedSlot2}
 use Rattle.luks2_seal.proofs.Digest2.{digest_is, digest_read, of_key}
@@ -30,7 +30,7 @@ use Rattle.luks2_seal.proofs.Keyslot2.{IsPlaced, parts_of}
 use Rattle.luks2_seal.proofs.Slots2.{numbered_each}
 use Rattle.luks2_seal.proofs.Read2.{bounds_there, header_is, header_read}
 use Rattle.luks2_seal.proofs.Segment2.{fixed_size, segment_is, segment_read}
-use Rattle.luks2_seal.proofs.Judged2.{need_fits, slot_is, slot_parts, slot_usable}
+use Rattle.luks2_seal.proofs.Verdicts2.{need_fits, slot_is, slot_parts, slot_usable}
 
 -- a payload that ends with the image ends there, whether its length is fixed or not
 ends_there : (fixed : Bool) (plain image : List ℕ) (end : ℕ) → length image ≡ end

@@ -13,16 +13,16 @@ use Rattle.luks_verdict.specs.declared.sector_size.SectorSize.TheVariants.{B512,
 use Rattle.luks_verdict.specs.declared.segment.Segment.{Segment}
 use Rattle.luks_verdict.proofs.MadeLemmas.{segment_of_all-yes}
 use Rattle.luks2_json.specs.Member.{decimal_of, decimal_member, is_named, string_member, integer_member}
-use Rattle.luks2_segment.specs.Segment2.{fault2_of, has_requirement, has_segment_members, is_segment, is_torn}
-use Rattle.luks2_segment.specs.Segment2.{iv_tweak_of, mode2_of, offset_of, sector_size_of, sector_size_with}
-use Rattle.luks2_segment.specs.Segment2.{segment2_of, segment_parts2_of, size_member, overlaps_headers2, starts_wrong}
-use Rattle.luks2_segment.specs.Segment2.{the_segment}
-use Rattle.luks2_segment.specs.declared.bounds.Bounds.{Bounds}
-use Rattle.luks2_segment.proofs.SegmentLemmas.{said-there, segment2-none}
+use Rattle.luks2_metadata.specs.Segment2.{fault2_of, has_requirement, has_segment_members, is_segment, is_torn}
+use Rattle.luks2_metadata.specs.Segment2.{iv_tweak_of, mode2_of, offset_of, sector_size_of, sector_size_with}
+use Rattle.luks2_metadata.specs.Segment2.{segment2_of, segment_parts2_of, size_member, overlaps_headers2, starts_wrong}
+use Rattle.luks2_metadata.specs.Segment2.{the_segment}
+use Rattle.luks2_metadata.specs.declared.bounds.Bounds.{Bounds}
+use Rattle.luks2_metadata.proofs.SegmentLemmas.{said-there, segment2-none}
 use Rattle.serde_json.specs.Find.{as_str}
 use Rattle.luks_seal.specs.declared.parameters.Seal2.{Seal2}
 use Rattle.luks2_seal.specs.Metadata2.{config_object, metadata_of, segment_object, size_value}
-use Rattle.luks2_seal.specs.Numbered.{area_start}
+use Rattle.luks2_seal.specs.SlotAreas.{area_start}
 use Rattle.luks2_seal.specs.Ranges2.{AreParameters2}
 use Rattle.luks2_seal.specs.Typed2.{AreTyped2}
 use Rattle.luks2_seal.proofs.Slots2.{start_rises}

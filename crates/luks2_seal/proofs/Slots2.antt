@@ -15,7 +15,7 @@ use Rattle.luks2_json.specs.List.{all_items, any_item, is_text, is_the_text}
 use Rattle.luks_seal.specs.declared.parameters.Seal2.{Seal2}
 use Rattle.luks_seal.specs.declared.parameters.Slot2.{Slot2}
 use Rattle.luks2_seal.specs.Metadata2.{decimal_value, keyslot_object, keyslots_below, names_below}
-use Rattle.luks2_seal.specs.Numbered.{area_size_at, area_start, slot_numbered}
+use Rattle.luks2_seal.specs.SlotAreas.{area_size_at, area_start, slot_numbered}
 use Rattle.luks2_seal.specs.Ranges2.{AreDistinct2}
 
 -- each slot is that of its number

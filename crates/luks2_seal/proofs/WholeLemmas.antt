@@ -14,7 +14,7 @@ use Rattle.luks_seal.specs.declared.parameters.Slot2.{Slot2}
 use Rattle.luks2_seal.specs.Metadata2.{af_object, area_object, config_object, decimal_value, digest_object, kdf_object}
 use Rattle.luks2_seal.specs.Metadata2.{keyslot_object, keyslots_below, metadata_of, names_below, segment_object}
 use Rattle.luks2_seal.specs.Metadata2.{size_value}
-use Rattle.luks2_seal.specs.Numbered.{slot_numbered}
+use Rattle.luks2_seal.specs.SlotAreas.{slot_numbered}
 
 -- where one or the other is false, both are
 both_false : (a b : Bool) → (a || b) ≡ false → (a ≡ false) × (b ≡ false)

@@ -10,7 +10,7 @@ use Rattle.luks_seal.specs.Pieces.{encrypted_material, padded, sectors_encrypted
 use Rattle.luks_seal.specs.declared.parameters.Seal2.{Seal2}
 use Rattle.luks_seal.specs.declared.parameters.Slot2.{Slot2}
 use Rattle.luks2_seal.specs.Metadata2.{json_of}
-use Rattle.luks2_seal.specs.Numbered.{area_size, slot_numbered}
+use Rattle.luks2_seal.specs.SlotAreas.{area_size, slot_numbered}
 
 -- the first bytes of the primary header, and of the secondary one
 abbrev pub primary_magic : List ℕ

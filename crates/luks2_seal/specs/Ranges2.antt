@@ -1,10 +1,10 @@
 -- What a volume of LUKS2 may be made from.
 use Rattle.std.specs.Prelude.{◌≡◌, ◌≢◌, ℕ, ◌-◌, ◌*◌, ◌%◌, ◌≤◌, ◌==◌, ◌||◌, Bool, true, List, [], ◌∷◌, All, length}
 use Rattle.luks_verdict.specs.SectorSize.{bytes_of}
-use Rattle.luks_seal.specs.Ranges.{FitsKey, FitsText, longest_plain}
+use Rattle.luks_seal.specs.Ranges.{FitsKey, FitsText, max_plain_len}
 use Rattle.luks_seal.specs.declared.parameters.Seal2.{Seal2}
 use Rattle.luks_seal.specs.declared.parameters.Slot2.{Slot2}
-use Rattle.luks2_seal.specs.Numbered.{area_start}
+use Rattle.luks2_seal.specs.SlotAreas.{area_start}
 
 -- the lengths in bytes that a header and its JSON area can have together (LUKS2 On-Disk Format Specification 1.1,
 -- section 2.2)
@@ -23,7 +23,7 @@ FitTexts p = FitsText 40 p.uuid.now × FitsText 48 p.label.now × FitsText 48 p.
 
 -- whole sectors of this length, and not too many
 abbrev pub FitsPlain2 : ℕ → ℕ → Type 0
-FitsPlain2 sector len = (len % sector ≡ 0) × (len ≤ longest_plain)
+FitsPlain2 sector len = (len % sector ≡ 0) × (len ≤ max_plain_len)
 
 -- one slot of a volume whose key has so many bytes
 abbrev pub FitsSlot2 : ℕ → Slot2 → Type 0

@@ -4,16 +4,16 @@ ghost use Rattle.std.specs.Prelude.{◌≡◌, ◌*◌, ◌≤◌, ◌++◌, All
 ghost use Rattle.std.specs.Prelude.{option_copied};
 ghost use Rattle.std.specs.Option.{option_map_or};
 ghost use Rattle.luks2_seal.specs.Layout2.{area_key_of, area_of, areas_below};
-ghost use Rattle.luks2_seal.specs.Numbered.{area_size, area_size_at, area_start, slot_numbered};
+ghost use Rattle.luks2_seal.specs.SlotAreas.{area_size, area_size_at, area_start, slot_numbered};
 ghost use Rattle.luks2_seal.specs.Ranges2.{AreParameters2, FitsSlot2};
 
 use luks_kdf::{Work, pbkdf2};
 use luks_seal::parameters::{Seal2, Slot2};
-use luks_seal::pieces::{material_of, push_padded, stripes_of};
+use luks_seal::pieces::{encrypted_material, push_padded, stripes_of};
 use std::alloc::{AllocError, Global};
 
 /// The slot of this number, if there is one.
-pub(crate) fn numbered<'a>(seal: &Seal2<'a>, number: u32) -> Option<&'a Slot2<'a>>
+pub(crate) fn slot_numbered<'a>(seal: &Seal2<'a>, number: u32) -> Option<&'a Slot2<'a>>
     requires { All (FitsSlot2 (length seal.now.key.now)) seal.now.slots.now }
     ensures value { option_copied result ≡ slot_numbered number seal.now.slots.now }
     ensures fits { IfSome result (λ slot. FitsSlot2 (length seal.now.key.now) slot.now) }
@@ -43,7 +43,7 @@ fn area_size_at(seal: &Seal2<'_>, number: u32) -> u64
     ensures value { result ≡ area_size_at seal.now number }
     ensures most { result ≤ 258048 }
 {
-    match numbered(seal, number) {
+    match slot_numbered(seal, number) {
         Some(slot) => area_size(seal.key.len(), slot.stripes),
         None => 0,
     }
@@ -51,7 +51,7 @@ fn area_size_at(seal: &Seal2<'_>, number: u32) -> u64
 
 /// Where the area of the slot of this number starts: behind both headers and the areas of all slots
 /// with lower numbers.
-#[tactic(auto, unfolding(crate::specs::Numbered::area_start))]
+#[tactic(auto, unfolding(crate::specs::SlotAreas::area_start))]
 pub(crate) fn area_start(seal: &Seal2<'_>, number: u32) -> u64
     requires size { seal.now.hdr_size ≤ 4194304 }
     requires key { length seal.now.key.now ≤ 64 }
@@ -100,7 +100,7 @@ fn push_area(
 {
     let area_key = area_key_of(alloc, seal, slot)?;
     let stripes = stripes_of(alloc, slot.af_hash, seal.key, slot.stripes, slot.random)?;
-    let material = material_of(alloc, seal.area_mode, &area_key, &stripes)?;
+    let material = encrypted_material(alloc, seal.area_mode, &area_key, &stripes)?;
     let size = area_size(seal.key.len(), slot.stripes);
     push_padded(alloc, image, &material, size as usize)
 }
@@ -116,7 +116,7 @@ pub(crate) fn push_areas(
     ensures { OnOk result (image.new.items ≡ image.old.items ++ areas_below seal.now 32) }
 {
     'slots: for number in 0..32 {
-        if let Some(slot) = numbered(seal, number) {
+        if let Some(slot) = slot_numbered(seal, number) {
             push_area(alloc, image, seal, slot)?;
         }
     }

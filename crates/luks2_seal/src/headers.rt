@@ -78,7 +78,7 @@ fn fields_of(
 
 /// The bytes behind the checksum: zeros, and the JSON area.
 #[tactic(auto, unfolding(crate::specs::Layout2::body_bytes))]
-fn rest_of(alloc: Global, seal: &Seal2<'_>, json: &[u8]) -> Result<Vec<u8>, AllocError>
+fn body_bytes(alloc: Global, seal: &Seal2<'_>, json: &[u8]) -> Result<Vec<u8>, AllocError>
     requires fits { AreParameters2 seal.now }
     requires json { json.now ≡ json_of seal.now }
     ensures { IfOk result (λ rest. rest.items ≡ body_bytes seal.now) }
@@ -132,7 +132,7 @@ pub(crate) fn headers_of(
     requires json { json.now ≡ json_of seal.now }
     ensures { IfOk result (λ headers. headers.items ≡ headers_of seal.now) }
 {
-    let rest = rest_of(alloc, seal, json)?;
+    let rest = body_bytes(alloc, seal, json)?;
     let mut headers = Vec::new(alloc);
     push_header(
         alloc,

@@ -27,14 +27,14 @@ pub(crate) enum Content<'a> {
 }
 
 /// A number in decimal digits, as a text.
-pub(crate) fn decimal_text(alloc: Global, number: u64) -> Result<Value, AllocError>
+pub(crate) fn decimal_value(alloc: Global, number: u64) -> Result<Value, AllocError>
     ensures { IfOk result (λ value. view value ≡ decimal_value number) }
 {
     Ok(Value::from(number.to_string(alloc)?))
 }
 
 /// Bytes in base64.
-fn base64_text(alloc: Global, bytes: &[u8]) -> Result<Value, AllocError>
+fn base64_value(alloc: Global, bytes: &[u8]) -> Result<Value, AllocError>
     ensures { IfOk result (λ value. view value ≡ base64_value bytes.now) }
 {
     Ok(Value::from(STANDARD.encode(alloc, bytes)?))
@@ -56,8 +56,8 @@ fn value_of(alloc: Global, content: Content<'_>) -> Result<Value, AllocError>
     match content {
         Content::Text(text) => Value::try_from_str(alloc, text),
         Content::Number(number) => Ok(Value::from(number)),
-        Content::Decimal(number) => decimal_text(alloc, number),
-        Content::Bytes(bytes) => base64_text(alloc, bytes),
+        Content::Decimal(number) => decimal_value(alloc, number),
+        Content::Bytes(bytes) => base64_value(alloc, bytes),
         Content::Encryption(mode) => encryption_text(alloc, mode),
     }
 }

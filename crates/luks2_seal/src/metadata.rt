@@ -12,8 +12,8 @@ ghost use Rattle.luks2_seal.specs.Ranges2.{AreParameters2, FitsSlot2};
 ghost use Rattle.serde_json.specs.Data.{array, member, no_members, object, put, string};
 ghost use Rattle.serde_json.specs.View.{items_of, members_view, view};
 
-use crate::areas::{area_size, area_start, numbered};
-use crate::members::{Content, decimal_text, object_of, put_members, put_object};
+use crate::areas::{area_size, area_start, slot_numbered};
+use crate::members::{Content, decimal_value, object_of, put_members, put_object};
 use luks_kdf::{Work, pbkdf2};
 use luks_seal::parameters::{Seal2, Slot2};
 use serde_json::{Map, Value, json, put};
@@ -133,7 +133,7 @@ fn keyslots(alloc: Global, seal: &Seal2<'_>) -> Result<Map<String, Value>, Alloc
 {
     let mut map = Map::new(alloc);
     'slots: for number in 0..32 {
-        if let Some(slot) = numbered(seal, number) {
+        if let Some(slot) = slot_numbered(seal, number) {
             let keyslot = keyslot_object(alloc, seal, slot)?;
             let name = number.to_string(alloc)?;
             put(&mut map, alloc, name.as_str(), keyslot)?;
@@ -150,8 +150,8 @@ fn keyslot_names(alloc: Global, seal: &Seal2<'_>) -> Result<Vec<Value>, AllocErr
 {
     let mut names = Vec::new(alloc);
     'slots: for number in 0..32 {
-        if numbered(seal, number).is_some() {
-            names.push(decimal_text(alloc, u64::from(number))?)?;
+        if slot_numbered(seal, number).is_some() {
+            names.push(decimal_value(alloc, u64::from(number))?)?;
         }
     }
     Ok(names)
@@ -235,7 +235,7 @@ fn put_digest(
 }
 
 /// The payload's length, if it is fixed.
-fn size_text<'a>(fixed: bool, len: usize) -> Content<'a>
+fn size_value<'a>(fixed: bool, len: usize) -> Content<'a>
     ensures { data_of result ≡ size_value fixed len }
 {
     if fixed {
@@ -260,7 +260,7 @@ fn segment_object(alloc: Global, seal: &Seal2<'_>) -> Result<Value, AllocError>
                 "sector_size",
                 Content::Number(seal.sector_size.bytes() as u64),
             ),
-            ("size", size_text(seal.fixed, seal.plain.len())),
+            ("size", size_value(seal.fixed, seal.plain.len())),
             ("type", Content::Text("crypt")),
         ],
     )

@@ -1,12 +1,12 @@
 -- What opening a volume comes to, in the words of `luksCat`.
-use Rattle.std.proofs.Common.{◌≡◌, ◌≢◌, ℕ, ◌<◌, ◌≤◌, inl, inr, List, Option, Some, None, Result, Ok, Err, ◌∙◌, ap, sym}
+use Rattle.std.proofs.Common.{◌≡◌, ◌≢◌, ℕ, ◌≤◌, inl, inr, List, Option, Some, None, Result, Ok, Err, ◌∙◌, ap, sym}
 use Rattle.std.proofs.Common.{refl, subst, take, drop, length, ◌-◌, ◌%◌, Bool, true, false}
 use Rattle.std.specs.Prelude.{◌==◌, nat_lt, if◌then◌else◌}
 use Rattle.luks_area.specs.declared.fault.HeaderFault.TheVariants.{NotLuks as NoLuks, Cut as IsCut, Json as NoJson}
 use Rattle.luks_area.specs.declared.fault.HeaderFault.TheVariants.{Read as LostRead, Memory as NoMemory}
 use Rattle.luks_area.specs.declared.fault.HeaderFault.{HeaderFault}
 use Rattle.luks_header.specs.Header.{header_read_len}
-use Rattle.luks_header.specs.Segment.{segment_of}
+use Rattle.luks_header.specs.HeaderSegment.{segment_of}
 use Rattle.luks_header.specs.declared.header.Header.{Header}
 use Rattle.luks_open.specs.Order.{OrderModel, key_areas_end, order_of}
 use Rattle.luks_open.specs.declared.opening.Opened.{Opened}
@@ -14,22 +14,21 @@ use Rattle.luks_report.specs.Faults.{message_at_end}
 use Rattle.luks_report.specs.declared.message.Message.{Message}
 use Rattle.luks_report.specs.declared.message.Message.TheVariants.{Done, KeyFileLength, OutOfMemory, ReadFailed}
 use Rattle.luks_report.specs.declared.message.Message.TheVariants.{WriteFailed}
-use Rattle.luks_request.specs.Request.{OpeningRequest}
+use Rattle.luks_request.specs.Request.{VolumeRequest}
 use Rattle.luks_runs.specs.Ending.{Outcome, no_output}
-use Rattle.luks_runs.specs.Reading.{Reading}
-use Rattle.luks_runs.specs.Run.{breaks_off}
-use Rattle.luks_runs.specs.Secret.{longest_key_file}
-use Rattle.luks_runs.specs.Standing.{reading_of}
-use Rattle.luks_runs.specs.declared.standing.Standing.{Standing}
-use Rattle.luks_runs.specs.declared.standing.Standing.TheVariants.{Attached, Detached}
+use Rattle.luks_runs.specs.HeaderReading.{HeaderReader}
+use Rattle.luks_runs.specs.Run.{aborts}
+use Rattle.luks_runs.specs.KeyFile.{max_key_file_len}
+use Rattle.luks_runs.specs.Location.{reader_for}
+use Rattle.luks_runs.specs.declared.location.HeaderLocation.{HeaderLocation}
+use Rattle.luks_runs.specs.declared.location.HeaderLocation.TheVariants.{Attached, Detached}
 use Rattle.luks_unlock.proofs.HonestVolumes.{unsealed}
 use Rattle.luks_unlock.proofs.OutcomeLemmas.{area_cut, found_cut, found_is, found_long, outcome_is, tried_is}
 use Rattle.luks_unlock.proofs.OutcomeLemmas.{volume_with}
 use Rattle.luks_unlock.specs.Finding.{AbortsFinding}
-use Rattle.luks_unlock.specs.Honest.{IsHonest}
-use Rattle.luks_unlock.specs.MayEnd.{OpeningMessage}
+use Rattle.luks_unlock.specs.OpeningMessages.{OpeningMessage}
 use Rattle.luks_unlock.specs.Trying.{TriesSlots}
-use Rattle.luks_unlock.specs.Volume.{OnOpened, Volume, detached_payload_outcome, held_for, payload_outcome}
+use Rattle.luks_unlock.specs.Volume.{OnOpened, detached_payload_outcome, held_for, payload_outcome}
 use Rattle.luks_unlock.specs.Volume.{outcome_after, volume_by, volume_in_header, volume_in_segment}
 use Rattle.luks_unlock.specs.Volume.{volume_outcome_by}
 use Rattle.luks_verdict.specs.declared.refusal.SegmentFault.{SegmentFault}
@@ -47,7 +46,7 @@ use Rattle.luks_access.specs.declared.options.Options.{Options}
 
 -- ---- only the named key slot and the limit matter of what is asked
 
-module _ (o p : OpeningRequest) (slot : o.key_slot ≡ p.key_slot) (limit : o.max_iterations ≡ p.max_iterations) where
+module _ (o p : VolumeRequest) (slot : o.key_slot ≡ p.key_slot) (limit : o.max_iterations ≡ p.max_iterations) where
   same_in_segment : (header : Header) (r : Result Segment SegmentFault)
       → volume_in_segment o header r ≡ volume_in_segment p header r
   same_in_segment header (Ok segment) = rw (slot, limit) refl
@@ -57,7 +56,7 @@ module _ (o p : OpeningRequest) (slot : o.key_slot ≡ p.key_slot) (limit : o.ma
   same_in_header (Ok header) = same_in_segment header (segment_of header)
   same_in_header (Err fault) = refl
 
-  pub same_outcome : (read : Reading) (on_opened : OnOpened) (image pass : List ℕ)
+  pub same_outcome : (read : HeaderReader) (on_opened : OnOpened) (image pass : List ℕ)
       → volume_outcome_by read on_opened o image pass ≡ volume_outcome_by read on_opened p image pass
   unfolding volume_outcome_by volume_by
   same_outcome read on_opened image pass =
@@ -65,15 +64,15 @@ module _ (o p : OpeningRequest) (slot : o.key_slot ≡ p.key_slot) (limit : o.ma
       ∙ ap (λ named. outcome_after on_opened named image pass (volume_in_header p (read image))) slot
 
 -- two commands with the same options are asked for the same
-pub same_options : (options : Options) (o p : OpeningRequest) → HasOptions o options → HasOptions p options
-    → (read : Reading) (on_opened : OnOpened) (image pass : List ℕ)
+pub same_options : (options : Options) (o p : VolumeRequest) → HasOptions o options → HasOptions p options
+    → (read : HeaderReader) (on_opened : OnOpened) (image pass : List ℕ)
     → volume_outcome_by read on_opened o image pass ≡ volume_outcome_by read on_opened p image pass
 same_options options o p of_o of_p = same_outcome o p (of_o.0 ∙ sym of_p.0) (of_o.1 ∙ sym of_p.1)
 
 -- ---- refusals
 
 -- neither memory nor a read failed
-no_abort : (message : Message) → breaks_off message ≡ false
+no_abort : (message : Message) → aborts message ≡ false
     → (message ≢ OutOfMemory) × (message ≢ ReadFailed) × (message ≢ WriteFailed)
 no_abort OutOfMemory never = cc
 no_abort ReadFailed never = cc
@@ -81,37 +80,37 @@ no_abort WriteFailed never = cc
 no_abort _ never = (λ is. cc, λ is. cc, λ is. cc)
 
 -- a command of these options comes to this outcome, whatever it does with a volume
-abbrev ComesTo : Options → OpeningRequest → List ℕ → List ℕ → Outcome → Type 0
+abbrev ComesTo : Options → VolumeRequest → List ℕ → List ℕ → Outcome → Type 0
 ComesTo options o image pass out =
-    (on_opened : OnOpened) → volume_outcome_by (reading_of options.standing) on_opened o image pass ≡ out
+    (on_opened : OnOpened) → volume_outcome_by (reader_for options.location) on_opened o image pass ≡ out
 
-refused_by : (options : Options) (o : OpeningRequest) (image pass : List ℕ) (message : Message) (a b : ℕ)
+refused_by : (options : Options) (o : VolumeRequest) (image pass : List ℕ) (message : Message) (a b : ℕ)
     → HasOptions o options → ComesTo options o image pass (no_output message a b) → Refuses options image pass message
 refused_by options o image pass message a b has comes = record {
-  header_taken = a;
-  secret_taken = b;
-  outcome = λ p of_p on_opened. same_options options p o of_p has (reading_of options.standing) on_opened image pass
+  header_consumed = a;
+  secret_consumed = b;
+  outcome = λ p of_p on_opened. same_options options p o of_p has (reader_for options.location) on_opened image pass
       ∙ comes on_opened;
 }
 
-module _ (options : Options) (o : OpeningRequest) (image pass : List ℕ) (i : Option (List ℕ))
+module _ (options : Options) (o : VolumeRequest) (image pass : List ℕ) (i : Option (List ℕ))
     (has : HasOptions o options) where
   -- there is no volume
-  pub refused_unfound : (message : Message) → breaks_off message ≡ false
-      → AbortsFinding (reading_of options.standing) o image i message → Refuses options image pass message
+  pub refused_unfound : (message : Message) → aborts message ≡ false
+      → AbortsFinding (reader_for options.location) o image i message → Refuses options image pass message
   refused_unfound OutOfMemory never stop = cc
   refused_unfound ReadFailed never stop = cc
   refused_unfound WriteFailed never stop = cc
   refused_unfound message never stop =
       refused_by options o image pass message (header_read_len image) 0 has
-      (λ on_opened. outcome_is options.standing o image pass on_opened (Err message) stop.0)
+      (λ on_opened. outcome_is options.location o image pass on_opened (Err message) stop.0)
 
   module _ (header : Header) (segment : Segment) (tries : OrderModel)
-      (found : reading_of options.standing image ≡ Ok header) (is_segment : segment_of header ≡ Ok segment)
+      (found : reader_for options.location image ≡ Ok header) (is_segment : segment_of header ≡ Ok segment)
       (ordered : order_of header o.key_slot o.max_iterations ≡ Ok tries) (area area' : List ℕ)
       (front : area ≡ take (header_read_len image) image) where
     -- the key slots were tried, and none of them opens
-    refused_slots : (short : length pass ≤ longest_key_file) (message : Message) → breaks_off message ≡ false
+    refused_slots : (short : length pass ≤ max_key_file_len) (message : Message) → aborts message ≡ false
         → TriesSlots o.key_slot tries pass area area' (drop (header_read_len image) image) i (Err message)
         → Refuses options image pass message
     refused_slots short message never (inl (LostRead, is, lost)) = cc
@@ -123,16 +122,16 @@ module _ (options : Options) (o : OpeningRequest) (image pass : List ℕ) (i : O
         let v = volume_with header segment tries in
         let cut = area_cut image area area' i (key_areas_end tries.slots) front grows few in
         rw is (refused_by options o image pass _ (length image) (length pass) has
-        (λ on_opened. found_is options.standing o image pass header segment tries found is_segment ordered on_opened
+        (λ on_opened. found_is options.location o image pass header segment tries found is_segment ordered on_opened
         ∙ found_cut on_opened o.key_slot v image pass short cut.0))
     refused_slots short message never (inr (grows, inr (fault, is, enough, tried))) =
         let v = volume_with header segment tries in
         rw is (refused_by options o image pass _ (held_for image v) (length pass) has
-        (λ on_opened. tried_is options.standing o image pass header segment tries found is_segment ordered short area
+        (λ on_opened. tried_is options.location o image pass header segment tries found is_segment ordered short area
         area' i front grows enough (Err fault) tried on_opened))
 
     -- the volume was not opened
-    pub refused_unopened : (message : Message) → breaks_off message ≡ false
+    pub refused_unopened : (message : Message) → aborts message ≡ false
         → UnlocksVolume o.key_slot tries pass area area' (drop (header_read_len image) image) i (Err message)
         → Refuses options image pass message
     refused_unopened message never (inl (short, tried)) = refused_slots short message never tried
@@ -140,7 +139,7 @@ module _ (options : Options) (o : OpeningRequest) (image pass : List ℕ) (i : O
         let v = volume_with header segment tries in
         let same : message ≡ KeyFileLength = cc in
         rw same (refused_by options o image pass KeyFileLength (header_read_len image) _ has
-        (λ on_opened. found_is options.standing o image pass header segment tries found is_segment ordered on_opened
+        (λ on_opened. found_is options.location o image pass header segment tries found is_segment ordered on_opened
         ∙ found_long on_opened o.key_slot v image pass long))
 
     -- the volume was opened
@@ -152,21 +151,21 @@ module _ (options : Options) (o : OpeningRequest) (image pass : List ℕ) (i : O
         record {
           held = held_for image v;
           outcome = λ p of_p on_opened.
-              same_options options p o of_p has (reading_of options.standing) on_opened image pass
-              ∙ tried_is options.standing o image pass header segment tries found is_segment ordered short area area'
+              same_options options p o of_p has (reader_for options.location) on_opened image pass
+              ∙ tried_is options.location o image pass header segment tries found is_segment ordered short area area'
               i front grows enough (Ok opened) tried on_opened;
         }
     opened_by opened (inr (long, is)) = cc
 
 -- ---- what an open volume means
 
-module _ (o : OpeningRequest) (header image pass : List ℕ) (v : OpenVolume) (held : ℕ) where
-  cat_by : (standing : Standing)
-      → ((on_opened : OnOpened) → volume_outcome_by (reading_of standing) on_opened o header pass
+module _ (o : VolumeRequest) (header image pass : List ℕ) (v : OpenVolume) (held : ℕ) where
+  cat_by : (location : HeaderLocation)
+      → ((on_opened : OnOpened) → volume_outcome_by (reader_for location) on_opened o header pass
       ≡ on_opened v.segment (record { slot = v.slot; key = v.key }) held)
-      → ((cat_outcome_of standing o header image pass).output ≡ plaintext_of v (payload_image_of standing header image))
-      × ((cat_outcome_of standing o header image pass).message
-      ≡ message_at_end (ending_of v.segment (payload_image_of standing header image)))
+      → ((cat_outcome_of location o header image pass).output ≡ plaintext_of v (payload_image_of location header image))
+      × ((cat_outcome_of location o header image pass).message
+      ≡ message_at_end (ending_of v.segment (payload_image_of location header image)))
   cat_by Attached outcome =
       let cat = outcome (payload_outcome header pass) in
       (ap (λ (out : Outcome). out.output) cat, ap (λ (out : Outcome). out.message) cat)
@@ -178,7 +177,7 @@ module _ (o : OpeningRequest) (header image pass : List ℕ) (v : OpenVolume) (h
 pub cat_of : (options : Options) (header pass : List ℕ) (v : OpenVolume) → Opens options header pass v
     → IsCatOf options header pass v
 cat_of options header pass v opens o image has =
-    cat_by o header image pass v opens.held options.standing (opens.outcome o has)
+    cat_by o header image pass v opens.held options.location (opens.outcome o has)
 
 -- a payload that is not found to end too soon ends well
 by_tail : (b : Bool) (n : ℕ) → message_at_end (if b then Ok End else Err (HasTail n)) ≡ Done
@@ -210,7 +209,7 @@ ends_whole s image well =
 pub plain_of_honest : (options : Options) (image pass : List ℕ) (v : OpenVolume) → Opens options image pass v
     → IsPlainOf options image pass v
 plain_of_honest options image pass v opens o plain attached has honest =
-    let outcome : (on_opened : OnOpened) → volume_outcome_by (reading_of Attached) on_opened o image pass
+    let outcome : (on_opened : OnOpened) → volume_outcome_by (reader_for Attached) on_opened o image pass
     ≡ on_opened v.segment (record { slot = v.slot; key = v.key }) opens.held =
     rw attached at (opens.outcome o has) in
     let cat = cat_by o image image pass v opens.held Attached outcome in
@@ -219,10 +218,10 @@ plain_of_honest options image pass v opens o plain attached has honest =
 
 -- and it is opened, unless memory or a read failed
 pub aborted_only : (options : Options) (image pass : List ℕ) (message : Message) → OpeningMessage message
-    → (breaks_off message ≡ false → Refuses options image pass message) → IsOnlyAborted options image pass message
+    → (aborts message ≡ false → Refuses options image pass message) → IsOnlyAborted options image pass message
 aborted_only options image pass message only refuses o plain attached has never honest =
-    let refused : volume_outcome_by (reading_of Attached) (payload_outcome image pass) o image pass
-    ≡ no_output message (refuses never).header_taken (refuses never).secret_taken =
+    let refused : volume_outcome_by (reader_for Attached) (payload_outcome image pass) o image pass
+    ≡ no_output message (refuses never).header_consumed (refuses never).secret_consumed =
     rw attached at ((refuses never).outcome o has (payload_outcome image pass)) in
     let done : message ≡ Done =
     sym (ap (λ (out : Outcome). out.message) refused) ∙ (unsealed o image pass plain honest).1 in

@@ -1,5 +1,5 @@
 -- Ranges of a plaintext, from those of its sectors.
-use Rattle.std.proofs.Common.{◌≡◌, ℕ, ◌+◌, ◌-◌, ◌*◌, ◌/◌, ◌%◌, ◌<◌, ◌≤◌, ◌^◌, List, ◌++◌, length, take, drop}
+use Rattle.std.proofs.Common.{◌≡◌, ℕ, ◌+◌, ◌-◌, ◌*◌, ◌/◌, ◌%◌, ◌<◌, ◌≤◌, List, ◌++◌, length, take, drop}
 use Rattle.std.proofs.Common.{[], append-nil, inl, inr, length-append, length-drop, Option, None, Some, Result, Ok, Err}
 use Rattle.std.proofs.Common.{arith, sym, ap, ◌∙◌, Bool, true}
 use Rattle.std.specs.Prelude.{OnOk}
@@ -8,7 +8,7 @@ use Rattle.std.proofs.lemmas.List.{drop-drop, drop-take, drop_all, take-take}
 use Rattle.luks_kdf.proofs.BytesLemmas.{take_front}
 use Rattle.std.proofs.Math.Seq.{take-add}
 use Rattle.std.proofs.Math.Nat.{div-mul-le_self}
-use Rattle.luks_io.specs.Bytes.{IfKnown}
+use Rattle.luks_io.specs.Devices.{IfKnown}
 use Rattle.luks_runs.proofs.PayloadLemmas.{plain_len}
 use Rattle.luks_verdict.specs.SectorSize.{bytes_of}
 use Rattle.luks_verdict.specs.declared.sector_size.SectorSize.{SectorSize}
@@ -122,7 +122,8 @@ module _ (s : Segment) (known : List ℕ) (len : ℕ) (all : text_len s known �
       → offset % sector_len s ≡ 0 → length stored % sector_len s ≡ 0 → offset + length stored ≤ len
       → AreStored s known (offset / sector_len s) stored
   stored_at offset stored at start whole inside =
-      let are = are_stored_sectors s.sector_size offset (length stored) (sectors_of s known) start whole (rw all inside) in
+      let are = are_stored_sectors s.sector_size offset (length stored) (sectors_of s known) start whole (rw all inside)
+      in
       record {
         there = at.same
             ∙ ap (λ k. take (length stored) (drop (s.offset + k) known)) (sym are.start);

@@ -1,10 +1,10 @@
 -- A source over an image gives the image's bytes.
-use Rattle.std.proofs.Common.{◌≡◌, ◌∙◌, ℕ, ◌+◌, ◌-◌, ◌<◌, ◌≤◌, List, ◌++◌, Option, None, Some, Result, Ok, Err}
+use Rattle.std.proofs.Common.{◌≡◌, ◌∙◌, ℕ, ◌+◌, ◌-◌, ◌<◌, List, ◌++◌, Option, None, Some, Result, Ok, Err}
 use Rattle.std.proofs.Common.{length, take, drop, min, arith, ap, sym, refl}
 use Rattle.std.proofs.lemmas.List.{drop-drop, drop_all, take-append-drop}
 use Rattle.std.specs.Prelude.{IfErr, IfOk}
 use Rattle.std.specs.Io.KnownBytes.{Consumes, IsAtEnd}
-use Rattle.luks_io.specs.Bytes.{IfKnown}
+use Rattle.luks_io.specs.Devices.{IfKnown}
 use Rattle.luks_kdf.proofs.BytesLemmas.{take_front}
 use Rattle.luks_access.specs.Image.{IsAt, remaining_from}
 

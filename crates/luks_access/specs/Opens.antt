@@ -3,13 +3,13 @@ use Rattle.std.specs.Prelude.{ℕ, ◌≡◌, List, Ok, false, option_map}
 use Rattle.luks_cipher.specs.Sector.{Cipher}
 use Rattle.luks_report.specs.Faults.{message_at_end}
 use Rattle.luks_report.specs.declared.message.Message.{Message}
-use Rattle.luks_request.specs.Request.{OpeningRequest}
+use Rattle.luks_request.specs.Request.{VolumeRequest}
 use Rattle.luks_runs.specs.Ending.{Outcome, no_output}
-use Rattle.luks_runs.specs.Run.{breaks_off}
-use Rattle.luks_runs.specs.Reading.{detached_header_of}
-use Rattle.luks_runs.specs.Standing.{reading_of}
-use Rattle.luks_runs.specs.declared.standing.Standing.{Standing}
-use Rattle.luks_runs.specs.declared.standing.Standing.TheVariants.{Attached, Detached}
+use Rattle.luks_runs.specs.Run.{aborts}
+use Rattle.luks_runs.specs.HeaderReading.{detached_header_of}
+use Rattle.luks_runs.specs.Location.{reader_for}
+use Rattle.luks_runs.specs.declared.location.HeaderLocation.{HeaderLocation}
+use Rattle.luks_runs.specs.declared.location.HeaderLocation.TheVariants.{Attached, Detached}
 use Rattle.luks_unlock.specs.Honest.{IsHonest}
 use Rattle.luks_unlock.specs.Volume.{OnOpened, detached_payload_outcome, payload_outcome, volume_outcome}
 use Rattle.luks_unlock.specs.Volume.{volume_outcome_by}
@@ -33,7 +33,7 @@ abbrev pub plaintext_of : OpenVolume → List ℕ → List ℕ
 plaintext_of v image = plain_of v.segment (cipher_of v) image
 
 -- a request of `luksCat` with these options, whatever its files are called
-abbrev pub HasOptions : OpeningRequest → Options → Type 0
+abbrev pub HasOptions : VolumeRequest → Options → Type 0
 HasOptions o options = (o.key_slot ≡ option_map (λ slot. slot.number) options.key_slot)
     × (o.max_iterations ≡ option_map (λ limit. limit.iterations) options.max_iterations)
 
@@ -41,25 +41,25 @@ HasOptions o options = (o.key_slot ≡ option_map (λ slot. slot.number) options
 -- header
 pub record Opens (options : Options) (header pass : List ℕ) (v : OpenVolume) : Type 0 where
   pub held : ℕ
-  pub outcome : (o : OpeningRequest) → HasOptions o options → (on_opened : OnOpened)
-      → volume_outcome_by (reading_of options.standing) on_opened o header pass
+  pub outcome : (o : VolumeRequest) → HasOptions o options → (on_opened : OnOpened)
+      → volume_outcome_by (reader_for options.location) on_opened o header pass
       ≡ on_opened v.segment (record { slot = v.slot; key = v.key }) held
 
 -- each such command ends with this message and no output
 pub record Refuses (options : Options) (header pass : List ℕ) (message : Message) : Type 0 where
-  pub header_taken : ℕ
-  pub secret_taken : ℕ
-  pub outcome : (o : OpeningRequest) → HasOptions o options → (on_opened : OnOpened)
-      → volume_outcome_by (reading_of options.standing) on_opened o header pass
-      ≡ no_output message header_taken secret_taken
+  pub header_consumed : ℕ
+  pub secret_consumed : ℕ
+  pub outcome : (o : VolumeRequest) → HasOptions o options → (on_opened : OnOpened)
+      → volume_outcome_by (reader_for options.location) on_opened o header pass
+      ≡ no_output message header_consumed secret_consumed
 
 -- the image of the payload: the one that the header is attached to, or another
-abbrev pub payload_image_of : Standing → List ℕ → List ℕ → List ℕ
+abbrev pub payload_image_of : HeaderLocation → List ℕ → List ℕ → List ℕ
 payload_image_of Attached header image = header
 payload_image_of Detached header image = image
 
 -- the outcome of `luksCat`, with an attached header, or with a detached one beside this image
-abbrev pub cat_outcome_of : Standing → OpeningRequest → List ℕ → List ℕ → List ℕ → Outcome
+abbrev pub cat_outcome_of : HeaderLocation → VolumeRequest → List ℕ → List ℕ → List ℕ → Outcome
 cat_outcome_of Attached o header image pass = volume_outcome (payload_outcome header pass) o header pass
 cat_outcome_of Detached o header image pass =
     volume_outcome_by detached_header_of (detached_payload_outcome image pass) o header pass
@@ -67,20 +67,20 @@ cat_outcome_of Detached o header image pass =
 -- `luksCat` writes the volume's plaintext, and ends as the payload does
 abbrev pub IsCatOf : Options → List ℕ → List ℕ → OpenVolume → Type 0
 IsCatOf options header pass v =
-    (o : OpeningRequest) (image : List ℕ) → HasOptions o options
-    → ((cat_outcome_of options.standing o header image pass).output
-    ≡ plaintext_of v (payload_image_of options.standing header image))
-    × ((cat_outcome_of options.standing o header image pass).message
-    ≡ message_at_end (ending_of v.segment (payload_image_of options.standing header image)))
+    (o : VolumeRequest) (image : List ℕ) → HasOptions o options
+    → ((cat_outcome_of options.location o header image pass).output
+    ≡ plaintext_of v (payload_image_of options.location header image))
+    × ((cat_outcome_of options.location o header image pass).message
+    ≡ message_at_end (ending_of v.segment (payload_image_of options.location header image)))
 
 -- the plaintext of an honestly sealed volume is the one that was sealed, and it is whole
 abbrev pub IsPlainOf : Options → List ℕ → List ℕ → OpenVolume → Type 0
 IsPlainOf options image pass v =
-    (o : OpeningRequest) (plain : List ℕ) → options.standing ≡ Attached → HasOptions o options
+    (o : VolumeRequest) (plain : List ℕ) → options.location ≡ Attached → HasOptions o options
     → IsHonest o image pass plain → (plaintext_of v image ≡ plain) × (ending_of v.segment image ≡ Ok End)
 
 -- and such a volume is refused only if memory or a read failed
 abbrev pub IsOnlyAborted : Options → List ℕ → List ℕ → Message → Type 0
 IsOnlyAborted options image pass message =
-    (o : OpeningRequest) (plain : List ℕ) → options.standing ≡ Attached → HasOptions o options
-    → breaks_off message ≡ false → IsHonest o image pass plain → ⊥
+    (o : VolumeRequest) (plain : List ℕ) → options.location ≡ Attached → HasOptions o options
+    → aborts message ≡ false → IsHonest o image pass plain → ⊥

@@ -1,7 +1,7 @@
 -- Ranges of a plaintext.
 use Rattle.std.specs.Prelude.{ℕ, ◌≡◌, ◌*◌, Bool, true, List, drop, length, take, Option, Result, Ok, Err}
 use Rattle.luks_cipher.specs.Sector.{Cipher}
-use Rattle.luks_io.specs.Bytes.{IfKnown}
+use Rattle.luks_io.specs.Devices.{IfKnown}
 use Rattle.luks_verdict.specs.declared.segment.Segment.{Segment}
 use Rattle.luks_payload.specs.Plain.{plain_of, sector_len, sectors_of}
 use Rattle.luks_access.specs.declared.fault.RangeFault.{RangeFault}

@@ -1,7 +1,7 @@
 //! Images that are read at offsets.
 
 ghost use Rattle.std.specs.Prelude.{◌≡◌, ◌+◌, ◌<◌, Bool, List, ℕ, Option, Err, OnOk, length, true};
-ghost use Rattle.luks_io.specs.Bytes.{IfKnown};
+ghost use Rattle.luks_io.specs.Devices.{IfKnown};
 ghost use Rattle.luks_access.specs.Image.{IsAt};
 
 /// Why bytes of an image were not read.

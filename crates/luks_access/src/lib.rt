@@ -6,7 +6,7 @@
 
 pub use luks_report::message::Message;
 pub use luks_request::number::{IterationLimit, SlotNumber};
-pub use luks_runs::standing::Standing;
+pub use luks_runs::location::HeaderLocation;
 
 pub mod fault;
 pub mod file;

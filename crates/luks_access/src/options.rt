@@ -1,18 +1,18 @@
 //! How a volume is opened.
 
 ghost use Rattle.std.specs.Prelude.{◌≡◌};
-ghost use Rattle.luks_request.specs.Request.{opening_request};
+ghost use Rattle.luks_request.specs.Request.{volume_request};
 ghost use Rattle.luks_access.specs.Opens.{HasOptions};
 
-use luks_request::command::Opening;
+use luks_request::command::VolumeArgs;
 use luks_request::number::{IterationLimit, SlotNumber};
-use luks_runs::standing::Standing;
+use luks_runs::location::HeaderLocation;
 
 /// How a volume is opened: what `luksCat` has from its command line.
 #[derive(Clone, Copy)]
 pub struct Options {
     /// Whether the header is attached to the payload's image or detached.
-    pub standing: Standing,
+    pub location: HeaderLocation,
     /// The one key slot to try. Without it, every key slot that can be tried is.
     pub key_slot: Option<SlotNumber>,
     /// The most iterations that a key slot or a digest may have.
@@ -20,10 +20,10 @@ pub struct Options {
 }
 
 /// A request of `luksCat` with these options. It names no files.
-pub(crate) fn opening(options: &Options) -> Opening<'static>
-    ensures { HasOptions (opening_request result) options.now }
+pub(crate) fn opening(options: &Options) -> VolumeArgs<'static>
+    ensures { HasOptions (volume_request result) options.now }
 {
-    Opening {
+    VolumeArgs {
         image: "",
         header: None,
         key_file: "",

@@ -11,7 +11,7 @@ use luks_cipher::SectorCipher;
 use luks_header::segment::Segment;
 
 /// The length of the longest sector in bytes.
-const LONGEST: usize = 4096;
+const MAX_SECTOR_LEN: usize = 4096;
 
 /// Reads whole sectors into the buffer and decrypts them there. `len` is the length of the
 /// plaintext in the image, and `offset` that of the range in it.
@@ -58,7 +58,7 @@ fn read_part<I: ReadAt>(
     requires some { 0 < length buf.old }
     requires inside { offset + length buf.old ≤ len }
     requires part { offset % sector_len segment.now + length buf.old ≤ sector_len segment.now }
-    requires room { length sector.old ≡ LONGEST }
+    requires room { length sector.old ≡ MAX_SECTOR_LEN }
     ensures { ReadsRange segment.now cipher.now len (I.image image.now) (I.fails image.now) offset
         result buf.new }
 {
@@ -90,7 +90,7 @@ fn read_inside<I: ReadAt>(
     if buf.is_empty() {
         return Ok(());
     }
-    let mut sector = [0; LONGEST];
+    let mut sector = [0; MAX_SECTOR_LEN];
     read_part(segment, cipher, image, len, offset, &mut sector, buf)
 }
 

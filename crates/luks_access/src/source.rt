@@ -5,7 +5,8 @@ ghost use Rattle.luks_access.specs.Image.{remaining_from};
 
 use crate::image::ReadAt;
 use luks_io::DeviceFault;
-use luks_io::source::{Source, count_end};
+use luks_io::counts::ReadCounts;
+use luks_io::source::Source;
 
 /// A source over an image: it gives the image's bytes from the first one on. It knows the bytes
 /// that the image knows.
@@ -13,22 +14,21 @@ use luks_io::source::{Source, count_end};
 pub struct ImageSource<'a, I> {
     image: &'a I,
     at: u64,
-    failures: u64,
-    ends: u64,
+    counts: ReadCounts,
 }
 
 impl<'a, I: ReadAt> ImageSource<'a, I> {
-    /// A source over this image, from its first byte on, with no failure and no end so far.
+    /// A source over this image, from its first byte on, with nothing counted so far.
     pub fn new(image: &'a I) -> ImageSource<'a, I>
         ensures bytes { ⟦<ImageSource<'a, I> as Source>⟧.to_come result
             ≡ remaining_from 0 (I.image image.entry.now) }
-        ensures failures { ⟦<ImageSource<'a, I> as Source>⟧.failures result ≡ 0 }
+        ensures counts { ⟦<ImageSource<'a, I> as Source>⟧.counts result
+            ≡ record { failures = 0; ends = 0; needless = 0 } }
     {
         ImageSource {
             image,
             at: 0,
-            failures: 0,
-            ends: 0,
+            counts: ReadCounts::new(),
         }
     }
 }
@@ -38,9 +38,7 @@ impl<'a, I: ReadAt> Source for ImageSource<'a, I> {
 
     ghost to_come = { λ s. remaining_from s.at (I.image s.image.now) };
 
-    ghost failures = { λ s. s.failures };
-
-    ghost ends = { λ s. s.ends };
+    ghost counts = { λ s. s.counts };
 
     /// Fills the buffer with the remaining bytes, as many as there are. An image that has become
     /// shorter fails.
@@ -49,14 +47,10 @@ impl<'a, I: ReadAt> Source for ImageSource<'a, I> {
         let count = left.min(buf.len() as u64) as usize;
         match self.image.read_at(self.at, &mut buf[..count]) {
             Ok(()) => {
-                count_end(&mut self.ends, count, buf.len());
                 self.at += count as u64;
-                Ok(count)
+                self.counts.count(Ok(count), buf.len())
             }
-            Err(_) => {
-                self.failures = self.failures.saturating_add(1);
-                Err(DeviceFault)
-            }
+            Err(_) => self.counts.count(Err(DeviceFault), buf.len()),
         }
     }
 }

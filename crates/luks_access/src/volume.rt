@@ -1,14 +1,15 @@
 //! Volumes that are open.
 
 ghost use Rattle.std.specs.Prelude.{◌≡◌, ◌≢◌, ◌+◌, ◌-◌, ◌%◌, ◌^◌, ◌<◌, ◌≤◌, List, ℕ, Ok, Err};
-ghost use Rattle.std.specs.Prelude.{IfErr, IfOk, OnOk, false, length, nat_le, replicate, true};
+ghost use Rattle.std.specs.Prelude.{[], IfErr, IfOk, OnOk, false, length, nat_le, replicate, true};
 ghost use Rattle.luks_cipher.specs.Sector.{is_mode_key_length};
-ghost use Rattle.luks_io.specs.Bytes.{IfKnown, counted};
-ghost use Rattle.luks_header.specs.Segment.{segment_of};
+ghost use Rattle.luks_io.specs.Counts.{ReadsAsNeeded};
+ghost use Rattle.luks_io.specs.Devices.{IfKnown, counted};
+ghost use Rattle.luks_header.specs.HeaderSegment.{segment_of};
 ghost use Rattle.luks_open.specs.Order.{order_of};
-ghost use Rattle.luks_request.specs.Request.{opening_request};
-ghost use Rattle.luks_runs.specs.Run.{breaks_off, is_run_read_failure, result_message};
-ghost use Rattle.luks_unlock.specs.MayEnd.{OpeningMessage};
+ghost use Rattle.luks_request.specs.Request.{volume_request};
+ghost use Rattle.luks_runs.specs.Run.{aborts, is_run_read_failure, result_message};
+ghost use Rattle.luks_unlock.specs.OpeningMessages.{OpeningMessage};
 ghost use Rattle.luks_payload.specs.Plain.{ending_of, sector_len};
 ghost use Rattle.luks_access.specs.Opens.{IsCatOf, IsOnlyAborted, IsPlainOf, Opens, Refuses};
 ghost use Rattle.luks_access.specs.Opens.{plaintext_of};
@@ -29,14 +30,14 @@ use luks_open::opening::Opened;
 use luks_payload::fault::VolumeFault;
 use luks_payload::state::Step;
 use luks_report::message::Message;
-use luks_request::command::Opening;
+use luks_request::command::VolumeArgs;
 use luks_unlock::finding::{FoundVolume, find_volume};
 use luks_unlock::trying::try_slots;
 use std::alloc::Global;
 use std::marker::Model;
 
 /// The length of the longest passphrase in bytes, which is also that of the longest key file.
-pub const LONGEST_PASSPHRASE: usize = 8_388_608;
+pub const MAX_PASSPHRASE_LEN: usize = 8_388_608;
 
 /// A volume that is open. A clause sees its segment, the key slot that opened, and the volume key.
 #[derive(Drop)]
@@ -84,25 +85,28 @@ fn payload_of(found: FoundVolume) -> Segment
 
 /// Tries the key slots of a volume that was found, unless the passphrase is too long.
 fn unlock<S: Source>(
-    opening: &Opening<'_>,
+    opening: &VolumeArgs<'_>,
     found: &mut FoundVolume,
     source: &mut S,
     pass: &[u8],
 ) -> Result<Opened, Message>
     requires segment { segment_of found.old.header ≡ Ok found.old.segment }
-    requires order { let o = opening_request opening.now in
+    requires order { let o = volume_request opening.now in
         order_of found.old.header o.key_slot o.max_iterations ≡ Ok found.old.order }
     ensures run { IfKnown (S.to_come source.old) (λ rest.
-        UnlocksVolume (opening_request opening.now).key_slot found.old.order pass.now
-        found.old.area found.new.area rest (S.to_come source.new) result) }
+        (found.old.area.ended ≡ true → rest ≡ [])
+        → UnlocksVolume (volume_request opening.now).key_slot found.old.order pass.now
+        found.old.area.bytes found.new.area.bytes rest (S.to_come source.new) result) }
     ensures kept { found.new.segment ≡ found.old.segment }
     ensures only { IfErr result OpeningMessage }
     ensures key { IfOk result (λ opened.
         is_mode_key_length found.old.segment.mode (length opened.key) ≡ true) }
-    ensures reads { S.failures source.new
-        ≡ counted (is_run_read_failure (result_message result)) (S.failures source.old) }
+    ensures reads { (S.counts source.new).failures
+        ≡ counted (is_run_read_failure (result_message result)) (S.counts source.old).failures }
+    ensures needed { ReadsAsNeeded (S.counts source.old) (S.counts source.new) }
+    ensures ended { found.old.area.ended ≡ true → source.new ≡ source.old }
 {
-    if pass.len() > LONGEST_PASSPHRASE {
+    if pass.len() > MAX_PASSPHRASE_LEN {
         return Err(Message::KeyFileLength);
     }
     try_slots(opening, found, source, pass)
@@ -113,7 +117,7 @@ impl Volume {
     /// header.
     ///
     /// The volume is the one that `luksCat` opens with these options, and a refusal is its message.
-    /// A passphrase longer than [`LONGEST_PASSPHRASE`] is refused, as a key file is.
+    /// A passphrase longer than [`MAX_PASSPHRASE_LEN`] is refused, as a key file is.
     pub fn open_from<S: Source>(
         alloc: Global,
         options: &Options,
@@ -129,15 +133,16 @@ impl Volume {
         ensures key { IfOk result (λ volume.
             is_mode_key_length volume.segment.mode (length volume.key) ≡ true) }
         ensures refuses { IfErr result (λ message. IfKnown (S.to_come source.old)
-            (λ known. breaks_off message ≡ false → Refuses options.now known pass.now message)) }
+            (λ known. aborts message ≡ false → Refuses options.now known pass.now message)) }
         ensures refuses_no_honest { IfErr result (λ message. IfKnown (S.to_come source.old)
             (λ known. IsOnlyAborted options.now known pass.now message)) }
         ensures only { IfErr result OpeningMessage }
-        ensures reads { S.failures source.new
-            ≡ counted (is_run_read_failure (result_message result)) (S.failures source.old) }
+        ensures reads { (S.counts source.new).failures
+            ≡ counted (is_run_read_failure (result_message result)) (S.counts source.old).failures }
+        ensures needed { ReadsAsNeeded (S.counts source.old) (S.counts source.new) }
     {
         let opening = opening(options);
-        let mut found = find_volume(alloc, options.standing, &opening, source)?;
+        let mut found = find_volume(alloc, options.location, &opening, source)?;
         let opened = unlock(&opening, &mut found, source, pass);
         let segment = payload_of(found);
         Ok(volume_of(segment, opened?))
@@ -160,7 +165,7 @@ impl Volume {
         ensures key { IfOk result (λ volume.
             is_mode_key_length volume.segment.mode (length volume.key) ≡ true) }
         ensures refuses { IfErr result (λ message. IfKnown (I.image image.now)
-            (λ known. breaks_off message ≡ false → Refuses options.now known pass.now message)) }
+            (λ known. aborts message ≡ false → Refuses options.now known pass.now message)) }
         ensures refuses_no_honest { IfErr result (λ message. IfKnown (I.image image.now)
             (λ known. IsOnlyAborted options.now known pass.now message)) }
         ensures only { IfErr result OpeningMessage }

@@ -10,7 +10,7 @@ ghost use Rattle.luks_aes.specs.Schedule.{IsSchedule};
 
 use crate::cipher::{cipher, inv_cipher};
 use crate::inv_mixed::inv_mixed_words;
-use crate::schedule::{LONGEST, key_expansion};
+use crate::schedule::{MAX_SCHEDULE_LEN, key_expansion};
 use std::marker::Model;
 
 /// A key of AES-128, AES-192 or AES-256 (FIPS 197). Contracts see it as its bytes.
@@ -19,9 +19,9 @@ pub struct AesKey {
     // The key's length in words of 4 bytes.
     words: usize,
     // The key schedule, which begins with the key, and zeros.
-    schedule: [u8; LONGEST],
+    schedule: [u8; MAX_SCHEDULE_LEN],
     // Its words after InvMixColumns, for the inverse cipher.
-    inv_mixed: [u8; LONGEST],
+    inv_mixed: [u8; MAX_SCHEDULE_LEN],
 }
 
 impl Model for AesKey {
@@ -106,7 +106,7 @@ impl AesKey {
 }
 
 // The 16 bytes of round key `n` of a schedule.
-fn round_key(schedule: &[u8; LONGEST], n: usize) -> [u8; 16]
+fn round_key(schedule: &[u8; MAX_SCHEDULE_LEN], n: usize) -> [u8; 16]
     requires { n < 15 }
     ensures { (r c : ℕ) → r < 4 → c < 4 → cell result r c ≡ key_byte schedule.now n r c }
 {

@@ -6,11 +6,11 @@ ghost use Rattle.luks_aes.specs.Columns.{column_product, IsMultiplied};
 
 use crate::mixing::inv_mixed;
 use crate::sbox::sbox;
-use crate::schedule::LONGEST;
+use crate::schedule::MAX_SCHEDULE_LEN;
 
 // Word `i` of the schedule after InvMixColumns: the S-box undoes the inverse one of the table.
-fn inv_mixed_word(schedule: &[u8; LONGEST], i: usize) -> [u8; 4]
-    requires { 4 * i + 4 ≤ LONGEST }
+fn inv_mixed_word(schedule: &[u8; MAX_SCHEDULE_LEN], i: usize) -> [u8; 4]
+    requires { 4 * i + 4 ≤ MAX_SCHEDULE_LEN }
     ensures { result ≡ column_product (14 ∷ 11 ∷ 13 ∷ 9 ∷ []) (word_at schedule.now i) }
 {
     let at = 4 * i;
@@ -24,9 +24,9 @@ fn inv_mixed_word(schedule: &[u8; LONGEST], i: usize) -> [u8; 4]
 }
 
 // Writes word `i`.
-fn write_inv_mixed(schedule: &[u8; LONGEST], inv_mixed: &mut [u8], i: usize)
-    requires place { 4 * i + 4 ≤ LONGEST }
-    requires before { (length inv_mixed.old ≡ LONGEST)
+fn write_inv_mixed(schedule: &[u8; MAX_SCHEDULE_LEN], inv_mixed: &mut [u8], i: usize)
+    requires place { 4 * i + 4 ≤ MAX_SCHEDULE_LEN }
+    requires before { (length inv_mixed.old ≡ MAX_SCHEDULE_LEN)
         × IsMultiplied (14 ∷ 11 ∷ 13 ∷ 9 ∷ []) schedule.now inv_mixed.old i }
     ensures { IsMultiplied (14 ∷ 11 ∷ 13 ∷ 9 ∷ []) schedule.now inv_mixed.new (i + 1) }
 {
@@ -35,11 +35,11 @@ fn write_inv_mixed(schedule: &[u8; LONGEST], inv_mixed: &mut [u8], i: usize)
 }
 
 /// Each word of the schedule after InvMixColumns.
-pub fn inv_mixed_words(schedule: &[u8; LONGEST]) -> [u8; LONGEST]
+pub fn inv_mixed_words(schedule: &[u8; MAX_SCHEDULE_LEN]) -> [u8; MAX_SCHEDULE_LEN]
     ensures { IsMultiplied (14 ∷ 11 ∷ 13 ∷ 9 ∷ []) schedule.now result 60 }
 {
-    let mut inv_mixed = [0; LONGEST];
-    for i in 0..LONGEST / 4 {
+    let mut inv_mixed = [0; MAX_SCHEDULE_LEN];
+    for i in 0..MAX_SCHEDULE_LEN / 4 {
         write_inv_mixed(schedule, &mut inv_mixed, i);
     }
     inv_mixed

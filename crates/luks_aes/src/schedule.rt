@@ -9,7 +9,7 @@ use crate::field::power_of_x;
 use crate::sbox::sbox;
 
 /// The length in bytes of the longest schedule, that of a key of 32 bytes.
-pub const LONGEST: usize = 240;
+pub const MAX_SCHEDULE_LEN: usize = 240;
 
 // Under a key of more words than this, a word in the middle between two turned ones is substituted
 // too.
@@ -94,7 +94,7 @@ fn write_word(key_words: usize, schedule: &mut [u8], i: usize)
 // Fills `schedule` from the key on.
 fn expand(key: &[u8], schedule: &mut [u8])
     requires key_length { IsTrue (is_aes_key_length (length key.now)) }
-    requires room { length schedule.old ≡ LONGEST }
+    requires room { length schedule.old ≡ MAX_SCHEDULE_LEN }
     ensures { take (16 * (rounds_of key.now + 1)) schedule.new ≡ key_expansion key.now }
 {
     let key_words = key.len() / 4;
@@ -106,11 +106,11 @@ fn expand(key: &[u8], schedule: &mut [u8])
 }
 
 /// The schedule of a key, followed by zeros.
-pub fn key_expansion(key: &[u8]) -> [u8; LONGEST]
+pub fn key_expansion(key: &[u8]) -> [u8; MAX_SCHEDULE_LEN]
     requires { IsTrue (is_aes_key_length (length key.now)) }
     ensures { take (16 * (rounds_of key.now + 1)) result ≡ key_expansion key.now }
 {
-    let mut schedule = [0; LONGEST];
+    let mut schedule = [0; MAX_SCHEDULE_LEN];
     expand(key, &mut schedule);
     schedule
 }

@@ -19,7 +19,7 @@ use std::marker::Model;
 use std::simd::prelude::*;
 
 // The largest number of round keys between the first and the last.
-const MOST: usize = 13;
+const MAX_INNER_KEYS: usize = 13;
 
 // The S-box's circuit expects each byte with this constant XORed to it.
 const CONSTANT: u8 = 0x63;
@@ -29,7 +29,7 @@ const CONSTANT: u8 = 0x63;
 #[derive(Drop)]
 struct RoundKeys {
     first: BitslicedState,
-    between: [BitslicedState; MOST],
+    between: [BitslicedState; MAX_INNER_KEYS],
     last: BitslicedState,
 }
 
@@ -77,7 +77,7 @@ fn inv_mixed_round_key(key: &AesKey, n: usize) -> BitslicedState
 }
 
 // Fills in the round keys between the first and the last.
-fn fill(key: &AesKey, round_keys: &mut [BitslicedState; MOST])
+fn fill(key: &AesKey, round_keys: &mut [BitslicedState; MAX_INNER_KEYS])
     ensures { HasInvMixedKeys (key_expansion key.now) round_keys.new (rounds_of key.now) }
 {
     let rounds = key.rounds();
@@ -92,7 +92,7 @@ fn round_keys(key: &AesKey) -> RoundKeys
 {
     let first = plain_round_key(key, key.rounds(), CONSTANT);
     let last = plain_round_key(key, 0, 0);
-    let mut between = [last; MOST];
+    let mut between = [last; MAX_INNER_KEYS];
     fill(key, &mut between);
     RoundKeys {
         first,
@@ -104,7 +104,7 @@ fn round_keys(key: &AesKey) -> RoundKeys
 // Round key `n` + 1.
 #[inline(always)]
 fn key_between(keys: &RoundKeys, n: usize) -> &BitslicedState
-    requires { n < MOST }
+    requires { n < MAX_INNER_KEYS }
     ensures { (w : List ℕ) (end : ℕ) → HasInvMixedKeys w keys.now.between end → n + 1 < end
         → HasInvMixedKey w (n + 1) 0x63 (rows_of result.now) }
 {

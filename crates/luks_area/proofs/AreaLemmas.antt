@@ -4,7 +4,7 @@ use Rattle.std.proofs.Common.{length-append, length-drop, take_all}
 use Rattle.std.proofs.lemmas.List.{take-append-le, take-take, length-replicate}
 use Rattle.std.proofs.Math.ListN.{replicate}
 use Rattle.std.proofs.Math.Seq.{take-append_seam, take-append-add}
-use Rattle.luks_io.specs.Bytes.{ConsumedInto}
+use Rattle.luks_io.specs.Devices.{ConsumedInto}
 use Rattle.luks_area.specs.Area.{ConsumedOnto}
 
 module _ (old whole buf : List ℕ) (held n : ℕ) (is-whole : whole ≡ old ++ replicate n 0) (is-held : held ≡ length old)
@@ -35,15 +35,15 @@ module _ (old whole buf : List ℕ) (held n : ℕ) (is-whole : whole ≡ old ++ 
       ∙ ap (λ l. old ++ l) (take-append-le count buf rest few)
 
 -- the bytes that a source gave went behind those that were held
-pub took_behind : (old new known buf : List ℕ) (left : Option (List ℕ)) (count : ℕ) → new ≡ old ++ take count buf
+pub consumed_behind : (old new known buf : List ℕ) (left : Option (List ℕ)) (count : ℕ) → new ≡ old ++ take count buf
     → ConsumedInto known left buf count
     → ConsumedOnto old new known left count
-took_behind old new known buf left count is taken = (taken.0, is ∙ ap (λ l. old ++ l) taken.1)
+consumed_behind old new known buf left count is taken = (taken.0, is ∙ ap (λ l. old ++ l) taken.1)
 
 -- all that were asked for, or all that there were
-pub took_all_behind : (old new known buf : List ℕ) (left : Option (List ℕ)) (count asked most : ℕ)
+pub consumed_all_behind : (old new known buf : List ℕ) (left : Option (List ℕ)) (count asked most : ℕ)
     → new ≡ old ++ take count buf → ConsumedInto known left buf count
     → count ≡ min asked (length known) → asked ≡ most → ConsumedOnto old new known left (min most (length known))
-took_all_behind old new known buf left count asked most is taken all is-most =
+consumed_all_behind old new known buf left count asked most is taken all is-most =
     subst (ConsumedOnto old new known left) (all ∙ ap (λ k. min k (length known)) is-most)
-    (took_behind old new known buf left count is taken)
+    (consumed_behind old new known buf left count is taken)

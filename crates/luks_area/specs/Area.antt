@@ -1,12 +1,17 @@
 -- The start of an image: how an area with it loads further bytes.
 use Rattle.std.specs.Prelude.{◌≡◌, ℕ, ◌<◌, ◌++◌, not, Bool, true, false, List, Option, Result, Ok, Err, take}
-use Rattle.luks_io.specs.Bytes.{ConsumedExactly}
+use Rattle.luks_io.specs.Devices.{ConsumedExactly}
 use Rattle.luks_area.specs.declared.fault.HeaderFault.{HeaderFault}
 use Rattle.luks_area.specs.declared.fault.HeaderFault.TheVariants.{Read, Memory}
 
 -- the most bytes that an area holds: 32 MiB
 abbrev pub max_area_len : ℕ
 max_area_len = 33554432
+
+-- the start of an image: the loaded bytes, and whether the image's end was hit behind them
+pub record HeaderAreaModel : Type 0 where
+  pub bytes : List ℕ
+  pub ended : Bool
 
 -- the first `count` of a source's remaining bytes were consumed, and went behind those that were loaded
 abbrev pub ConsumedOnto : List ℕ → List ℕ → List ℕ → Option (List ℕ) → ℕ → Type 0

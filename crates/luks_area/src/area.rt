@@ -1,9 +1,10 @@
 //! The start of an image, with its headers and key areas.
 
-ghost use Rattle.std.specs.Prelude.{◌≡◌, ◌-◌, ◌<◌, ◌≤◌, ◌↔◌, ◌++◌, ◌⊎◌, true, List, ℕ, [], Some};
-ghost use Rattle.std.specs.Prelude.{IsTrue, IfOk, IfErr, OnOk, OnErr, Ok, Err, length, max, min};
+ghost use Rattle.std.specs.Prelude.{◌≡◌, ◌-◌, ◌<◌, ◌≤◌, ◌↔◌, ◌++◌, ◌⊎◌, if◌then◌else◌, true, false};
+ghost use Rattle.std.specs.Prelude.{[], IsTrue, IfOk, IfErr, OnOk, OnErr, Ok, Err, length, max, min};
 ghost use Rattle.std.specs.Prelude.{replicate, take, vec_capacity, vec_len};
-ghost use Rattle.luks_io.specs.Bytes.{IfKnown, counted};
+ghost use Rattle.luks_io.specs.Devices.{IfKnown, counted};
+ghost use Rattle.luks_io.specs.Counts.{ReadsAsNeeded};
 ghost use Rattle.luks_area.specs.Area.{AbortsConsuming, ConsumedOnto, is_read, is_truncated, max_area_len};
 
 use crate::fault::HeaderFault;
@@ -11,40 +12,53 @@ use luks_io::source::{ReadFault, Source, fill};
 use std::alloc::{AllocError, Global};
 use std::marker::Model;
 
-/// The first bytes of an image, at most [`HeaderArea::LONGEST`] of them.
-/// It keeps the allocator that it was made with. A clause sees the bytes.
+/// The first bytes of an image, at most [`HeaderArea::MAX_LEN`] of them.
+/// It keeps the allocator that it was made with. A clause sees the bytes, and whether the image's
+/// end was hit behind them.
 #[derive(Drop)]
 pub struct HeaderArea {
     bytes: Vec<u8>,
+    ended: bool,
 }
 
 impl Model for HeaderArea {
-    ghost Value = { List ℕ };
+    ghost use Rattle.std.specs.Prelude.{◌≤◌, vec_len};
+    ghost use Rattle.luks_area.specs.Area.{HeaderAreaModel, max_area_len};
 
-    ghost view = { λ area. area.bytes.items };
+    ghost Value = { HeaderAreaModel };
+
+    ghost view = { λ area. record { bytes = area.bytes.items; ended = area.ended } };
 
     ghost invariant = { λ area. vec_len area.bytes ≤ max_area_len };
 }
 
 impl HeaderArea {
     /// How many bytes an area can hold: 32 MiB.
-    pub const LONGEST: usize = 33_554_432;
+    pub const MAX_LEN: usize = 33_554_432;
 
     /// An area that holds no bytes yet.
     pub fn new(alloc: Global) -> HeaderArea
-        ensures { result ≡ [] }
+        ensures { result ≡ record { bytes = []; ended = false } }
     {
         HeaderArea {
             bytes: Vec::new(alloc),
+            ended: false,
         }
     }
 
     /// The bytes that are held.
     pub fn as_slice(&self) -> &[u8]
-        ensures value { result.now ≡ self.now }
-        ensures within { length self.now ≤ max_area_len }
+        ensures value { result.now ≡ self.now.bytes }
+        ensures within { length self.now.bytes ≤ max_area_len }
     {
         self.bytes.as_slice()
+    }
+
+    /// Whether the image's end was hit behind the bytes.
+    pub fn has_ended(&self) -> bool
+        ensures { result ≡ self.now.ended }
+    {
+        self.ended
     }
 
     /// Loads further bytes of the image from the source until there are `end`, and answers whether
@@ -58,29 +72,34 @@ impl HeaderArea {
     pub fn extend_to<S: Source>(&mut self, source: &mut S, end: usize) -> Result<bool, HeaderFault>
         requires { end ≤ max_area_len }
         ensures taken { IfOk result (λ whole. IfKnown (S.to_come source.old) (λ known.
-            ConsumedOnto self.old self.new known (S.to_come source.new)
-            (min (end - length self.old) (length known)))) }
+            ConsumedOnto self.old.bytes self.new.bytes known (S.to_come source.new)
+            (min (end - length self.old.bytes) (length known)))) }
         ensures broken { IfErr result (λ fault. IfKnown (S.to_come source.old) (λ known.
-            AbortsConsuming (end - length self.old) self.old self.new known (S.to_come source.new)
-            fault)) }
+            AbortsConsuming (end - length self.old.bytes) self.old.bytes self.new.bytes known
+            (S.to_come source.new) fault)) }
 
         // Whether or not the source knows its bytes:
-        ensures whole { IfOk result (λ whole. IsTrue whole ↔ (end ≤ length self.new)) }
-        ensures within { length self.new ≤ max (length self.old) end }
-        ensures held { take (length self.old) self.new ≡ self.old }
-        ensures already { end ≤ length self.old
+        ensures whole { IfOk result (λ whole. IsTrue whole ↔ (end ≤ length self.new.bytes)) }
+        ensures within { length self.new.bytes ≤ max (length self.old.bytes) end }
+        ensures held { take (length self.old.bytes) self.new.bytes ≡ self.old.bytes }
+        ensures already { end ≤ length self.old.bytes
             → (result ≡ Ok true) × (self.new ≡ self.old) × (source.new ≡ source.old) }
         ensures memory { result ≡ Err HeaderFault.Memory
             → (self.new ≡ self.old) × (source.new ≡ source.old) }
         ensures refusals { IfErr result (λ fault.
             (fault ≡ HeaderFault.Read) ⊎ (fault ≡ HeaderFault.Memory)) }
-        ensures reads { S.failures source.new ≡ counted (is_read result) (S.failures source.old) }
-        ensures ends { S.ends source.new ≡ counted (is_truncated result) (S.ends source.old) }
+        ensures reads { (S.counts source.new).failures
+            ≡ counted (is_read result) (S.counts source.old).failures }
+        ensures ends { (S.counts source.new).ends
+            ≡ counted (is_truncated result) (S.counts source.old).ends }
+        ensures needed { ReadsAsNeeded (S.counts source.old) (S.counts source.new) }
+        ensures ended { self.new.ended ≡ (if is_truncated result then true else self.old.ended) }
     {
-        if end <= self.bytes.len() {
+        if end <= self.bytes.len() || extend(&mut self.bytes, source, end)? {
             return Ok(true);
         }
-        extend(&mut self.bytes, source, end)
+        self.ended = true;
+        Ok(false)
     }
 }
 
@@ -121,8 +140,11 @@ fn extend<S: Source>(bytes: &mut Vec<u8>, source: &mut S, end: usize) -> Result<
         → (bytes.new.items ≡ bytes.old.items) × (source.new ≡ source.old) }
     ensures refusals { IfErr result (λ fault.
         (fault ≡ HeaderFault.Read) ⊎ (fault ≡ HeaderFault.Memory)) }
-    ensures reads { S.failures source.new ≡ counted (is_read result) (S.failures source.old) }
-    ensures ends { S.ends source.new ≡ counted (is_truncated result) (S.ends source.old) }
+    ensures reads { (S.counts source.new).failures
+        ≡ counted (is_read result) (S.counts source.old).failures }
+    ensures ends { (S.counts source.new).ends
+        ≡ counted (is_truncated result) (S.counts source.old).ends }
+    ensures needed { ReadsAsNeeded (S.counts source.old) (S.counts source.new) }
 {
     let held = bytes.len();
     make_room(bytes, end)?;

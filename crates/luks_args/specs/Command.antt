@@ -7,7 +7,7 @@ use Rattle.clap.specs.declared.error.ErrorKind.TheVariants.{OutOfMemory}
 use Rattle.luks_kdf.specs.Hash.{hash_named}
 use Rattle.luks_kdf.specs.declared.Hash.{Hash}
 use Rattle.luks_request.specs.Number.{number_within, optional_within}
-use Rattle.luks_request.specs.Request.{MergingRequest, OpeningRequest, ReadingRequest, Request, SplittingRequest}
+use Rattle.luks_request.specs.Request.{MergeRequest, VolumeRequest, HeaderRequest, Request, SplitRequest}
 use Rattle.luks_request.specs.Request.{af_merge, af_split, is_luks, luks_cat, luks_check, luks_dump, luks_uuid}
 use Rattle.luks_request.specs.Request.{reuses_stdin, test_passphrase}
 use Rattle.luks_args.specs.Grammar.{luksrd}
@@ -50,13 +50,13 @@ key_slot_in rows = optional_within 0 31 (text_in (codes "key-slot") rows)
 unfoldable pub max_iterations_in : List Row → Option (Option ℕ)
 max_iterations_in rows = optional_within 1 4294967295 (text_in (codes "max-iterations") rows)
 
-abbrev pub reading_in : List Row → Option ReadingRequest
-reading_in rows = do
+abbrev pub header_args_in : List Row → Option HeaderRequest
+header_args_in rows = do
   image ← input_in rows
   Some (record { image = image; header = header_file_in rows })
 
-abbrev pub opening_in : List Row → Option OpeningRequest
-opening_in rows = do
+abbrev pub volume_args_in : List Row → Option VolumeRequest
+volume_args_in rows = do
   key_file ← text_in (codes "key-file") rows
   key_slot ← key_slot_in rows
   max_iterations ← max_iterations_in rows
@@ -69,16 +69,16 @@ opening_in rows = do
     max_iterations = max_iterations;
   })
 
-abbrev pub splitting_in : List Row → Option SplittingRequest
-splitting_in rows = do
+abbrev pub split_args_in : List Row → Option SplitRequest
+split_args_in rows = do
   hash ← hash_option rows
   stripes ← stripes_in rows
   random ← text_in (codes "random") rows
   key ← input_in rows
   Some (record { hash = hash; stripes = stripes; random = random; key = key })
 
-abbrev pub merging_in : List Row → Option MergingRequest
-merging_in rows = do
+abbrev pub merge_args_in : List Row → Option MergeRequest
+merge_args_in rows = do
   hash ← hash_option rows
   stripes ← stripes_in rows
   key_bytes ← key_bytes_in rows
@@ -93,19 +93,19 @@ merging_in rows = do
 -- the command on headers by its name, with its options
 unfoldable pub header_request_in : Text → List Row → Option Request
 header_request_in name rows =
-    if bytes_eq name (codes "isLuks") then option_map is_luks (reading_in rows)
-    else (if bytes_eq name (codes "luksUUID") then option_map luks_uuid (reading_in rows)
-    else (if bytes_eq name (codes "luksDump") then option_map luks_dump (reading_in rows)
-    else (if bytes_eq name (codes "luksCheck") then option_map luks_check (reading_in rows)
+    if bytes_eq name (codes "isLuks") then option_map is_luks (header_args_in rows)
+    else (if bytes_eq name (codes "luksUUID") then option_map luks_uuid (header_args_in rows)
+    else (if bytes_eq name (codes "luksDump") then option_map luks_dump (header_args_in rows)
+    else (if bytes_eq name (codes "luksCheck") then option_map luks_check (header_args_in rows)
     else None)))
 
 -- the command by its name, with its options
 abbrev pub request_in : Text × List Row → Option Request
 request_in (name, rows) =
-    if bytes_eq name (codes "testPassphrase") then option_map test_passphrase (opening_in rows)
-    else (if bytes_eq name (codes "luksCat") then option_map luks_cat (opening_in rows)
-    else (if bytes_eq name (codes "afSplit") then option_map af_split (splitting_in rows)
-    else (if bytes_eq name (codes "afMerge") then option_map af_merge (merging_in rows)
+    if bytes_eq name (codes "testPassphrase") then option_map test_passphrase (volume_args_in rows)
+    else (if bytes_eq name (codes "luksCat") then option_map luks_cat (volume_args_in rows)
+    else (if bytes_eq name (codes "afSplit") then option_map af_split (split_args_in rows)
+    else (if bytes_eq name (codes "afMerge") then option_map af_merge (merge_args_in rows)
     else header_request_in name rows)))
 
 abbrev pub with_distinct_inputs : Request → Option Request

@@ -2,17 +2,18 @@
 
 ghost use Rattle.std.specs.Prelude.{◌≡◌, IfOk, None, Some, map, option_map, option_and_then};
 ghost use Rattle.clap.specs.Words.{found_of, kind_of, rows_of, subcommand_rows_of};
-ghost use Rattle.luks_args.specs.Command.{command_of, fault_for, header_request_in, merging_in};
-ghost use Rattle.luks_args.specs.Command.{opening_in, reading_in, request_in, splitting_in};
+ghost use Rattle.luks_args.specs.Command.{command_of, fault_for, header_request_in, merge_args_in};
+ghost use Rattle.luks_args.specs.Command.{volume_args_in, header_args_in, request_in};
+ghost use Rattle.luks_args.specs.Command.{split_args_in};
 ghost use Rattle.luks_args.specs.Command.{subcommand_in};
-ghost use Rattle.luks_request.specs.Request.{merging_request, opening_request, reading_request};
-ghost use Rattle.luks_request.specs.Request.{request_of, splitting_request};
+ghost use Rattle.luks_request.specs.Request.{merge_request, volume_request, header_request};
+ghost use Rattle.luks_request.specs.Request.{request_of, split_request};
 
 use crate::grammar::grammar;
 use crate::options::{hash, key_bytes, key_slot, max_iterations, stripes, text};
 use clap::ArgMatches;
 use clap::error::ErrorKind;
-use luks_request::command::{Command, Merging, Opening, Reading, Splitting};
+use luks_request::command::{Command, HeaderArgs, MergeArgs, SplitArgs, VolumeArgs};
 use std::alloc::{AllocError, Global};
 use std::convert::AsStr;
 
@@ -58,7 +59,7 @@ pub fn plan<'a, S: AsStr>(alloc: Global, words: &'a [S]) -> Result<Command<'a>, 
 {
     let matches = matches_of(alloc, words)?;
     match read(&matches) {
-        Some(command) if !command.reads_standard_twice() => Ok(command),
+        Some(command) if !command.reuses_stdin() => Ok(command),
         _ => Err(PlanFault::Usage),
     }
 }
@@ -88,10 +89,10 @@ fn read_named<'a>(name: &str, options: &ArgMatches<'a>) -> Option<Command<'a>>
     ensures { option_map request_of result ≡ request_in (name.now, rows_of (found_of options.now)) }
 {
     match name {
-        "testPassphrase" => opening(options).map(Command::TestPassphrase),
-        "luksCat" => opening(options).map(Command::LuksCat),
-        "afSplit" => splitting(options).map(Command::AfSplit),
-        "afMerge" => merging(options).map(Command::AfMerge),
+        "testPassphrase" => volume_args(options).map(Command::TestPassphrase),
+        "luksCat" => volume_args(options).map(Command::LuksCat),
+        "afSplit" => split_args(options).map(Command::AfSplit),
+        "afMerge" => merge_args(options).map(Command::AfMerge),
         _ => read_on_header(name, options),
     }
 }
@@ -103,32 +104,32 @@ fn read_on_header<'a>(name: &str, options: &ArgMatches<'a>) -> Option<Command<'a
         ≡ header_request_in name.now (rows_of (found_of options.now)) }
 {
     match name {
-        "isLuks" => reading(options).map(Command::IsLuks),
-        "luksUUID" => reading(options).map(Command::LuksUuid),
-        "luksDump" => reading(options).map(Command::LuksDump),
-        "luksCheck" => reading(options).map(Command::LuksCheck),
+        "isLuks" => header_args(options).map(Command::IsLuks),
+        "luksUUID" => header_args(options).map(Command::LuksUuid),
+        "luksDump" => header_args(options).map(Command::LuksDump),
+        "luksCheck" => header_args(options).map(Command::LuksCheck),
         _ => None,
     }
 }
 
-fn reading<'a>(options: &ArgMatches<'a>) -> Option<Reading<'a>>
-    ensures { option_map reading_request result ≡ reading_in (rows_of (found_of options.now)) }
+fn header_args<'a>(options: &ArgMatches<'a>) -> Option<HeaderArgs<'a>>
+    ensures { option_map header_request result ≡ header_args_in (rows_of (found_of options.now)) }
 {
-    Some(Reading {
+    Some(HeaderArgs {
         image: text(options, "input")?,
         header: text(options, "header"),
     })
 }
 
-fn opening<'a>(options: &ArgMatches<'a>) -> Option<Opening<'a>>
-    ensures { option_map opening_request result ≡ opening_in (rows_of (found_of options.now)) }
+fn volume_args<'a>(options: &ArgMatches<'a>) -> Option<VolumeArgs<'a>>
+    ensures { option_map volume_request result ≡ volume_args_in (rows_of (found_of options.now)) }
 {
     let key_file = text(options, "key-file")?;
     let key_slot = key_slot(options)?;
     let max_iterations = max_iterations(options)?;
     let header = text(options, "header");
     let image = text(options, "input")?;
-    Some(Opening {
+    Some(VolumeArgs {
         image,
         header,
         key_file,
@@ -137,11 +138,11 @@ fn opening<'a>(options: &ArgMatches<'a>) -> Option<Opening<'a>>
     })
 }
 
-fn splitting<'a>(options: &ArgMatches<'a>) -> Option<Splitting<'a>>
-    ensures { option_map splitting_request result
-        ≡ splitting_in (rows_of (found_of options.now)) }
+fn split_args<'a>(options: &ArgMatches<'a>) -> Option<SplitArgs<'a>>
+    ensures { option_map split_request result
+        ≡ split_args_in (rows_of (found_of options.now)) }
 {
-    Some(Splitting {
+    Some(SplitArgs {
         hash: hash(options)?,
         stripes: stripes(options)?,
         random: text(options, "random")?,
@@ -149,10 +150,10 @@ fn splitting<'a>(options: &ArgMatches<'a>) -> Option<Splitting<'a>>
     })
 }
 
-fn merging<'a>(options: &ArgMatches<'a>) -> Option<Merging<'a>>
-    ensures { option_map merging_request result ≡ merging_in (rows_of (found_of options.now)) }
+fn merge_args<'a>(options: &ArgMatches<'a>) -> Option<MergeArgs<'a>>
+    ensures { option_map merge_request result ≡ merge_args_in (rows_of (found_of options.now)) }
 {
-    Some(Merging {
+    Some(MergeArgs {
         hash: hash(options)?,
         stripes: stripes(options)?,
         key_bytes: key_bytes(options)?,

@@ -4,7 +4,7 @@
 use luks_args::planning::{PlanFault, plan};
 use luks_args::usage::usage;
 use luks_kdf::Hash;
-use luks_request::command::{Command, Merging, Opening, Reading, Splitting};
+use luks_request::command::{Command, HeaderArgs, MergeArgs, SplitArgs, VolumeArgs};
 use luks_request::number::{IterationLimit, KeyBytes, SlotNumber, StripeCount};
 use std::process::Abort;
 
@@ -73,7 +73,7 @@ static READINGS: [(&str, &str, Option<&str>); 16] = [
 ];
 
 // Each command that reads a header reads these arguments so.
-fn check_reading(rt: &(impl Abort + AllocGlobal), words: &str, reading: Reading<'_>) {
+fn check_reading(rt: &(impl Abort + AllocGlobal), words: &str, reading: HeaderArgs<'_>) {
     let commands = [
         ("isLuks ", Command::IsLuks(reading)),
         ("luksUUID ", Command::LuksUuid(reading)),
@@ -89,7 +89,7 @@ fn check_reading(rt: &(impl Abort + AllocGlobal), words: &str, reading: Reading<
 #[test]
 fn reads_headers(rt: HostRuntime) {
     for (words, image, header) in &READINGS {
-        let reading = Reading {
+        let reading = HeaderArgs {
             image,
             header: *header,
         };
@@ -113,7 +113,7 @@ static OPENINGS: [(&str, &str, &str, Option<&str>); 11] = [
 ];
 
 // Both commands that open a volume read these arguments so.
-fn check_opening(rt: &(impl Abort + AllocGlobal), words: &str, opening: Opening<'_>) {
+fn check_opening(rt: &(impl Abort + AllocGlobal), words: &str, opening: VolumeArgs<'_>) {
     let commands = [
         ("testPassphrase ", Command::TestPassphrase(opening)),
         ("luksCat ", Command::LuksCat(opening)),
@@ -128,7 +128,7 @@ fn check_opening(rt: &(impl Abort + AllocGlobal), words: &str, opening: Opening<
 #[test]
 fn opens_volumes(rt: HostRuntime) {
     for (words, image, key_file, header) in &OPENINGS {
-        let opening = Opening {
+        let opening = VolumeArgs {
             image,
             header: *header,
             key_file,
@@ -173,7 +173,7 @@ static LIMITED: [(&str, Option<&str>, Option<u64>, Option<u64>); 7] = [
 #[test]
 fn opens_volumes_with_limits(rt: HostRuntime) {
     for (words, header, slot, limit) in &LIMITED {
-        let opening = Opening {
+        let opening = VolumeArgs {
             image: "i",
             header: *header,
             key_file: "f",
@@ -197,7 +197,7 @@ fn splitting<'a>(
     random: &'a str,
     key: &'a str,
 ) -> Command<'a> {
-    Command::AfSplit(Splitting {
+    Command::AfSplit(SplitArgs {
         hash,
         stripes: StripeCount::new(stripes).expect(rt, "a number of stripes"),
         random,
@@ -206,7 +206,7 @@ fn splitting<'a>(
 }
 
 fn merging<'a>(rt: &impl Abort, hash: Hash, stripes: u64, key_bytes: u64) -> Command<'a> {
-    Command::AfMerge(Merging {
+    Command::AfMerge(MergeArgs {
         hash,
         stripes: StripeCount::new(stripes).expect(rt, "a number of stripes"),
         key_bytes: KeyBytes::new(key_bytes).expect(rt, "a length"),

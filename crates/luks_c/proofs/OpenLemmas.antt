@@ -3,13 +3,13 @@ use Rattle.std.proofs.Common.{◌≡◌, ◌≢◌, ◌∙◌, ℕ, ◌<◌, Lis
 use Rattle.luks_access.specs.Opens.{OpenVolume, Opens, Refuses}
 use Rattle.luks_access.specs.declared.options.Options.{Options}
 use Rattle.luks_cipher.specs.Sector.{is_mode_key_length}
-use Rattle.luks_io.specs.Bytes.{counted}
+use Rattle.luks_io.specs.Devices.{counted}
 use Rattle.luks_report.specs.declared.message.Message.{Message}
 use Rattle.luks_report.specs.declared.message.Message.TheVariants.{Done, ReadFailed}
-use Rattle.luks_runs.specs.Run.{breaks_off, is_run_read_failure}
+use Rattle.luks_runs.specs.Run.{aborts, is_run_read_failure}
 use Rattle.luks_unlock.proofs.FrontLemmas.{outcome_decided}
-use Rattle.luks_unlock.specs.MayEnd.{OpeningMessage}
-use Rattle.luks_c.specs.Answers.{BeginsAs, Opened, Refused}
+use Rattle.luks_unlock.specs.OpeningMessages.{OpeningMessage}
+use Rattle.luks_c.specs.Answers.{Opened, Refused}
 use Rattle.luks_c.specs.Codes.{code_for}
 use Rattle.luks_c.specs.Message.{StoresMessage}
 use Rattle.luks_c.specs.Options.{AreOptions}
@@ -31,7 +31,7 @@ module _ (c : LuksrdOptions) (header pass : List ℕ) (message : LuksrdMessage) 
     key = key;
     opens = λ image begins. record {
       held = opens.held;
-      outcome = λ o has on_opened. outcome_decided options.standing o image header pass on_opened begins
+      outcome = λ o has on_opened. outcome_decided options.location o image header pass on_opened begins
           ∙ opens.outcome o has on_opened;
     };
     says = says;
@@ -39,7 +39,7 @@ module _ (c : LuksrdOptions) (header pass : List ℕ) (message : LuksrdMessage) 
 
   pub refused_for : (refusal : Message) (code : ℕ) → code ≡ code_for refusal → StoresMessage message refusal
       → OpeningMessage refusal → refusal ≢ ReadFailed
-      → (breaks_off refusal ≡ false → Refuses options header pass refusal)
+      → (aborts refusal ≡ false → Refuses options header pass refusal)
       → Refused c header pass code message
   refused_for refusal code is says opening read refuses = record {
     options = options;
@@ -50,9 +50,9 @@ module _ (c : LuksrdOptions) (header pass : List ℕ) (message : LuksrdMessage) 
     opening = opening;
     read = read;
     refuses = λ never image begins. record {
-      header_taken = (refuses never).header_taken;
-      secret_taken = (refuses never).secret_taken;
-      outcome = λ o has on_opened. outcome_decided options.standing o image header pass on_opened begins
+      header_consumed = (refuses never).header_consumed;
+      secret_consumed = (refuses never).secret_consumed;
+      outcome = λ o has on_opened. outcome_decided options.location o image header pass on_opened begins
           ∙ (refuses never).outcome o has on_opened;
     };
   }

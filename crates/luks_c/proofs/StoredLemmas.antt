@@ -1,11 +1,10 @@
 -- What is read of a volume that C keeps is what was stored.
-use Rattle.std.proofs.Common.{◌≡◌, ◌∙◌, ℕ, ◌+◌, ◌-◌, ◌*◌, ◌/◌, ◌%◌, ◌^◌, ◌<◌, ◌≤◌, Bool, true, false, List, length}
+use Rattle.std.proofs.Common.{◌≡◌, ◌∙◌, ℕ, ◌+◌, ◌-◌, ◌*◌, ◌/◌, ◌%◌, ◌^◌, ◌≤◌, Bool, true, false, List, length}
 use Rattle.std.proofs.Common.{Option, None, Some, Result, Err, sym, ap, arith, refl, drop, take}
 use Rattle.std.proofs.lemmas.Bool.Decides.{nat_tests}
-use Rattle.std.proofs.lemmas.Bool.{false_from_ne_true, false≢true}
-use Rattle.std.proofs.lemmas.List.{length-take-le}
+use Rattle.std.proofs.lemmas.Bool.{false≢true}
 use Rattle.std.proofs.lemmas.Option.{none-some, same_Some}
-use Rattle.std.specs.Prelude.{◌==◌, if◌then◌else◌, nat_lt, option_map, MatchOption}
+use Rattle.std.specs.Prelude.{◌==◌, if◌then◌else◌, nat_lt, option_map}
 use Rattle.luks_access.proofs.PartLemmas.{part_of_plain}
 use Rattle.luks_access.proofs.RangeLemmas.{text_is_long}
 use Rattle.luks_access.specs.Opens.{OpenVolume, cipher_of, plaintext_of}
@@ -27,7 +26,7 @@ use Rattle.luks_payload.specs.declared.fault.VolumeFault.TheVariants.{CutBeforeP
 use Rattle.luks_payload.specs.declared.state.Step.{Step}
 use Rattle.luks_c.specs.Answers.{decrypt_code, range_code, segment_code}
 use Rattle.luks_c.specs.Stored.{Stores, cipher_in, has_size_of, mode_in, mode_number, sector_size_in, segment_in}
-use Rattle.luks_c.specs.Stored.{size_stored_in, size_of}
+use Rattle.luks_c.specs.Stored.{size_stored_in, size_or_zero}
 use Rattle.luks_c.specs.declared.volume.LuksrdVolume.{LuksrdVolume}
 
 pub size_again : (size : SectorSize) → sector_size_in (bytes_of size) ≡ Some size
@@ -104,7 +103,7 @@ module _ (c : LuksrdVolume) (v : OpenVolume) (stored : Stores c v) where
   pub stored_size : size_stored_in c ≡ v.segment.size
   stored_size = by v.segment.size stored.has_size stored.size
     where
-      by : (size : Option ℕ) → c.has_size ≡ has_size_of size → c.size ≡ size_of size → size_stored_in c ≡ size
+      by : (size : Option ℕ) → c.has_size ≡ has_size_of size → c.size ≡ size_or_zero size → size_stored_in c ≡ size
       by None has is = rw has refl
       by (Some size) has is = rw (has, is) refl
 

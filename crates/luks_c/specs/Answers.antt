@@ -1,15 +1,15 @@
 -- What the functions for C answer.
 use Rattle.std.specs.Prelude.{ℕ, ◌≡◌, ◌≢◌, ◌+◌, ◌/◌, ◌%◌, ◌^◌, ◌==◌, Bool, false, true, if◌then◌else◌, nat_lt}
 use Rattle.std.specs.Prelude.{List, length, take, Option, None, Some, Result, Ok, Err}
-use Rattle.luks_access.specs.Opens.{IsCatOf, OpenVolume, Opens, Refuses}
+use Rattle.luks_access.specs.Opens.{OpenVolume, Opens, Refuses}
 use Rattle.luks_access.specs.declared.options.Options.{Options}
 use Rattle.luks_area.specs.Area.{max_area_len}
 use Rattle.luks_cipher.specs.Sector.{is_mode_key_length}
 use Rattle.luks_report.specs.Faults.{message_for_payload}
 use Rattle.luks_report.specs.declared.message.Message.{Message}
 use Rattle.luks_report.specs.declared.message.Message.TheVariants.{Done, ReadFailed}
-use Rattle.luks_runs.specs.Run.{breaks_off}
-use Rattle.luks_unlock.specs.MayEnd.{OpeningMessage}
+use Rattle.luks_runs.specs.Run.{aborts}
+use Rattle.luks_unlock.specs.OpeningMessages.{OpeningMessage}
 use Rattle.luks_payload.specs.declared.fault.VolumeFault.{VolumeFault}
 use Rattle.luks_payload.specs.declared.fault.VolumeFault.TheVariants.{CutBeforePayload, Tail, Short, Read, Write}
 use Rattle.luks_payload.specs.declared.state.Step.{Step}
@@ -50,7 +50,7 @@ pub record Refused (c : LuksrdOptions) (header pass : List ℕ) (code : ℕ) (me
   pub says : StoresMessage message refusal
   pub opening : OpeningMessage refusal
   pub read : refusal ≢ ReadFailed
-  pub refuses : breaks_off refusal ≡ false → (image : List ℕ) → BeginsAs image header
+  pub refuses : aborts refusal ≡ false → (image : List ℕ) → BeginsAs image header
       → Refuses options image pass refusal
 
 -- the number of bytes in an ending's message

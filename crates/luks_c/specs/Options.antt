@@ -1,9 +1,9 @@
 -- The options that C passes.
-use Rattle.std.specs.Prelude.{ℕ, ◌≡◌, ◌==◌, Bool, false, if◌then◌else◌, nat_lt, Option, None, Some, option_map}
+use Rattle.std.specs.Prelude.{◌≡◌, ◌==◌, Bool, false, if◌then◌else◌, nat_lt, Option, None, Some, option_map}
 use Rattle.luks_access.specs.declared.options.Options.{Options}
 use Rattle.luks_request.specs.declared.number.SlotNumber.{SlotNumber}
-use Rattle.luks_runs.specs.declared.standing.Standing.{Standing}
-use Rattle.luks_runs.specs.declared.standing.Standing.TheVariants.{Attached, Detached}
+use Rattle.luks_runs.specs.declared.location.HeaderLocation.{HeaderLocation}
+use Rattle.luks_runs.specs.declared.location.HeaderLocation.TheVariants.{Attached, Detached}
 use Rattle.luks_c.specs.declared.options.LuksrdOptions.{LuksrdOptions}
 
 -- the key slot that is named
@@ -15,12 +15,12 @@ abbrev pub names_no_slot : LuksrdOptions → Bool
 names_no_slot c = if c.has_key_slot == 0 then false else nat_lt 31 c.key_slot
 
 -- where the header is
-abbrev pub standing_for : LuksrdOptions → Standing
-standing_for c = if c.detached == 0 then Attached else Detached
+abbrev pub location_for : LuksrdOptions → HeaderLocation
+location_for c = if c.detached == 0 then Attached else Detached
 
 -- these are the options: the limit 0 is none
 pub record AreOptions (c : LuksrdOptions) (options : Options) : Type 0 where
-  pub standing : options.standing ≡ standing_for c
+  pub location : options.location ≡ location_for c
   pub key_slot : IsNamed c options.key_slot
   pub max_iterations : option_map (λ limit. limit.iterations) options.max_iterations
       ≡ (if c.max_iterations == 0 then None else Some c.max_iterations)

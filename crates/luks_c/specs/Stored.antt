@@ -23,15 +23,15 @@ abbrev pub has_size_of : Option ℕ → ℕ
 has_size_of None = 0
 has_size_of (Some size) = 1
 
-abbrev pub size_of : Option ℕ → ℕ
-size_of None = 0
-size_of (Some size) = size
+abbrev pub size_or_zero : Option ℕ → ℕ
+size_or_zero None = 0
+size_or_zero (Some size) = size
 
 -- the struct holds this volume
 pub record Stores (c : LuksrdVolume) (v : OpenVolume) : Type 0 where
   pub offset : c.offset ≡ v.segment.offset
   pub has_size : c.has_size ≡ has_size_of v.segment.size
-  pub size : c.size ≡ size_of v.segment.size
+  pub size : c.size ≡ size_or_zero v.segment.size
   pub iv_tweak : c.iv_tweak ≡ v.segment.iv_tweak
   pub sector_size : c.sector_size ≡ bytes_of v.segment.sector_size
   pub mode : c.mode ≡ mode_number v.segment.mode

@@ -4,7 +4,7 @@ ghost use Rattle.std.specs.Prelude.{◌≡◌, IfSome, MatchOption, false, true}
 ghost use Rattle.luks_c.specs.Options.{AreOptions, IsNamed, names_no_slot};
 
 use luks_access::options::Options;
-use luks_access::{IterationLimit, SlotNumber, Standing};
+use luks_access::{HeaderLocation, IterationLimit, SlotNumber};
 
 /// How a volume is opened.
 #[repr(C)]
@@ -37,14 +37,14 @@ pub(crate) fn options_in(options: &LuksrdOptions) -> Option<Options>
     ensures made { IfSome result (λ made. AreOptions options.now made) }
 {
     let key_slot = named_slot(options)?;
-    let standing = if options.detached == 0 {
-        Standing::Attached
+    let location = if options.detached == 0 {
+        HeaderLocation::Attached
     } else {
-        Standing::Detached
+        HeaderLocation::Detached
     };
     let max_iterations = IterationLimit::new(u64::from(options.max_iterations));
     Some(Options {
-        standing,
+        location,
         key_slot,
         max_iterations,
     })

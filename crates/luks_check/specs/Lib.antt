@@ -1,2 +1,2 @@
-pub mod Check
-pub mod Check2
+pub mod Findings
+pub mod Findings2

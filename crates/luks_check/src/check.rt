@@ -1,11 +1,11 @@
 //! What is wrong with a header.
 
 ghost use Rattle.std.specs.Prelude.{◌≡◌, ◌++◌, IfOk, OnOk, string_bytes};
-ghost use Rattle.luks_header.specs.Segment.{segment_of};
-ghost use Rattle.luks_check.specs.Check.{do_overlap, findings_of, header_findings, is_finding};
-ghost use Rattle.luks_check.specs.Check.{name_finding, overlap, overlaps, overlaps_with};
-ghost use Rattle.luks_check.specs.Check.{place_finding, segment_finding, skip_finding};
-ghost use Rattle.luks_check.specs.Check.{slot_finding, slot_findings};
+ghost use Rattle.luks_header.specs.HeaderSegment.{segment_of};
+ghost use Rattle.luks_check.specs.Findings.{do_overlap, findings_of, header_findings, is_finding};
+ghost use Rattle.luks_check.specs.Findings.{name_finding, overlap, overlaps, overlaps_with};
+ghost use Rattle.luks_check.specs.Findings.{place_finding, segment_finding, skip_finding};
+ghost use Rattle.luks_check.specs.Findings.{slot_finding, slot_findings};
 
 use luks_dump::field::push_field;
 use luks_header::header::Header;
@@ -17,85 +17,85 @@ use std::alloc::{AllocError, Global};
 pub(crate) mod luks2;
 
 /// The findings, each on a line of its own. No iterations are too many here.
-#[tactic(auto, unfolding(crate::specs::Check::findings_of))]
+#[tactic(auto, unfolding(crate::specs::Findings::findings_of))]
 pub fn findings(alloc: Global, header: &Header) -> Result<String, AllocError>
-    ensures { IfOk result (λ page. string_bytes page ≡ findings_of header.now) }
+    ensures { IfOk result (λ lines. string_bytes lines ≡ findings_of header.now) }
 {
     let verdicts = slots(alloc, header, None)?;
-    let mut page = String::new(alloc);
-    push_header(&mut page, header)?;
-    push_segment(&mut page, header)?;
-    push_slots(alloc, &mut page, verdicts.as_slice())?;
-    push_overlaps(alloc, &mut page, verdicts.as_slice())?;
-    Ok(page)
+    let mut lines = String::new(alloc);
+    push_header(&mut lines, header)?;
+    push_segment(&mut lines, header)?;
+    push_slots(alloc, &mut lines, verdicts.as_slice())?;
+    push_overlaps(alloc, &mut lines, verdicts.as_slice())?;
+    Ok(lines)
 }
 
 // Adds what is found in the header itself.
-#[tactic(auto, unfolding(crate::specs::Check::header_findings))]
-fn push_header(page: &mut String, header: &Header) -> Result<(), AllocError>
+#[tactic(auto, unfolding(crate::specs::Findings::header_findings))]
+fn push_header(lines: &mut String, header: &Header) -> Result<(), AllocError>
     ensures { OnOk result
-        (string_bytes page.new ≡ string_bytes page.old ++ header_findings header.now) }
+        (string_bytes lines.new ≡ string_bytes lines.old ++ header_findings header.now) }
 {
-    push_place(page, header)?;
-    push_names(page, header)
+    push_place(lines, header)?;
+    push_names(lines, header)
 }
 
 // Adds what is found in the two headers of LUKS2 beside one another.
-fn push_place(page: &mut String, header: &Header) -> Result<(), AllocError>
+fn push_place(lines: &mut String, header: &Header) -> Result<(), AllocError>
     ensures { OnOk result
-        (string_bytes page.new ≡ string_bytes page.old ++ place_finding header.now) }
+        (string_bytes lines.new ≡ string_bytes lines.old ++ place_finding header.now) }
 {
     match header {
         Header::V1(_) => Ok(()),
-        Header::V2(header, _) => luks2::push_finding(page, header.finding),
+        Header::V2(header, _) => luks2::push_finding(lines, header.finding),
     }
 }
 
 // Adds what is found in the names of key slots.
-fn push_names(page: &mut String, header: &Header) -> Result<(), AllocError>
+fn push_names(lines: &mut String, header: &Header) -> Result<(), AllocError>
     ensures { OnOk result
-        (string_bytes page.new ≡ string_bytes page.old ++ name_finding header.now) }
+        (string_bytes lines.new ≡ string_bytes lines.old ++ name_finding header.now) }
 {
     if has_name_out_of_range(header) {
-        push_field(page, "keyslots", "name out of range")
+        push_field(lines, "keyslots", "name out of range")
     } else {
         Ok(())
     }
 }
 
 // Adds what is found in the segment.
-fn push_segment(page: &mut String, header: &Header) -> Result<(), AllocError>
-    ensures { OnOk result (string_bytes page.new
-        ≡ string_bytes page.old ++ segment_finding (segment_of header.now)) }
+fn push_segment(lines: &mut String, header: &Header) -> Result<(), AllocError>
+    ensures { OnOk result (string_bytes lines.new
+        ≡ string_bytes lines.old ++ segment_finding (segment_of header.now)) }
 {
     match segment(header) {
         Ok(_) => Ok(()),
-        Err(fault) => push_field(page, "segment", fault.text()),
+        Err(fault) => push_field(lines, "segment", fault.text()),
     }
 }
 
 // Adds what is found in key slots.
 fn push_slots(
     alloc: Global,
-    page: &mut String,
+    lines: &mut String,
     verdicts: &[(u8, Verdict)],
 ) -> Result<(), AllocError>
     ensures { OnOk result
-        (string_bytes page.new ≡ string_bytes page.old ++ slot_findings verdicts.now) }
+        (string_bytes lines.new ≡ string_bytes lines.old ++ slot_findings verdicts.now) }
 {
     for verdict in verdicts {
-        push_slot(alloc, page, verdict)?;
+        push_slot(alloc, lines, verdict)?;
     }
     Ok(())
 }
 
 // Adds what is found in a key slot.
-fn push_slot(alloc: Global, page: &mut String, verdict: &(u8, Verdict)) -> Result<(), AllocError>
+fn push_slot(alloc: Global, lines: &mut String, verdict: &(u8, Verdict)) -> Result<(), AllocError>
     ensures { OnOk result
-        (string_bytes page.new ≡ string_bytes page.old ++ slot_finding verdict.now) }
+        (string_bytes lines.new ≡ string_bytes lines.old ++ slot_finding verdict.now) }
 {
     match verdict {
-        (number, Verdict::Skipped(reason)) => push_skip(alloc, page, *number, *reason),
+        (number, Verdict::Skipped(reason)) => push_skip(alloc, lines, *number, *reason),
         (_, Verdict::Usable(_) | Verdict::Disabled) => Ok(()),
     }
 }
@@ -103,38 +103,39 @@ fn push_slot(alloc: Global, page: &mut String, verdict: &(u8, Verdict)) -> Resul
 // Adds what is found in a key slot that is skipped.
 fn push_skip(
     alloc: Global,
-    page: &mut String,
+    lines: &mut String,
     number: u8,
     reason: SkipReason,
 ) -> Result<(), AllocError>
     ensures { OnOk result
-        (string_bytes page.new ≡ string_bytes page.old ++ skip_finding number reason) }
+        (string_bytes lines.new ≡ string_bytes lines.old ++ skip_finding number reason) }
 {
-    if !is_amiss(reason) {
+    if !is_finding(reason) {
         return Ok(());
     }
     let name = format!(in alloc; "slot {number}")?;
-    push_field(page, name.as_str(), reason.text())
+    push_field(lines, name.as_str(), reason.text())
 }
 
 // A key slot that is skipped for this reason is a finding.
-fn is_amiss(reason: SkipReason) -> bool
+fn is_finding(reason: SkipReason) -> bool
     ensures { result ≡ is_finding reason }
 {
     !matches!(reason, SkipReason::Argon2i | SkipReason::Argon2id)
 }
 
 // Adds what is found in each two of these key slots.
-#[tactic(auto, unfolding(crate::specs::Check::overlaps))]
+#[tactic(auto, unfolding(crate::specs::Findings::overlaps))]
 fn push_overlaps(
     alloc: Global,
-    page: &mut String,
+    lines: &mut String,
     verdicts: &[(u8, Verdict)],
 ) -> Result<(), AllocError>
-    ensures { OnOk result (string_bytes page.new ≡ string_bytes page.old ++ overlaps verdicts.now) }
+    ensures { OnOk result
+        (string_bytes lines.new ≡ string_bytes lines.old ++ overlaps verdicts.now) }
 {
     for (index, first) in verdicts.iter().enumerate() {
-        push_overlaps_with(alloc, page, first, &verdicts[index + 1..])?;
+        push_overlaps_with(alloc, lines, first, &verdicts[index + 1..])?;
     }
     Ok(())
 }
@@ -142,15 +143,15 @@ fn push_overlaps(
 // Adds what is found in a key slot beside each of others.
 fn push_overlaps_with(
     alloc: Global,
-    page: &mut String,
+    lines: &mut String,
     first: &(u8, Verdict),
     rest: &[(u8, Verdict)],
 ) -> Result<(), AllocError>
-    ensures { OnOk result (string_bytes page.new
-        ≡ string_bytes page.old ++ overlaps_with first.now rest.now) }
+    ensures { OnOk result (string_bytes lines.new
+        ≡ string_bytes lines.old ++ overlaps_with first.now rest.now) }
 {
     for second in rest {
-        push_overlap(alloc, page, first, second)?;
+        push_overlap(alloc, lines, first, second)?;
     }
     Ok(())
 }
@@ -158,24 +159,24 @@ fn push_overlaps_with(
 // Adds what is found in two key slots.
 fn push_overlap(
     alloc: Global,
-    page: &mut String,
+    lines: &mut String,
     first: &(u8, Verdict),
     second: &(u8, Verdict),
 ) -> Result<(), AllocError>
     ensures { OnOk result
-        (string_bytes page.new ≡ string_bytes page.old ++ overlap first.now second.now) }
+        (string_bytes lines.new ≡ string_bytes lines.old ++ overlap first.now second.now) }
 {
     match (first, second) {
         ((i, Verdict::Usable(a)), (j, Verdict::Usable(b))) if do_overlap(a, b) => {
             let name = format!(in alloc; "slots {i} and {j}")?;
-            push_field(page, name.as_str(), "areas overlap")
+            push_field(lines, name.as_str(), "areas overlap")
         }
         _ => Ok(()),
     }
 }
 
 // The areas of two key slots share a byte. Areas that only touch do not.
-#[tactic(auto, unfolding(crate::specs::Check::do_overlap))]
+#[tactic(auto, unfolding(crate::specs::Findings::do_overlap))]
 fn do_overlap(a: &Slot, b: &Slot) -> bool
     ensures { result ≡ do_overlap a.now b.now }
 {

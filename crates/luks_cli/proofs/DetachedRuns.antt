@@ -2,9 +2,9 @@
 use Rattle.std.proofs.Common.{◌≡◌, ◌≢◌, ℕ, ◌+◌, ◌*◌, ◌≤◌, inl, inr, List, Option, Result, Ok, Err, Bool, true, false}
 use Rattle.std.proofs.Common.{ap, sym, refl, subst, length, max, arith}
 use Rattle.std.proofs.Math.Nat.{mul-le-mul_right}
-use Rattle.luks_cli.proofs.OpenedRuns.{stands_within}
+use Rattle.luks_cli.proofs.OpenedRuns.{positioned_within}
 use Rattle.std.specs.Prelude.{MatchBool, if◌then◌else◌, nat_lt}
-use Rattle.luks_io.specs.Bytes.{Appended, ConsumedExactly, counted, saturating_inc}
+use Rattle.luks_io.specs.Devices.{Appended, ConsumedExactly, counted, saturating_inc}
 use Rattle.luks_header.specs.Header.{header_read_len}
 use Rattle.luks_header.specs.declared.header.Header.{Header}
 use Rattle.luks_verdict.specs.declared.segment.Segment.{Segment}
@@ -17,7 +17,7 @@ use Rattle.luks_payload.specs.declared.fault.VolumeFault.{VolumeFault}
 use Rattle.luks_payload.specs.declared.fault.VolumeFault.TheVariants.{CutBeforePayload as IsCutBefore, Tail as HasTail}
 use Rattle.luks_payload.specs.declared.fault.VolumeFault.TheVariants.{Short as IsShort, Read, Write}
 use Rattle.luks_payload.specs.declared.state.Step.{Step}
-use Rattle.luks_request.specs.Request.{OpeningRequest}
+use Rattle.luks_request.specs.Request.{VolumeRequest}
 use Rattle.luks_report.specs.Faults.{message_at_end}
 use Rattle.luks_report.specs.declared.message.Message.{Message}
 use Rattle.luks_report.specs.declared.message.Message.TheVariants.{Done, Cut, KeyFileLength, CutBeforePayload, Tail}
@@ -26,19 +26,20 @@ use Rattle.luks_runs.proofs.PayloadLemmas.{plain_len}
 use Rattle.luks_cli.proofs.PromptLemmas.{no_sectors_before, same_segment_by}
 use Rattle.luks_cli.specs.Detached.{CountsDetached, EndsWithoutKey}
 use Rattle.luks_runs.specs.Ending.{Outcome, no_output}
-use Rattle.luks_runs.specs.Header.{is_luks_outcome, print_outcome_by}
-use Rattle.luks_unlock.specs.MayEnd.{OpeningMessage}
-use Rattle.luks_runs.specs.MayEnd.{PayloadMessage}
-use Rattle.luks_runs.specs.Reading.{Reading, detached_header_of}
-use Rattle.luks_runs.specs.Run.{Aborted, Completed, Counts, Failures, Promptness, RunMatches, DetachedRunMatches, TookNone}
-use Rattle.luks_runs.specs.Run.{breaks_off, failures_of, is_run_read_failure, is_run_write_failure}
+use Rattle.luks_runs.specs.HeaderOutcome.{is_luks_outcome, print_outcome_by}
+use Rattle.luks_unlock.specs.OpeningMessages.{OpeningMessage}
+use Rattle.luks_runs.specs.RunMessages.{PayloadMessage}
+use Rattle.luks_runs.specs.HeaderReading.{HeaderReader, detached_header_of}
+use Rattle.luks_runs.specs.Run.{Aborted, Completed, Counts, Failures, Promptness, RunMatches, DetachedRunMatches}
+use Rattle.luks_runs.specs.Run.{ConsumedNothing}
+use Rattle.luks_runs.specs.Run.{aborts, failures_of, is_run_read_failure, is_run_write_failure}
 use Rattle.luks_cli.specs.Unlocking.{Unlocks, opens_promptly}
 use Rattle.luks_unlock.specs.Volume.{OnOpened, Volume, detached_payload_outcome, found_outcome, opened_outcome}
 use Rattle.luks_unlock.specs.Volume.{outcome_after, slot_outcome, volume_by, volume_outcome_by}
-use Rattle.luks_runs.specs.Secret.{longest_key_file}
-use Rattle.luks_runs.specs.Payload.{PassesPayload}
-use Rattle.luks_cli.specs.VolumeParts.{TakesHeld, detached_cat_promptly}
-use Rattle.luks_runs.specs.declared.standing.Standing.TheVariants.{Detached}
+use Rattle.luks_runs.specs.KeyFile.{max_key_file_len}
+use Rattle.luks_runs.specs.Payload.{ForwardsPayload}
+use Rattle.luks_cli.specs.VolumeParts.{ConsumesHeld, detached_cat_promptly}
+use Rattle.luks_runs.specs.declared.location.HeaderLocation.TheVariants.{Detached}
 
 -- ---- what is taken of the payload's image
 
@@ -60,33 +61,33 @@ module _ (Q : Outcome → Type 0) (on_opened : OnOpened) (named : Option ℕ) (f
       let tried = opened_outcome on_opened named v file pass (opening_of v.tries file pass) in
       let cut = no_output Cut (length file) (length pass) in
       let is_cut = nat_lt (length file) (key_areas_end v.tries.slots) in
-      either (nat_lt longest_key_file (length pass)) (no_output KeyFileLength (header_read_len file)
-      (longest_key_file + 1))
-      (if is_cut then cut else tried) (none KeyFileLength (header_read_len file) (longest_key_file + 1))
+      either (nat_lt max_key_file_len (length pass)) (no_output KeyFileLength (header_read_len file)
+      (max_key_file_len + 1))
+      (if is_cut then cut else tried) (none KeyFileLength (header_read_len file) (max_key_file_len + 1))
       (either is_cut cut tried (none Cut (length file) (length pass)) (of_opened v (opening_of v.tries file pass)))
 
   of_volume : (r : Result Volume Message) → Q (outcome_after on_opened named file pass r)
   of_volume (Ok v) = of_found v
   of_volume (Err message) = none _ _ _
 
-pub no_payload_for_answer : (file : List ℕ) → (is_luks_outcome file).payload_taken ≡ 0
+pub no_payload_for_answer : (file : List ℕ) → (is_luks_outcome file).payload_consumed ≡ 0
 unfolding is_luks_outcome
 no_payload_for_answer file = refl
 
-pub no_payload_for_page : (read : Reading) (text : Header → List ℕ) (told : Header → Message) (file : List ℕ)
-    → (print_outcome_by read text told file).payload_taken ≡ 0
+pub no_payload_for_text : (read : HeaderReader) (text : Header → List ℕ) (told : Header → Message) (file : List ℕ)
+    → (print_outcome_by read text told file).payload_consumed ≡ 0
 unfolding print_outcome_by
-no_payload_for_page read text told file = refl
+no_payload_for_text read text told file = refl
 
-pub no_payload_for_slot : (read : Reading) (o : OpeningRequest) (file pass : List ℕ)
-    → (volume_outcome_by read (slot_outcome pass) o file pass).payload_taken ≡ 0
+pub no_payload_for_slot : (read : HeaderReader) (o : VolumeRequest) (file pass : List ℕ)
+    → (volume_outcome_by read (slot_outcome pass) o file pass).payload_consumed ≡ 0
 unfolding volume_outcome_by
 no_payload_for_slot read o file pass =
-    of_volume (λ (out : Outcome). out.payload_taken ≡ 0) (slot_outcome pass) o.key_slot file pass
+    of_volume (λ (out : Outcome). out.payload_consumed ≡ 0) (slot_outcome pass) o.key_slot file pass
     (λ message a b. refl) (λ segment opened held. refl) (volume_by read o file)
 
 -- at the end of a payload nothing is told that opening may end with
-at_end : (e : Result Step VolumeFault) → OpeningMessage (message_at_end e) → breaks_off (message_at_end e) ≡ false → ⊥
+at_end : (e : Result Step VolumeFault) → OpeningMessage (message_at_end e) → aborts (message_at_end e) ≡ false → ⊥
 at_end (Ok step) opening well = opening
 at_end (Err IsCutBefore) opening well = opening
 at_end (Err (HasTail n)) opening well = opening
@@ -95,31 +96,34 @@ at_end (Err Read) opening well = cc
 at_end (Err Write) opening well = opening
 
 -- where opening ends the run, nothing is taken of the payload's image
-no_payload_without_key : (o : OpeningRequest) (file image pass : List ℕ) (message : Message) → OpeningMessage message
-    → breaks_off message ≡ false
+no_payload_without_key : (o : VolumeRequest) (file image pass : List ℕ) (message : Message) → OpeningMessage message
+    → aborts message ≡ false
     → message ≡ (volume_outcome_by detached_header_of (detached_payload_outcome image pass) o file pass).message
-    → (volume_outcome_by detached_header_of (detached_payload_outcome image pass) o file pass).payload_taken ≡ 0
+    → (volume_outcome_by detached_header_of (detached_payload_outcome image pass) o file pass).payload_consumed ≡ 0
 unfolding volume_outcome_by
 no_payload_without_key o file image pass message opening well =
-    of_volume (λ (out : Outcome). message ≡ out.message → out.payload_taken ≡ 0) (detached_payload_outcome image pass)
+    of_volume (λ (out : Outcome). message ≡ out.message → out.payload_consumed ≡ 0)
+    (detached_payload_outcome image pass)
     o.key_slot file pass (λ message a b same. refl)
     (λ segment opened held same. absurd (at_end (ending_of segment image) (rw same at opening) (rw same at well)))
     (volume_by detached_header_of o file)
 
 -- what is done with a volume that is opened takes no less than is held, and the whole key file
-pub takes_detached_payload : (image pass : List ℕ) → TakesHeld pass (detached_payload_outcome image pass)
+pub takes_detached_payload : (image pass : List ℕ) → ConsumesHeld pass (detached_payload_outcome image pass)
 takes_detached_payload image pass =
     record { held = λ segment opened held. omega arith; whole = λ segment opened held. refl }
 
 -- ---- runs that take nothing of it
 
-pub runs_apart : (is_prompt : Promptness) (out : Outcome) (message : Message) (TookHeader TookSecret : ℕ → Type 0)
-    (Wrote : List ℕ → Type 0) → out.payload_taken ≡ 0 → RunMatches is_prompt out message TookHeader TookSecret Wrote
-    → DetachedRunMatches (λ _. is_prompt) out message TookHeader TookNone TookSecret Wrote
-runs_apart is_prompt out message TookHeader TookSecret Wrote none run =
-    record { payload_taken = 0; payload_within = by (breaks_off message); payload = refl; run = run }
+pub runs_apart : (is_prompt : Promptness) (out : Outcome) (message : Message)
+    (ConsumedHeader ConsumedSecret : ℕ → Type 0)
+    (Wrote : List ℕ → Type 0) → out.payload_consumed ≡ 0
+    → RunMatches is_prompt out message ConsumedHeader ConsumedSecret Wrote
+    → DetachedRunMatches (λ _. is_prompt) out message ConsumedHeader ConsumedNothing ConsumedSecret Wrote
+runs_apart is_prompt out message ConsumedHeader ConsumedSecret Wrote none run =
+    record { payload_consumed = 0; payload_within = by (aborts message); payload = refl; run = run }
   where
-    by : (b : Bool) → MatchBool b (0 ≤ out.payload_taken) (0 ≡ out.payload_taken)
+    by : (b : Bool) → MatchBool b (0 ≤ out.payload_consumed) (0 ≡ out.payload_consumed)
     by true = omega arith
     by false = sym none
 
@@ -130,39 +134,42 @@ prompt_at_first file WriteFailed a b segment has = omega arith
 prompt_at_first file _ a b segment has = tt
 
 -- a run that ended without a key, of whose outcome nothing is taken of the payload's image
-unopened : (file : List ℕ) (out : Outcome) (message : Message) (TookHeader TookPayload TookSecret : ℕ → Type 0)
-    (Wrote : List ℕ → Type 0) → (breaks_off message ≡ false → message ≡ out.message → out.payload_taken ≡ 0)
-    → TookPayload 0 → RunMatches (opens_promptly Detached file) out message TookHeader TookSecret Wrote
-    → DetachedRunMatches (detached_cat_promptly file) out message TookHeader TookPayload TookSecret Wrote
-unopened file out message TookHeader TookPayload TookSecret Wrote none took run = by (breaks_off message) refl
+unopened : (file : List ℕ) (out : Outcome) (message : Message)
+    (ConsumedHeader ConsumedPayload ConsumedSecret : ℕ → Type 0)
+    (Wrote : List ℕ → Type 0) → (aborts message ≡ false → message ≡ out.message → out.payload_consumed ≡ 0)
+    → ConsumedPayload 0 → RunMatches (opens_promptly Detached file) out message ConsumedHeader ConsumedSecret Wrote
+    → DetachedRunMatches (detached_cat_promptly file) out message ConsumedHeader ConsumedPayload ConsumedSecret Wrote
+unopened file out message ConsumedHeader ConsumedPayload ConsumedSecret Wrote none took run = by (aborts message) refl
   where
-    by : (b : Bool) → breaks_off message ≡ b
-        → DetachedRunMatches (detached_cat_promptly file) out message TookHeader TookPayload TookSecret Wrote
+    by : (b : Bool) → aborts message ≡ b
+        → DetachedRunMatches (detached_cat_promptly file) out message ConsumedHeader ConsumedPayload ConsumedSecret
+        Wrote
     by true is =
-        let broken : Aborted (opens_promptly Detached file) out message TookHeader TookSecret Wrote = rw is at run in
+        let broken : Aborted (opens_promptly Detached file) out message ConsumedHeader ConsumedSecret Wrote =
+        rw is at run in
         record {
-          payload_taken = 0;
+          payload_consumed = 0;
           payload_within = rw is (omega arith);
           payload = took;
           run = rw is (record {
-            image_taken = broken.image_taken;
-            secret_taken = broken.secret_taken;
+            image_consumed = broken.image_consumed;
+            secret_consumed = broken.secret_consumed;
             output_len = broken.output_len;
             image_within = broken.image_within;
             secret_within = broken.secret_within;
             output_within = broken.output_within;
             is_silent = broken.is_silent;
-            is_prompt = subst (detached_cat_promptly file 0 message broken.image_taken broken.secret_taken)
-                (sym broken.is_prompt) (prompt_at_first file message broken.image_taken broken.secret_taken);
+            is_prompt = subst (detached_cat_promptly file 0 message broken.image_consumed broken.secret_consumed)
+                (sym broken.is_prompt) (prompt_at_first file message broken.image_consumed broken.secret_consumed);
             image = broken.image;
             secret = broken.secret;
             output = broken.output;
           });
         }
     by false is =
-        let whole : Completed out message TookHeader TookSecret Wrote = rw is at run in
+        let whole : Completed out message ConsumedHeader ConsumedSecret Wrote = rw is at run in
         record {
-          payload_taken = 0;
+          payload_consumed = 0;
           payload_within = rw is (sym (none is whole.as_stated));
           payload = took;
           run = rw is (record {
@@ -174,21 +181,22 @@ unopened file out message TookHeader TookPayload TookSecret Wrote none took run 
         }
 
 -- opening ended the run
-pub runs_unopened_apart : (o : OpeningRequest) (file image pass : List ℕ) (message : Message)
-    (TookHeader TookPayload TookSecret : ℕ → Type 0) (Wrote : List ℕ → Type 0) → OpeningMessage message → TookPayload 0
+pub runs_unopened_apart : (o : VolumeRequest) (file image pass : List ℕ) (message : Message)
+    (ConsumedHeader ConsumedPayload ConsumedSecret : ℕ → Type 0) (Wrote : List ℕ → Type 0) → OpeningMessage message
+    → ConsumedPayload 0
     → RunMatches (opens_promptly Detached file)
-    (volume_outcome_by detached_header_of (detached_payload_outcome image pass) o file pass) message TookHeader
-    TookSecret Wrote
+    (volume_outcome_by detached_header_of (detached_payload_outcome image pass) o file pass) message ConsumedHeader
+    ConsumedSecret Wrote
     → DetachedRunMatches (detached_cat_promptly file)
-    (volume_outcome_by detached_header_of (detached_payload_outcome image pass) o file pass) message TookHeader
-    TookPayload TookSecret Wrote
-runs_unopened_apart o file image pass message TookHeader TookPayload TookSecret Wrote opening took run =
-    unopened file _ message TookHeader TookPayload TookSecret Wrote
+    (volume_outcome_by detached_header_of (detached_payload_outcome image pass) o file pass) message ConsumedHeader
+    ConsumedPayload ConsumedSecret Wrote
+runs_unopened_apart o file image pass message ConsumedHeader ConsumedPayload ConsumedSecret Wrote opening took run =
+    unopened file _ message ConsumedHeader ConsumedPayload ConsumedSecret Wrote
     (no_payload_without_key o file image pass message opening) took run
 
 -- ---- the payload
 
-module _ (o : OpeningRequest) (file image pass : List ℕ) (segment : Segment) (opened : Opened) (held : List ℕ)
+module _ (o : VolumeRequest) (file image pass : List ℕ) (segment : Segment) (opened : Opened) (held : List ℕ)
     (h s : Option (List ℕ)) (u : Unlocks Detached o file pass segment opened held h s) (i' w w' : Option (List ℕ)) where
   stated : volume_outcome_by detached_header_of (detached_payload_outcome image pass) o file pass
       ≡ detached_payload_outcome image pass segment opened (length held)
@@ -196,7 +204,7 @@ module _ (o : OpeningRequest) (file image pass : List ℕ) (segment : Segment) (
 
   -- the payload was passed on, to its end or not
   pub runs_passed_apart : (message : Message) → message ≢ OutOfMemory
-      → PassesPayload segment (segment.mode, opened.key) image 0 i' w w' message
+      → ForwardsPayload segment (segment.mode, opened.key) image 0 i' w w' message
       → DetachedRunMatches (detached_cat_promptly file)
       (volume_outcome_by detached_header_of (detached_payload_outcome image pass) o file pass) message
       (ConsumedExactly file h)
@@ -208,12 +216,12 @@ module _ (o : OpeningRequest) (file image pass : List ℕ) (segment : Segment) (
       let span : count * sector_len segment
       ≤ sectors_of segment image * sector_len segment = mul-le-mul_right (sector_len segment) passed.3 in
       rw stated (record {
-        payload_taken = place;
+        payload_consumed = place;
         payload_within = omega (arith, passed.4);
         payload = passed.5;
         run = record {
-          image_taken = length held;
-          secret_taken = length pass;
+          image_consumed = length held;
+          secret_consumed = length pass;
           output_len = count * sector_len segment;
           image_within = omega arith;
           secret_within = omega arith;
@@ -222,22 +230,22 @@ module _ (o : OpeningRequest) (file image pass : List ℕ) (segment : Segment) (
           is_prompt = λ other is passes.
               rw (same_segment_by detached_header_of file segment other u.has is)
               (ap (λ n. n * sector_len segment) passed.2);
-          image = u.image_taken;
-          secret = u.secret_taken;
+          image = u.image_consumed;
+          secret = u.secret_consumed;
           output = passed.6;
         };
       })
   runs_passed_apart WriteFailed never passed =
       let count = passed.0 in
       let written = passed.1 in
-      let within = stands_within segment image count written passed.2 passed.3 in
+      let within = positioned_within segment image count written passed.2 passed.3 in
       rw stated (record {
-        payload_taken = max 0 (sector_start segment (count + 1));
+        payload_consumed = max 0 (sector_start segment (count + 1));
         payload_within = omega (arith, passed.4);
         payload = passed.5;
         run = record {
-          image_taken = length held;
-          secret_taken = length pass;
+          image_consumed = length held;
+          secret_consumed = length pass;
           output_len = count * sector_len segment + written;
           image_within = omega arith;
           secret_within = omega arith;
@@ -245,21 +253,21 @@ module _ (o : OpeningRequest) (file image pass : List ℕ) (segment : Segment) (
           is_silent = tt;
           is_prompt = λ other is. rw (same_segment_by detached_header_of file segment other u.has is, within.row)
               (omega arith);
-          image = u.image_taken;
-          secret = u.secret_taken;
+          image = u.image_consumed;
+          secret = u.secret_consumed;
           output = passed.6;
         };
       })
   runs_passed_apart message never passed =
       let all : max 0 (payload_end_of segment image) ≡ payload_end_of segment image = omega arith in
       rw stated (record {
-        payload_taken = payload_end_of segment image;
+        payload_consumed = payload_end_of segment image;
         payload_within = refl;
         payload = subst (ConsumedExactly image i') all passed.1;
         run = record {
           as_stated = passed.0;
-          image = u.image_taken;
-          secret = u.secret_taken;
+          image = u.image_consumed;
+          secret = u.secret_consumed;
           output = passed.2;
         };
       })

@@ -1,11 +1,11 @@
 -- `luksCat` of an honestly sealed volume writes its plain text.
 use Rattle.std.proofs.Common.{◌∙◌, List, ℕ, Option, subst}
-use Rattle.luks_io.specs.Bytes.{Appended}
+use Rattle.luks_io.specs.Devices.{Appended}
 use Rattle.luks_request.specs.Request.{Request, luks_cat}
 use Rattle.luks_report.specs.declared.message.Message.{Message}
 use Rattle.luks_unlock.proofs.HonestVolumes.{unsealed}
 use Rattle.luks_cli.specs.Honest.{WritesPlain}
-use Rattle.luks_cli.specs.Run.{RunsAsStated}
+use Rattle.luks_cli.specs.CommandRun.{RunsAsStated}
 
 -- a run of `luksCat` with the stated outcome that is not broken off writes the plain text of an honestly sealed volume
 pub writes_plain : (request : Request) (message : Message)

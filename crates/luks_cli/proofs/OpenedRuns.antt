@@ -1,54 +1,59 @@
 -- How the commands on volumes end once their volume is opened.
-use Rattle.std.proofs.Common.{◌≡◌, ◌≢◌, ℕ, ◌+◌, ◌*◌, ◌/◌, ◌<◌, ◌≤◌, List, Option, None, Some, Result, Ok, Err}
-use Rattle.std.proofs.Common.{◌⊎◌, inl, inr, IfErr, Bool, true, false, ◌∙◌, ap, refl, take, length, max, arith}
+use Rattle.std.proofs.Common.{◌≡◌, ◌≢◌, ℕ, ◌+◌, ◌*◌, ◌/◌, ◌<◌, ◌≤◌, List, Option, Some, Result, Ok, Err}
+use Rattle.std.proofs.Common.{◌⊎◌, inl, inr, Bool, true, false, ap, refl, subst, sym, take, length, max}
+use Rattle.std.proofs.Common.{[], drop, length-drop, arith}
+use Rattle.std.proofs.lemmas.List.{drop_all}
 use Rattle.std.proofs.Math.Nat.{div-eq_of_lt-le, mul-le-mul_right}
 use Rattle.std.specs.Prelude.{MatchBool}
 use Rattle.luks_header.specs.Header.{header_of}
 use Rattle.luks_verdict.specs.declared.segment.Segment.{Segment}
-use Rattle.luks_io.proofs.Taking.{adds-none}
-use Rattle.luks_io.specs.Bytes.{Appended, ConsumedExactly, counted, saturating_inc}
+use Rattle.luks_io.proofs.Consuming.{adds-none}
+use Rattle.luks_cipher.specs.Sector.{Cipher}
+use Rattle.luks_io.specs.Devices.{Appended, ConsumedExactly, counted, saturating_inc}
 use Rattle.luks_open.specs.declared.opening.Opened.{Opened}
 use Rattle.luks_payload.specs.Plain.{sector_len, sector_start, sectors_of}
 use Rattle.luks_runs.proofs.PayloadLemmas.{plain_len}
 use Rattle.luks_cli.proofs.PromptLemmas.{same_segment_by}
 use Rattle.luks_runs.specs.Ending.{Outcome}
 use Rattle.luks_unlock.specs.Volume.{payload_outcome, slot_outcome, volume_outcome, volume_outcome_by}
-use Rattle.luks_runs.specs.Standing.{reading_of}
-use Rattle.luks_runs.specs.declared.standing.Standing.{Standing}
-use Rattle.luks_runs.specs.declared.standing.Standing.TheVariants.{Attached}
-use Rattle.luks_runs.specs.Payload.{PassesPayload}
+use Rattle.luks_runs.specs.Location.{reader_for}
+use Rattle.luks_runs.specs.declared.location.HeaderLocation.{HeaderLocation}
+use Rattle.luks_runs.specs.declared.location.HeaderLocation.TheVariants.{Attached}
+use Rattle.luks_runs.specs.Payload.{ForwardsPayload}
 use Rattle.luks_cli.specs.VolumeParts.{cat_promptly}
-use Rattle.luks_request.specs.Request.{OpeningRequest}
-use Rattle.luks_runs.specs.Run.{Aborted, Completed, Counts, Failures, Promptness, RunMatches, at_any_pace, breaks_off}
+use Rattle.luks_runs.specs.RunMessages.{PayloadMessage}
+use Rattle.luks_request.specs.Request.{VolumeRequest}
+use Rattle.luks_runs.specs.Run.{Aborted, Completed, Counts, Failures, Promptness, RunMatches, at_any_pace, aborts}
 use Rattle.luks_runs.specs.Run.{is_run_read_failure, is_run_write_failure, result_message}
-use Rattle.luks_cli.specs.VolumeParts.{TakesHeld}
-use Rattle.luks_unlock.specs.MayEnd.{OpeningMessage}
-use Rattle.luks_cli.specs.Unlocking.{TellsSlot, Unlocks}
+use Rattle.luks_cli.specs.VolumeParts.{ConsumesHeld}
+use Rattle.luks_unlock.specs.OpeningMessages.{OpeningMessage}
+use Rattle.luks_cli.specs.Unlocking.{ReportsSlot, Unlocks}
 use Rattle.luks_report.specs.Texts.{opened_line}
 use Rattle.luks_report.specs.declared.message.Message.{Message}
 use Rattle.luks_report.specs.declared.message.Message.TheVariants.{Done, OutOfMemory, ReadFailed, WriteFailed}
 
-pub takes_slot : (secret : List ℕ) → TakesHeld secret (slot_outcome secret)
+pub takes_slot : (secret : List ℕ) → ConsumesHeld secret (slot_outcome secret)
 takes_slot secret = record { held = λ segment opened held. omega arith; whole = λ segment opened held. refl }
 
-pub takes_payload : (image secret : List ℕ) → TakesHeld secret (payload_outcome image secret)
+pub takes_payload : (image secret : List ℕ) → ConsumesHeld secret (payload_outcome image secret)
 takes_payload image secret = record { held = λ segment opened held. omega arith; whole = λ segment opened held. refl }
 
 -- a run that is prompt has the outcome that is stated
-pub runs_at_any_pace : (is_prompt : Promptness) (out : Outcome) (message : Message) (TookImage TookSecret : ℕ → Type 0)
+pub runs_at_any_pace : (is_prompt : Promptness) (out : Outcome) (message : Message)
+    (ConsumedImage ConsumedSecret : ℕ → Type 0)
     (Wrote : List ℕ → Type 0)
-    → RunMatches is_prompt out message TookImage TookSecret Wrote
-    → RunMatches at_any_pace out message TookImage TookSecret Wrote
-runs_at_any_pace is_prompt out message TookImage TookSecret Wrote = either (breaks_off message)
+    → RunMatches is_prompt out message ConsumedImage ConsumedSecret Wrote
+    → RunMatches at_any_pace out message ConsumedImage ConsumedSecret Wrote
+runs_at_any_pace is_prompt out message ConsumedImage ConsumedSecret Wrote = either (aborts message)
   where
     either : (b : Bool)
-        → MatchBool b (Aborted is_prompt out message TookImage TookSecret Wrote)
-        (Completed out message TookImage TookSecret Wrote)
-        → MatchBool b (Aborted at_any_pace out message TookImage TookSecret Wrote)
-        (Completed out message TookImage TookSecret Wrote)
+        → MatchBool b (Aborted is_prompt out message ConsumedImage ConsumedSecret Wrote)
+        (Completed out message ConsumedImage ConsumedSecret Wrote)
+        → MatchBool b (Aborted at_any_pace out message ConsumedImage ConsumedSecret Wrote)
+        (Completed out message ConsumedImage ConsumedSecret Wrote)
     either true run = record {
-      image_taken = run.image_taken;
-      secret_taken = run.secret_taken;
+      image_consumed = run.image_consumed;
+      secret_consumed = run.secret_consumed;
       output_len = run.output_len;
       image_within = run.image_within;
       secret_within = run.secret_within;
@@ -63,61 +68,61 @@ runs_at_any_pace is_prompt out message TookImage TookSecret Wrote = either (brea
 
 -- ---- `testPassphrase`
 
-module _ (stand : Standing) (o : OpeningRequest) (image pass : List ℕ) (segment : Segment) (opened : Opened)
-    (held : List ℕ) (i s : Option (List ℕ)) (u : Unlocks stand o image pass segment opened held i s) where
+module _ (location : HeaderLocation) (o : VolumeRequest) (image pass : List ℕ) (segment : Segment) (opened : Opened)
+    (held : List ℕ) (i s : Option (List ℕ)) (u : Unlocks location o image pass segment opened held i s) where
   -- memory was refused for the line
   runs_without_line : (w : Option (List ℕ))
-      → RunMatches at_any_pace (volume_outcome_by (reading_of stand) (slot_outcome pass) o image pass) OutOfMemory
+      → RunMatches at_any_pace (volume_outcome_by (reader_for location) (slot_outcome pass) o image pass) OutOfMemory
       (ConsumedExactly image i) (ConsumedExactly pass s)
       (Appended w w)
   runs_without_line w = rw (u.outcome (slot_outcome pass)) (record {
-    image_taken = length held;
-    secret_taken = length pass;
+    image_consumed = length held;
+    secret_consumed = length pass;
     output_len = 0;
     image_within = omega arith;
     secret_within = omega arith;
     output_within = omega arith;
     is_silent = refl;
     is_prompt = tt;
-    image = u.image_taken;
-    secret = u.secret_taken;
+    image = u.image_consumed;
+    secret = u.secret_consumed;
     output = adds-none w;
   })
 
-  module _ (page : List ℕ) (is : page ≡ opened_line opened.slot) (w w' : Option (List ℕ)) where
+  module _ (line : List ℕ) (is : line ≡ opened_line opened.slot) (w w' : Option (List ℕ)) where
     -- the line was written
-    runs_told : Appended w w' page
-        → RunMatches at_any_pace (volume_outcome_by (reading_of stand) (slot_outcome pass) o image pass) Done
+    runs_told : Appended w w' line
+        → RunMatches at_any_pace (volume_outcome_by (reader_for location) (slot_outcome pass) o image pass) Done
         (ConsumedExactly image i) (ConsumedExactly pass s)
         (Appended w w')
     runs_told added =
         rw (
           u.outcome (slot_outcome pass),
           ← is,
-        ) (record { as_stated = refl; image = u.image_taken; secret = u.secret_taken; output = added })
+        ) (record { as_stated = refl; image = u.image_consumed; secret = u.secret_consumed; output = added })
 
     -- a write failed within it
-    runs_without_rest : (n : ℕ) → n < length page → Appended w w' (take n page)
-        → RunMatches at_any_pace (volume_outcome_by (reading_of stand) (slot_outcome pass) o image pass) WriteFailed
+    runs_without_rest : (n : ℕ) → n < length line → Appended w w' (take n line)
+        → RunMatches at_any_pace (volume_outcome_by (reader_for location) (slot_outcome pass) o image pass) WriteFailed
         (ConsumedExactly image i) (ConsumedExactly pass s)
         (Appended w w')
     runs_without_rest n within added = rw (u.outcome (slot_outcome pass), ← is) (record {
-      image_taken = length held;
-      secret_taken = length pass;
+      image_consumed = length held;
+      secret_consumed = length pass;
       output_len = n;
       image_within = omega arith;
       secret_within = omega arith;
       output_within = omega arith;
       is_silent = tt;
       is_prompt = tt;
-      image = u.image_taken;
-      secret = u.secret_taken;
+      image = u.image_consumed;
+      secret = u.secret_consumed;
       output = added;
     })
 
   -- the key slot was told, or not all of its line
-  pub runs_slot : (w w' : Option (List ℕ)) (message : Message) → TellsSlot opened w w' message
-      → RunMatches at_any_pace (volume_outcome_by (reading_of stand) (slot_outcome pass) o image pass) message
+  pub runs_slot : (w w' : Option (List ℕ)) (message : Message) → ReportsSlot opened w w' message
+      → RunMatches at_any_pace (volume_outcome_by (reader_for location) (slot_outcome pass) o image pass) message
       (ConsumedExactly image i) (ConsumedExactly pass s)
       (Appended w w')
   runs_slot w w' Done told = runs_told (opened_line opened.slot) refl w w' told
@@ -126,12 +131,12 @@ module _ (stand : Standing) (o : OpeningRequest) (image pass : List ℕ) (segmen
   runs_slot w w' _ told = absurd told
 
 -- a write failed within the line
-pub told_in_part : (opened : Opened) (w w' : Option (List ℕ)) (page : List ℕ) → page ≡ opened_line opened.slot
-    → (n : ℕ) → n < length page → Appended w w' (take n page) → TellsSlot opened w w' WriteFailed
-told_in_part opened w w' page is n within added = rw (← is) (n, within, added)
+pub told_in_part : (opened : Opened) (w w' : Option (List ℕ)) (line : List ℕ) → line ≡ opened_line opened.slot
+    → (n : ℕ) → n < length line → Appended w w' (take n line) → ReportsSlot opened w w' WriteFailed
+told_in_part opened w w' line is n within added = rw (← is) (n, within, added)
 
 -- telling the key slot ends with one of these messages
-pub slot_message : (opened : Opened) (w w' : Option (List ℕ)) (message : Message) → TellsSlot opened w w' message
+pub slot_message : (opened : Opened) (w w' : Option (List ℕ)) (message : Message) → ReportsSlot opened w w' message
     → OpeningMessage message ⊎ (message ≡ Done ⊎ message ≡ WriteFailed)
 slot_message opened w w' Done told = inr (inl refl)
 slot_message opened w w' WriteFailed told = inr (inr refl)
@@ -140,7 +145,7 @@ slot_message opened w w' _ told = absurd told
 
 -- and reads nothing
 pub slot_reads_nothing : (opened : Opened) (w w' : Option (List ℕ)) (message : Message)
-    → TellsSlot opened w w' message → is_run_read_failure message ≡ false
+    → ReportsSlot opened w w' message → is_run_read_failure message ≡ false
 slot_reads_nothing opened w w' Done told = refl
 slot_reads_nothing opened w w' WriteFailed told = refl
 slot_reads_nothing opened w w' OutOfMemory told = refl
@@ -149,13 +154,13 @@ slot_reads_nothing opened w w' _ told = absurd told
 -- ---- `luksCat`
 
 -- a write failed within a sector of the payload: what was written ends before the plain text does, and in that sector
-pub record StandsWithin (segment : Segment) (image : List ℕ) (count written : ℕ) : Type 0 where
+pub record PositionedWithin (segment : Segment) (image : List ℕ) (count written : ℕ) : Type 0 where
   pub span : count * sector_len segment + written < sectors_of segment image * sector_len segment
   pub row : (count * sector_len segment + written) / sector_len segment ≡ count
 
-pub stands_within : (segment : Segment) (image : List ℕ) (count written : ℕ) → count < sectors_of segment image
-    → written < sector_len segment → StandsWithin segment image count written
-stands_within segment image count written few less =
+pub positioned_within : (segment : Segment) (image : List ℕ) (count written : ℕ) → count < sectors_of segment image
+    → written < sector_len segment → PositionedWithin segment image count written
+positioned_within segment image count written few less =
     let more : (count + 1) * sector_len segment ≡ count * sector_len segment + sector_len segment = omega arith in
     let span : (count + 1) * sector_len segment
     ≤ sectors_of segment image * sector_len segment = mul-le-mul_right (sector_len segment) (omega arith) in
@@ -164,12 +169,28 @@ stands_within segment image count written few less =
       row = div-eq_of_lt-le (sector_len segment) (omega arith) (omega arith);
     }
 
-module _ (o : OpeningRequest) (image pass : List ℕ) (segment : Segment) (opened : Opened) (held : List ℕ)
+-- if all of an image is loaded, nothing more of it was consumed
+none_more : (image : List ℕ) (held count : ℕ) (left : Option (List ℕ)) → length image ≤ held → held ≤ count
+    → ConsumedExactly image left count → ConsumedExactly image (Some []) count
+none_more image held count left all more took =
+    record { within = took.within; left = ap Some (sym (drop_all count image (omega arith))) }
+
+forwarded_all : (segment : Segment) (cipher : Cipher) (image : List ℕ) (held : ℕ) (left w w' : Option (List ℕ))
+    (message : Message) → length image ≤ held → message ≢ ReadFailed
+    → ForwardsPayload segment cipher image held left w w' message
+    → ForwardsPayload segment cipher image held (Some []) w w' message
+forwarded_all segment cipher image held left w w' ReadFailed all unread passed = absurd (unread refl)
+forwarded_all segment cipher image held left w w' WriteFailed all unread passed =
+    (passed.0, passed.1, passed.2, passed.3, passed.4, none_more image held _ left all (omega arith) passed.5, passed.6)
+forwarded_all segment cipher image held left w w' message all unread passed =
+    (passed.0, none_more image held _ left all (omega arith) passed.1, passed.2)
+
+module _ (o : VolumeRequest) (image pass : List ℕ) (segment : Segment) (opened : Opened) (held : List ℕ)
     (i s : Option (List ℕ)) (u : Unlocks Attached o image pass segment opened held i s) where
   module _ (i' w w' : Option (List ℕ)) where
     -- the payload was passed on, to its end or not
     pub runs_passed : (message : Message) → message ≢ OutOfMemory
-        → PassesPayload segment (segment.mode, opened.key) image (length held) i' w w' message
+        → ForwardsPayload segment (segment.mode, opened.key) image (length held) i' w w' message
         → RunMatches (cat_promptly image) (volume_outcome (payload_outcome image pass) o image pass) message
         (ConsumedExactly image i')
         (ConsumedExactly pass s) (Appended w w')
@@ -181,8 +202,8 @@ module _ (o : OpeningRequest) (image pass : List ℕ) (segment : Segment) (opene
         let span : count * sector_len segment
         ≤ sectors_of segment image * sector_len segment = mul-le-mul_right (sector_len segment) whole in
         rw (u.outcome (payload_outcome image pass)) (record {
-          image_taken = place;
-          secret_taken = length pass;
+          image_consumed = place;
+          secret_consumed = length pass;
           output_len = count * sector_len segment;
           image_within = omega (arith, passed.4);
           secret_within = omega arith;
@@ -191,16 +212,16 @@ module _ (o : OpeningRequest) (image pass : List ℕ) (segment : Segment) (opene
           is_prompt = λ other is passes.
               rw (same_segment_by header_of image segment other u.has is) (ap (λ n. n * sector_len segment) passed.2);
           image = passed.5;
-          secret = u.secret_taken;
+          secret = u.secret_consumed;
           output = passed.6;
         })
     runs_passed WriteFailed never passed =
         let count = passed.0 in
         let written = passed.1 in
-        let within = stands_within segment image count written passed.2 passed.3 in
+        let within = positioned_within segment image count written passed.2 passed.3 in
         rw (u.outcome (payload_outcome image pass)) (record {
-          image_taken = max (length held) (sector_start segment (count + 1));
-          secret_taken = length pass;
+          image_consumed = max (length held) (sector_start segment (count + 1));
+          secret_consumed = length pass;
           output_len = count * sector_len segment + written;
           image_within = omega (arith, passed.4);
           secret_within = omega arith;
@@ -209,14 +230,37 @@ module _ (o : OpeningRequest) (image pass : List ℕ) (segment : Segment) (opene
           is_prompt = λ other is. rw (same_segment_by header_of image segment other u.has is, within.row)
               (omega (arith, u.early refl));
           image = passed.5;
-          secret = u.secret_taken;
+          secret = u.secret_consumed;
           output = passed.6;
         })
     runs_passed message never passed =
         rw (u.outcome (payload_outcome image pass)) (record
-        { as_stated = passed.0; image = passed.1; secret = u.secret_taken; output = passed.2 })
+        { as_stated = passed.0; image = passed.1; secret = u.secret_consumed; output = passed.2 })
 
--- ---- counts of failures
+  -- all of the image is loaded, and its payload was forwarded from there
+  pub runs_loaded : (left w w' : Option (List ℕ)) (message : Message) → i ≡ Some [] → message ≢ OutOfMemory
+      → message ≢ ReadFailed
+      → (ConsumedExactly image (Some []) (length held)
+      → ForwardsPayload segment (segment.mode, opened.key) image (length held) left w w' message)
+      → RunMatches (cat_promptly image) (volume_outcome (payload_outcome image pass) o image pass) message
+      (ConsumedExactly image i)
+      (ConsumedExactly pass s) (Appended w w')
+  runs_loaded left w w' message none never unread forwards =
+      let consumed = subst (λ (rest : Option (List ℕ)). ConsumedExactly image rest (length held)) none
+      u.image_consumed in
+      let rest : Some [] ≡ Some (drop (length held) image) = consumed.left in
+      let same : [] ≡ drop (length held) image = cc in
+      let all : length image ≤ length held = omega (arith, ap length same, length-drop (length held) image) in
+      subst
+      (λ (rest : Option (List ℕ)). RunMatches (cat_promptly image)
+      (volume_outcome (payload_outcome image pass) o image pass) message
+      (ConsumedExactly image rest) (ConsumedExactly pass s) (Appended w w'))
+      (sym none)
+      (runs_passed (Some []) w w' message never
+      (forwarded_all segment (segment.mode, opened.key) image (length held) left w w' message all unread
+      (forwards consumed)))
+
+-- ---- counts
 
 -- the counts after a payload was passed on, where nothing had failed before
 pub counts_passed : (message : Message) (image image' image'' secret secret' written written' : ℕ)
@@ -232,8 +276,15 @@ counts_passed WriteFailed image image' image'' secret secret' written written' s
 counts_passed _ image image' image'' secret secret' written written' same reads writes =
     rw (reads, writes) (same written)
 
--- a part of a run that was not refused memory does not end so
-pub never_memory : {T : Type 0} (r : Result T Message) → IfErr r (λ message. message ≢ OutOfMemory)
-    → result_message r ≢ OutOfMemory
-never_memory (Ok x) never = λ e. cc
-never_memory (Err message) never = never
+-- forwarding a payload never ends with a refused allocation
+pub never_memory : (message : Message) → PayloadMessage message → message ≢ OutOfMemory
+never_memory message only same = absurd (rw same at only)
+
+-- a source over memory has no failed read to report
+pub never_read : (message : Message) → 0 ≡ counted (is_run_read_failure message) 0
+    → is_run_read_failure message ≡ false
+never_read ReadFailed counts = absurd (cc)
+never_read _ counts = refl
+
+pub unread_is : (message : Message) → is_run_read_failure message ≡ false → message ≢ ReadFailed
+unread_is message unread = λ is. let wrong : true ≡ false = rw is at unread in cc

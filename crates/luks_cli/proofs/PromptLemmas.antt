@@ -3,7 +3,7 @@ use Rattle.std.proofs.Common.{◌≡◌, ℕ, ◌-◌, ◌*◌, ◌/◌, ◌≤�
 use Rattle.std.proofs.lemmas.Bool.{cases_lt}
 use Rattle.std.proofs.Math.Nat.{zero-div}
 use Rattle.luks_header.specs.Header.{header_read_len, header_of}
-use Rattle.luks_header.specs.Segment.{segment_of}
+use Rattle.luks_header.specs.HeaderSegment.{segment_of}
 use Rattle.luks_header.specs.declared.header.Header.{Header}
 use Rattle.luks_header.proofs.KnownLemmas.{is_attached}
 use Rattle.luks_verdict.specs.declared.segment.Segment.{Segment}
@@ -12,15 +12,15 @@ use Rattle.luks_open.specs.Order.{OrderModel, key_areas_end, order_of}
 use Rattle.luks_payload.specs.Plain.{sector_len}
 use Rattle.luks_report.specs.declared.message.Message.{Message}
 use Rattle.luks_report.specs.declared.message.Message.TheVariants.{Cut, ReadFailed, WriteFailed}
-use Rattle.luks_runs.specs.Reading.{Reading}
-use Rattle.luks_runs.specs.Standing.{reading_of}
+use Rattle.luks_runs.specs.HeaderReading.{HeaderReader}
+use Rattle.luks_runs.specs.Location.{reader_for}
 use Rattle.luks_cli.specs.Unlocking.{opens_promptly}
 use Rattle.luks_unlock.specs.Finding.{HasSegment, HasSegmentBy}
 use Rattle.luks_cli.specs.VolumeParts.{cat_promptly}
-use Rattle.luks_runs.specs.declared.standing.Standing.{Standing}
-use Rattle.luks_runs.specs.declared.standing.Standing.TheVariants.{Attached, Detached}
+use Rattle.luks_runs.specs.declared.location.HeaderLocation.{HeaderLocation}
+use Rattle.luks_runs.specs.declared.location.HeaderLocation.TheVariants.{Attached, Detached}
 
-pub same_segment_by : (read : Reading) (image : List ℕ) (s t : Segment) → HasSegmentBy read image s
+pub same_segment_by : (read : HeaderReader) (image : List ℕ) (s t : Segment) → HasSegmentBy read image s
     → HasSegmentBy read image t → t ≡ s
 same_segment_by read image s t one other =
     let first : read image ≡ Ok one.0 = one.1 in
@@ -46,13 +46,14 @@ cat_in_header image ReadFailed a b few segment has = λ passes.
 cat_in_header image WriteFailed a b few segment has = omega arith
 cat_in_header image _ a b few segment has = tt
 
-pub prompt_in_header : (stand : Standing) (image : List ℕ) (message : Message) (a b : ℕ) → a ≤ header_read_len image
-    → opens_promptly stand image message a b 0
+pub prompt_in_header : (location : HeaderLocation) (image : List ℕ) (message : Message) (a b : ℕ)
+    → a ≤ header_read_len image
+    → opens_promptly location image message a b 0
 prompt_in_header Attached image message a b few = cat_in_header image message a b few
 prompt_in_header Detached image message a b few = refl
 
 -- neither a read nor a write failed
-pub prompt_refused : (stand : Standing) (image : List ℕ) (a b : ℕ) → opens_promptly stand image Cut a b 0
+pub prompt_refused : (location : HeaderLocation) (image : List ℕ) (a b : ℕ) → opens_promptly location image Cut a b 0
 prompt_refused Attached image a b = λ segment has. tt
 prompt_refused Detached image a b = refl
 
@@ -69,9 +70,11 @@ prompt_to_payload image WriteFailed a b segment has few other is =
 prompt_to_payload image _ a b segment has few other is = tt
 
 -- nothing past the header and the payload's start was taken
-pub prompt_before_payload : (stand : Standing) (image : List ℕ) (message : Message) (a b : ℕ) (segment : Segment)
-    → HasSegmentBy (reading_of stand) image segment
-    → (stand ≡ Attached → a ≤ max (header_read_len image) segment.offset) → opens_promptly stand image message a b 0
+pub prompt_before_payload : (location : HeaderLocation) (image : List ℕ) (message : Message) (a b : ℕ)
+    (segment : Segment)
+    → HasSegmentBy (reader_for location) image segment
+    → (location ≡ Attached → a ≤ max (header_read_len image) segment.offset)
+    → opens_promptly location image message a b 0
 prompt_before_payload Attached image message a b segment has early =
     let few = early refl in
     elim (cases_lt (header_read_len image) a) [
@@ -81,9 +84,10 @@ prompt_before_payload Attached image message a b segment has early =
 prompt_before_payload Detached image message a b segment has early = refl
 
 -- of a header in the payload's image no key material that is tried stands in the payload
-pub held_early : (stand : Standing) (image : List ℕ) (header : Header) (segment : Segment) (named limit : Option ℕ)
-    (tries : OrderModel) → reading_of stand image ≡ Ok header → segment_of header ≡ Ok segment
-    → order_of header named limit ≡ Ok tries → stand ≡ Attached → key_areas_end tries.slots ≤ segment.offset
+pub held_early : (location : HeaderLocation) (image : List ℕ) (header : Header) (segment : Segment)
+    (named limit : Option ℕ)
+    (tries : OrderModel) → reader_for location image ≡ Ok header → segment_of header ≡ Ok segment
+    → order_of header named limit ≡ Ok tries → location ≡ Attached → key_areas_end tries.slots ≤ segment.offset
 held_early Attached image header segment named limit tries found is_segment ordered attached =
     held_before_payload header segment named limit tries (is_attached image header found) is_segment ordered
 held_early Detached image header segment named limit tries found is_segment ordered attached = cc

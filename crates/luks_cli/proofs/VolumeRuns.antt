@@ -1,19 +1,15 @@
 -- How the commands on volumes end before their volume is opened.
-use Rattle.std.proofs.Common.{◌≡◌, ℕ, ◌+◌, ◌-◌, ◌<◌, ◌≤◌, inl, inr, List, ◌++◌, Option, Some, Result, Ok, Err, ◌∙◌, ap}
-use Rattle.std.proofs.Common.{sym, refl, take, drop, length, length-drop, length-take-le, max, min, arith, true, false}
+use Rattle.std.proofs.Common.{◌≡◌, ℕ, ◌+◌, ◌-◌, ◌<◌, ◌≤◌, inl, inr, List, Option, Some, Result, Ok, Err, ◌∙◌, ap}
+use Rattle.std.proofs.Common.{sym, refl, take, drop, length, max, min, arith}
 use Rattle.std.proofs.lemmas.Bool.{cases_lt}
-use Rattle.std.proofs.lemmas.Bool.Decides.{nat_tests}
-use Rattle.std.proofs.lemmas.List.{drop-drop}
-use Rattle.std.proofs.Math.Seq.{take-add}
-use Rattle.std.specs.Prelude.{◌≢◌, nat_lt}
+use Rattle.std.specs.Prelude.{◌≢◌}
 use Rattle.luks_header.specs.Area.{AbortsConsuming, ConsumedOnto}
 use Rattle.luks_header.specs.Header.{header_read_len}
-use Rattle.luks_header.specs.Segment.{segment_of}
+use Rattle.luks_header.specs.HeaderSegment.{segment_of}
 use Rattle.luks_header.specs.declared.header.Header.{Header}
 use Rattle.luks_area.specs.declared.fault.HeaderFault.{HeaderFault}
 use Rattle.luks_area.specs.declared.fault.HeaderFault.TheVariants.{Read as LostRead, Memory as NoMemory}
 use Rattle.luks_verdict.specs.declared.segment.Segment.{Segment}
-use Rattle.luks_open.proofs.CallerLemmas.{opening_beginning}
 use Rattle.luks_open.specs.Opening.{opening_of}
 use Rattle.luks_open.specs.Order.{OrderModel, key_areas_end, order_of}
 use Rattle.luks_open.specs.declared.fault.OpenFault.{OpenFault}
@@ -26,21 +22,21 @@ use Rattle.luks_unlock.proofs.OutcomeLemmas.{front_len, outcome_is, tried_is}
 use Rattle.luks_report.specs.Faults.{message_for_header}
 use Rattle.luks_unlock.specs.Volume.{OnOpened, found_outcome, opened_outcome, outcome_after, volume_outcome_by}
 use Rattle.luks_runs.specs.Ending.{Outcome, no_output}
-use Rattle.luks_request.specs.Request.{OpeningRequest}
+use Rattle.luks_request.specs.Request.{VolumeRequest}
 use Rattle.luks_runs.specs.Run.{Aborted, IsPrefixLen, IsSilent, RunMatches}
-use Rattle.luks_io.proofs.Taking.{adds-none, took-none}
-use Rattle.luks_io.specs.Bytes.{Appended, ConsumedExactly}
-use Rattle.luks_runs.proofs.HeaderTaking.{cost_there, took_header}
-use Rattle.luks_runs.specs.Secret.{NoSecretRead}
-use Rattle.luks_runs.specs.Secret.{longest_key_file}
-use Rattle.luks_cli.specs.VolumeParts.{TakesHeld}
+use Rattle.luks_io.proofs.Consuming.{adds-none, took-none}
+use Rattle.luks_io.specs.Devices.{Appended, ConsumedExactly}
+use Rattle.luks_runs.proofs.HeaderConsumption.{cost_there, consumed_header}
+use Rattle.luks_runs.specs.KeyFile.{NoKeyFileRead}
+use Rattle.luks_runs.specs.KeyFile.{max_key_file_len}
+use Rattle.luks_cli.specs.VolumeParts.{ConsumesHeld}
 use Rattle.luks_unlock.specs.Trying.{TriesSlots}
 use Rattle.luks_cli.specs.Unlocking.{OpensVolume, Unlocks, opens_promptly}
 use Rattle.luks_unlock.specs.Finding.{AbortsFinding}
 use Rattle.luks_unlock.specs.Volume.{Volume, held_for, volume_by}
-use Rattle.luks_runs.specs.Standing.{reading_of}
-use Rattle.luks_runs.specs.declared.standing.Standing.{Standing}
-use Rattle.luks_runs.specs.declared.standing.Standing.TheVariants.{Attached}
+use Rattle.luks_runs.specs.Location.{reader_for}
+use Rattle.luks_runs.specs.declared.location.HeaderLocation.{HeaderLocation}
+use Rattle.luks_runs.specs.declared.location.HeaderLocation.TheVariants.{Attached}
 use Rattle.luks_report.specs.Faults.{message_for_opening}
 use Rattle.luks_report.specs.declared.message.Message.{Message}
 use Rattle.luks_report.specs.declared.message.Message.TheVariants.{Cut, KeyFileLength, OutOfMemory, ReadFailed}
@@ -49,38 +45,41 @@ use Rattle.luks_report.specs.declared.message.Message.TheVariants.{WriteFailed}
 -- ---- runs without output
 
 -- a run that was broken off before any output
-early : (stand : Standing) (out : Outcome) (image pass : List ℕ) (message : Message) (i s w : Option (List ℕ)) (a b : ℕ)
+early : (location : HeaderLocation) (out : Outcome) (image pass : List ℕ) (message : Message) (i s w : Option (List ℕ))
+    (a b : ℕ)
     → IsSilent message 0 → IsPrefixLen message 0 (length out.output)
-    → opens_promptly stand image message a b 0
-    → a ≤ out.image_taken → b ≤ out.secret_taken → ConsumedExactly image i a → ConsumedExactly pass s b
-    → Aborted (opens_promptly stand image) out message (ConsumedExactly image i) (ConsumedExactly pass s) (Appended w w)
-early stand out image pass message i s w a b silent begins prompt few little took_image took_pass = record {
-  image_taken = a;
-  secret_taken = b;
+    → opens_promptly location image message a b 0
+    → a ≤ out.image_consumed → b ≤ out.secret_consumed → ConsumedExactly image i a → ConsumedExactly pass s b
+    → Aborted (opens_promptly location image) out message (ConsumedExactly image i) (ConsumedExactly pass s)
+    (Appended w w)
+early location out image pass message i s w a b silent begins prompt few little consumed_image consumed_pass = record {
+  image_consumed = a;
+  secret_consumed = b;
   output_len = 0;
   image_within = few;
   secret_within = little;
   output_within = begins;
   is_silent = silent;
   is_prompt = prompt;
-  image = took_image;
-  secret = took_pass;
+  image = consumed_image;
+  secret = consumed_pass;
   output = adds-none w;
 }
 
 -- a run whose outcome has no output, whatever it tells but for a failed write
-ends_unwritten : (stand : Standing) (image pass : List ℕ) (message : Message) (i s w : Option (List ℕ)) (a b : ℕ)
+ends_unwritten : (location : HeaderLocation) (image pass : List ℕ) (message : Message) (i s w : Option (List ℕ))
+    (a b : ℕ)
     → message ≢ WriteFailed
-    → opens_promptly stand image message a b 0
+    → opens_promptly location image message a b 0
     → ConsumedExactly image i a → ConsumedExactly pass s b
-    → RunMatches (opens_promptly stand image) (no_output message a b) message (ConsumedExactly image i)
+    → RunMatches (opens_promptly location image) (no_output message a b) message (ConsumedExactly image i)
     (ConsumedExactly pass s) (Appended w w)
-ends_unwritten stand image pass OutOfMemory i s w a b other prompt ti ts =
-    early stand _ image pass OutOfMemory i s w a b refl (omega arith) prompt (omega arith) (omega arith) ti ts
-ends_unwritten stand image pass ReadFailed i s w a b other prompt ti ts =
-    early stand _ image pass ReadFailed i s w a b tt (omega arith) prompt (omega arith) (omega arith) ti ts
-ends_unwritten stand image pass WriteFailed i s w a b other prompt ti ts = absurd (other refl)
-ends_unwritten stand image pass _ i s w a b other prompt ti ts =
+ends_unwritten location image pass OutOfMemory i s w a b other prompt ti ts =
+    early location _ image pass OutOfMemory i s w a b refl (omega arith) prompt (omega arith) (omega arith) ti ts
+ends_unwritten location image pass ReadFailed i s w a b other prompt ti ts =
+    early location _ image pass ReadFailed i s w a b tt (omega arith) prompt (omega arith) (omega arith) ti ts
+ends_unwritten location image pass WriteFailed i s w a b other prompt ti ts = absurd (other refl)
+ends_unwritten location image pass _ i s w a b other prompt ti ts =
     record { as_stated = refl; image = ti; secret = ts; output = adds-none w }
 
 -- of key slots no failed write is told
@@ -95,18 +94,18 @@ no_write_told named Memory h = cc
 -- ---- how much is taken of a volume that was found
 
 module _ (on_opened : OnOpened) (named : Option ℕ) (v : Volume) (image secret : List ℕ)
-    (takes : TakesHeld secret on_opened) where
+    (takes : ConsumesHeld secret on_opened) where
   opened_within : (r : Result Opened OpenFault)
-      → (held_for image v ≤ (opened_outcome on_opened named v image secret r).image_taken)
-      × (length secret ≤ (opened_outcome on_opened named v image secret r).secret_taken)
+      → (held_for image v ≤ (opened_outcome on_opened named v image secret r).image_consumed)
+      × (length secret ≤ (opened_outcome on_opened named v image secret r).secret_consumed)
   opened_within (Ok opened) =
       (takes.held v.segment opened (held_for image v), omega (arith, takes.whole v.segment opened (held_for image v)))
   opened_within (Err fault) = (omega arith, omega arith)
 
   -- a key file that is not too long is taken whole, and the image as far as it is held
-  area_within : length secret ≤ longest_key_file
-      → (min (length image) (held_for image v) ≤ (found_outcome on_opened named v image secret).image_taken)
-      × (length secret ≤ (found_outcome on_opened named v image secret).secret_taken)
+  area_within : length secret ≤ max_key_file_len
+      → (min (length image) (held_for image v) ≤ (found_outcome on_opened named v image secret).image_consumed)
+      × (length secret ≤ (found_outcome on_opened named v image secret).secret_consumed)
   area_within short = elim (cases_lt (length image) (key_areas_end v.tries.slots)) [
     | inl few ↦ rw (found_cut on_opened named v image secret short few) (omega arith, omega arith)
     | inr enough ↦
@@ -115,9 +114,9 @@ module _ (on_opened : OnOpened) (named : Option ℕ) (v : Volume) (image secret 
   ]
 
   -- the header is taken, and of the key file as much as is read at most
-  found_within : (header_read_len image ≤ (found_outcome on_opened named v image secret).image_taken)
-      × (min (length secret) (longest_key_file + 1) ≤ (found_outcome on_opened named v image secret).secret_taken)
-  found_within = elim (cases_lt longest_key_file (length secret)) [
+  found_within : (header_read_len image ≤ (found_outcome on_opened named v image secret).image_consumed)
+      × (min (length secret) (max_key_file_len + 1) ≤ (found_outcome on_opened named v image secret).secret_consumed)
+  found_within = elim (cases_lt max_key_file_len (length secret)) [
     | inl long ↦ rw (found_long on_opened named v image secret long) (omega arith, omega arith)
     | inr short ↦
         let all = area_within short in
@@ -126,94 +125,100 @@ module _ (on_opened : OnOpened) (named : Option ℕ) (v : Volume) (image secret 
 
 -- ---- runs that open no volume
 
-module _ (stand : Standing) (o : OpeningRequest) (image pass : List ℕ) (i s w : Option (List ℕ)) where
-  module _ (on_opened : OnOpened) (takes : TakesHeld pass on_opened) where
-    cost_taken : header_read_len image ≤ (volume_outcome_by (reading_of stand) on_opened o image pass).image_taken
+module _ (location : HeaderLocation) (o : VolumeRequest) (image pass : List ℕ) (i s w : Option (List ℕ)) where
+  module _ (on_opened : OnOpened) (takes : ConsumesHeld pass on_opened) where
+    cost_consumed : header_read_len image
+        ≤ (volume_outcome_by (reader_for location) on_opened o image pass).image_consumed
     unfolding volume_outcome_by
-    cost_taken = after (volume_by (reading_of stand) o image)
+    cost_consumed = after (volume_by (reader_for location) o image)
       where
         after : (r : Result Volume Message)
-            → header_read_len image ≤ (outcome_after on_opened o.key_slot image pass r).image_taken
+            → header_read_len image ≤ (outcome_after on_opened o.key_slot image pass r).image_consumed
         after (Ok v) = (found_within on_opened o.key_slot v image pass takes).0
         after (Err message) = omega arith
 
     -- there was no volume, or its header was not read
     pub runs_without_volume : (message : Message) → message ≢ WriteFailed
-        → AbortsFinding (reading_of stand) o image i message
+        → AbortsFinding (reader_for location) o image i message
         → s ≡ Some pass
-        → RunMatches (opens_promptly stand image) (volume_outcome_by (reading_of stand) on_opened o image pass) message
+        → RunMatches (opens_promptly location image) (volume_outcome_by (reader_for location) on_opened o image pass)
+        message
         (ConsumedExactly image i) (ConsumedExactly pass s)
         (Appended w w)
     runs_without_volume OutOfMemory other stop whole =
-        early stand _ image pass OutOfMemory i s w stop.0 0 refl (omega arith)
-        (prompt_in_header stand image OutOfMemory stop.0 0 stop.1) (omega (arith, stop.1, cost_taken)) (omega arith)
+        early location _ image pass OutOfMemory i s w stop.0 0 refl (omega arith)
+        (prompt_in_header location image OutOfMemory stop.0 0 stop.1) (omega (arith, stop.1, cost_consumed))
+        (omega arith)
         stop.2 (took-none pass s whole)
     runs_without_volume ReadFailed other stop whole =
-        early stand _ image pass ReadFailed i s w stop.0 0 tt (omega arith)
-        (prompt_in_header stand image ReadFailed stop.0 0 stop.1) (omega (arith, stop.1, cost_taken)) (omega arith)
+        early location _ image pass ReadFailed i s w stop.0 0 tt (omega arith)
+        (prompt_in_header location image ReadFailed stop.0 0 stop.1) (omega (arith, stop.1, cost_consumed))
+        (omega arith)
         stop.2 (took-none pass s whole)
     runs_without_volume WriteFailed other stop whole = absurd (other refl)
     runs_without_volume message other stop whole =
-        rw (outcome_is stand o image pass on_opened (Err message) stop.0)
-        (ends_unwritten stand image pass message i s w (header_read_len image) 0 other
-        (prompt_in_header stand image message (header_read_len image) 0 (omega arith)) stop.1 (took-none pass s whole))
+        rw (outcome_is location o image pass on_opened (Err message) stop.0)
+        (ends_unwritten location image pass message i s w (header_read_len image) 0 other
+        (prompt_in_header location image message (header_read_len image) 0 (omega arith)) stop.1
+        (took-none pass s whole))
 
   -- the header names this segment and these key slots to be tried
-  module _ (header : Header) (segment : Segment) (tries : OrderModel) (found : reading_of stand image ≡ Ok header)
+  module _ (header : Header) (segment : Segment) (tries : OrderModel) (found : reader_for location image ≡ Ok header)
       (is_segment : segment_of header ≡ Ok segment)
       (ordered : order_of header o.key_slot o.max_iterations ≡ Ok tries) where
     volume : Volume
     volume = record { header = header; segment = segment; tries = tries }
 
     outcome_found : (on_opened : OnOpened)
-        → volume_outcome_by (reading_of stand) on_opened o image pass
+        → volume_outcome_by (reader_for location) on_opened o image pass
         ≡ found_outcome on_opened o.key_slot volume image pass
     unfolding volume
     outcome_found on_opened =
-        found_is stand o image pass header segment tries found is_segment ordered on_opened
+        found_is location o image pass header segment tries found is_segment ordered on_opened
 
-    held_before : stand ≡ Attached → held_for image volume ≤ max (header_read_len image) segment.offset
+    held_before : location ≡ Attached → held_for image volume ≤ max (header_read_len image) segment.offset
     unfolding volume
     held_before attached = omega (
       arith,
-      held_early stand image header segment o.key_slot o.max_iterations tries found is_segment ordered attached,
+      held_early location image header segment o.key_slot o.max_iterations tries found is_segment ordered attached,
     )
 
     -- the key file was not read
-    runs_without_secret : (on_opened : OnOpened) (takes : TakesHeld pass on_opened) (message : Message)
-        → NoSecretRead pass s message
+    runs_without_secret : (on_opened : OnOpened) (takes : ConsumesHeld pass on_opened) (message : Message)
+        → NoKeyFileRead pass s message
         → ConsumedExactly image i (header_read_len image)
-        → RunMatches (opens_promptly stand image) (volume_outcome_by (reading_of stand) on_opened o image pass) message
+        → RunMatches (opens_promptly location image) (volume_outcome_by (reader_for location) on_opened o image pass)
+        message
         (ConsumedExactly image i) (ConsumedExactly pass s)
         (Appended w w)
     runs_without_secret on_opened takes KeyFileLength stop rest =
         rw (outcome_found on_opened, found_long on_opened o.key_slot volume image pass stop.0)
-        (ends_unwritten stand image pass KeyFileLength i s w (header_read_len image) (longest_key_file + 1) (λ h. cc)
-        (prompt_in_header stand image KeyFileLength (header_read_len image) (longest_key_file + 1)
+        (ends_unwritten location image pass KeyFileLength i s w (header_read_len image) (max_key_file_len + 1) (λ h. cc)
+        (prompt_in_header location image KeyFileLength (header_read_len image) (max_key_file_len + 1)
         (omega arith)) rest stop.1)
     runs_without_secret on_opened takes OutOfMemory stop rest =
         let within = found_within on_opened o.key_slot volume image pass takes in
         rw (outcome_found on_opened)
-        (early stand _ image pass OutOfMemory i s w (header_read_len image) stop.0 refl (omega arith)
-        (prompt_in_header stand image OutOfMemory (header_read_len image) stop.0 (omega arith)) within.0
+        (early location _ image pass OutOfMemory i s w (header_read_len image) stop.0 refl (omega arith)
+        (prompt_in_header location image OutOfMemory (header_read_len image) stop.0 (omega arith)) within.0
         (omega (arith, stop.1, within.1)) rest stop.2)
     runs_without_secret on_opened takes ReadFailed stop rest =
         let within = found_within on_opened o.key_slot volume image pass takes in
         rw (outcome_found on_opened)
-        (early stand _ image pass ReadFailed i s w (header_read_len image) stop.0 tt (omega arith)
-        (prompt_in_header stand image ReadFailed (header_read_len image) stop.0 (omega arith)) within.0
+        (early location _ image pass ReadFailed i s w (header_read_len image) stop.0 tt (omega arith)
+        (prompt_in_header location image ReadFailed (header_read_len image) stop.0 (omega arith)) within.0
         (omega (arith, stop.1, within.1)) rest stop.2)
     runs_without_secret on_opened takes _ stop rest = absurd stop
 
     -- the key file was read
-    module _ (short : length pass ≤ longest_key_file) (gone : ConsumedExactly pass s (length pass))
+    module _ (short : length pass ≤ max_key_file_len) (gone : ConsumedExactly pass s (length pass))
         (area area' : List ℕ)
         (front : area ≡ take (header_read_len image) image) where
       -- the key areas were not taken
-      runs_without_area : (on_opened : OnOpened) (takes : TakesHeld pass on_opened) (fault : HeaderFault)
+      runs_without_area : (on_opened : OnOpened) (takes : ConsumesHeld pass on_opened) (fault : HeaderFault)
           → AbortsConsuming (key_areas_end tries.slots - length area) area area' (drop
           (header_read_len image) image) i fault
-          → RunMatches (opens_promptly stand image) (volume_outcome_by (reading_of stand) on_opened o image pass)
+          → RunMatches (opens_promptly location image) (volume_outcome_by (reader_for location) on_opened o image pass)
           (message_for_header fault) (ConsumedExactly image i)
           (ConsumedExactly pass s) (Appended w w)
       unfolding volume
@@ -224,41 +229,43 @@ module _ (stand : Standing) (o : OpeningRequest) (image pass : List ℕ) (i s w 
           omega (arith, stop.1, front_len image area area' i (key_areas_end tries.slots) front) in
           let within = area_within on_opened o.key_slot volume image pass takes short in
           rw (outcome_found on_opened)
-          (early stand _ image pass ReadFailed i s w (header_read_len image + stop.0) (length pass) tt (omega arith)
-          (prompt_before_payload stand image ReadFailed (header_read_len image + stop.0) (length pass) segment
+          (early location _ image pass ReadFailed i s w (header_read_len image + stop.0) (length pass) tt (omega arith)
+          (prompt_before_payload location image ReadFailed (header_read_len image + stop.0) (length pass) segment
           (header, found, is_segment) (λ attached. omega (arith, few, held_before attached)))
           (omega (arith, within.0, more.1.within, few)) within.1 more.1 gone)
       runs_without_area on_opened takes NoMemory stop =
           let within = found_within on_opened o.key_slot volume image pass takes in
           let whole = area_within on_opened o.key_slot volume image pass takes short in
           rw (outcome_found on_opened)
-          (early stand _ image pass OutOfMemory i s w (header_read_len image) (length pass) refl (omega arith)
-          (prompt_in_header stand image OutOfMemory (header_read_len image) (length pass) (omega arith))
-          within.0 whole.1 (took_header image i stop.0.left) gone)
+          (early location _ image pass OutOfMemory i s w (header_read_len image) (length pass) refl (omega arith)
+          (prompt_in_header location image OutOfMemory (header_read_len image) (length pass) (omega arith))
+          within.0 whole.1 (consumed_header image i stop.0.left) gone)
       runs_without_area on_opened takes _ stop = absurd stop
 
       module _ (grows : ConsumedOnto area area' (drop (header_read_len image) image) i
           (min (key_areas_end tries.slots - length area) (length (drop (header_read_len image) image)))) where
         -- the image ended within them
         runs_cut : (on_opened : OnOpened) → length area' < key_areas_end tries.slots
-            → RunMatches (opens_promptly stand image) (volume_outcome_by (reading_of stand) on_opened o image pass) Cut
+            → RunMatches (opens_promptly location image)
+            (volume_outcome_by (reader_for location) on_opened o image pass) Cut
             (ConsumedExactly image i) (ConsumedExactly pass s)
             (Appended w w)
         unfolding volume
         runs_cut on_opened few =
             let cut = area_cut image area area' i (key_areas_end tries.slots) front grows few in
             rw (outcome_found on_opened, found_cut on_opened o.key_slot volume image pass short cut.0)
-            (ends_unwritten stand image pass Cut i s w (length image) (length pass) (λ h. cc)
-            (prompt_refused stand image (length image) (length pass)) cut.1 gone)
+            (ends_unwritten location image pass Cut i s w (length image) (length pass) (λ h. cc)
+            (prompt_refused location image (length image) (length pass)) cut.1 gone)
 
         module _ (enough : key_areas_end tries.slots ≤ length area') (r : Result Opened OpenFault)
             (tried : opening_of tries area' pass ≡ r) where
           outcome_tried : (on_opened : OnOpened)
-              → volume_outcome_by (reading_of stand) on_opened o image pass
+              → volume_outcome_by (reader_for location) on_opened o image pass
               ≡ opened_outcome on_opened o.key_slot volume image pass r
           unfolding volume
           outcome_tried on_opened =
-              tried_is stand o image pass header segment tries found is_segment ordered short area area' i front grows
+              tried_is location o image pass header segment tries found is_segment ordered short area area' i front
+              grows
               enough r tried on_opened
 
       -- no key slot opens
@@ -266,17 +273,17 @@ module _ (stand : Standing) (o : OpeningRequest) (image pass : List ℕ) (i s w 
           (min (key_areas_end tries.slots - length area) (length (drop (header_read_len image) image))))
           → (enough : key_areas_end tries.slots ≤ length area') (fault : OpenFault)
           (tried : opening_of tries area' pass ≡ Err fault) (on_opened : OnOpened)
-          → RunMatches (opens_promptly stand image) (volume_outcome_by (reading_of stand) on_opened o image pass)
+          → RunMatches (opens_promptly location image) (volume_outcome_by (reader_for location) on_opened o image pass)
           (message_for_opening o.key_slot fault)
           (ConsumedExactly image i) (ConsumedExactly pass s) (Appended w w)
       unfolding volume
       runs_unopened grows enough fault tried on_opened =
           let held = area_held image area area' i (key_areas_end tries.slots) front grows enough in
           rw (outcome_tried grows enough (Err fault) tried on_opened)
-          (ends_unwritten stand image pass (message_for_opening o.key_slot fault) i s w (held_for image volume)
+          (ends_unwritten location image pass (message_for_opening o.key_slot fault) i s w (held_for image volume)
           (length pass)
           (no_write_told o.key_slot fault)
-          (prompt_before_payload stand image (message_for_opening o.key_slot fault) (held_for image volume)
+          (prompt_before_payload location image (message_for_opening o.key_slot fault) (held_for image volume)
           (length pass)
           segment (header, found, is_segment) held_before)
           held.3 gone)
@@ -286,7 +293,7 @@ module _ (stand : Standing) (o : OpeningRequest) (image pass : List ℕ) (i s w 
           (min (key_areas_end tries.slots - length area) (length (drop (header_read_len image) image))))
           → (enough : key_areas_end tries.slots ≤ length area') (opened : Opened)
           (tried : opening_of tries area' pass ≡ Ok opened)
-          → Unlocks stand o image pass segment opened area' i s
+          → Unlocks location o image pass segment opened area' i s
       unfolding volume
       unlocks grows enough opened tried =
           let held = area_held image area area' i (key_areas_end tries.slots) front grows enough in
@@ -297,16 +304,17 @@ module _ (stand : Standing) (o : OpeningRequest) (image pass : List ℕ) (i s w 
             cost = omega (arith, held.1);
             early = λ attached. omega (arith, held.1, held_before attached);
             front = rw (← held.1) at held.2;
-            image_taken = rw (← held.1) at held.3;
-            secret_taken = gone;
+            image_consumed = rw (← held.1) at held.3;
+            secret_consumed = gone;
           }
 
     -- the key slots were not tried, or none of them opens
-    runs_without_slot : (short : length pass ≤ longest_key_file) (gone : ConsumedExactly pass s (length pass))
+    runs_without_slot : (short : length pass ≤ max_key_file_len) (gone : ConsumedExactly pass s (length pass))
         (area area' : List ℕ) (front : area ≡ take (header_read_len image) image) (on_opened : OnOpened)
-        (takes : TakesHeld pass on_opened) (message : Message)
+        (takes : ConsumesHeld pass on_opened) (message : Message)
         → TriesSlots o.key_slot tries pass area area' (drop (header_read_len image) image) i (Err message)
-        → RunMatches (opens_promptly stand image) (volume_outcome_by (reading_of stand) on_opened o image pass) message
+        → RunMatches (opens_promptly location image) (volume_outcome_by (reader_for location) on_opened o image pass)
+        message
         (ConsumedExactly image i) (ConsumedExactly pass s) (Appended w w)
     runs_without_slot short gone area area' front on_opened takes message (inl lost) =
         rw lost.1 (runs_without_area short gone area area' front on_opened takes lost.0 lost.2)
@@ -318,11 +326,12 @@ module _ (stand : Standing) (o : OpeningRequest) (image pass : List ℕ) (i s w 
     -- the volume was not opened
     pub runs_without_key : (area area' : List ℕ) (front : area
         ≡ take (header_read_len image) image) (on_opened : OnOpened)
-        (takes : TakesHeld pass on_opened) (left : ConsumedExactly image (Some (drop (header_read_len image) image))
+        (takes : ConsumesHeld pass on_opened) (left : ConsumedExactly image (Some (drop (header_read_len image) image))
         (header_read_len image))
         (message : Message)
         → OpensVolume o.key_slot tries pass area area' (drop (header_read_len image) image) i s (Err message)
-        → RunMatches (opens_promptly stand image) (volume_outcome_by (reading_of stand) on_opened o image pass) message
+        → RunMatches (opens_promptly location image) (volume_outcome_by (reader_for location) on_opened o image pass)
+        message
         (ConsumedExactly image i) (ConsumedExactly pass s) (Appended w w)
     runs_without_key area area' front on_opened takes left message (inl (short, gone, tried)) =
         runs_without_slot short gone area area' front on_opened takes message tried
@@ -333,7 +342,7 @@ module _ (stand : Standing) (o : OpeningRequest) (image pass : List ℕ) (i s w 
     -- the volume was opened
     pub unlocks_volume : (area area' : List ℕ) (front : area ≡ take (header_read_len image) image) (opened : Opened)
         → OpensVolume o.key_slot tries pass area area' (drop (header_read_len image) image) i s (Ok opened)
-        → Unlocks stand o image pass segment opened area' i s
+        → Unlocks location o image pass segment opened area' i s
     unlocks_volume area area' front opened (inl (short, gone, tried)) =
         unlocks short gone area area' front tried.0 tried.1 opened tried.2
     unlocks_volume area area' front opened (inr none) = cc

@@ -1,9 +1,12 @@
 -- The headline for a header in a file of its own: header and key areas come from that file, and the payload from the
 -- image, at the segment's own place.
 use Rattle.std.specs.Prelude.{◌≡◌, ◌⊎◌, ℕ, List, Option, Some, is_err, true}
-use Rattle.luks_io.specs.Bytes.{Appended, ConsumedExactly, IfKnown, saturating_inc}
+use Rattle.luks_io.specs.Counts.{ReadsAsNeeded, WritesAsNeeded}
+use Rattle.luks_io.specs.declared.counts.ReadCounts.{ReadCounts}
+use Rattle.luks_io.specs.declared.counts.WriteCounts.{WriteCounts}
+use Rattle.luks_io.specs.Devices.{Appended, ConsumedExactly, IfKnown, saturating_inc}
 use Rattle.luks_request.specs.Request.{Request, is_luks, luks_uuid, luks_dump, luks_check, test_passphrase, luks_cat}
-use Rattle.luks_report.specs.Check.{check_of, message_for_check}
+use Rattle.luks_report.specs.CheckOutput.{check_of, message_for_check}
 use Rattle.luks_report.specs.Dump.{dump_of, uuid_of}
 use Rattle.luks_report.specs.declared.message.Message.{Message}
 use Rattle.luks_report.specs.declared.message.Message.TheVariants.{NotLuks, Cut, Json, OutOfMemory, ReadFailed}
@@ -11,11 +14,11 @@ use Rattle.luks_report.specs.declared.message.Message.TheVariants.{SegmentRefuse
 use Rattle.luks_report.specs.declared.message.Message.TheVariants.{SlotSkipped, NothingTried}
 use Rattle.luks_report.specs.declared.message.Message.TheVariants.{KeyFileLength, NoKey}
 use Rattle.luks_runs.specs.Ending.{Outcome}
-use Rattle.luks_runs.specs.Header.{is_luks_outcome, print_outcome_by, always_done}
+use Rattle.luks_runs.specs.HeaderOutcome.{is_luks_outcome, print_outcome_by, always_done}
 use Rattle.luks_cli.specs.Outcome.{outcome_of}
-use Rattle.luks_runs.specs.Reading.{detached_header_of}
-use Rattle.luks_runs.specs.Run.{Counts, Failures, Promptness, DetachedRunMatches, TookNone, at_any_pace}
-use Rattle.luks_cli.specs.Run.{IsCounted, KnowsSecret, TookSecret}
+use Rattle.luks_runs.specs.HeaderReading.{detached_header_of}
+use Rattle.luks_runs.specs.Run.{Counts, Failures, failures_of, Promptness, DetachedRunMatches, ConsumedNothing, at_any_pace}
+use Rattle.luks_cli.specs.CommandRun.{IsCounted, Knows, KnowsSecret, ConsumedSecret}
 use Rattle.luks_unlock.specs.Volume.{detached_payload_outcome, slot_outcome, volume_by, volume_outcome_by}
 use Rattle.luks_cli.specs.VolumeParts.{detached_cat_promptly}
 
@@ -35,8 +38,8 @@ detached_outcome_of request file image secret = outcome_of request image secret
 
 -- how prompt a command is that consumed so many bytes of the image
 abbrev pub detached_promptness_of : Request → List ℕ → ℕ → Promptness
-detached_promptness_of (luks_cat o) file payload_taken = detached_cat_promptly file payload_taken
-detached_promptness_of request file payload_taken = at_any_pace
+detached_promptness_of (luks_cat o) file payload_consumed = detached_cat_promptly file payload_consumed
+detached_promptness_of request file payload_consumed = at_any_pace
 
 -- the image knows its bytes, if the command reads any of it
 abbrev pub KnowsPayload : Request → Option (List ℕ) → List ℕ → Type 0
@@ -44,9 +47,9 @@ KnowsPayload (luks_cat o) device image = device ≡ Some image
 KnowsPayload request device image = Unit {0}
 
 -- what was consumed of it
-abbrev pub TookPayload : Request → List ℕ → Option (List ℕ) → ℕ → Type 0
-TookPayload (luks_cat o) image left = ConsumedExactly image left
-TookPayload request image left = TookNone
+abbrev pub ConsumedPayload : Request → List ℕ → Option (List ℕ) → ℕ → Type 0
+ConsumedPayload (luks_cat o) image left = ConsumedExactly image left
+ConsumedPayload request image left = ConsumedNothing
 
 -- if the inputs of a command know their bytes, its run has the outcome that is specified for these
 abbrev pub RunsDetached : Request → Message → Option (List ℕ) → Option (List ℕ) → Option (List ℕ) → Option (List ℕ)
@@ -57,19 +60,17 @@ RunsDetached request message header header' image image' secret secret' written 
     → KnowsSecret request secret known_secret → IsCounted request known
     → DetachedRunMatches (detached_promptness_of request file)
     (detached_outcome_of request file known known_secret) message
-    (ConsumedExactly file header') (TookPayload request known image') (TookSecret request known_secret secret')
+    (ConsumedExactly file header') (ConsumedPayload request known image') (ConsumedSecret request known_secret secret')
     (Appended written written'))
 
--- the header, the segment or the order of the key slots ends the run: no second input is needed
-abbrev pub NeedsNoSecretDetached : Request → List ℕ → Type 0
-NeedsNoSecretDetached (test_passphrase o) file = is_err (volume_by detached_header_of o file) ≡ true
-NeedsNoSecretDetached (luks_cat o) file = is_err (volume_by detached_header_of o file) ≡ true
-NeedsNoSecretDetached request file = Unit {0}
-
--- a command that reads nothing of the image
-abbrev pub NeedsNoPayload : Request → Type 0
-NeedsNoPayload (luks_cat o) = ⊥
-NeedsNoPayload request = Unit {0}
+-- the command has no second input, or needs none of it: the header, the segment or the order of the key slots ends the
+-- run
+abbrev pub NeedsNoSecretDetached : Request → Option (List ℕ) → Type 0
+NeedsNoSecretDetached (test_passphrase o) header =
+    Knows header (λ file. is_err (volume_by detached_header_of o file) ≡ true)
+NeedsNoSecretDetached (luks_cat o) header =
+    Knows header (λ file. is_err (volume_by detached_header_of o file) ≡ true)
+NeedsNoSecretDetached request header = Unit {0}
 
 -- the run ended before a key was found
 abbrev pub EndsWithoutKey : Message → Type 0
@@ -86,9 +87,25 @@ EndsWithoutKey (NoKey _) = Unit {0}
 EndsWithoutKey OutOfMemory = Unit {0}
 EndsWithoutKey _ = ⊥
 
+-- nothing of the image is read: only `luksCat` reads it, after a key was found
+abbrev pub NeedsNoPayload : Request → Message → Type 0
+NeedsNoPayload (luks_cat o) message = EndsWithoutKey message
+NeedsNoPayload request message = Unit {0}
+
 -- the counts of failures after a run with this message, of the file with the header and of the other devices: one of
 -- them rose by one if a read or a write failed, and otherwise none did
 abbrev pub CountsDetached : Message → ℕ → ℕ → Failures → Failures → Type 0
 CountsDetached ReadFailed header header' before after =
     ((header' ≡ saturating_inc header) × (after ≡ before)) ⊎ ((header' ≡ header) × Counts ReadFailed before after)
 CountsDetached message header header' before after = (header' ≡ header) × Counts message before after
+
+-- what a run adds to the counts of its devices: one failure if a read or a write failed, and no needless call
+pub record CountsCallsDetached (message : Message) (header header' image image' secret secret' : ReadCounts)
+    (out out' : WriteCounts) : Type 0 where
+  pub failures : CountsDetached message header.failures header'.failures
+      (failures_of image.failures secret.failures out.failures)
+      (failures_of image'.failures secret'.failures out'.failures)
+  pub header_needed : ReadsAsNeeded header header'
+  pub image_needed : ReadsAsNeeded image image'
+  pub secret_needed : ReadsAsNeeded secret secret'
+  pub out_needed : WritesAsNeeded out out'

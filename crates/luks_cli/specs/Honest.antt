@@ -1,10 +1,10 @@
 -- What `luksCat` owes of an honestly sealed volume: its plain text.
 use Rattle.std.specs.Prelude.{◌≡◌, ℕ, ◌^◌, ◌<◌, List, length, Option, false}
-use Rattle.luks_io.specs.Bytes.{Appended, IfKnown}
+use Rattle.luks_io.specs.Devices.{Appended, IfKnown}
 use Rattle.luks_request.specs.Request.{Request, luks_cat}
 use Rattle.luks_report.specs.declared.message.Message.{Message}
 use Rattle.luks_report.specs.declared.message.Message.TheVariants.{Done}
-use Rattle.luks_runs.specs.Run.{breaks_off}
+use Rattle.luks_runs.specs.Run.{aborts}
 use Rattle.luks_unlock.specs.Honest.{IsHonest}
 
 -- `luksCat` of such a volume: a run that is not aborted writes the plaintext and succeeds
@@ -12,6 +12,6 @@ abbrev pub WritesPlain : Request → Message → Option (List ℕ) → Option (L
     → Type 0
 WritesPlain (luks_cat o) message image secret written written' =
     IfKnown image (λ known. IfKnown secret (λ passphrase.
-    (plain : List ℕ) → length known < 2 ^ 64 → IsHonest o known passphrase plain → breaks_off message ≡ false
+    (plain : List ℕ) → length known < 2 ^ 64 → IsHonest o known passphrase plain → aborts message ≡ false
     → (message ≡ Done) × Appended written written' plain))
 WritesPlain _ message image secret written written' = Unit {0}

@@ -1,7 +1,7 @@
+pub mod CommandMessages
+pub mod CommandRun
 pub mod Detached
 pub mod Honest
-pub mod MayEnd
 pub mod Outcome
-pub mod Run
 pub mod Unlocking
 pub mod VolumeParts

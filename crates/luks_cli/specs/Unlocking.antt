@@ -1,57 +1,57 @@
 -- The effects of opening a volume on its devices, with an attached or a detached header.
 use Rattle.std.specs.Prelude.{◌≡◌, ℕ, ◌<◌, ◌≤◌, ◌⊎◌, List, length, max, take, Option, Some}
-use Rattle.std.specs.Prelude.{Result, Ok, Err}
-use Rattle.luks_io.specs.Bytes.{Appended, ConsumedExactly}
+use Rattle.std.specs.Prelude.{Result, Err}
+use Rattle.luks_io.specs.Devices.{Appended, ConsumedExactly}
 use Rattle.luks_header.specs.Header.{header_read_len}
 use Rattle.luks_verdict.specs.declared.segment.Segment.{Segment}
 use Rattle.luks_open.specs.Order.{OrderModel}
 use Rattle.luks_open.specs.declared.opening.Opened.{Opened}
 use Rattle.luks_report.specs.Texts.{opened_line}
-use Rattle.luks_request.specs.Request.{OpeningRequest}
+use Rattle.luks_request.specs.Request.{VolumeRequest}
 use Rattle.luks_report.specs.declared.message.Message.{Message}
 use Rattle.luks_report.specs.declared.message.Message.TheVariants.{Done, OutOfMemory, WriteFailed}
-use Rattle.luks_runs.specs.Secret.{NoSecretRead, longest_key_file}
-use Rattle.luks_runs.specs.Standing.{reading_of}
+use Rattle.luks_runs.specs.KeyFile.{NoKeyFileRead, max_key_file_len}
+use Rattle.luks_runs.specs.Location.{reader_for}
 use Rattle.luks_unlock.specs.Finding.{HasSegmentBy}
 use Rattle.luks_unlock.specs.Trying.{TriesSlots}
 use Rattle.luks_unlock.specs.Volume.{OnOpened, volume_outcome_by}
 use Rattle.luks_cli.specs.VolumeParts.{cat_promptly}
-use Rattle.luks_runs.specs.declared.standing.Standing.{Standing}
-use Rattle.luks_runs.specs.declared.standing.Standing.TheVariants.{Attached, Detached}
+use Rattle.luks_runs.specs.declared.location.HeaderLocation.{HeaderLocation}
+use Rattle.luks_runs.specs.declared.location.HeaderLocation.TheVariants.{Attached, Detached}
 
 -- opening is aborted: with an attached header it is as prompt as `luksCat`, and otherwise it writes nothing
-abbrev pub opens_promptly : Standing → List ℕ → Message → ℕ → ℕ → ℕ → Type 0
-opens_promptly Attached image message image_taken secret_taken output =
-    cat_promptly image message image_taken secret_taken output
-opens_promptly Detached image message image_taken secret_taken output = output ≡ 0
+abbrev pub opens_promptly : HeaderLocation → List ℕ → Message → ℕ → ℕ → ℕ → Type 0
+opens_promptly Attached image message image_consumed secret_consumed output =
+    cat_promptly image message image_consumed secret_consumed output
+opens_promptly Detached image message image_consumed secret_consumed output = output ≡ 0
 
 -- the volume was opened: its segment and its key are these, and these first bytes of the image, or of the file with the
 -- header, are loaded. With an attached header they reach past the payload's start only as far as the header was read
-pub record Unlocks (standing : Standing) (o : OpeningRequest) (image secret : List ℕ) (segment : Segment)
+pub record Unlocks (location : HeaderLocation) (o : VolumeRequest) (image secret : List ℕ) (segment : Segment)
     (opened : Opened) (held : List ℕ) (image' secret' : Option (List ℕ)) : Type 0 where
   pub outcome : (on_opened : OnOpened)
-      → volume_outcome_by (reading_of standing) on_opened o image secret ≡ on_opened segment opened (length held)
-  pub has : HasSegmentBy (reading_of standing) image segment
+      → volume_outcome_by (reader_for location) on_opened o image secret ≡ on_opened segment opened (length held)
+  pub has : HasSegmentBy (reader_for location) image segment
   pub cost : header_read_len image ≤ length held
-  pub early : standing ≡ Attached → length held ≤ max (header_read_len image) segment.offset
+  pub early : location ≡ Attached → length held ≤ max (header_read_len image) segment.offset
   pub front : held ≡ take (length held) image
-  pub image_taken : ConsumedExactly image image' (length held)
-  pub secret_taken : ConsumedExactly secret secret' (length secret)
+  pub image_consumed : ConsumedExactly image image' (length held)
+  pub secret_consumed : ConsumedExactly secret secret' (length secret)
 
 -- a volume that was found was opened by the passphrase in the key file, or was not. The key file is read whole before
 -- the key slots are tried; if it cannot be, nothing more of the image is consumed
 abbrev pub OpensVolume : Option ℕ → OrderModel → List ℕ → List ℕ → List ℕ → List ℕ → Option (List ℕ) → Option (List ℕ)
     → Result Opened Message → Type 0
 OpensVolume named tries pass area area' rest left secret' result =
-    ((length pass ≤ longest_key_file) × ConsumedExactly pass secret' (length pass)
+    ((length pass ≤ max_key_file_len) × ConsumedExactly pass secret' (length pass)
     × TriesSlots named tries pass area area' rest left result)
-    ⊎ ((message : Message) × (result ≡ Err message) × NoSecretRead pass secret' message × (area' ≡ area)
+    ⊎ ((message : Message) × (result ≡ Err message) × NoKeyFileRead pass secret' message × (area' ≡ area)
     × (left ≡ Some rest))
 
 -- the key slot that opened was reported: its line was written, or a write failed within it, or memory for it ran out
-abbrev pub TellsSlot : Opened → Option (List ℕ) → Option (List ℕ) → Message → Type 0
-TellsSlot opened written written' Done = Appended written written' (opened_line opened.slot)
-TellsSlot opened written written' WriteFailed = (count : ℕ) × (count < length (opened_line opened.slot))
+abbrev pub ReportsSlot : Opened → Option (List ℕ) → Option (List ℕ) → Message → Type 0
+ReportsSlot opened written written' Done = Appended written written' (opened_line opened.slot)
+ReportsSlot opened written written' WriteFailed = (count : ℕ) × (count < length (opened_line opened.slot))
     × Appended written written' (take count (opened_line opened.slot))
-TellsSlot opened written written' OutOfMemory = written' ≡ written
-TellsSlot opened written written' _ = ⊥
+ReportsSlot opened written written' OutOfMemory = written' ≡ written
+ReportsSlot opened written written' _ = ⊥

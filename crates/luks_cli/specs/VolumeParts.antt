@@ -6,17 +6,17 @@ use Rattle.luks_open.specs.declared.opening.Opened.{Opened}
 use Rattle.luks_payload.specs.Plain.{sector_len, sector_start}
 use Rattle.luks_report.specs.declared.message.Message.{Message}
 use Rattle.luks_report.specs.declared.message.Message.TheVariants.{ReadFailed, WriteFailed}
-use Rattle.luks_runs.specs.Reading.{detached_header_of}
+use Rattle.luks_runs.specs.HeaderReading.{detached_header_of}
 use Rattle.luks_unlock.specs.Finding.{HasSegment, HasSegmentBy}
 use Rattle.luks_unlock.specs.Volume.{OnOpened}
 
 -- ---- opening
 
 -- whatever is done with a volume consumes at least the bytes of its image that are loaded, and the whole key file
-pub record TakesHeld (secret : List ℕ) (on_opened : OnOpened) : Type 0 where
-  pub held : (segment : Segment) (opened : Opened) (held : ℕ) → held ≤ (on_opened segment opened held).image_taken
+pub record ConsumesHeld (secret : List ℕ) (on_opened : OnOpened) : Type 0 where
+  pub held : (segment : Segment) (opened : Opened) (held : ℕ) → held ≤ (on_opened segment opened held).image_consumed
   pub whole : (segment : Segment) (opened : Opened) (held : ℕ)
-      → (on_opened segment opened held).secret_taken ≡ length secret
+      → (on_opened segment opened held).secret_consumed ≡ length secret
 
 -- ---- the payload
 
@@ -27,21 +27,21 @@ PassesHeader s cost taken = (cost ≤ s.offset) ⊎ (cost < taken)
 
 -- forwarding a payload is aborted: if a write fails, no byte of the image past the sector of the last byte written was
 -- consumed, except for the header's; if a read fails, the output is the whole sectors that were consumed
-abbrev pub passed_promptly : Segment → ℕ → Message → ℕ → ℕ → Type 0
-passed_promptly s cost WriteFailed taken output = taken ≤ max cost (sector_start s (output / sector_len s + 1))
-passed_promptly s cost ReadFailed taken output = PassesHeader s cost taken
+abbrev pub forwards_promptly : Segment → ℕ → Message → ℕ → ℕ → Type 0
+forwards_promptly s cost WriteFailed taken output = taken ≤ max cost (sector_start s (output / sector_len s + 1))
+forwards_promptly s cost ReadFailed taken output = PassesHeader s cost taken
     → output ≡ (taken - s.offset) / sector_len s * sector_len s
-passed_promptly s cost _ taken output = Unit {0}
+forwards_promptly s cost _ taken output = Unit {0}
 
 -- `luksCat` is aborted: this holds of the image's payload
 abbrev pub cat_promptly : List ℕ → Message → ℕ → ℕ → ℕ → Type 0
-cat_promptly image message image_taken secret_taken output =
-    (segment : Segment) → HasSegment image segment → passed_promptly segment
-    (header_read_len image) message image_taken output
+cat_promptly image message image_consumed secret_consumed output =
+    (segment : Segment) → HasSegment image segment → forwards_promptly segment
+    (header_read_len image) message image_consumed output
 
 -- `luksCat` with a detached header is aborted: the same holds of the payload's image, of which nothing is consumed for
 -- a header
 abbrev pub detached_cat_promptly : List ℕ → ℕ → Message → ℕ → ℕ → ℕ → Type 0
-detached_cat_promptly file payload_taken message header_taken secret_taken output =
+detached_cat_promptly file payload_consumed message header_consumed secret_consumed output =
     (segment : Segment) → HasSegmentBy detached_header_of file segment
-    → passed_promptly segment 0 message payload_taken output
+    → forwards_promptly segment 0 message payload_consumed output

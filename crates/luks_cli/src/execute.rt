@@ -1,14 +1,13 @@
 //! What the commands do.
 
-ghost use Rattle.std.specs.Prelude.{◌≡◌, ◌≢◌, IfErr, None, false};
-ghost use Rattle.luks_io.specs.Bytes.{IfKnown};
+ghost use Rattle.std.specs.Prelude.{◌≡◌, false};
 ghost use Rattle.luks_report.specs.Report.{report_of};
-ghost use Rattle.luks_request.specs.Request.{has_header_file, request_of, secret_of};
-ghost use Rattle.luks_runs.specs.Run.{Counts, failures_of, HitsEofOnce, result_message};
-ghost use Rattle.luks_cli.specs.Run.{HitsFirstEof, NeedsNoSecret, ReadsFirst, RunsAsStated};
-ghost use Rattle.luks_cli.specs.Run.{TakesNoMemory};
+ghost use Rattle.luks_request.specs.Request.{has_header_file, request_of};
+ghost use Rattle.luks_runs.specs.Run.{result_message};
+ghost use Rattle.luks_cli.specs.CommandRun.{CountsCalls, NeedsNoSecret};
+ghost use Rattle.luks_cli.specs.CommandRun.{ReadsFirst, RunsAsStated};
 ghost use Rattle.luks_cli.specs.Honest.{WritesPlain};
-ghost use Rattle.luks_cli.specs.MayEnd.{MayReport};
+ghost use Rattle.luks_cli.specs.CommandMessages.{MayReport};
 
 pub use detached::execute_detached;
 use luks_io::sink::Sink;
@@ -16,8 +15,8 @@ use luks_io::source::Source;
 use luks_report::message::Message;
 use luks_report::report::Report;
 use luks_request::command::Command;
-use luks_runs::headers::{self, Page};
-use luks_runs::standing::Standing;
+use luks_runs::headers::{self, Printout};
+use luks_runs::location::HeaderLocation;
 use luks_runs::stripes;
 use std::alloc::Global;
 
@@ -31,20 +30,24 @@ mod volumes;
 /// bytes that the inputs give. If an allocation, a read or a write fails, what was written is a
 /// prefix of that output, and no input was consumed further than specified; a failed read or write
 /// is reported exactly if one failed. If a write failed, not all of the output is written. A
-/// command that has no second input leaves that source as it is, and so does one whose run ends
-/// with the header, the segment, the order of the key slots or the length of a key. Except for
-/// `luksCat` and `afSplit`, nothing is written if a read fails.
+/// command that has no second input leaves that source as it is. So does one whose run is ended by
+/// the header, the segment, the order of the key slots or the length of a key, if the image knows
+/// its bytes. Except for `luksCat` and `afSplit`, nothing is written if a read fails.
 ///
-/// `luksCat` writes the plaintext of an honestly sealed volume if the passphrase is that of a key
-/// slot which is tried and has at most 8,388,608 bytes, no slot tried before gives another key, the
-/// image is shorter than 2^64 bytes, both inputs know their bytes, and no allocation, read or write
-/// fails.
+/// No device is called needlessly: no read goes into an empty buffer or follows one that failed or
+/// hit the end, and no write brings nothing or follows one that failed.
+///
+/// `luksCat` writes the plaintext of an honestly sealed volume if the passphrase has at most
+/// 8,388,608 bytes and is that of a key slot which is tried, no slot tried before gives another
+/// key, the image is shorter than 2^64 bytes, both inputs know their bytes, and no allocation, read
+/// or write fails.
 ///
 /// `luksCat` allows read-ahead for the bytes of the image that it will request, and writes each
 /// sector as it comes: if a write fails, nothing past the current sector was consumed, except for
-/// the header, and if a read fails, all whole sectors that were consumed are written. No clause
-/// says how much read-ahead it allows, so none says what a source that reads ahead consumes of a
-/// pipe. Its image is shorter than 2^64 bytes.
+/// the header, and if a read fails, all whole sectors that were consumed are written, unless a
+/// damaged primary header reaches into the payload. No clause says how much read-ahead it allows,
+/// so none says what a source that reads ahead consumes of a pipe. Its image is shorter than 2^64
+/// bytes.
 pub fn execute<I: Source, K: Source, O: Sink>(
     alloc: Global,
     command: &Command<'_>,
@@ -61,18 +64,13 @@ pub fn execute<I: Source, K: Source, O: Sink>(
         (O.written out.old) (O.written out.new) }
     ensures only { MayReport (request_of command.now) result.message }
     ensures status { result ≡ report_of result.message }
-    ensures memory { TakesNoMemory (request_of command.now) → result.message ≢ Message.OutOfMemory }
-    ensures unread { secret_of (request_of command.now) ≡ None → secret.new ≡ secret.old }
-    ensures unneeded { IfKnown (I.to_come image.old) (λ known.
-        NeedsNoSecret (request_of command.now) known → secret.new ≡ secret.old) }
+    ensures unneeded { NeedsNoSecret (request_of command.now) (I.to_come image.old)
+        → secret.new ≡ secret.old }
     ensures reads_first { ReadsFirst (request_of command.now) → result.message ≡ Message.ReadFailed
         → out.new ≡ out.old }
-    ensures counts { Counts result.message
-        (failures_of (I.failures image.old) (K.failures secret.old) (O.failures out.old))
-        (failures_of (I.failures image.new) (K.failures secret.new) (O.failures out.new)) }
-    ensures image_end { HitsFirstEof (request_of command.now) (I.ends image.old)
-        (I.ends image.new) }
-    ensures secret_end { HitsEofOnce (K.ends secret.old) (K.ends secret.new) }
+    ensures calls { CountsCalls result.message
+        (I.counts image.old) (I.counts image.new) (K.counts secret.old) (K.counts secret.new)
+        (O.counts out.old) (O.counts out.new) }
 {
     match perform(alloc, command, image, secret, out) {
         Ok(()) => Report::of(Message::Done),
@@ -92,62 +90,25 @@ fn perform<I: Source, K: Source, O: Sink>(
         (I.to_come image.old) (I.to_come image.new) (K.to_come secret.old) (K.to_come secret.new)
         (O.written out.old) (O.written out.new) }
     ensures only { MayReport (request_of command.now) (result_message result) }
-    ensures memory { TakesNoMemory (request_of command.now)
-        → IfErr result (λ message. message ≢ Message.OutOfMemory) }
-    ensures unread { secret_of (request_of command.now) ≡ None → secret.new ≡ secret.old }
-    ensures unneeded { IfKnown (I.to_come image.old) (λ known.
-        NeedsNoSecret (request_of command.now) known → secret.new ≡ secret.old) }
+    ensures unneeded { NeedsNoSecret (request_of command.now) (I.to_come image.old)
+        → secret.new ≡ secret.old }
     ensures reads_first { ReadsFirst (request_of command.now)
         → result_message result ≡ Message.ReadFailed → out.new ≡ out.old }
-    ensures counts { Counts (result_message result)
-        (failures_of (I.failures image.old) (K.failures secret.old) (O.failures out.old))
-        (failures_of (I.failures image.new) (K.failures secret.new) (O.failures out.new)) }
-    ensures image_end { HitsFirstEof (request_of command.now) (I.ends image.old)
-        (I.ends image.new) }
-    ensures secret_end { HitsEofOnce (K.ends secret.old) (K.ends secret.new) }
+    ensures calls { CountsCalls (result_message result)
+        (I.counts image.old) (I.counts image.new) (K.counts secret.old) (K.counts secret.new)
+        (O.counts out.old) (O.counts out.new) }
 {
-    let standing = Standing::Attached;
+    let location = HeaderLocation::Attached;
     match command {
         Command::IsLuks(_) => headers::is_luks(alloc, image),
-        Command::LuksUuid(_) => headers::print(alloc, Page::Uuid, standing, image, out),
-        Command::LuksDump(_) => headers::print(alloc, Page::Dump, standing, image, out),
-        Command::LuksCheck(_) => headers::print(alloc, Page::Check, standing, image, out),
+        Command::LuksUuid(_) => headers::print(alloc, Printout::Uuid, location, image, out),
+        Command::LuksDump(_) => headers::print(alloc, Printout::Dump, location, image, out),
+        Command::LuksCheck(_) => headers::print(alloc, Printout::Check, location, image, out),
         Command::TestPassphrase(opening) => {
-            volumes::test_passphrase(alloc, standing, opening, image, secret, out)
+            volumes::test_passphrase(alloc, location, opening, image, secret, out)
         }
         Command::LuksCat(opening) => volumes::cat(alloc, opening, image, secret, out),
-        Command::AfSplit(_) => perform_stripes(command, image, secret, out),
-        Command::AfMerge(_) => perform_stripes(command, image, secret, out),
-    }
-}
-
-/// Performs `afSplit` or `afMerge`. It has no allocator, so neither allocates anything.
-fn perform_stripes<I: Source, K: Source, O: Sink>(
-    command: &Command<'_>,
-    image: &mut I,
-    secret: &mut K,
-    out: &mut O,
-) -> Result<(), Message>
-    requires stripes { TakesNoMemory (request_of command.now) }
-    ensures run { RunsAsStated (request_of command.now) (result_message result)
-        (I.to_come image.old) (I.to_come image.new) (K.to_come secret.old) (K.to_come secret.new)
-        (O.written out.old) (O.written out.new) }
-    ensures only { MayReport (request_of command.now) (result_message result) }
-    ensures memory { IfErr result (λ message. message ≢ Message.OutOfMemory) }
-    ensures unread { secret_of (request_of command.now) ≡ None → secret.new ≡ secret.old }
-    ensures unneeded { IfKnown (I.to_come image.old) (λ known.
-        NeedsNoSecret (request_of command.now) known → secret.new ≡ secret.old) }
-    ensures reads_first { ReadsFirst (request_of command.now)
-        → result_message result ≡ Message.ReadFailed → out.new ≡ out.old }
-    ensures counts { Counts (result_message result)
-        (failures_of (I.failures image.old) (K.failures secret.old) (O.failures out.old))
-        (failures_of (I.failures image.new) (K.failures secret.new) (O.failures out.new)) }
-    ensures image_end { HitsEofOnce (I.ends image.old) (I.ends image.new) }
-    ensures secret_end { HitsEofOnce (K.ends secret.old) (K.ends secret.new) }
-{
-    match command {
         Command::AfSplit(splitting) => stripes::split(splitting, image, secret, out),
         Command::AfMerge(merging) => stripes::merge(merging, image, out),
-        _ => unreachable!(),
     }
 }

@@ -4,10 +4,10 @@
 #![tactic(auto)]
 
 pub use luks_args::planning::{PlanFault, plan};
-pub use luks_report::input::{NOT_OPENED, not_opened_page};
+pub use luks_report::input::{NOT_OPENED, not_opened_text};
 pub use luks_report::message::Message;
 pub use luks_report::report::Report;
-pub use luks_request::command::{Command, Merging, Opening, Splitting};
+pub use luks_request::command::{Command, MergeArgs, SplitArgs, VolumeArgs};
 pub use luks_request::number::{IterationLimit, KeyBytes, SlotNumber, StripeCount};
 
 pub mod execute;

@@ -8,7 +8,7 @@ use Rattle.luks1_header.specs.declared.header.KeySlot.{KeySlot}
 use Rattle.luks1_header.specs.declared.header.SlotState.{SlotState}
 use Rattle.luks1_header.specs.declared.header.SlotState.TheVariants.{Enabled, Disabled, Damaged}
 use Rattle.luks_dump.specs.Escaping.{escaped}
-use Rattle.luks_dump.specs.Field.{field}
+use Rattle.luks_dump.specs.DumpLine.{field}
 
 -- what is said of a key slot that is in use: its iterations, its salt in digits, its area's offset in sectors of 512
 -- bytes, and its stripes

@@ -18,14 +18,14 @@ use Rattle.luks2_binary.specs.declared.header.Header2.{Header2}
 use Rattle.luks2_binary.specs.declared.header.Place.{Place}
 use Rattle.luks2_binary.specs.declared.header.Place.TheVariants.{Primary, Secondary}
 use Rattle.luks2_metadata.specs.Digest2.{digests2_of}
-use Rattle.luks2_segment.specs.Segment2.{segment2_of}
+use Rattle.luks2_metadata.specs.Segment2.{segment2_of}
 use Rattle.luks2_metadata.specs.Slot2.{verdict2_at}
-use Rattle.luks2_segment.specs.declared.bounds.Bounds.{Bounds}
+use Rattle.luks2_metadata.specs.declared.bounds.Bounds.{Bounds}
 use Rattle.luks2_metadata.specs.declared.digest.Digest.{Digest}
 use Rattle.luks_header.specs.Header.{bounds2_of}
 use Rattle.serde_json.specs.Data.{Data}
 use Rattle.luks_dump.specs.Escaping.{escaped}
-use Rattle.luks_dump.specs.Field.{field}
+use Rattle.luks_dump.specs.DumpLine.{field}
 
 -- ---- the binary header
 

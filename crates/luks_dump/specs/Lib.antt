@@ -1,5 +1,5 @@
 pub mod Dump
 pub mod Dump1
 pub mod Dump2
+pub mod DumpLine
 pub mod Escaping
-pub mod Field

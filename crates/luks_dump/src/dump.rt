@@ -10,21 +10,21 @@ mod luks1;
 pub(crate) mod luks2;
 
 /// What `luksUUID` prints.
-pub fn uuid_page(alloc: Global, header: &Header) -> Result<String, AllocError>
-    ensures { IfOk result (λ page. string_bytes page ≡ uuid_of header.now) }
+pub fn uuid_text(alloc: Global, header: &Header) -> Result<String, AllocError>
+    ensures { IfOk result (λ lines. string_bytes lines ≡ uuid_of header.now) }
 {
     match header {
-        Header::V1(header) => luks1::uuid_page(alloc, header),
-        Header::V2(header, _) => luks2::uuid_page(alloc, header),
+        Header::V1(header) => luks1::uuid_text(alloc, header),
+        Header::V2(header, _) => luks2::uuid_text(alloc, header),
     }
 }
 
 /// What `luksDump` prints.
-pub fn dump_page(alloc: Global, header: &Header) -> Result<String, AllocError>
-    ensures { IfOk result (λ page. string_bytes page ≡ dump_of header.now) }
+pub fn dump_text(alloc: Global, header: &Header) -> Result<String, AllocError>
+    ensures { IfOk result (λ lines. string_bytes lines ≡ dump_of header.now) }
 {
     match header {
-        Header::V1(header) => luks1::dump_page(alloc, header),
-        Header::V2(header, metadata) => luks2::dump_page(alloc, header, metadata),
+        Header::V1(header) => luks1::dump_text(alloc, header),
+        Header::V2(header, metadata) => luks2::dump_text(alloc, header, metadata),
     }
 }

@@ -5,23 +5,24 @@ use Rattle.std.proofs.Common.{arith}
 use Rattle.std.specs.Prelude.{nat_lt, IsTrue, ◌↔◌}
 use Rattle.std.proofs.lemmas.Bool.{cases_lt, le-ltb, lt-ltb}
 use Rattle.std.proofs.lemmas.List.{length-take, take-append-drop, take-take, take_min}
-use Rattle.luks_io.specs.Bytes.{ConsumedExactly, ConsumedFewer, ConsumedAtMost, counted, saturating_inc}
-use Rattle.luks_io.proofs.Taking.{took_behind}
+use Rattle.luks_io.specs.Devices.{ConsumedExactly, ConsumedFewer, ConsumedAtMost, counted, saturating_inc}
+use Rattle.luks_io.proofs.Consuming.{consumed_behind}
 use Rattle.luks_area.specs.Area.{AbortsConsuming, ConsumedOnto}
 use Rattle.luks_area.specs.declared.fault.HeaderFault.{HeaderFault}
 use Rattle.luks_area.specs.declared.fault.HeaderFault.TheVariants.{NotLuks, Cut, Json, Read, Memory}
 use Rattle.luks1_header.specs.Header1.{header1_of, is_luks1}
 use Rattle.luks1_header.specs.declared.header.Header1.{Header1}
 use Rattle.luks2_binary.specs.Choice2.{header2_of}
-use Rattle.luks2_binary.specs.Cost2.{header2_read_len, reach2_of}
-use Rattle.luks2_binary.specs.Front2.{TookBelow, TookCost, TookEarly}
+use Rattle.luks2_binary.specs.ReadLen2.{header2_read_len, reach2_of}
+use Rattle.luks2_binary.specs.Front2.{ConsumedUpToReadLen, ConsumedReadLen, ConsumedBeforeReach}
 use Rattle.luks2_binary.proofs.AbsentLemmas.{cost_least, cost_short, none_short}
 use Rattle.luks2_binary.proofs.ChoiceLemmas.{reach_some}
 use Rattle.luks2_binary.specs.Text2.{json_text_of}
 use Rattle.luks2_binary.specs.declared.header.Header2.{Header2}
 use Rattle.luks2_json.specs.Tree.{tree_of}
 use Rattle.serde_json.specs.Data.{Data}
-use Rattle.luks_header.specs.Header.{BreaksHeld, BreaksReading, TookCostly, header_read_len, falls_short, header_of, probe_len}
+use Rattle.luks_header.specs.Header.{AbortsHeld, AbortsReading, ConsumedHeaderLen, header_read_len, falls_short}
+use Rattle.luks_header.specs.Header.{header_of, probe_len}
 use Rattle.luks_header.specs.Header.{with_metadata, with_text}
 use Rattle.luks_header.specs.declared.header.Header.{Header}
 use Rattle.luks_header.specs.declared.header.Header.TheVariants.{V1}
@@ -78,16 +79,16 @@ header_of-cut area is short =
     rw (is, yes) refl
 
 -- what stops an empty area from taking bytes stops the reading of a header
-pub breaks_reading : (area area' image : List ℕ) (left : Option (List ℕ)) (ends ends' : ℕ) (fault : HeaderFault)
+pub aborts_reading : (area area' image : List ℕ) (left : Option (List ℕ)) (ends ends' : ℕ) (fault : HeaderFault)
     → area ≡ [] → AbortsConsuming (592 - length area) area area' image left fault → ends' ≡ ends
-    → BreaksReading image left ends ends' fault
-breaks_reading area area' image left ends ends' Read none (count, below, took) same =
+    → AbortsReading image left ends ends' fault
+aborts_reading area area' image left ends ends' Read none (count, below, took) same =
     ((count, omega (arith, took.0.within, some_cost image), took.0), same)
-breaks_reading area area' image left ends ends' Memory none took same =
+aborts_reading area area' image left ends ends' Memory none took same =
     inl ((0, omega (arith, some_reach image), took.0), same, λ is. took.0)
-breaks_reading area area' image left ends ends' NotLuks none h same = absurd h
-breaks_reading area area' image left ends ends' Cut none h same = absurd h
-breaks_reading area area' image left ends ends' Json none h same = absurd h
+aborts_reading area area' image left ends ends' NotLuks none h same = absurd h
+aborts_reading area area' image left ends ends' Cut none h same = absurd h
+aborts_reading area area' image left ends ends' Json none h same = absurd h
 
 -- an area that is not whole is short
 pub short_from_not_whole : (whole : Bool) (end len : ℕ) → (IsTrue whole ↔ (end ≤ len)) → whole ≡ false → len < end
@@ -138,7 +139,7 @@ module _ (area image : List ℕ) (left : Option (List ℕ))
   -- an image whose first bytes have no header has none, and ended among them
   pub none_read : (fault : HeaderFault) → header_of area ≡ Err fault → length area < 592
       → (ends ends' : ℕ) → ends' ≡ saturating_inc ends
-      → (header_of image ≡ Err fault) × TookCostly image left ends ends'
+      → (header_of image ≡ Err fault) × ConsumedHeaderLen image left ends ends'
   none_read fault none few ends ends' found = (
     sym header_is ∙ none,
     (subst (ConsumedExactly image left) (sym cost_is) taken.1, ended_within area image left taken few ends ends' found),
@@ -164,7 +165,7 @@ module _ (area image : List ℕ) (left : Option (List ℕ))
 
   -- an image that is too short has no header
   pub short_read : length area < 592 → (ends ends' : ℕ) → ends' ≡ saturating_inc ends
-      → (header_of image ≡ Err NotLuks) × TookCostly image left ends ends'
+      → (header_of image ≡ Err NotLuks) × ConsumedHeaderLen image left ends ends'
   short_read few ends ends' found =
       let short : length image < 4096 = omega (arith, ap length taken.0, length-take 592 image) in
       let cost : header_read_len image ≡ min 592 (length image) =
@@ -188,66 +189,68 @@ module _ (area image : List ℕ) (left : Option (List ℕ))
     whole : area ++ drop 592 image ≡ image
     whole = ap (λ l. l ++ drop 592 image) taken.0 ∙ take-append-drop 592 image
 
-    took_first : ConsumedExactly image left 592
-    took_first =
+    consumed_first : ConsumedExactly image left 592
+    consumed_first =
         let count : min 592 (length image) ≡ 592 = omega (arith, ap length taken.0, length-take 592 image, long) in
         subst (ConsumedExactly image left) count taken.1
 
-    took_cost : ConsumedExactly (drop 592 image) left' (header2_read_len image - length area)
+    consumed_read_len : ConsumedExactly (drop 592 image) left' (header2_read_len image - length area)
         → ConsumedExactly image left' (header_read_len image)
-    took_cost took =
-        let first = took_first in
+    consumed_read_len took =
+        let first = consumed_first in
         let sum : 592 + (header2_read_len image - length area) ≡ header_read_len image =
         omega (arith, cost_other image image_other, cost_least image, first.within, long) in
-        subst (ConsumedExactly image left') sum (took_behind image left left' 592
+        subst (ConsumedExactly image left') sum (consumed_behind image left left' 592
         (header2_read_len image - length area) first took)
 
-    took_below : TookBelow image area area' (drop 592 image) left' → ConsumedAtMost image left' (header_read_len image)
-    took_below (count, few, took) =
-        let first = took_first in (
+    consumed_below : ConsumedUpToReadLen image area area' (drop 592 image) left'
+        → ConsumedAtMost image left' (header_read_len image)
+    consumed_below (count, few, took) =
+        let first = consumed_first in (
           592 + count,
           omega (arith, cost_other image image_other, cost_least image, first.within, long),
-          took_behind image left left' 592 count first took.0,
+          consumed_behind image left left' 592 count first took.0,
         )
 
     -- what was read of it behind its first bytes
     pub rest_read : (header : Header) → (header_of (area ++ drop 592 image) ≡ Ok header)
-        × TookCost (area ++ drop 592 image) area area' (drop 592 image) left'
+        × ConsumedReadLen (area ++ drop 592 image) area area' (drop 592 image) left'
         → (header_of image ≡ Ok header) × (area' ≡ take (header_read_len image) image)
         × ConsumedExactly image left' (header_read_len image)
     rest_read header read =
-        let all : (header_of image ≡ Ok header) × TookCost image area area' (drop 592 image) left' =
-        subst (λ l. (header_of l ≡ Ok header) × TookCost l area area' (drop 592 image) left') whole read in (
+        let all : (header_of image ≡ Ok header) × ConsumedReadLen image area area' (drop 592 image) left' =
+        subst (λ l. (header_of l ≡ Ok header) × ConsumedReadLen l area area' (drop 592 image) left') whole read in (
           all.0,
           all.1.0 ∙ ap (λ n. take n image) (sym (cost_other image image_other)),
-          took_cost all.1.1.0,
+          consumed_read_len all.1.1.0,
         )
 
-    took_early : TookEarly image area area' (drop 592 image) left' → ConsumedFewer image left' (probe_len image)
-    took_early (count, few, took) = (
+    consumed_early : ConsumedBeforeReach image area area' (drop 592 image) left'
+        → ConsumedFewer image left' (probe_len image)
+    consumed_early (count, few, took) = (
       592 + count,
       omega (arith, few, reach_other image image_other, long),
-      took_behind image left left' 592 count took_first took.0,
+      consumed_behind image left left' 592 count consumed_first took.0,
     )
 
     -- that was broken off
     pub rest_broken : (ends before ends' : ℕ) (fault : HeaderFault) → before ≡ ends
-        → BreaksHeld (area ++ drop 592 image) area area' (drop 592 image) left' before ends' fault
-        → BreaksReading image left' ends ends' fault
+        → AbortsHeld (area ++ drop 592 image) area area' (drop 592 image) left' before ends' fault
+        → AbortsReading image left' ends ends' fault
     rest_broken ends before ends' fault same breaks =
-        let at_first = subst (λ e. BreaksHeld (area ++ drop 592 image) area area' (drop 592 image) left' e ends' fault)
+        let at_first = subst (λ e. AbortsHeld (area ++ drop 592 image) area area' (drop 592 image) left' e ends' fault)
         same breaks in
-        by fault (subst (λ l. BreaksHeld l area area' (drop 592 image) left' ends ends' fault) whole at_first)
+        by fault (subst (λ l. AbortsHeld l area area' (drop 592 image) left' ends ends' fault) whole at_first)
       where
-        by : (fault : HeaderFault) → BreaksHeld image area area' (drop 592 image) left' ends ends' fault
-            → BreaksReading image left' ends ends' fault
-        by Read (took, same) = (took_below took, same)
+        by : (fault : HeaderFault) → AbortsHeld image area area' (drop 592 image) left' ends ends' fault
+            → AbortsReading image left' ends ends' fault
+        by Read (took, same) = (consumed_below took, same)
         by Memory (inl (took, same)) =
-            inl (took_early took, same, λ is. absurd (let no = image_other in cc))
-        by Memory (inr (second, took)) = inr (second, (took_cost took.0.1.0, took.1))
-        by NotLuks (none, took) = (none, (took_cost took.0.1.0, took.1))
-        by Cut (none, took) = (none, (took_cost took.0.1.0, took.1))
-        by Json (none, took) = (none, (took_cost took.0.1.0, took.1))
+            inl (consumed_early took, same, λ is. absurd (let no = image_other in cc))
+        by Memory (inr (second, took)) = inr (second, (consumed_read_len took.0.1.0, took.1))
+        by NotLuks (none, took) = (none, (consumed_read_len took.0.1.0, took.1))
+        by Cut (none, took) = (none, (consumed_read_len took.0.1.0, took.1))
+        by Json (none, took) = (none, (consumed_read_len took.0.1.0, took.1))
 
 -- ---- what a header costs
 
@@ -277,7 +280,7 @@ below_cost2 image count few within = omega (arith, few, within)
 
 -- no more than that is taken before memory is refused
 pub memory_below : (image : List ℕ) (left : Option (List ℕ)) (ends ends' : ℕ)
-    → BreaksReading image left ends ends' Memory → ConsumedAtMost image left (header_read_len image)
+    → AbortsReading image left ends ends' Memory → ConsumedAtMost image left (header_read_len image)
 unfolding header_read_len probe_len
 memory_below image left ends ends' (inl ((count, few, took), same, none)) = by (is_luks1 image) refl where
   by : (b : Bool) → is_luks1 image ≡ b → ConsumedAtMost image left (header_read_len image)

@@ -3,20 +3,21 @@ use Rattle.std.proofs.Common.{◌≡◌, ◌∙◌, ℕ, ◌≤◌, ◌⊎◌, i
 use Rattle.std.proofs.Common.{refl, take, length}
 use Rattle.std.proofs.lemmas.List.{take-append-le, take-take}
 use Rattle.std.specs.Prelude.{nat_lt}
-use Rattle.luks_io.specs.Bytes.{counted}
+use Rattle.luks_io.specs.Devices.{counted}
 use Rattle.luks_area.specs.declared.fault.HeaderFault.{HeaderFault}
 use Rattle.luks_area.specs.declared.fault.HeaderFault.TheVariants.{NotLuks, Cut, Json, Read, Memory}
 use Rattle.luks1_header.specs.Header1.{is_luks1}
 use Rattle.luks2_binary.specs.Choice2.{header2_of}
-use Rattle.luks2_binary.specs.Cost2.{header2_read_len, reach2_of}
-use Rattle.luks2_binary.specs.Front2.{BreaksSeeking, TookCost, finds_end}
+use Rattle.luks2_binary.specs.ReadLen2.{header2_read_len, reach2_of}
+use Rattle.luks2_binary.specs.Front2.{AbortsSeeking, ConsumedReadLen, hits_eof}
 use Rattle.luks2_binary.specs.Text2.{json_text_of}
 use Rattle.luks2_binary.specs.declared.header.Header2.{Header2}
 use Rattle.luks2_binary.proofs.JsonLemmas.{json_beginning}
 use Rattle.luks2_binary.proofs.StableLemmas.{falls_short-take}
 use Rattle.luks2_json.specs.Tree.{tree_of}
 use Rattle.serde_json.specs.Data.{Data}
-use Rattle.luks_header.specs.Header.{BreaksHeld, TookCosts, header_read_len, falls_short, header_of, probe_len}
+use Rattle.luks_header.specs.Header.{AbortsHeld, ConsumedHeaderLenBehind, header_read_len, falls_short, header_of}
+use Rattle.luks_header.specs.Header.{probe_len}
 use Rattle.luks_header.specs.declared.header.Header.TheVariants.{V2}
 
 -- the first bytes tell whether an image begins as LUKS1
@@ -74,14 +75,14 @@ short_held image held other is =
 module _ (image held held' rest : List ℕ) (left : Option (List ℕ)) (ends ends' : ℕ) (other : is_luks1 image ≡ false)
   where
     -- as much was taken as the header costs
-    costs : TookCost image held held' rest left → ends' ≡ counted (nat_lt (length held') (reach2_of held')) ends
-        → TookCosts image held held' rest left ends ends'
+    costs : ConsumedReadLen image held held' rest left → ends' ≡ counted (nat_lt (length held') (reach2_of held')) ends
+        → ConsumedHeaderLenBehind image held held' rest left ends ends'
     costs took found = (took, found ∙ ap (λ b. counted b ends) (short_held image held' other took.0))
 
     -- seeking the header was broken off
-    pub seeking_broken : (fault : HeaderFault) → BreaksSeeking image held held' rest left fault
-        → ends' ≡ counted (finds_end {T = Header2} (Err fault) held') ends
-        → BreaksHeld image held held' rest left ends ends' fault
+    pub seeking_broken : (fault : HeaderFault) → AbortsSeeking image held held' rest left fault
+        → ends' ≡ counted (hits_eof {T = Header2} (Err fault) held') ends
+        → AbortsHeld image held held' rest left ends ends' fault
     seeking_broken NotLuks (none, took) found = (header_missing image other none, costs took found)
     seeking_broken Cut never found = absurd never
     seeking_broken Json never found = absurd never
@@ -90,9 +91,9 @@ module _ (image held held' rest : List ℕ) (left : Option (List ℕ)) (ends end
 
     -- reading the text was
     pub reading_broken : (header : Header2) (fault : HeaderFault) → header2_of image ≡ Ok header
-        → TookCost image held held' rest left → ends' ≡ counted (nat_lt (length held') (reach2_of held')) ends
+        → ConsumedReadLen image held held' rest left → ends' ≡ counted (nat_lt (length held') (reach2_of held')) ends
         → (fault ≡ Json → tree_of (json_text_of held' header) ≡ None) → (fault ≡ Json) ⊎ (fault ≡ Memory)
-        → BreaksHeld image held held' rest left ends ends' fault
+        → AbortsHeld image held held' rest left ends ends' fault
     reading_broken header Json found took end json refusals =
         let same = text_held image held' header found took.0 in
         (header_unreadable image other header found (ap tree_of (sym same) ∙ json refl), costs took end)

@@ -13,7 +13,7 @@ use Rattle.luks_verdict.specs.declared.slot.Slot.{Slot}
 use Rattle.luks_verdict.specs.declared.slot.Verdict.TheVariants.{Usable}
 use Rattle.luks1_header.proofs.SegmentLemmas.{IsReadable-ok, digest_hash}
 use Rattle.luks1_header.proofs.SlotLemmas.{slot_usable_at}
-use Rattle.luks_area.specs.Field.{at}
+use Rattle.luks_area.specs.Fields.{at}
 use Rattle.luks_area.specs.declared.fault.HeaderFault.{HeaderFault}
 use Rattle.luks_area.specs.declared.fault.HeaderFault.TheVariants.{Cut}
 use Rattle.luks1_header.specs.Header1.{header1_len, header1_of, is_luks1}
@@ -27,15 +27,15 @@ use Rattle.luks2_binary.proofs.JsonLemmas.{read_attached}
 use Rattle.luks2_json.specs.Encryption.{is_length_for}
 use Rattle.luks2_json.specs.Tree.{tree_of}
 use Rattle.serde_json.specs.Data.{Data}
-use Rattle.luks2_segment.specs.Segment2.{payload2_of, payload_mode2_of}
+use Rattle.luks2_metadata.specs.Segment2.{payload2_of, payload_mode2_of}
 use Rattle.luks2_metadata.proofs.DigestLemmas.{digest2_hash}
-use Rattle.luks2_segment.proofs.SegmentLemmas.{segment2-ok}
+use Rattle.luks2_metadata.proofs.SegmentLemmas.{segment2-ok}
 use Rattle.luks2_metadata.proofs.SlotLemmas.{usable2_at}
 use Rattle.luks_verdict.specs.Rule.{exceeds}
-use Rattle.luks_header.specs.Digest.{digest_for}
+use Rattle.luks_header.specs.HeaderDigests.{digest_for}
 use Rattle.luks_header.specs.Header.{bounds2_of, header_of, is_detached, with_metadata, with_text}
-use Rattle.luks_header.specs.Segment.{segment_of}
-use Rattle.luks_header.specs.Slot.{slot_at, verdict_at}
+use Rattle.luks_header.specs.HeaderSegment.{segment_of}
+use Rattle.luks_header.specs.SlotVerdicts.{slot_at, verdict_at}
 use Rattle.luks_header.specs.declared.header.Header.{Header}
 use Rattle.luks_header.specs.declared.header.Header.TheVariants.{V1, V2}
 

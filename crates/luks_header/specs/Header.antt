@@ -1,17 +1,17 @@
 -- Which header an image has, and how many of its bytes are read for it.
 use Rattle.std.specs.Prelude.{◌≡◌, ◌⊎◌, ℕ, Bool, true, false, List, Option, Some, None, Result, Ok, Err, length, min}
 use Rattle.std.specs.Prelude.{nat_lt, if◌then◌else◌}
-use Rattle.luks_io.specs.Bytes.{ConsumedExactly, ConsumedFewer, ConsumedAtMost, counted}
-use Rattle.luks_area.specs.Field.{at}
+use Rattle.luks_io.specs.Devices.{ConsumedExactly, ConsumedFewer, ConsumedAtMost, counted}
+use Rattle.luks_area.specs.Fields.{at}
 use Rattle.luks1_header.specs.Header1.{header1_len, header1_of, is_luks1}
 use Rattle.luks2_binary.specs.Choice2.{header2_of}
-use Rattle.luks2_binary.specs.Cost2.{header2_read_len, reach2_of}
-use Rattle.luks2_binary.specs.Front2.{TookBelow, TookCost, TookEarly}
+use Rattle.luks2_binary.specs.ReadLen2.{header2_read_len, reach2_of}
+use Rattle.luks2_binary.specs.Front2.{ConsumedUpToReadLen, ConsumedReadLen, ConsumedBeforeReach}
 use Rattle.luks2_binary.specs.Header2.{end2_of}
 use Rattle.luks2_binary.specs.Text2.{json_text_of}
 use Rattle.luks2_binary.specs.declared.header.Header2.{Header2}
 use Rattle.luks2_json.specs.Tree.{tree_of}
-use Rattle.luks2_segment.specs.declared.bounds.Bounds.{Bounds}
+use Rattle.luks2_metadata.specs.declared.bounds.Bounds.{Bounds}
 use Rattle.serde_json.specs.Data.{Data}
 use Rattle.luks_header.specs.declared.header.Header.{Header}
 use Rattle.luks_header.specs.declared.header.Header.TheVariants.{V1, V2}
@@ -62,13 +62,13 @@ abbrev pub falls_short : List ℕ → Bool
 falls_short image = nat_lt (length image) (probe_len image)
 
 -- as many of its bytes were consumed as are read for the header, and its end was hit if it falls short
-abbrev pub TookCostly : List ℕ → Option (List ℕ) → ℕ → ℕ → Type 0
-TookCostly image left ends ends' = ConsumedExactly image left (header_read_len image)
+abbrev pub ConsumedHeaderLen : List ℕ → Option (List ℕ) → ℕ → ℕ → Type 0
+ConsumedHeaderLen image left ends ends' = ConsumedExactly image left (header_read_len image)
     × (ends' ≡ counted (falls_short image) ends)
 
 -- some of its bytes were consumed, of LUKS1 none, and its end was not hit: more was yet to be looked at
-abbrev pub TookEarlier : List ℕ → Option (List ℕ) → ℕ → ℕ → Type 0
-TookEarlier image left ends ends' = ConsumedFewer image left (probe_len image) × (ends' ≡ ends)
+abbrev pub ConsumedBeforeProbe : List ℕ → Option (List ℕ) → ℕ → ℕ → Type 0
+ConsumedBeforeProbe image left ends ends' = ConsumedFewer image left (probe_len image) × (ends' ≡ ends)
     × (is_luks1 image ≡ true → ConsumedExactly image left 0)
 
 -- it has a header of LUKS2
@@ -77,21 +77,21 @@ HasSecond image = (header : Header2) × (is_luks1 image ≡ false) × (header2_o
 
 -- reading the header ended without one. A failed read ended it somewhere; memory ran out while more was yet to be
 -- looked at, or behind a header of LUKS2, for the tree of its text; any other fault is the image's
-abbrev pub BreaksReading : List ℕ → Option (List ℕ) → ℕ → ℕ → HeaderFault → Type 0
-BreaksReading image left ends ends' Read = ConsumedAtMost image left (header_read_len image) × (ends' ≡ ends)
-BreaksReading image left ends ends' Memory =
-    TookEarlier image left ends ends' ⊎ (HasSecond image × TookCostly image left ends ends')
-BreaksReading image left ends ends' fault = (header_of image ≡ Err fault) × TookCostly image left ends ends'
+abbrev pub AbortsReading : List ℕ → Option (List ℕ) → ℕ → ℕ → HeaderFault → Type 0
+AbortsReading image left ends ends' Read = ConsumedAtMost image left (header_read_len image) × (ends' ≡ ends)
+AbortsReading image left ends ends' Memory =
+    ConsumedBeforeProbe image left ends ends' ⊎ (HasSecond image × ConsumedHeaderLen image left ends ends')
+AbortsReading image left ends ends' fault = (header_of image ≡ Err fault) × ConsumedHeaderLen image left ends ends'
 
 -- the same for an image of which some bytes were loaded before, and more went behind them
-abbrev pub TookCosts : List ℕ → List ℕ → List ℕ → List ℕ → Option (List ℕ) → ℕ → ℕ → Type 0
-TookCosts image held held' rest left ends ends' = TookCost image held held' rest left
+abbrev pub ConsumedHeaderLenBehind : List ℕ → List ℕ → List ℕ → List ℕ → Option (List ℕ) → ℕ → ℕ → Type 0
+ConsumedHeaderLenBehind image held held' rest left ends ends' = ConsumedReadLen image held held' rest left
     × (ends' ≡ counted (falls_short image) ends)
 
-abbrev pub BreaksHeld : List ℕ → List ℕ → List ℕ → List ℕ → Option (List ℕ) → ℕ → ℕ → HeaderFault → Type 0
-BreaksHeld image held held' rest left ends ends' Read = TookBelow image held held' rest left × (ends' ≡ ends)
-BreaksHeld image held held' rest left ends ends' Memory =
-    (TookEarly image held held' rest left × (ends' ≡ ends))
-    ⊎ (HasSecond image × TookCosts image held held' rest left ends ends')
-BreaksHeld image held held' rest left ends ends' fault =
-    (header_of image ≡ Err fault) × TookCosts image held held' rest left ends ends'
+abbrev pub AbortsHeld : List ℕ → List ℕ → List ℕ → List ℕ → Option (List ℕ) → ℕ → ℕ → HeaderFault → Type 0
+AbortsHeld image held held' rest left ends ends' Read = ConsumedUpToReadLen image held held' rest left × (ends' ≡ ends)
+AbortsHeld image held held' rest left ends ends' Memory =
+    (ConsumedBeforeReach image held held' rest left × (ends' ≡ ends))
+    ⊎ (HasSecond image × ConsumedHeaderLenBehind image held held' rest left ends ends')
+AbortsHeld image held held' rest left ends ends' fault =
+    (header_of image ≡ Err fault) × ConsumedHeaderLenBehind image held held' rest left ends ends'

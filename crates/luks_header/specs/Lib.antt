@@ -1,9 +1,9 @@
-pub mod Digest
 pub mod Header
-pub mod Segment
-pub mod Slot
+pub mod HeaderDigests
+pub mod HeaderSegment
+pub mod SlotVerdicts
 pub use Rattle.luks_area.specs.Area
-pub use Rattle.luks_area.specs.Field
+pub use Rattle.luks_area.specs.Fields
 pub use Rattle.luks_verdict.specs.Rule
 pub use Rattle.luks_verdict.specs.SectorSize
 pub use Rattle.luks_verdict.specs.SegmentFault

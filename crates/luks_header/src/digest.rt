@@ -2,7 +2,7 @@
 
 ghost use Rattle.std.specs.Prelude.{◌≡◌, ◌≤◌, IfOk, vec_len};
 ghost use Rattle.luks_verdict.specs.Rule.{max_slots};
-ghost use Rattle.luks_header.specs.Digest.{digest_for, digests_of};
+ghost use Rattle.luks_header.specs.HeaderDigests.{digest_for, digests_of};
 
 use crate::header::Header;
 pub use luks_verdict::digest::KeyDigest;
@@ -17,7 +17,7 @@ use std::alloc::{AllocError, Global};
 /// # Errors
 ///
 /// `AllocError` if memory runs out.
-#[tactic(auto, unfolding(crate::specs::Digest::digest_for))]
+#[tactic(auto, unfolding(crate::specs::HeaderDigests::digest_for))]
 pub fn digest_for(
     alloc: Global,
     header: &Header,
@@ -26,7 +26,7 @@ pub fn digest_for(
     ensures { IfOk result (λ digest. digest ≡ digest_for header.now number) }
 {
     match header {
-        Header::V1(header) => luks1_header::judging::digest(alloc, header),
+        Header::V1(header) => luks1_header::validation::digest(alloc, header),
         Header::V2(_, metadata) => luks2_metadata::digest::digest_for(alloc, metadata, number),
     }
 }
@@ -38,7 +38,7 @@ pub fn digest_for(
 /// # Errors
 ///
 /// `AllocError` if memory runs out.
-#[tactic(auto, unfolding(crate::specs::Digest::digests_of))]
+#[tactic(auto, unfolding(crate::specs::HeaderDigests::digests_of))]
 pub fn digests(alloc: Global, header: &Header) -> Result<Vec<(u8, Option<Digest>)>, AllocError>
     ensures value { IfOk result (λ digests. digests.items ≡ digests_of header.now) }
     ensures few { IfOk result (λ digests. vec_len digests ≤ max_slots) }

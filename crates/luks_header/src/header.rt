@@ -1,12 +1,13 @@
 //! Which header an image has.
 
 ghost use Rattle.std.specs.Prelude.{◌≡◌, ◌++◌, Bool, List, ℕ, Some, Ok, Err, IfOk, IfErr, drop};
-ghost use Rattle.std.specs.Prelude.{length, take, true, false};
-ghost use Rattle.luks_io.specs.Bytes.{ConsumedExactly, IfKnown, counted};
+ghost use Rattle.std.specs.Prelude.{[], length, take, true, false};
+ghost use Rattle.luks_io.specs.Devices.{ConsumedExactly, IfKnown, counted};
+ghost use Rattle.luks_io.specs.Counts.{ReadsAsNeeded};
 ghost use Rattle.luks_area.specs.Area.{is_read};
 ghost use Rattle.luks1_header.specs.Header1.{is_luks1};
-ghost use Rattle.luks2_binary.specs.Front2.{TookCost};
-ghost use Rattle.luks_header.specs.Header.{BreaksHeld, BreaksReading, bounds2_of, header_read_len};
+ghost use Rattle.luks2_binary.specs.Front2.{ConsumedReadLen};
+ghost use Rattle.luks_header.specs.Header.{AbortsHeld, AbortsReading, bounds2_of, header_read_len};
 ghost use Rattle.luks_header.specs.Header.{detached_of, falls_short, header_of};
 
 use luks_area::area::HeaderArea;
@@ -17,7 +18,7 @@ pub use luks1_header::header::{Header1, KeySlot, SlotState};
 pub use luks2_binary::header::{Finding, Header2, Place};
 use luks2_binary::reading::read_header2;
 pub use luks2_json::tree::Metadata;
-pub use luks2_segment::bounds::Bounds;
+pub use luks2_metadata::bounds::Bounds;
 use std::alloc::Global;
 
 /// A header, by the version of its format.
@@ -73,20 +74,27 @@ pub fn read_header<S: Source>(
     source: &mut S,
 ) -> Result<(Header, HeaderArea), HeaderFault>
     ensures taken { IfOk result (λ read. IfKnown (S.to_come source.old) (λ image.
-        (header_of image ≡ Ok read.0) × (read.1 ≡ take (header_read_len image) image)
+        (header_of image ≡ Ok read.0) × (read.1.bytes ≡ take (header_read_len image) image)
         × ConsumedExactly image (S.to_come source.new) (header_read_len image))) }
     ensures broken { IfErr result (λ fault. IfKnown (S.to_come source.old) (λ image.
-        BreaksReading image (S.to_come source.new) (S.ends source.old) (S.ends source.new) fault)) }
+        AbortsReading image (S.to_come source.new) (S.counts source.old).ends
+        (S.counts source.new).ends fault)) }
     ensures memory { IfKnown (S.to_come source.old) (λ image. is_luks1 image ≡ true
         → result ≡ Err HeaderFault.Memory → source.new ≡ source.old) }
 
     // Whether or not the source knows its bytes:
-    ensures held { IfOk result (λ read. header_of read.1 ≡ Ok read.0) }
-    ensures only { IfOk result (λ read. length read.1 ≡ header_read_len read.1) }
-    ensures reads { S.failures source.new ≡ counted (is_read result) (S.failures source.old) }
-    ensures ends { IfOk result (λ read.
-        S.ends source.new ≡ counted (falls_short read.1) (S.ends source.old)) }
-    ensures once { (short : Bool) × (S.ends source.new ≡ counted short (S.ends source.old)) }
+    ensures held { IfOk result (λ read. header_of read.1.bytes ≡ Ok read.0) }
+    ensures only { IfOk result (λ read. length read.1.bytes ≡ header_read_len read.1.bytes) }
+    ensures reads { (S.counts source.new).failures
+        ≡ counted (is_read result) (S.counts source.old).failures }
+    ensures ends { IfOk result (λ read. (S.counts source.new).ends
+        ≡ counted (falls_short read.1.bytes) (S.counts source.old).ends) }
+    ensures once { (short : Bool)
+        × ((S.counts source.new).ends ≡ counted short (S.counts source.old).ends) }
+    ensures needed { ReadsAsNeeded (S.counts source.old) (S.counts source.new) }
+    ensures ended { IfOk result (λ read. read.1.ended ≡ falls_short read.1.bytes) }
+    ensures emptied { IfOk result (λ read. read.1.ended ≡ true
+        → IfKnown (S.to_come source.old) (λ _. S.to_come source.new ≡ Some [])) }
 {
     let mut area = HeaderArea::new(alloc);
     let whole = area.extend_to(source, HEADER1_LEN)?;
@@ -111,21 +119,30 @@ fn read2<S: Source>(
     area: &mut HeaderArea,
     source: &mut S,
 ) -> Result<Header, HeaderFault>
-    requires held { length area.old ≡ 592 }
-    requires other { is_luks1 area.old ≡ false }
+    requires held { length area.old.bytes ≡ 592 }
+    requires going { area.old.ended ≡ false }
+    requires other { is_luks1 area.old.bytes ≡ false }
     ensures taken { IfOk result (λ header. IfKnown (S.to_come source.old) (λ rest.
-        (header_of (area.old ++ rest) ≡ Ok header)
-        × TookCost (area.old ++ rest) area.old area.new rest (S.to_come source.new))) }
+        (header_of (area.old.bytes ++ rest) ≡ Ok header)
+        × ConsumedReadLen (area.old.bytes ++ rest) area.old.bytes area.new.bytes rest
+        (S.to_come source.new))) }
     ensures broken { IfErr result (λ fault. IfKnown (S.to_come source.old) (λ rest.
-        BreaksHeld (area.old ++ rest) area.old area.new rest (S.to_come source.new)
-        (S.ends source.old) (S.ends source.new) fault)) }
-    ensures held { IfOk result (λ header. header_of area.new ≡ Ok header) }
-    ensures only { IfOk result (λ header. length area.new ≡ header_read_len area.new) }
-    ensures kept { take (length area.old) area.new ≡ area.old }
-    ensures reads { S.failures source.new ≡ counted (is_read result) (S.failures source.old) }
-    ensures ends { IfOk result (λ header.
-        S.ends source.new ≡ counted (falls_short area.new) (S.ends source.old)) }
-    ensures once { (short : Bool) × (S.ends source.new ≡ counted short (S.ends source.old)) }
+        AbortsHeld (area.old.bytes ++ rest) area.old.bytes area.new.bytes rest
+        (S.to_come source.new)
+        (S.counts source.old).ends (S.counts source.new).ends fault)) }
+    ensures held { IfOk result (λ header. header_of area.new.bytes ≡ Ok header) }
+    ensures only { IfOk result (λ header. length area.new.bytes ≡ header_read_len area.new.bytes) }
+    ensures kept { take (length area.old.bytes) area.new.bytes ≡ area.old.bytes }
+    ensures reads { (S.counts source.new).failures
+        ≡ counted (is_read result) (S.counts source.old).failures }
+    ensures ends { IfOk result (λ header. (S.counts source.new).ends
+        ≡ counted (falls_short area.new.bytes) (S.counts source.old).ends) }
+    ensures once { (short : Bool)
+        × ((S.counts source.new).ends ≡ counted short (S.counts source.old).ends) }
+    ensures needed { ReadsAsNeeded (S.counts source.old) (S.counts source.new) }
+    ensures ended { IfOk result (λ header. area.new.ended ≡ falls_short area.new.bytes) }
+    ensures emptied { area.new.ended ≡ true
+        → IfKnown (S.to_come source.old) (λ _. S.to_come source.new ≡ Some []) }
 {
     let header = read_header2(area, source)?;
     let metadata = Metadata::read(alloc, header.json_text(area.as_slice()))?;

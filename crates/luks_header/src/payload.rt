@@ -1,7 +1,7 @@
 //! Where a volume's payload is.
 
 ghost use Rattle.std.specs.Prelude.{◌≡◌};
-ghost use Rattle.luks_header.specs.Segment.{segment_of};
+ghost use Rattle.luks_header.specs.HeaderSegment.{segment_of};
 
 use crate::header::{Header, bounds};
 use luks_verdict::refusal::SegmentFault;
@@ -13,12 +13,12 @@ use luks_verdict::segment::Segment;
 /// # Errors
 ///
 /// The first [`SegmentFault`] that holds, if luksrd does not read the payload.
-#[tactic(auto, unfolding(crate::specs::Segment::segment_of))]
+#[tactic(auto, unfolding(crate::specs::HeaderSegment::segment_of))]
 pub fn segment(header: &Header) -> Result<Segment, SegmentFault>
     ensures { result ≡ segment_of header.now }
 {
     match header {
-        Header::V1(header) => luks1_header::judging::segment(header),
-        Header::V2(header, metadata) => luks2_segment::payload::segment(metadata, bounds(header)),
+        Header::V1(header) => luks1_header::validation::segment(header),
+        Header::V2(header, metadata) => luks2_metadata::payload::segment(metadata, bounds(header)),
     }
 }

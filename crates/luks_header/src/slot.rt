@@ -2,26 +2,27 @@
 
 ghost use Rattle.std.specs.Prelude.{◌≡◌, ◌≤◌, IfOk, option_map, vec_len};
 ghost use Rattle.luks_verdict.specs.Rule.{max_slots};
-ghost use Rattle.luks_verdict.specs.Slot.{judgement_of};
-ghost use Rattle.luks_header.specs.Slot.{has_name_out_of_range, slot_at, verdict_at, verdicts_of};
+ghost use Rattle.luks_verdict.specs.Slot.{verdict_kind_of};
+ghost use Rattle.luks_header.specs.SlotVerdicts.{has_name_out_of_range, slot_at, verdict_at};
+ghost use Rattle.luks_header.specs.SlotVerdicts.{verdicts_of};
 
 use crate::header::{Header, bounds};
 use luks_verdict::refusal::SkipReason;
-use luks_verdict::rule::MOST_SLOTS;
-pub use luks_verdict::slot::{Judgement, Slot, Verdict};
-use luks2_json::numbered::passes_over;
+use luks_verdict::rule::MAX_SLOTS;
+pub use luks_verdict::slot::{Slot, Verdict, VerdictKind};
+use luks2_json::numbered::has_key_out_of_range;
 use std::alloc::{AllocError, Global};
 
 /// The verdict on the key slot of this number, if the header has one, without what is needed to
 /// open it. A slot with more iterations than the limit is skipped. This allocates nothing.
-#[tactic(auto, unfolding(crate::specs::Slot::verdict_at))]
-pub fn judge(header: &Header, limit: Option<u32>, number: u8) -> Option<Judgement>
-    ensures { result ≡ option_map judgement_of (verdict_at header.now limit number) }
+#[tactic(auto, unfolding(crate::specs::SlotVerdicts::verdict_at))]
+pub fn verdict_kind(header: &Header, limit: Option<u32>, number: u8) -> Option<VerdictKind>
+    ensures { result ≡ option_map verdict_kind_of (verdict_at header.now limit number) }
 {
     match header {
-        Header::V1(header) => luks1_header::judging::judge(header, limit, number),
+        Header::V1(header) => luks1_header::validation::verdict_kind(header, limit, number),
         Header::V2(header, metadata) => {
-            luks2_metadata::slot::judge(metadata, bounds(header), limit, number)
+            luks2_metadata::slot::verdict_kind(metadata, bounds(header), limit, number)
         }
     }
 }
@@ -33,12 +34,12 @@ pub fn judge(header: &Header, limit: Option<u32>, number: u8) -> Option<Judgemen
 /// # Errors
 ///
 /// `AllocError` if memory runs out.
-#[tactic(auto, unfolding(crate::specs::Slot::slot_at))]
+#[tactic(auto, unfolding(crate::specs::SlotVerdicts::slot_at))]
 pub fn slot(alloc: Global, header: &Header, number: u8) -> Result<Option<Slot>, AllocError>
     ensures { IfOk result (λ slot. slot ≡ slot_at header.now number) }
 {
     match header {
-        Header::V1(header) => luks1_header::judging::slot(alloc, header, number),
+        Header::V1(header) => luks1_header::validation::slot(alloc, header, number),
         Header::V2(header, metadata) => {
             luks2_metadata::slot::slot(alloc, metadata, bounds(header), number)
         }
@@ -54,11 +55,11 @@ fn verdict(
 ) -> Result<Option<Verdict>, AllocError>
     ensures { IfOk result (λ verdict. verdict ≡ verdict_at header.now limit number) }
 {
-    match judge(header, limit, number) {
+    match verdict_kind(header, limit, number) {
         None => Ok(None),
-        Some(Judgement::Disabled) => Ok(Some(Verdict::Disabled)),
-        Some(Judgement::Skipped(reason)) => Ok(Some(Verdict::Skipped(reason))),
-        Some(Judgement::Usable(_)) => match slot(alloc, header, number)? {
+        Some(VerdictKind::Disabled) => Ok(Some(Verdict::Disabled)),
+        Some(VerdictKind::Skipped(reason)) => Ok(Some(Verdict::Skipped(reason))),
+        Some(VerdictKind::Usable(_)) => match slot(alloc, header, number)? {
             Some(slot) => Ok(Some(Verdict::Usable(slot))),
             None => unreachable!(),
         },
@@ -80,7 +81,7 @@ pub fn slots(
     ensures few { IfOk result (λ verdicts. vec_len verdicts ≤ max_slots) }
 {
     let mut verdicts = Vec::new(alloc);
-    for number in 0..MOST_SLOTS {
+    for number in 0..MAX_SLOTS {
         if let Some(verdict) = verdict(alloc, header, limit, number)? {
             verdicts.push((number, verdict))?;
         }
@@ -90,12 +91,12 @@ pub fn slots(
 
 /// Whether the object of key slots has a member whose name is not a number from 0 to 31, which
 /// `slots` ignores. The key slots of LUKS1 have no names. This allocates nothing.
-#[tactic(auto, unfolding(crate::specs::Slot::has_name_out_of_range))]
+#[tactic(auto, unfolding(crate::specs::SlotVerdicts::has_name_out_of_range))]
 pub fn has_name_out_of_range(header: &Header) -> bool
     ensures { result ≡ has_name_out_of_range header.now }
 {
     match header {
         Header::V1(_) => false,
-        Header::V2(_, metadata) => passes_over(metadata),
+        Header::V2(_, metadata) => has_key_out_of_range(metadata),
     }
 }

@@ -6,5 +6,5 @@ mod digests;
 mod drawn;
 mod fixture;
 mod header;
-mod judging;
 mod second;
+mod validation;

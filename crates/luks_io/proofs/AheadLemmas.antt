@@ -5,11 +5,11 @@ use Rattle.std.proofs.lemmas.List.{drop-drop}
 use Rattle.std.proofs.Math.Seq.{drop-append_seam, take-add, take-append_seam}
 use Rattle.std.specs.Io.{ReadsAtMost}
 use Rattle.std.specs.Io.KnownBytes.{Consumes, Keeps, ReadConsumes, prepend_known}
-use Rattle.luks_io.specs.Bytes.{Appended, ConsumedAtMost, IfKnown}
-use Rattle.luks_io.specs.Passing.{ForwardEffect}
+use Rattle.luks_io.specs.Devices.{Appended, ConsumedAtMost, IfKnown}
+use Rattle.luks_io.specs.Forwarding.{ForwardEffect}
 use Rattle.luks_io.specs.declared.sink.WriteFault.{WriteFault}
 use Rattle.luks_io.proofs.Moves.{took-front}
-use Rattle.luks_io.proofs.Taking.{took-none}
+use Rattle.luks_io.proofs.Consuming.{took-none}
 
 -- the first bytes that are held go to the front of a buffer, and the others stay
 pub hands_on : (held buf piece : List ℕ) (start end count : ℕ) → length piece ≡ count → count ≤ end - start
@@ -56,13 +56,14 @@ piece_first items after start end count few behind =
     (drop-drop count start items ∙ sym behind)
 
 -- a piece that was taken and changed is written, or the write is broken off
-passes : (piece : List ℕ) (count : ℕ) (left left' before after : Option (List ℕ)) (changed : List ℕ → List ℕ)
+forwards : (piece : List ℕ) (count : ℕ) (left left' before after : Option (List ℕ)) (transformed : List ℕ → List ℕ)
     (answer : Result (Unit {0}) WriteFault) (untouched : Type 0) → length piece ≡ count → Consumes left left' piece
-    → OnOk answer (Appended before after (changed piece))
-    → IfErr answer (λ fault. (fault.written < count) × Appended before after (take fault.written (changed piece)))
-    → ForwardEffect (Some answer) untouched count changed left left' before after
-passes piece count left left' before after changed (Ok done) untouched sized taken ok err = (piece, sized, taken, ok)
-passes piece count left left' before after changed (Err fault) untouched sized taken ok err =
+    → OnOk answer (Appended before after (transformed piece))
+    → IfErr answer (λ fault. (fault.written < count) × Appended before after (take fault.written (transformed piece)))
+    → ForwardEffect (Some answer) untouched count transformed left left' before after
+forwards piece count left left' before after transformed (Ok done) untouched sized taken ok err =
+    (piece, sized, taken, ok)
+forwards piece count left left' before after transformed (Err fault) untouched sized taken ok err =
     (err.0, (piece, sized, taken, err.1))
 
 -- the buffer after its piece was changed is all of the bytes that a vector shows
@@ -91,18 +92,20 @@ stays_held items buf len start end count few inside long long' behind =
     ∙ sym (ap (λ l. drop count l) held ∙ skipped)
 
 -- a piece of a buffer was passed on: what is behind it stays held
-pub passes_on : (items buf : List ℕ) (len start end count : ℕ) (below before after : Option (List ℕ))
-    (changed : List ℕ → List ℕ) (answer : Result (Unit {0}) WriteFault) (untouched : Type 0)
+pub forwards_buffered : (items buf : List ℕ) (len start end count : ℕ) (below before after : Option (List ℕ))
+    (transformed : List ℕ → List ℕ) (answer : Result (Unit {0}) WriteFault) (untouched : Type 0)
     → count ≤ end - start → end ≤ len → length items ≡ len → length buf ≡ len
     → drop (start + count) buf ≡ drop (start + count) items
-    → OnOk answer (Appended before after (changed (take count (drop start items))))
+    → OnOk answer (Appended before after (transformed (take count (drop start items))))
     → IfErr answer (λ fault. (fault.written < count)
-    × Appended before after (take fault.written (changed (take count (drop start items)))))
-    → ForwardEffect (Some answer) untouched count changed (prepend_known (take (end - start) (drop start items)) below)
+    × Appended before after (take fault.written (transformed (take count (drop start items)))))
+    → ForwardEffect (Some answer) untouched count transformed
+    (prepend_known (take (end - start) (drop start items)) below)
     (prepend_known (take (end - (start + count)) (drop (start + count) (take len (buf ++ drop
     (length buf) items)))) below)
     before after
-passes_on items buf len start end count below before after changed answer untouched few inside long long' behind ok err
+forwards_buffered items buf len start end count below before after transformed answer untouched few inside long long'
+    behind ok err
     =
     let whole = all_of items buf len long' in
     let piece = take count (drop start items) in
@@ -111,4 +114,4 @@ passes_on items buf len start end count below before after changed answer untouc
     let taken : Consumes (prepend_known (take (end - start) (drop start items)) below)
     (prepend_known rest below) piece =
     rw (piece_first items buf start end count few behind) (consumes_first piece rest below) in
-    rw whole (passes piece count _ _ before after changed answer untouched sized taken ok err)
+    rw whole (forwards piece count _ _ before after transformed answer untouched sized taken ok err)

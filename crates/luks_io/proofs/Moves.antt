@@ -8,7 +8,7 @@ use Rattle.std.proofs.Transfers.{drop-appended}
 use Rattle.std.proofs.Math.Seq.{take-add, take-append-add}
 use Rattle.std.proofs.lemmas.List.{take-append-le}
 use Rattle.std.proofs.lemmas.Bool.{ne_eqb}
-use Rattle.luks_io.specs.Bytes.{Appended, ConsumedInto, IfKnown, counted}
+use Rattle.luks_io.specs.Devices.{Appended, ConsumedInto, IfKnown, counted}
 use borrow.Rule.Slice.PartMut.{post_of, put_mid}
 
 -- the rest of a list, read as a range, is the rest
@@ -67,9 +67,9 @@ pub took-whole : (a b : Option (List ℕ)) (buf : List ℕ) (at : ℕ) → at �
 took-whole a b buf at within all p known is = omega (arith, (took-front a b buf at within p known is).0.within)
 
 module _ (a b c : Option (List ℕ)) (xs ys : List ℕ) (at : ℕ) where
-  took_same : at ≤ length xs → Consumes a c (take at xs)
+  consumed_same : at ≤ length xs → Consumes a c (take at xs)
       → IfKnown a (λ known. ConsumedInto known c (put_mid at (length xs - at) xs ys) at)
-  took_same within p =
+  consumed_same within p =
       let cut : length (take at xs) ≡ at = length-take-le at xs within in
       let rest = ys ++ post_of at (length xs - at) xs in
       took-front a c (take at xs ++ rest) at (omega (arith, cut, length-append (take at xs) rest))
@@ -78,14 +78,14 @@ module _ (a b c : Option (List ℕ)) (xs ys : List ℕ) (at : ℕ) where
   -- the first bytes of a buffer were consumed, and then a read behind them failed
   pub took-kept : at ≤ length xs → Consumes a b (take at xs) → Keeps b c
       → IfKnown a (λ known. ConsumedInto known c (put_mid at (length xs - at) xs ys) at)
-  took-kept within p q = took_same within (Consumes-kept a b c (take at xs) p q)
+  took-kept within p q = consumed_same within (Consumes-kept a b c (take at xs) p q)
 
   -- or it gave nothing
   pub took-nothing : (n : ℕ) → n ≡ 0 → at ≤ length xs → Consumes a b (take at xs) → Consumes b c (take n ys)
       → IfKnown a (λ known. ConsumedInto known c (put_mid at (length xs - at) xs ys) at)
   took-nothing n none within p q =
       let nothing : Consumes b c [] = subst (λ k. Consumes b c (take k ys)) none q in
-      took_same within
+      consumed_same within
       (subst (Consumes a c) (append-nil (take at xs)) (Consumes-trans a b c (take at xs) [] p nothing))
 
 -- all bytes of a list went out

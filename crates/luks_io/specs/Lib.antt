@@ -1,6 +1,8 @@
 pub mod Ahead
-pub mod Answers
-pub mod Bytes
+pub mod CallOutcomes
+pub mod Counts
+pub mod Devices
+pub mod Forwarding
 pub mod Memory
-pub mod Passing
 pub mod Reads
+pub mod Writer

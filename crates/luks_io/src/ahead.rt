@@ -6,13 +6,15 @@ ghost use Rattle.std.specs.Prelude.{IsErr, MatchResult, is_err, is_some, length,
 ghost use Rattle.std.specs.Io.{ReadsAtMost};
 ghost use Rattle.std.specs.Io.KnownBytes.{Consumes, IsAtEnd, Keeps, ReadConsumes, prepend_known};
 ghost use Rattle.luks_io.specs.Ahead.{max_read};
-ghost use Rattle.luks_io.specs.Bytes.{ConsumedAtMost, IfKnown, counted, is_end};
-ghost use Rattle.luks_io.specs.Passing.{ForwardEffect, held_after, is_broken_off};
+ghost use Rattle.luks_io.specs.Devices.{ConsumedAtMost, IfKnown, counted, is_end};
+ghost use Rattle.luks_io.specs.Counts.{ReadsAsNeeded, WritesAsNeeded, after_read};
+ghost use Rattle.luks_io.specs.Forwarding.{ForwardEffect, held_after, is_aborted};
 
 use crate::DeviceFault;
-use crate::change::{Change, put_changed};
+use crate::counts::ReadCounts;
 use crate::sink::{Sink, WriteFault};
 use crate::source::Source;
+use crate::transform::{Transform, put_transformed};
 use std::alloc::{AllocError, Global};
 use std::marker::Model;
 
@@ -21,7 +23,7 @@ use std::marker::Model;
 /// reads no others before they are requested, so what is not needed stays in the source below.
 ///
 /// A clause sees the source below, which of its bytes are buffered, how many behind these are
-/// allowed to be read ahead, and the buffer's capacity.
+/// allowed to be read ahead, the buffer's capacity, and what is counted.
 #[derive(Drop)]
 pub struct AheadSource<S> {
     source: S,
@@ -29,6 +31,7 @@ pub struct AheadSource<S> {
     start: usize,
     end: usize,
     announced: u64,
+    counts: ReadCounts,
 }
 
 impl<S> Model for AheadSource<S> {
@@ -43,6 +46,7 @@ impl<S> Model for AheadSource<S> {
           held = slice_range a.buffer.items a.start a.end;
           announced = a.announced;
           room = vec_len a.buffer;
+          counts = a.counts;
         } };
 
     ghost invariant = { λ a. (a.start ≤ a.end) × (a.end ≤ vec_len a.buffer) };
@@ -61,8 +65,7 @@ fn read_front<S: Source>(
         (λ n. Consumes (S.to_come source.old) (S.to_come source.new) (take n buffer.new)
         × (n ≡ 0 → 0 < count → IsAtEnd (S.to_come source.new)))
         (λ _. Keeps (S.to_come source.old) (S.to_come source.new)) }
-    ensures counts { S.failures source.new ≡ counted (is_err result) (S.failures source.old) }
-    ensures ends { S.ends source.new ≡ counted (is_end result count) (S.ends source.old) }
+    ensures counts { S.counts source.new ≡ after_read result count (S.counts source.old) }
 {
     source.read(&mut buffer[..count])
 }
@@ -75,8 +78,13 @@ impl<S: Source + Drop> AheadSource<S> {
     ///
     /// `AllocError` if memory runs out.
     pub fn new(alloc: Global, room: usize, source: S) -> Result<AheadSource<S>, AllocError>
-        ensures { IfOk result (λ a.
-            a ≡ record { source = source; held = []; announced = 0; room = room }) }
+        ensures { IfOk result (λ a. a ≡ record {
+          source = source;
+          held = [];
+          announced = 0;
+          room = room;
+          counts = record { failures = 0; ends = 0; needless = 0 };
+        }) }
     {
         let buffer = vec![in alloc; 0; room]?;
         Ok(AheadSource {
@@ -85,6 +93,7 @@ impl<S: Source + Drop> AheadSource<S> {
             start: 0,
             end: 0,
             announced: 0,
+            counts: ReadCounts::new(),
         })
     }
 }
@@ -102,10 +111,9 @@ impl<S: Source> AheadSource<S> {
         ensures bound { ReadsAtMost result buf.new }
         ensures bytes { ReadConsumes (S.to_come self.old.source) (S.to_come self.new.source)
             result buf.new }
-        ensures counts { S.failures self.new.source
-            ≡ counted (is_err result) (S.failures self.old.source) }
-        ensures ends { S.ends self.new.source
-            ≡ counted (is_end result (length buf.new)) (S.ends self.old.source) }
+        ensures below { S.counts self.new.source
+            ≡ after_read result (length buf.new) (S.counts self.old.source) }
+        ensures counts { self.new.counts ≡ self.old.counts }
         ensures held { self.new.held ≡ self.old.held }
         ensures announced { IfOk result (λ n. self.new.announced ≡ self.old.announced - n) }
         ensures kept { IsErr result → self.new.announced ≡ self.old.announced }
@@ -126,10 +134,9 @@ impl<S: Source> AheadSource<S> {
             (λ n. Consumes (S.to_come self.old.source) (S.to_come self.new.source) self.new.held
             × (n ≡ 0 → 0 < count → IsAtEnd (S.to_come self.new.source)))
             (λ _. Keeps (S.to_come self.old.source) (S.to_come self.new.source)) }
-        ensures counts { S.failures self.new.source
-            ≡ counted (is_err result) (S.failures self.old.source) }
-        ensures ends { S.ends self.new.source
-            ≡ counted (is_end result count) (S.ends self.old.source) }
+        ensures below { S.counts self.new.source
+            ≡ after_read result count (S.counts self.old.source) }
+        ensures counts { self.new.counts ≡ self.old.counts }
         ensures announced { IfOk result (λ n. self.new.announced ≡ self.old.announced - n) }
         ensures kept { IsErr result → (self.new.held ≡ self.old.held)
             × (self.new.announced ≡ self.old.announced) }
@@ -144,13 +151,14 @@ impl<S: Source> AheadSource<S> {
     }
 
     /// Copies out as many of the buffered bytes as fit, and answers how many.
-    fn hand_on(&mut self, buf: &mut [u8]) -> usize
+    fn copy_out(&mut self, buf: &mut [u8]) -> usize
         ensures count { result ≡ min (length buf.old) (length self.old.held) }
         ensures len { length buf.new ≡ length buf.old }
         ensures bytes { self.old.held ≡ take result buf.new ++ self.new.held }
         ensures source { self.new.source ≡ self.old.source }
         ensures announced { self.new.announced ≡ self.old.announced }
         ensures room { self.new.room ≡ self.old.room }
+        ensures counts { self.new.counts ≡ self.old.counts }
     {
         let (start, end) = (self.start, self.end);
         let count = buf.len().min(end - start);
@@ -160,14 +168,27 @@ impl<S: Source> AheadSource<S> {
     }
 }
 
+impl<S> AheadSource<S> {
+    /// Counts a read of this source, and gives its answer back.
+    fn counted(
+        &mut self,
+        answer: Result<usize, DeviceFault>,
+        room: usize,
+    ) -> Result<usize, DeviceFault>
+        ensures value { result ≡ answer }
+        ensures counts { self.new
+            ≡ record self.old { counts = after_read answer room self.old.counts } }
+    {
+        self.counts.count(answer, room)
+    }
+}
+
 impl<S: Source> Source for AheadSource<S> {
     ghost use Rattle.std.specs.Io.KnownBytes.{prepend_known};
 
     ghost to_come = { λ a. prepend_known a.held (S.to_come a.source) };
 
-    ghost failures = { λ a. S.failures a.source };
-
-    ghost ends = { λ a. S.ends a.source };
+    ghost counts = { λ a. a.counts };
 
     /// Copies out buffered bytes. If there are none, it reads once from the source below: as many
     /// bytes as are allowed to be read ahead and fit into its own buffer, or as this call requests,
@@ -176,10 +197,12 @@ impl<S: Source> Source for AheadSource<S> {
         ensures bound { ReadsAtMost result buf.new }
         ensures bytes { ReadConsumes (prepend_known self.old.held (S.to_come self.old.source))
             (prepend_known self.new.held (S.to_come self.new.source)) result buf.new }
-        ensures counts { S.failures self.new.source
-            ≡ counted (is_err result) (S.failures self.old.source) }
-        ensures ends { S.ends self.new.source
-            ≡ counted (is_end result (length buf.new)) (S.ends self.old.source) }
+        ensures counts { self.new.counts ≡ after_read result (length buf.new) self.old.counts }
+        ensures failures { (S.counts self.new.source).failures
+            ≡ counted (is_err result) (S.counts self.old.source).failures }
+        ensures ends { (S.counts self.new.source).ends
+            ≡ counted (is_end result (length buf.new)) (S.counts self.old.source).ends }
+        ensures needed { ReadsAsNeeded (S.counts self.old.source) (S.counts self.new.source) }
         ensures alone { (self.old.held ≢ []) ⊎ (length buf.old ≡ 0)
             → self.new.source ≡ self.old.source }
         ensures within { IfKnown (S.to_come self.old.source)
@@ -198,11 +221,15 @@ impl<S: Source> Source for AheadSource<S> {
         if self.start == self.end && !buf.is_empty() {
             let ahead = self.announced.min(self.buffer.len() as u64) as usize;
             if ahead <= buf.len() {
-                return self.pass(buf);
+                let answer = self.pass(buf);
+                return self.counted(answer, buf.len());
             }
-            self.refill(ahead)?;
+            if let Err(fault) = self.refill(ahead) {
+                return self.counted(Err(fault), buf.len());
+            }
         }
-        Ok(self.hand_on(buf))
+        let count = self.copy_out(buf);
+        self.counted(Ok(count), buf.len())
     }
 
     /// Allows read-ahead for the next `count` bytes, including those that are buffered.
@@ -213,19 +240,22 @@ impl<S: Source> Source for AheadSource<S> {
     }
 
     /// Forwards only buffered bytes, and does not read from the source below.
-    fn pass_on<C: Change, O: Sink>(
+    fn forward_buffered<C: Transform, O: Sink>(
         &mut self,
         count: usize,
-        change: &C,
+        transform: &C,
         sink: &mut O,
     ) -> Option<Result<(), WriteFault>>
-        requires { C.takes change.now count }
-        ensures passes { ForwardEffect result ((self.new ≡ self.old) × (sink.new ≡ sink.old)) count
-            (C.changed change.now) (prepend_known self.old.held (S.to_come self.old.source))
+        requires { C.accepts transform.now count }
+        ensures forwards { ForwardEffect result ((self.new ≡ self.old) × (sink.new ≡ sink.old))
+            count
+            (C.transformed transform.now) (prepend_known self.old.held (S.to_come self.old.source))
             (prepend_known self.new.held (S.to_come self.new.source))
             (O.written sink.old) (O.written sink.new) }
-        ensures writes { O.failures sink.new
-            ≡ counted (is_broken_off result) (O.failures sink.old) }
+        ensures counts { self.new.counts ≡ self.old.counts }
+        ensures writes { (O.counts sink.new).failures
+            ≡ counted (is_aborted result) (O.counts sink.old).failures }
+        ensures needed { WritesAsNeeded (O.counts sink.old) (O.counts sink.new) }
         ensures enough { is_some result ≡ nat_le count (length self.old.held) }
         ensures held { self.new.held ≡ held_after result count self.old.held }
         ensures source { self.new.source ≡ self.old.source }
@@ -236,7 +266,7 @@ impl<S: Source> Source for AheadSource<S> {
         if self.end - start < count {
             return None;
         }
-        let answer = put_changed(&mut self.buffer, start, count, change, sink);
+        let answer = put_transformed(&mut self.buffer, start, count, transform, sink);
         self.start += count;
         Some(answer)
     }

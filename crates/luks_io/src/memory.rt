@@ -1,41 +1,48 @@
 //! Sources and sinks over memory, which know their bytes.
 
 ghost use Rattle.std.specs.Prelude.{◌≡◌, ◌+◌, ◌-◌, ◌<◌, ◌≤◌, ◌↔◌, ◌++◌, ℕ, List, [], Some, length};
-ghost use Rattle.std.specs.Prelude.{take, drop, min, vec_len, is_err, IfOk, IsErr};
+ghost use Rattle.std.specs.Prelude.{take, drop, min, vec_len, IfOk, IsErr};
 ghost use Rattle.std.specs.Io.{ReadsAtMost};
 ghost use Rattle.std.specs.Io.KnownBytes.{ReadConsumes, WriteAppends};
-ghost use Rattle.luks_io.specs.Bytes.{TakesSome, counted, is_end};
+ghost use Rattle.luks_io.specs.Devices.{AcceptsSome};
+ghost use Rattle.luks_io.specs.Counts.{after_read, after_write};
+ghost use Rattle.luks_io.specs.Memory.{counts_of_memory};
 
 use crate::DeviceFault;
+use crate::counts::{ReadCounts, WriteCounts};
 use crate::sink::Sink;
-use crate::source::{Source, count_end};
+use crate::source::Source;
 use std::alloc::{AllocError, Global};
 use std::marker::Model;
 
-/// Reads from bytes in memory. No read of it fails. A clause sees the remaining bytes, and how
-/// often the end was hit.
+/// Reads from bytes in memory. No read of it fails. A clause sees the remaining bytes, how often
+/// the end was hit, and how many reads were needless.
 #[derive(Drop)]
 pub struct MemSource<'a> {
     left: &'a [u8],
-    ends: u64,
+    counts: ReadCounts,
 }
 
 impl<'a> Model for MemSource<'a> {
+    ghost use Rattle.std.specs.Prelude.{◌≡◌};
     ghost use Rattle.luks_io.specs.Memory.{MemSourceModel};
 
     ghost Value = { MemSourceModel };
 
-    ghost view = { λ s. record { left = s.left.now; ends = s.ends } };
+    ghost view = { λ s.
+        record { left = s.left.now; ends = s.counts.ends; needless = s.counts.needless } };
+
+    ghost invariant = { λ s. s.counts.failures ≡ 0 };
 }
 
 impl<'a> MemSource<'a> {
     /// A source of these bytes.
     pub fn new(bytes: &'a [u8]) -> MemSource<'a>
-        ensures { result ≡ record { left = bytes.entry.now; ends = 0 } }
+        ensures { result ≡ record { left = bytes.entry.now; ends = 0; needless = 0 } }
     {
         MemSource {
             left: bytes,
-            ends: 0,
+            counts: ReadCounts::new(),
         }
     }
 
@@ -48,28 +55,27 @@ impl<'a> MemSource<'a> {
 }
 
 impl<'a> Source for MemSource<'a> {
+    ghost use Rattle.luks_io.specs.Memory.{counts_of_memory};
+
     ghost to_come = { λ s. Some s.left };
 
-    ghost failures = { λ _. 0 };
-
-    ghost ends = { λ s. s.ends };
+    ghost counts = { λ s. counts_of_memory s };
 
     /// Gives as many of the remaining bytes as fit into the buffer. The buffer stays as it was
     /// behind them.
     fn read(&mut self, buf: &mut [u8]) -> Result<usize, DeviceFault>
         ensures bound { ReadsAtMost result buf.new }
         ensures bytes { ReadConsumes (Some self.old.left) (Some self.new.left) result buf.new }
-        ensures counts { 0 ≡ counted (is_err result) 0 }
-        ensures ends { self.new.ends ≡ counted (is_end result (length buf.new)) self.old.ends }
+        ensures counts { counts_of_memory self.new
+            ≡ after_read result (length buf.new) (counts_of_memory self.old) }
         ensures count { IfOk result (λ n. n ≡ min (length buf.new) (length self.old.left)) }
         ensures rest { IfOk result (λ n. drop n buf.new ≡ drop n buf.old) }
     {
         let count = buf.len().min(self.left.len());
-        count_end(&mut self.ends, count, buf.len());
         let (now, later) = self.left.split_at(count);
         buf[..count].copy_from_slice(now);
         self.left = later;
-        Ok(count)
+        self.counts.count(Ok(count), buf.len())
     }
 }
 
@@ -79,7 +85,7 @@ impl<'a> Source for MemSource<'a> {
 pub struct MemSink {
     bytes: Vec<u8>,
     len: usize,
-    failures: u64,
+    counts: WriteCounts,
 }
 
 impl Model for MemSink {
@@ -92,8 +98,7 @@ impl Model for MemSink {
         record {
           written = take s.len s.bytes.items;
           room = vec_len s.bytes - s.len;
-          failures =
-              s.failures;
+          counts = s.counts;
         } };
 
     ghost invariant = { λ s. s.len ≤ vec_len s.bytes };
@@ -107,13 +112,17 @@ impl MemSink {
     ///
     /// `AllocError` if memory runs out.
     pub fn new(alloc: Global, room: usize) -> Result<MemSink, AllocError>
-        ensures { IfOk result (λ s. s ≡ record { written = []; room = room; failures = 0 }) }
+        ensures { IfOk result (λ s. s ≡ record {
+          written = [];
+          room = room;
+          counts = record { failures = 0; needless = 0 };
+        }) }
     {
         let bytes = vec![in alloc; 0; room]?;
         Ok(MemSink {
             bytes,
             len: 0,
-            failures: 0,
+            counts: WriteCounts::new(),
         })
     }
 
@@ -126,23 +135,23 @@ impl MemSink {
 
     /// How many writes failed.
     pub fn failures(&self) -> u64
-        ensures { result ≡ self.now.failures }
+        ensures { result ≡ self.now.counts.failures }
     {
-        self.failures
+        self.counts.failures
     }
 }
 
 impl Sink for MemSink {
     ghost written = { λ s. Some s.written };
 
-    ghost failures = { λ s. s.failures };
+    ghost counts = { λ s. s.counts };
 
     /// Accepts as many of the bytes as still fit. It fails only if there are bytes and none fits.
     fn write(&mut self, buf: &[u8]) -> Result<usize, DeviceFault>
-        ensures bound { TakesSome result buf.now }
+        ensures bound { AcceptsSome result buf.now }
         ensures bytes { WriteAppends (Some self.old.written)
             (Some self.new.written) result buf.now }
-        ensures counts { self.new.failures ≡ counted (is_err result) self.old.failures }
+        ensures counts { self.new.counts ≡ after_write result (length buf.now) self.old.counts }
         ensures count { IfOk result (λ n. n ≡ min (length buf.now) self.old.room) }
         ensures room { IfOk result (λ n. self.new.room ≡ self.old.room - n) }
         ensures full { IsErr result ↔ ((self.old.room ≡ 0) × (0 < length buf.now)) }
@@ -150,10 +159,10 @@ impl Sink for MemSink {
     {
         let fitting = buf.len().min(self.bytes.len() - self.len);
         if fitting == 0 && !buf.is_empty() {
-            return Err(DeviceFault::counted(&mut self.failures));
+            return self.counts.count(Err(DeviceFault), buf.len());
         }
         self.bytes[self.len..self.len + fitting].copy_from_slice(&buf[..fitting]);
         self.len += fitting;
-        Ok(fitting)
+        self.counts.count(Ok(fitting), buf.len())
     }
 }

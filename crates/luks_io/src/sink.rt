@@ -3,24 +3,26 @@
 ghost use Rattle.std.specs.Prelude.{◌≡◌, ◌<◌, ◌≤◌, ℕ, List, Option, length, take, is_err, OnOk};
 ghost use Rattle.std.specs.Prelude.{IfErr};
 ghost use Rattle.std.specs.Io.KnownBytes.{WriteAppends};
-ghost use Rattle.luks_io.specs.Bytes.{Appended, TakesSome, counted};
+ghost use Rattle.luks_io.specs.Devices.{Appended, AcceptsSome, counted};
+ghost use Rattle.luks_io.specs.Counts.{WritesAsNeeded, after_write};
+ghost use Rattle.luks_io.specs.declared.counts.WriteCounts.{WriteCounts};
 
 use crate::DeviceFault;
 
-/// Takes bytes, each call's behind those of the calls before.
+/// Appends bytes, each call's behind those of the calls before.
 pub trait Sink {
     /// The bytes that were written, if the sink knows them.
     ghost written: { Self → Option (List ℕ) };
 
-    /// How many writes have failed. It stays at its greatest value.
-    ghost failures: { Self → ℕ };
+    /// How many writes have failed, and were needless.
+    ghost counts: { Self → WriteCounts };
 
     /// Writes a prefix of the buffer, and answers its length: at least one byte if there are any. A
     /// failure writes nothing.
     fn write(&mut self, buf: &[u8]) -> Result<usize, DeviceFault>
-        ensures bound { TakesSome result buf.now }
+        ensures bound { AcceptsSome result buf.now }
         ensures bytes { WriteAppends (written self.old) (written self.new) result buf.now }
-        ensures counts { failures self.new ≡ counted (is_err result) (failures self.old) };
+        ensures counts { counts self.new ≡ after_write result (length buf.now) (counts self.old) };
 }
 
 /// A write failed after `written` bytes.
@@ -38,7 +40,9 @@ pub fn put_all<S: Sink>(sink: &mut S, bytes: &[u8]) -> Result<(), WriteFault>
     ensures ok { OnOk result (Appended (S.written sink.old) (S.written sink.new) bytes.now) }
     ensures err { IfErr result (λ fault. (fault.written < length bytes.now)
         × Appended (S.written sink.old) (S.written sink.new) (take fault.written bytes.now)) }
-    ensures counts { S.failures sink.new ≡ counted (is_err result) (S.failures sink.old) }
+    ensures counts { (S.counts sink.new).failures
+        ≡ counted (is_err result) (S.counts sink.old).failures }
+    ensures needed { WritesAsNeeded (S.counts sink.old) (S.counts sink.new) }
 {
     let mut at = 0;
     while at < bytes.len() {

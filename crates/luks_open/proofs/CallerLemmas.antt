@@ -7,11 +7,11 @@ use Rattle.luks_cipher.specs.Sector.{Cipher, sector_decrypted}
 use Rattle.luks_cipher.specs.Xts.{joined}
 use Rattle.luks_cipher.specs.declared.mode.Mode.{Mode}
 use Rattle.luks_kdf.specs.Pbkdf2.{derived_key}
-use Rattle.luks_stripes.specs.Stripes.{merged}
+use Rattle.luks_kdf.specs.Stripes.{merged}
 use Rattle.luks_kdf.specs.declared.hash.Hash.{Hash}
-use Rattle.luks_area.specs.Field.{at}
+use Rattle.luks_area.specs.Fields.{at}
 use Rattle.luks_header.specs.Header.{is_detached}
-use Rattle.luks_header.specs.Segment.{segment_of}
+use Rattle.luks_header.specs.HeaderSegment.{segment_of}
 use Rattle.luks_verdict.specs.Rule.{need_of}
 use Rattle.luks_verdict.specs.Slot.{material_end}
 use Rattle.luks_header.specs.declared.header.Header.{Header}
@@ -22,7 +22,7 @@ use Rattle.luks_open.specs.Opening.{first_opening, if_meets, slot_key, opened_or
 use Rattle.luks_open.specs.Order.{OrderModel, key_areas_end, order_of}
 use Rattle.luks_open.specs.declared.entry.Entry.{Entry}
 use Rattle.luks_open.specs.declared.opening.Opened.{Opened}
-use Rattle.luks_open.proofs.OrderLemmas.{All-held_of, All-tries, IsOf, held_of-le}
+use Rattle.luks_open.proofs.OrderLemmas.{All-key_areas_end, All-tries, IsOf, key_areas_end-le}
 
 -- the key material of all key slots that are tried ends at or before the payload's start, if that is in the header's
 -- image
@@ -31,7 +31,7 @@ pub held_before_payload : (header : Header) (segment : Segment) (named limit : O
     → segment_of header ≡ Ok segment
     → order_of header named limit ≡ Ok tries → key_areas_end tries.slots ≤ segment.offset
 held_before_payload header segment named limit tries attached is_segment is_order =
-    held_of-le segment.offset tries.slots (of_entries tries.slots (All-tries header named limit tries is_order))
+    key_areas_end-le segment.offset tries.slots (of_entries tries.slots (All-tries header named limit tries is_order))
   where
     of_entries : (entries : List Entry) → AllByRecursion (IsOf header limit) entries
         → AllByRecursion (λ (entry : Entry). material_end entry.slot ≤ segment.offset) entries
@@ -95,7 +95,7 @@ pub opening_beginning : (tries : OrderModel) (n : ℕ) (image pass : List ℕ) �
 unfolding opening_of first_opening
 opening_beginning tries n image pass held =
     ap (λ (first : Option Opened). answer_of first tries.skipped)
-    (of_entries tries.slots (All-held_of n tries.slots held))
+    (of_entries tries.slots (All-key_areas_end n tries.slots held))
   where
     of_entries : (entries : List Entry) → AllByRecursion (λ (entry : Entry). material_end entry.slot ≤ n) entries
         → first_opening entries (take n image) pass ≡ first_opening entries image pass

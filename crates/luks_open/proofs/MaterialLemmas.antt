@@ -9,8 +9,8 @@ use Rattle.luks_cipher.specs.Sector.{Cipher, is_key_length}
 use Rattle.luks_cipher.specs.Xts.{joined}
 use Rattle.luks_kdf.specs.declared.hash.Hash.{Hash}
 use Rattle.luks_kdf.specs.Bytes.{xor}
-use Rattle.luks_stripes.specs.Stripes.{AfSplitterModel, chain_after, extended, merged}
-use Rattle.luks_stripes.proofs.StripesLemmas.{chain_push, chain_start, merged_push}
+use Rattle.luks_kdf.specs.Stripes.{AfSplitterModel, chain_after, extended, merged}
+use Rattle.luks_kdf.proofs.StripesLemmas.{chain_push, chain_start, merged_push}
 use Rattle.luks_verdict.specs.Rule.{need_of}
 use Rattle.luks_open.specs.Candidate.{decrypted_material, material_sector, unlocked}
 

@@ -8,18 +8,18 @@ use Rattle.std.proofs.lemmas.List.{drop_more}
 use Rattle.std.proofs.lemmas.Option.{same_Some}
 use Rattle.luks_area.specs.Area.{max_area_len}
 use Rattle.luks_verdict.specs.Rule.{max_slots}
-use Rattle.luks_verdict.specs.Slot.{material_end, judgement_of}
+use Rattle.luks_verdict.specs.Slot.{material_end, verdict_kind_of}
 use Rattle.luks_verdict.specs.Table.{ascending}
 use Rattle.luks_verdict.specs.declared.digest.KeyDigest.{KeyDigest}
 use Rattle.luks_verdict.specs.declared.refusal.SkipReason.{SkipReason}
 use Rattle.luks_verdict.specs.declared.slot.Slot.{Slot}
 use Rattle.luks_verdict.specs.declared.slot.Verdict.{Verdict}
 use Rattle.luks_verdict.specs.declared.slot.Verdict.TheVariants.{Usable, Disabled, Skipped}
-use Rattle.luks_verdict.specs.declared.slot.Judgement.TheVariants.{Usable as Open}
-use Rattle.luks_verdict.proofs.JudgedLemmas.{usable_from_open}
-use Rattle.luks_verdict.proofs.TableLemmas.{AllByRecursion-append, All-rising}
-use Rattle.luks_header.specs.Digest.{digest_for}
-use Rattle.luks_header.specs.Slot.{slot_at, verdict_at}
+use Rattle.luks_verdict.specs.declared.slot.VerdictKind.TheVariants.{Usable as Open}
+use Rattle.luks_verdict.proofs.VerdictLemmas.{usable_from_open}
+use Rattle.luks_verdict.proofs.TableLemmas.{AllByRecursion-append, All-ascending}
+use Rattle.luks_header.specs.HeaderDigests.{digest_for}
+use Rattle.luks_header.specs.SlotVerdicts.{slot_at, verdict_at}
 use Rattle.luks_header.specs.declared.header.Header.{Header}
 use Rattle.luks_header.proofs.KnownLemmas.{digest_of_usable, slot_of_usable}
 use Rattle.luks_open.specs.Order.{IsOrMemory, OrderModel, entry_at, entry_of, key_areas_end, order_of, skipped_at, tried_alone}
@@ -102,8 +102,8 @@ All-tries header None limit tries is =
     subst (AllByRecursion (IsOf header limit))
     (tries-unless_none _ (ascending (skipped_at header limit) max_slots) tries is)
     (AllByRecursion-append (IsOf header limit) _ _
-    (All-rising (IsOf header limit) (usable_at header limit 2) max_slots (usable_at-some header limit 2))
-    (All-rising (IsOf header limit) (usable_at header limit 1) max_slots (usable_at-some header limit 1)))
+    (All-ascending (IsOf header limit) (usable_at header limit 2) max_slots (usable_at-some header limit 2))
+    (All-ascending (IsOf header limit) (usable_at header limit 1) max_slots (usable_at-some header limit 1)))
 All-tries header (Some number) limit tries is = of_verdict (verdict_at header limit number) refl is
   where
     of_entry : (slot : Slot) → verdict_at header limit number ≡ Some (Usable slot) → (entry : Option Entry)
@@ -133,7 +133,7 @@ some_tried (entry ∷ entries) skipped some = refl
 
 -- of a key slot that is judged one of this priority
 pub usable_there : (header : Header) (limit : Option ℕ) (priority number : ℕ)
-    → option_map judgement_of (verdict_at header limit number) ≡ Some (Open priority)
+    → option_map verdict_kind_of (verdict_at header limit number) ≡ Some (Open priority)
     → IsSome (usable_at header limit priority number)
 usable_there header limit priority number is =
     let usable = usable_from_open (verdict_at header limit number) priority is in
@@ -150,7 +150,7 @@ named_tried header limit number slot usable =
 
 -- the one that is named is judged one that can be tried
 pub named_open : (header : Header) (limit : Option ℕ) (priority number : ℕ)
-    → option_map judgement_of (verdict_at header limit number) ≡ Some (Open priority)
+    → option_map verdict_kind_of (verdict_at header limit number) ≡ Some (Open priority)
     → IsOk (tries_of_named (entry_at header number) (verdict_at header limit number))
 named_open header limit priority number is =
     let usable = usable_from_open (verdict_at header limit number) priority is in
@@ -159,7 +159,7 @@ named_open header limit priority number is =
 -- and it alone is tried
 pub named_alone : (entry : Option Entry) (verdict : Option Verdict) (priority : ℕ)
     (answer : Result OrderModel OpenFault)
-    → option_map judgement_of verdict ≡ Some (Open priority)
+    → option_map verdict_kind_of verdict ≡ Some (Open priority)
     → IsOrMemory (tried_alone entry) answer → IsOrMemory (tries_of_named entry verdict) answer
 named_alone entry verdict priority answer is alone =
     let usable = usable_from_open verdict priority is in
@@ -168,32 +168,33 @@ named_alone entry verdict priority answer is alone =
 -- ---- where the last of the key material ends
 
 -- what ends there one by one ends there together, and the other way round
-pub held_of-le : (most : ℕ) (entries : List Entry)
+pub key_areas_end-le : (most : ℕ) (entries : List Entry)
     → AllByRecursion (λ (entry : Entry). material_end entry.slot ≤ most) entries → key_areas_end entries ≤ most
 unfolding key_areas_end
-held_of-le most [] all = omega arith
-held_of-le most (entry ∷ entries) all = omega (arith, held_of-le most entries all.1, all.0)
+key_areas_end-le most [] all = omega arith
+key_areas_end-le most (entry ∷ entries) all = omega (arith, key_areas_end-le most entries all.1, all.0)
 
-pub All-held_of : (most : ℕ) (entries : List Entry) → key_areas_end entries ≤ most
+pub All-key_areas_end : (most : ℕ) (entries : List Entry) → key_areas_end entries ≤ most
     → AllByRecursion (λ (entry : Entry). material_end entry.slot ≤ most) entries
 unfolding key_areas_end
-All-held_of most [] all = tt
-All-held_of most (entry ∷ entries) all = (omega arith, All-held_of most entries (omega arith))
+All-key_areas_end most [] all = tt
+All-key_areas_end most (entry ∷ entries) all = (omega arith, All-key_areas_end most entries (omega arith))
 
 -- key material that can be used ends within what can be held of an image
-pub held_of-within : (entries : List Entry) → key_areas_end entries ≤ max_area_len
+pub key_areas_end-within : (entries : List Entry) → key_areas_end entries ≤ max_area_len
 unfolding key_areas_end
-held_of-within [] = omega arith
-held_of-within (entry ∷ entries) = omega (arith, held_of-within entries, entry.slot.in_range.held)
+key_areas_end-within [] = omega arith
+key_areas_end-within (entry ∷ entries) = omega (arith, key_areas_end-within entries, entry.slot.in_range.held)
 
 -- one key slot after the other
-pub held_of-drop : (entries : List Entry) (i : ℕ) (entry : Entry) → i < length entries → entry ≡ get_or entries i entry
+pub key_areas_end-drop : (entries : List Entry) (i : ℕ) (entry : Entry) → i < length entries
+    → entry ≡ get_or entries i entry
     → key_areas_end (drop i entries) ≡ max (material_end entry.slot) (key_areas_end (drop (i + 1) entries))
 unfolding key_areas_end
-held_of-drop entries i entry there is =
+key_areas_end-drop entries i entry there is =
     ap key_areas_end (drop_more entries i entry there) ∙ ap (λ (e : Entry). key_areas_end (e ∷ drop (i + 1) entries))
     (sym is)
 
-pub held_of-nil : key_areas_end [] ≡ 0
+pub key_areas_end-nil : key_areas_end [] ≡ 0
 unfolding key_areas_end
-held_of-nil = refl
+key_areas_end-nil = refl

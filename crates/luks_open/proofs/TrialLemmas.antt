@@ -6,13 +6,13 @@ use Rattle.luks_cipher.proofs.ModeLemmas.{key_length_of_mode}
 use Rattle.luks_cipher.specs.Sector.{is_mode_key_length}
 use Rattle.luks_verdict.specs.Slot.{material_end}
 use Rattle.luks_verdict.specs.declared.segment.Segment.{Segment}
-use Rattle.luks_header.specs.Segment.{segment_of}
+use Rattle.luks_header.specs.HeaderSegment.{segment_of}
 use Rattle.luks_header.specs.declared.header.Header.{Header}
 use Rattle.luks_header.proofs.KnownLemmas.{known_usable}
 use Rattle.luks_open.specs.Order.{OrderModel, key_areas_end, order_of}
 use Rattle.luks_open.specs.Trial.{IsTriable}
 use Rattle.luks_open.specs.declared.entry.Entry.{Entry}
-use Rattle.luks_open.proofs.OrderLemmas.{All-held_of, All-tries, IsOf}
+use Rattle.luks_open.proofs.OrderLemmas.{All-key_areas_end, All-tries, IsOf}
 
 -- the key slots that are tried can be, where their key material is held
 pub All-IsTriable : (header : Header) (segment : Segment) (named limit : Option ℕ) (tries : OrderModel) (held : ℕ)
@@ -21,7 +21,7 @@ pub All-IsTriable : (header : Header) (segment : Segment) (named limit : Option 
     → All (λ (entry : Entry). IsTriable held entry.slot) tries.slots
 All-IsTriable header segment named limit tries held is_segment is_order there =
     All-from_recursion (λ (entry : Entry). IsTriable held entry.slot) tries.slots
-    (of_entries tries.slots (All-tries header named limit tries is_order) (All-held_of held tries.slots there))
+    (of_entries tries.slots (All-tries header named limit tries is_order) (All-key_areas_end held tries.slots there))
   where
     of_entry : (entry : Entry) → IsOf header limit entry → material_end entry.slot ≤ held → IsTriable held entry.slot
     of_entry entry is ends =

@@ -11,8 +11,8 @@ use Rattle.luks_verdict.specs.declared.slot.Slot.{Slot}
 use Rattle.luks_verdict.specs.declared.slot.Verdict.{Verdict}
 use Rattle.luks_verdict.specs.declared.slot.Verdict.TheVariants.{Usable, Skipped}
 use Rattle.luks_verdict.specs.declared.slot.Verdict.TheVariants.{Disabled as Unused}
-use Rattle.luks_header.specs.Digest.{digest_for}
-use Rattle.luks_header.specs.Slot.{slot_at, verdict_at}
+use Rattle.luks_header.specs.HeaderDigests.{digest_for}
+use Rattle.luks_header.specs.SlotVerdicts.{slot_at, verdict_at}
 use Rattle.luks_header.specs.declared.header.Header.{Header}
 use Rattle.luks_open.specs.declared.entry.Entry.{Entry}
 use Rattle.luks_open.specs.declared.fault.OpenFault.{OpenFault}

@@ -5,7 +5,7 @@ ghost use Rattle.std.specs.Int.{div_ceil};
 ghost use Rattle.luks_cipher.specs.Sector.{is_key_length};
 ghost use Rattle.luks_kdf.specs.Hash.{digest_len};
 ghost use Rattle.luks_kdf.specs.Pbkdf2.{capped, derived_key};
-ghost use Rattle.luks_verdict.specs.Rule.{most_stripes, need_of};
+ghost use Rattle.luks_verdict.specs.Rule.{max_stripes, need_of};
 ghost use Rattle.luks_open.specs.Candidate.{unlocked};
 
 use crate::material;
@@ -14,12 +14,12 @@ use luks_kdf::{Hash, Work, pbkdf2};
 use std::marker::Model;
 
 /// The longest key in bytes.
-const LONGEST: usize = 64;
+const MAX_KEY_LEN: usize = 64;
 
 /// A key of at most 64 bytes. A clause sees its bytes.
 #[derive(Drop)]
 pub struct Key {
-    bytes: [u8; LONGEST],
+    bytes: [u8; MAX_KEY_LEN],
     len: usize,
 }
 
@@ -38,7 +38,7 @@ impl Key {
         ensures { length result ≡ len }
     {
         Key {
-            bytes: [0; LONGEST],
+            bytes: [0; MAX_KEY_LEN],
             len,
         }
     }
@@ -60,7 +60,7 @@ impl Key {
     fn unlock(&mut self, af: Hash, key: &SectorCipher, image: &[u8], offset: usize, stripes: usize)
         requires key_bytes { is_key_length (length self.old) ≡ true }
         requires some { 1 ≤ stripes }
-        requires few { stripes ≤ most_stripes }
+        requires few { stripes ≤ max_stripes }
         requires there { offset + need_of (length self.old) stripes ≤ length image.now }
         ensures key { self.new ≡ unlocked af key.now image.now offset (length self.old) stripes }
         ensures len { length self.new ≡ length self.old }
@@ -101,7 +101,7 @@ impl Key {
     ) -> Key
         requires key_bytes { is_key_length len ≡ true }
         requires some { 1 ≤ stripes }
-        requires few { stripes ≤ most_stripes }
+        requires few { stripes ≤ max_stripes }
         requires there { offset + need_of len stripes ≤ length image.now }
         ensures key { result ≡ unlocked af key.now image.now offset len stripes }
         ensures len { length result ≡ len }

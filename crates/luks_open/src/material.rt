@@ -4,13 +4,12 @@
 ghost use Rattle.std.specs.Prelude.{◌≡◌, ◌+◌, ◌*◌, ◌≤◌, ◌++◌, List, ℕ, true, length, take};
 ghost use Rattle.luks_cipher.specs.Sector.{is_key_length};
 ghost use Rattle.luks_kdf.specs.declared.hash.Hash.{Hash as AnyHash};
-ghost use Rattle.luks_stripes.specs.Stripes.{chain_after};
-ghost use Rattle.luks_verdict.specs.Rule.{most_stripes, need_of};
+ghost use Rattle.luks_kdf.specs.Stripes.{chain_after};
+ghost use Rattle.luks_verdict.specs.Rule.{max_stripes, need_of};
 ghost use Rattle.luks_open.specs.Candidate.{material_sector, unlocked};
 
 use luks_cipher::SectorCipher;
-use luks_kdf::Hash;
-use luks_stripes::AfSplitter;
+use luks_kdf::{AfSplitter, Hash};
 
 /// The length of a sector of key material.
 const SECTOR: usize = 512;
@@ -54,7 +53,7 @@ fn unlock_by(
     requires room { length sector.old ≡ 512 }
     requires key_bytes { is_key_length (length out.old) ≡ true }
     requires some { 1 ≤ stripes }
-    requires few { stripes ≤ most_stripes }
+    requires few { stripes ≤ max_stripes }
     requires there { offset + need_of (length out.old) stripes ≤ length image.now }
     ensures { out.new ≡ unlocked af key.now image.now offset (length out.old) stripes }
 {
@@ -85,7 +84,7 @@ pub(crate) fn unlock(
 )
     requires key_bytes { is_key_length (length out.old) ≡ true }
     requires some { 1 ≤ stripes }
-    requires few { stripes ≤ most_stripes }
+    requires few { stripes ≤ max_stripes }
     requires there { offset + need_of (length out.old) stripes ≤ length image.now }
     ensures { out.new ≡ unlocked af key.now image.now offset (length out.old) stripes }
 {

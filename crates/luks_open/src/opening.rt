@@ -5,7 +5,7 @@ ghost use Rattle.std.specs.Prelude.{length, sum_by};
 ghost use Rattle.luks_cipher.specs.Sector.{is_mode_key_length};
 ghost use Rattle.luks_cipher.specs.declared.mode.Mode.{Mode};
 ghost use Rattle.luks_kdf.specs.Pbkdf2.{capped};
-ghost use Rattle.luks_header.specs.Segment.{segment_of};
+ghost use Rattle.luks_header.specs.HeaderSegment.{segment_of};
 ghost use Rattle.luks_verdict.specs.declared.segment.Segment.{Segment};
 ghost use Rattle.luks_open.specs.Candidate.{candidate_of};
 ghost use Rattle.luks_open.specs.Opening.{evaluations, evaluations_of, first_opening, slot_key};
@@ -123,9 +123,9 @@ pub fn open(
     // material.
     requires order { (named limit : Option ℕ) × (order_of header.now named limit ≡ Ok order.now) }
     requires segment { (segment : Segment) × (segment_of header.now ≡ Ok segment) }
-    requires held { key_areas_end order.now.slots ≤ length area.now }
-    ensures value { result ≡ opening_of order.now area.now pass.now }
-    ensures work { work.new ≡ capped (work.old + work_of order.now area.now pass.now) }
+    requires held { key_areas_end order.now.slots ≤ length area.now.bytes }
+    ensures value { result ≡ opening_of order.now area.now.bytes pass.now }
+    ensures work { work.new ≡ capped (work.old + work_of order.now area.now.bytes pass.now) }
     ensures key_length { (segment : Segment) → segment_of header.now ≡ Ok segment
         → IfOk result (λ opened. is_mode_key_length segment.mode (length opened.key) ≡ true) }
 {

@@ -6,7 +6,7 @@ ghost use Rattle.luks_verdict.specs.Rule.{max_slots};
 ghost use Rattle.luks_verdict.specs.Table.{ascending};
 ghost use Rattle.luks_open.specs.Order.{IsOrMemory, order_of, skipped_at, entry_at, tried_alone};
 ghost use Rattle.luks_open.specs.Order.{tries_of_all, tries_of_named, usable_at};
-ghost use Rattle.luks_header.specs.Slot.{verdict_at};
+ghost use Rattle.luks_header.specs.SlotVerdicts.{verdict_at};
 
 use crate::entry::{Entry, entry_at};
 use crate::fault::OpenFault;
@@ -14,8 +14,8 @@ use crate::skipped::SkippedSlots;
 use crate::tries::Order;
 use luks_header::header::Header;
 use luks_header::refusal::SkipReason;
-use luks_header::rule::MOST_SLOTS;
-use luks_header::slot::{Judgement, judge};
+use luks_header::rule::MAX_SLOTS;
+use luks_header::slot::{VerdictKind, verdict_kind};
 use std::alloc::{AllocError, Global};
 
 // The entry of the key slot of this number, if it can be tried and has this priority.
@@ -29,8 +29,8 @@ fn usable(
     ensures ok { IfOk result (λ entry. entry ≡ usable_at header.now limit priority number) }
     ensures err { OnErr result (IsSome (usable_at header.now limit priority number)) }
 {
-    match judge(header, limit, number) {
-        Some(Judgement::Usable(its)) if its == priority => entry_at(alloc, header, number),
+    match verdict_kind(header, limit, number) {
+        Some(VerdictKind::Usable(its)) if its == priority => entry_at(alloc, header, number),
         _ => Ok(None),
     }
 }
@@ -48,7 +48,7 @@ fn push_usable(
     ensures err { OnErr result (1
         ≤ length (ascending (usable_at header.now limit priority) max_slots)) }
 {
-    for number in 0..MOST_SLOTS {
+    for number in 0..MAX_SLOTS {
         if let Some(entry) = usable(alloc, header, limit, priority, number)? {
             entries.push(entry)?;
         }
@@ -60,8 +60,8 @@ fn push_usable(
 fn skip_reason(header: &Header, limit: Option<u32>, number: u8) -> Option<SkipReason>
     ensures { option_map (λ reason. (number, reason)) result ≡ skipped_at header.now limit number }
 {
-    match judge(header, limit, number) {
-        Some(Judgement::Skipped(reason)) => Some(reason),
+    match verdict_kind(header, limit, number) {
+        Some(VerdictKind::Skipped(reason)) => Some(reason),
         _ => None,
     }
 }
@@ -71,7 +71,7 @@ fn skipped(header: &Header, limit: Option<u32>) -> SkippedSlots
     ensures { result ≡ ascending (skipped_at header.now limit) max_slots }
 {
     let mut skipped = SkippedSlots::new();
-    for number in 0..MOST_SLOTS {
+    for number in 0..MAX_SLOTS {
         if let Some(reason) = skip_reason(header, limit, number) {
             skipped.push(number, reason);
         }
@@ -125,11 +125,11 @@ fn order_named(
     ensures memory { result ≡ Err OpenFault.Memory
         → IsOk (tries_of_named (entry_at header.now named) (verdict_at header.now limit named)) }
 {
-    match judge(header, limit, named) {
+    match verdict_kind(header, limit, named) {
         None => Err(OpenFault::NoSuchSlot),
-        Some(Judgement::Disabled) => Err(OpenFault::Disabled),
-        Some(Judgement::Skipped(reason)) => Err(OpenFault::NamedSkipped(reason)),
-        Some(Judgement::Usable(_)) => order_usable(alloc, header, named),
+        Some(VerdictKind::Disabled) => Err(OpenFault::Disabled),
+        Some(VerdictKind::Skipped(reason)) => Err(OpenFault::NamedSkipped(reason)),
+        Some(VerdictKind::Usable(_)) => order_usable(alloc, header, named),
     }
 }
 

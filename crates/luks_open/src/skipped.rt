@@ -6,7 +6,7 @@ use luks_header::refusal::SkipReason;
 use std::marker::Model;
 
 /// The most key slots that a header has.
-const MOST: usize = 32;
+const MAX_SKIPPED: usize = 32;
 
 /// What the unused elements are.
 const NOTHING: (u8, SkipReason) = (0, SkipReason::State);
@@ -15,7 +15,7 @@ const NOTHING: (u8, SkipReason) = (0, SkipReason::State);
 /// list.
 #[derive(Clone, Copy, PartialEq, Eq, Debug)]
 pub struct SkippedSlots {
-    places: [(u8, SkipReason); MOST],
+    places: [(u8, SkipReason); MAX_SKIPPED],
     taken: usize,
 }
 
@@ -43,7 +43,7 @@ impl SkippedSlots {
         ensures { result ≡ [] }
     {
         SkippedSlots {
-            places: [NOTHING; MOST],
+            places: [NOTHING; MAX_SKIPPED],
             taken: 0,
         }
     }

@@ -1,3 +1,3 @@
-mod PassingLemmas
+mod ForwardingLemmas
 mod SectorLemmas
 mod StepLemmas

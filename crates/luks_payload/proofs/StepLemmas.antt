@@ -7,14 +7,19 @@ use Rattle.std.proofs.lemmas.Bool.{le-ltb, lt-ltb}
 use Rattle.std.proofs.lemmas.List.{drop-drop, take-append-drop}
 use Rattle.luks_verdict.specs.declared.segment.Segment.{Segment}
 use Rattle.luks_cipher.specs.Sector.{Cipher}
-use Rattle.luks_io.specs.Bytes.{Appended, ConsumedExactly, IfKnown, counted, saturating_inc}
-use Rattle.luks_io.proofs.Taking.{took_behind, took_sum}
-use Rattle.luks_payload.specs.Passing.{PositionedAt, StopsDiscarding, StopsInSector, is_pump_read_failure, is_pump_write_failure}
-use Rattle.luks_payload.specs.Passing.{max_sectors}
+use Rattle.luks_io.specs.Devices.{Appended, ConsumedExactly, IfKnown, counted, saturating_inc}
+use Rattle.luks_io.specs.Counts.{ReadsAsNeeded}
+use Rattle.luks_io.specs.declared.counts.ReadCounts.{ReadCounts}
+use Rattle.luks_io.proofs.CountsLemmas.{reads_then}
+use Rattle.luks_io.proofs.Consuming.{consumed_behind, consumed_sum}
+use Rattle.luks_payload.specs.SectorEffects.{PositionedAt, AbortsDiscarding, AbortsInSector, is_pump_read_failure}
+use Rattle.luks_payload.specs.SectorEffects.{is_pump_write_failure}
+use Rattle.luks_payload.specs.SectorEffects.{max_sectors}
 use Rattle.luks_payload.specs.Plain.{end_within, ending_within, payload_end_of, payload_len, sector_len, sector_plaintext}
 use Rattle.luks_payload.specs.Plain.{sector_start, unit_number, unit_plain}
-use Rattle.luks_payload.specs.Pumped.{EndEffect, EndsAt, MayAnswer, PumpModel, SkipEffect, SkipsAgain, StandsIn, StepEffect, TakesSector}
-use Rattle.luks_payload.specs.Pumped.{StepsAgain, hits_eof_at, is_running, consumed_by, state_after_skip}
+use Rattle.luks_payload.specs.PumpEffects.{EndEffect, EndsAt, MayAnswer, PumpModel, SkipEffect, SkipsAgain}
+use Rattle.luks_payload.specs.PumpEffects.{PositionedIn, StepEffect, ConsumesSector}
+use Rattle.luks_payload.specs.PumpEffects.{StepsAgain, hits_eof_at, is_running, consumed_by, state_after_skip}
 use Rattle.luks_payload.specs.declared.state.State.{State}
 use Rattle.luks_payload.specs.declared.state.State.TheVariants.{BeforePayload, InPayload, Ended, Faulted}
 use Rattle.luks_payload.specs.declared.fault.VolumeFault.{VolumeFault}
@@ -57,21 +62,21 @@ module _ (s : Segment) (image : List ℕ) (count : ℕ) where
     -- the sector was taken
     pub takes_sector : (left' : Option (List ℕ)) → count < max_sectors s
         → IfKnown left (λ rest. ConsumedExactly rest left' (sector_len s - length front))
-        → TakesSector image s count (sector_start s count + length front) left'
+        → ConsumesSector image s count (sector_start s count + length front) left'
     takes_sector left' below next =
         let least = at_least_512 s.sector_size in
         let within = (next (drop (sector_start s count + length front) image) stands.took.left).within in
         record {
           is_one = is_whole (sector_len s) (omega arith) s.size count (payload_len s image) below
               (omega (arith, there, long));
-          took = took_sum image left left' (sector_start s count + length front) (sector_len s - length front) _
+          took = consumed_sum image left left' (sector_start s count + length front) (sector_len s - length front) _
               (omega arith) stands.took next;
         }
 
     -- a read or a write failed
     pub steps_broken : (cipher : Cipher) (left' before after : Option (List ℕ)) (fault : VolumeFault)
         → count < max_sectors s
-        → IfKnown left (λ rest. StopsInSector cipher (unit_number s count) (sector_len s) front rest left' before
+        → IfKnown left (λ rest. AbortsInSector cipher (unit_number s count) (sector_len s) front rest left' before
         after fault)
         → StepEffect s cipher count (sector_start s count + length front) image (Err fault) left' before after
     steps_broken cipher left' b a Read below stops =
@@ -83,7 +88,7 @@ module _ (s : Segment) (image : List ℕ) (count : ℕ) where
           sector_start s count + length front + count',
           omega arith,
           omega arith,
-          took_behind image left left' (sector_start s count + length front) count' stands.took next,
+          consumed_behind image left left' (sector_start s count + length front) count' stands.took next,
         )
     steps_broken cipher left' b a Write below stops =
         let (next, more) = stops (drop (sector_start s count + length front) image) stands.took.left in (
@@ -131,7 +136,7 @@ module _ (s : Segment) (image : List ℕ) (count : ℕ) where
         (rw is (ending_is_ending s.size (sector_len s) (count * sector_len s + got))) (record {
           all = rw len (all_whole (sector_len s) some s.size count got below torn);
           as_stated = rw (behind, len) is;
-          took = rw (end, all) (took_sum image left left' (sector_start s count + length front) (got - length front)
+          took = rw (end, all) (consumed_sum image left left' (sector_start s count + length front) (got - length front)
               (length image) more stands.took (λ rest is. (next rest is).1));
         })
 
@@ -211,7 +216,7 @@ module _ (s : Segment) (count : ℕ) where
 
 -- what a skip did, from how its bytes were let go
 module _ (p : PumpModel) (image : List ℕ) (r r' : Option (List ℕ)) (early : p.consumed ≤ p.segment.offset)
-    (first : p.state ≡ BeforePayload) (bare : p.front ≡ []) (stands : StandsIn image p r) where
+    (first : p.state ≡ BeforePayload) (bare : p.front ≡ []) (stands : PositionedIn image p r) where
   from : consumed_by p ≡ p.consumed
   from = rw (first, bare) (omega arith)
 
@@ -220,10 +225,10 @@ module _ (p : PumpModel) (image : List ℕ) (r r' : Option (List ℕ)) (early : 
 
   pub skips : (answer : Result (Unit {0}) VolumeFault)
       → OnOk answer (IfKnown r (λ rest. ConsumedExactly rest r' (p.segment.offset - p.consumed)))
-      → IfErr answer (λ fault. IfKnown r (λ rest. StopsDiscarding (p.segment.offset - p.consumed) rest r' fault))
+      → IfErr answer (λ fault. IfKnown r (λ rest. AbortsDiscarding (p.segment.offset - p.consumed) rest r' fault))
       → SkipEffect p image answer r'
   skips (Ok _) ok err =
-      took_sum image r r' p.consumed (p.segment.offset - p.consumed) p.segment.offset (omega arith) took ok
+      consumed_sum image r r' p.consumed (p.segment.offset - p.consumed) p.segment.offset (omega arith) took ok
   skips (Err CutBeforePayload) ok err =
       let (few, next) = err (drop p.consumed image) took.left in
       let long = length-drop p.consumed image in
@@ -272,7 +277,7 @@ module _ (s : Segment) (cipher : Cipher) (consumed count : ℕ) (front image : L
   skip_broken Write none there stops = absurd stops
 
   pub steps_unskipped : (state : State) (fault : VolumeFault) (T : Type 0)
-      → StandsIn image (pumped s cipher consumed count state front) r → SkipsAgain state (Err fault) T
+      → PositionedIn image (pumped s cipher consumed count state front) r → SkipsAgain state (Err fault) T
       → (state ≡ BeforePayload → (count ≡ 0) × (front ≡ []))
       → (state ≡ BeforePayload → SkipEffect (pumped s cipher consumed count state front) image (Err fault) r')
       → StepEffect s cipher count (consumed_by (pumped s cipher consumed count state front)) image
@@ -319,7 +324,7 @@ module _ (s : Segment) (cipher : Cipher) (count reach : ℕ) (image : List ℕ) 
       let same : max s.offset (payload_end_of s image) ≡ max reach (payload_end_of s image) = omega arith in
       record { all = ends.all; as_stated = ends.as_stated; took = rw same at ends.took }
 
-  takes_earlier : TakesSector image s count s.offset l → TakesSector image s count reach l
+  takes_earlier : ConsumesSector image s count s.offset l → ConsumesSector image s count reach l
   takes_earlier takes =
       let same : max s.offset (sector_start s (count + 1)) ≡ max reach (sector_start s (count + 1)) = omega arith in
       record { is_one = takes.is_one; took = rw same at takes.took }
@@ -340,7 +345,7 @@ module _ (s : Segment) (cipher : Cipher) (count reach : ℕ) (image : List ℕ) 
 module _ (s : Segment) (cipher : Cipher) (consumed count : ℕ) (front image : List ℕ)
     (r r' r'' before after : Option (List ℕ)) (answer : Result Step VolumeFault) where
   pub steps_skipped : (state : State) (T : Type 0)
-      → StandsIn image (pumped s cipher consumed count state front) r → consumed ≤ s.offset
+      → PositionedIn image (pumped s cipher consumed count state front) r → consumed ≤ s.offset
       → SkipsAgain state (Ok tt) T
       → (T → r' ≡ r) → (state ≡ BeforePayload → (count ≡ 0) × (front ≡ []))
       → (state ≡ BeforePayload → SkipEffect (pumped s cipher consumed count state front) image (Ok tt) r')
@@ -368,7 +373,7 @@ module _ (s : Segment) (cipher : Cipher) (consumed count : ℕ) (front image : L
   -- the same, where the pump that it goes on with is told by its parts
   pub steps_resumed : (now skipped : PumpModel) (state state' : State) (T : Type 0) → now ≡ skipped
       → skipped ≡ pumped s cipher consumed count state' front
-      → StandsIn image (pumped s cipher consumed count state front) r → now.consumed ≤ now.segment.offset
+      → PositionedIn image (pumped s cipher consumed count state front) r → now.consumed ≤ now.segment.offset
       → SkipsAgain state (Ok tt) T → (T → r' ≡ r)
       → (state ≡ BeforePayload → (count ≡ 0) × (front ≡ []))
       → (state ≡ BeforePayload → SkipEffect (pumped s cipher consumed count state front) image (Ok tt) r')
@@ -403,3 +408,15 @@ first_answer BeforePayload now T untouched answer again is going = tt
 first_answer InPayload now T untouched answer again is going = tt
 first_answer Ended now T untouched answer again is going = absurd (going is)
 first_answer (Faulted fault) now T untouched answer again is going = absurd cc
+
+-- a source was read as needed in a skip that let a pump go on, and then in the rest of the step
+pub needed_skipped : (state : State) (T : Type 0) (a b c : ReadCounts) → SkipsAgain state (Ok tt) T → (T → b ≡ a)
+    → (is_running state ≡ true → b.failures ≡ a.failures) → (is_running state ≡ true → b.ends ≡ a.ends)
+    → ReadsAsNeeded a b → ReadsAsNeeded b c → ReadsAsNeeded a c
+needed_skipped BeforePayload T a b c again same failures ends first then =
+    reads_then a b c (failures refl) (ends refl) first then
+needed_skipped InPayload T a b c again same failures ends first then =
+    reads_then a b c (failures refl) (ends refl) first then
+needed_skipped Ended T a b c again same failures ends first then =
+    subst (λ counts. ReadsAsNeeded counts c) (same again.1) then
+needed_skipped (Faulted fault) T a b c again same failures ends first then = absurd cc

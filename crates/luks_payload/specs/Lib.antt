@@ -1,3 +1,3 @@
-pub mod Passing
 pub mod Plain
-pub mod Pumped
+pub mod PumpEffects
+pub mod SectorEffects

@@ -1,7 +1,7 @@
 //! Decryption of a sector in place.
 
 use luks_cipher::SectorCipher;
-use luks_io::change::Change;
+use luks_io::transform::Transform;
 
 /// What decrypts the sector of a unit number.
 #[derive(Drop)]
@@ -10,15 +10,15 @@ pub(crate) struct Decryption<'a> {
     pub(crate) number: u64,
 }
 
-impl<'a> Change for Decryption<'a> {
+impl<'a> Transform for Decryption<'a> {
     ghost use Rattle.std.specs.Prelude.{◌≡◌, ◌≤◌, ◌%◌};
     ghost use Rattle.luks_payload.specs.Plain.{unit_plain};
 
-    ghost takes = { λ _ count. (count % 16 ≡ 0) × (16 ≤ count) × (count ≤ 4096) };
+    ghost accepts = { λ _ count. (count % 16 ≡ 0) × (16 ≤ count) × (count ≤ 4096) };
 
-    ghost changed = { λ d unit. unit_plain d.cipher.now d.number unit };
+    ghost transformed = { λ d unit. unit_plain d.cipher.now d.number unit };
 
-    fn change(&self, bytes: &mut [u8]) {
+    fn apply(&self, bytes: &mut [u8]) {
         self.cipher.decrypt_unit(self.number, bytes);
     }
 }

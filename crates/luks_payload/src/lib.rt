@@ -6,7 +6,7 @@
 
 mod decryption;
 pub mod fault;
-mod passing;
+mod forwarding;
 pub mod pump;
 mod sector;
 pub mod state;

@@ -2,17 +2,19 @@
 
 ghost use Rattle.std.specs.Prelude.{◌≡◌, ◌+◌, ◌^◌, ◌<◌, ◌≤◌, ◌⊎◌, List, [], ℕ, Some, Ok, IfErr};
 ghost use Rattle.std.specs.Prelude.{true, drop, length};
-ghost use Rattle.luks_io.specs.Bytes.{counted};
-ghost use Rattle.luks_payload.specs.Passing.{AddsUnit, PositionedAt, is_cut, is_pump_read_failure};
-ghost use Rattle.luks_payload.specs.Passing.{is_pump_write_failure, max_sectors};
+ghost use Rattle.luks_io.specs.Devices.{counted};
+ghost use Rattle.luks_io.specs.Counts.{ReadsAsNeeded, WritesAsNeeded};
+ghost use Rattle.luks_payload.specs.SectorEffects.{AppendsUnit, PositionedAt, is_cut};
+ghost use Rattle.luks_payload.specs.SectorEffects.{is_pump_read_failure};
+ghost use Rattle.luks_payload.specs.SectorEffects.{is_pump_write_failure, max_sectors};
 ghost use Rattle.luks_payload.specs.Plain.{sector_len, sector_start, unit_number};
-ghost use Rattle.luks_payload.specs.Pumped.{MayAnswer, SkipsAgain, SkipEffect, StandsIn, StepEffect};
-ghost use Rattle.luks_payload.specs.Pumped.{StepsAgain, WritesSectors};
-ghost use Rattle.luks_payload.specs.Pumped.{after_step, hits_eof_at, is_running, consumed_by};
-ghost use Rattle.luks_payload.specs.Pumped.{state_after_skip};
+ghost use Rattle.luks_payload.specs.PumpEffects.{MayAnswer, SkipsAgain, SkipEffect, PositionedIn};
+ghost use Rattle.luks_payload.specs.PumpEffects.{StepEffect, StepsAgain, WritesSectors};
+ghost use Rattle.luks_payload.specs.PumpEffects.{after_step, hits_eof_at, is_running, consumed_by};
+ghost use Rattle.luks_payload.specs.PumpEffects.{state_after_skip};
 
 use crate::fault::VolumeFault;
-use crate::passing::{discard, pass_sector};
+use crate::forwarding::{discard, forward_sector};
 use crate::sector::{ending, limit, number};
 use crate::state::{State, Step};
 use luks_cipher::SectorCipher;
@@ -42,8 +44,8 @@ pub struct Pump<'a> {
 
 impl<'a> Model for Pump<'a> {
     ghost use Rattle.std.specs.Prelude.{◌≡◌, ◌≤◌, []};
-    ghost use Rattle.luks_payload.specs.Passing.{max_sectors};
-    ghost use Rattle.luks_payload.specs.Pumped.{PumpModel};
+    ghost use Rattle.luks_payload.specs.SectorEffects.{max_sectors};
+    ghost use Rattle.luks_payload.specs.PumpEffects.{PumpModel};
     ghost use Rattle.luks_payload.specs.declared.state.State.TheVariants.{BeforePayload};
 
     ghost Value = { PumpModel };
@@ -78,7 +80,8 @@ fn next_sector<S: Source, O: Sink>(
     ensures limit { count ≡ max_sectors segment.now
         → (result ≡ Ok Step.End) × (source.new ≡ source.old) × (sink.new ≡ sink.old) }
     ensures below { result ≡ Ok Step.Sector → count < max_sectors segment.now }
-    ensures passed { result ≡ Ok Step.Sector → AddsUnit cipher.now (unit_number segment.now count)
+    ensures passed { result ≡ Ok Step.Sector
+        → AppendsUnit cipher.now (unit_number segment.now count)
         (sector_len segment.now) front.now (O.written sink.old) (O.written sink.new) }
     ensures only { MayAnswer State.InPayload segment.now count result }
     ensures run { (image : List ℕ) → length image < 2 ^ 64
@@ -87,18 +90,20 @@ fn next_sector<S: Source, O: Sink>(
         (sector_start segment.now count + length front.now)
         image result (S.to_come source.new) (O.written sink.old) (O.written sink.new) }
     ensures writes_sectors { WritesSectors result (sink.new ≡ sink.old) }
-    ensures reads { S.failures source.new ≡ counted (is_pump_read_failure result)
-        (S.failures source.old) }
-    ensures ends { S.ends source.new ≡ counted (hits_eof_at segment.now count result)
-        (S.ends source.old) }
-    ensures writes { O.failures sink.new ≡ counted (is_pump_write_failure result)
-        (O.failures sink.old) }
+    ensures reads { (S.counts source.new).failures ≡ counted (is_pump_read_failure result)
+        (S.counts source.old).failures }
+    ensures ends { (S.counts source.new).ends ≡ counted (hits_eof_at segment.now count result)
+        (S.counts source.old).ends }
+    ensures writes { (O.counts sink.new).failures ≡ counted (is_pump_write_failure result)
+        (O.counts sink.old).failures }
+    ensures needed_reads { ReadsAsNeeded (S.counts source.old) (S.counts source.new) }
+    ensures needed_writes { WritesAsNeeded (O.counts sink.old) (O.counts sink.new) }
 {
     if count == limit(segment) {
         return Ok(Step::End);
     }
     let size = segment.sector_size.bytes();
-    let got = pass_sector(
+    let got = forward_sector(
         cipher,
         number(segment, count),
         front,
@@ -172,17 +177,18 @@ impl<'a> Pump<'a> {
             ≡ record self.old { state = state_after_skip self.old.state result } }
         ensures again { SkipsAgain self.old.state result (source.new ≡ source.old) }
         ensures run { (image : List ℕ) → self.old.state ≡ State.BeforePayload
-            → StandsIn image self.old (S.to_come source.old)
+            → PositionedIn image self.old (S.to_come source.old)
             → SkipEffect self.old image result (S.to_come source.new) }
         ensures only { self.old.state ≡ State.BeforePayload → IfErr result (λ fault.
             (fault ≡ VolumeFault.CutBeforePayload) ⊎ (fault ≡ VolumeFault.Read)) }
         ensures fresh { self.old.state ≡ State.BeforePayload
             → (self.old.count ≡ 0) × (self.old.front ≡ []) }
         ensures reads { is_running self.old.state ≡ true
-            → S.failures source.new ≡ counted (is_pump_read_failure result)
-            (S.failures source.old) }
+            → (S.counts source.new).failures ≡ counted (is_pump_read_failure result)
+            (S.counts source.old).failures }
         ensures ends { is_running self.old.state ≡ true
-            → S.ends source.new ≡ counted (is_cut result) (S.ends source.old) }
+            → (S.counts source.new).ends ≡ counted (is_cut result) (S.counts source.old).ends }
+        ensures needed { ReadsAsNeeded (S.counts source.old) (S.counts source.new) }
     {
         match self.state {
             State::BeforePayload => {
@@ -240,24 +246,28 @@ impl<'a> Pump<'a> {
             → self.old.count ≡ max_sectors self.old.segment
             → (result ≡ Ok Step.End) × (source.new ≡ source.old) × (sink.new ≡ sink.old) }
         ensures run { (image : List ℕ) → length image < 2 ^ 64
-            → StandsIn image self.old (S.to_come source.old)
+            → PositionedIn image self.old (S.to_come source.old)
             → StepEffect self.old.segment self.old.cipher self.old.count
             (consumed_by self.old) image result
             (S.to_come source.new) (O.written sink.old) (O.written sink.new) }
         ensures passed { result ≡ Ok Step.Sector
-            → AddsUnit self.old.cipher (unit_number self.old.segment self.old.count)
+            → AppendsUnit self.old.cipher (unit_number self.old.segment self.old.count)
             (sector_len self.old.segment) self.old.front
             (O.written sink.old) (O.written sink.new) }
         ensures only { is_running self.old.state ≡ true
             → MayAnswer self.old.state self.old.segment self.old.count result }
         ensures writes_sectors { WritesSectors result (sink.new ≡ sink.old) }
         ensures reads { is_running self.old.state ≡ true
-            → S.failures source.new ≡ counted (is_pump_read_failure result)
-            (S.failures source.old) }
-        ensures ends { is_running self.old.state ≡ true → S.ends source.new
-            ≡ counted (hits_eof_at self.old.segment self.old.count result) (S.ends source.old) }
+            → (S.counts source.new).failures ≡ counted (is_pump_read_failure result)
+            (S.counts source.old).failures }
+        ensures ends { is_running self.old.state ≡ true → (S.counts source.new).ends
+            ≡ counted (hits_eof_at self.old.segment self.old.count result)
+            (S.counts source.old).ends }
         ensures writes { is_running self.old.state ≡ true
-            → O.failures sink.new ≡ counted (is_pump_write_failure result) (O.failures sink.old) }
+            → (O.counts sink.new).failures ≡ counted (is_pump_write_failure result)
+            (O.counts sink.old).failures }
+        ensures needed_reads { ReadsAsNeeded (S.counts source.old) (S.counts source.new) }
+        ensures needed_writes { WritesAsNeeded (O.counts sink.old) (O.counts sink.new) }
     {
         self.skip(source)?;
         if self.state == State::Ended {

@@ -1,7 +1,7 @@
 //! Numbers of a segment's sectors.
 
 ghost use Rattle.std.specs.Prelude.{◌≡◌, ◌+◌, ◌*◌, ◌<◌};
-ghost use Rattle.luks_payload.specs.Passing.{max_sectors};
+ghost use Rattle.luks_payload.specs.SectorEffects.{max_sectors};
 ghost use Rattle.luks_payload.specs.Plain.{ending_within, sector_len, unit_number};
 
 use crate::fault::VolumeFault;

@@ -1,4 +1,4 @@
-pub mod Check
+pub mod CheckOutput
 pub mod Faults
 pub mod Report
 pub mod Texts

@@ -10,8 +10,8 @@ pub const NOT_OPENED: u8 = 4;
 
 /// The line about the input of this name, which is printed as given.
 #[tactic(auto, unfolding(crate::specs::Texts::not_opened_line))]
-pub fn not_opened_page(alloc: Global, name: &str) -> Result<String, AllocError>
-    ensures { IfOk result (λ page. string_bytes page ≡ not_opened_line name.now) }
+pub fn not_opened_text(alloc: Global, name: &str) -> Result<String, AllocError>
+    ensures { IfOk result (λ line. string_bytes line ≡ not_opened_line name.now) }
 {
     format!(in alloc; "luksrd: cannot open {name}\n")
 }

@@ -7,10 +7,10 @@ use std::alloc::{AllocError, Global};
 
 /// The line of the key slot that opens.
 #[tactic(auto, unfolding(crate::specs::Texts::opened_line))]
-pub fn opened_page(alloc: Global, slot: u8) -> Result<String, AllocError>
-    ensures { IfOk result (λ page. string_bytes page ≡ opened_line slot) }
+pub fn opened_text(alloc: Global, slot: u8) -> Result<String, AllocError>
+    ensures { IfOk result (λ line. string_bytes line ≡ opened_line slot) }
 {
-    let mut page = format!(in alloc; "Key slot {slot}")?;
-    page.push_str(" opens the volume.\n")?;
-    Ok(page)
+    let mut line = format!(in alloc; "Key slot {slot}")?;
+    line.push_str(" opens the volume.\n")?;
+    Ok(line)
 }

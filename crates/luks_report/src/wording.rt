@@ -2,7 +2,8 @@
 
 ghost use Rattle.std.specs.Prelude.{◌≡◌, ◌+◌, ◌<◌, ◌≤◌, ◌++◌, OnOk, IfErr, codes, decimal, is_err};
 ghost use Rattle.std.specs.Prelude.{length, take};
-ghost use Rattle.luks_io.specs.Bytes.{Appended, counted};
+ghost use Rattle.luks_io.specs.Counts.{WritesAsNeeded};
+ghost use Rattle.luks_io.specs.Devices.{Appended, counted};
 ghost use Rattle.luks_report.specs.Texts.{message_line, line_of, more_skips_text, skip_text, skips_text};
 
 use crate::line::Line;
@@ -24,7 +25,9 @@ impl Message {
         ensures err { IfErr result (λ fault. (fault.written < length (line_of self.now))
             × Appended (O.written out.old) (O.written out.new)
             (take fault.written (line_of self.now))) }
-        ensures counts { O.failures out.new ≡ counted (is_err result) (O.failures out.old) }
+        ensures counts { (O.counts out.new).failures
+            ≡ counted (is_err result) (O.counts out.old).failures }
+        ensures needed { WritesAsNeeded (O.counts out.old) (O.counts out.new) }
     {
         put_all(out, self.line().as_slice())
     }

@@ -6,50 +6,50 @@ use Rattle.luks_kdf.specs.declared.Hash.{Hash}
 use Rattle.luks_request.specs.declared.command.Command.{Command}
 use Rattle.luks_request.specs.declared.command.Command.TheVariants.{AfMerge, AfSplit, IsLuks, LuksCat}
 use Rattle.luks_request.specs.declared.command.Command.TheVariants.{LuksCheck, LuksDump, LuksUuid, TestPassphrase}
-use Rattle.luks_request.specs.declared.command.Reading.{Reading}
-use Rattle.luks_request.specs.declared.command.Opening.{Opening}
-use Rattle.luks_request.specs.declared.command.Splitting.{Splitting}
-use Rattle.luks_request.specs.declared.command.Merging.{Merging}
+use Rattle.luks_request.specs.declared.command.HeaderArgs.{HeaderArgs}
+use Rattle.luks_request.specs.declared.command.VolumeArgs.{VolumeArgs}
+use Rattle.luks_request.specs.declared.command.SplitArgs.{SplitArgs}
+use Rattle.luks_request.specs.declared.command.MergeArgs.{MergeArgs}
 
 -- a text, by its bytes
-abbrev pub Text : Type 0
-Text = List ℕ
+abbrev pub Argument : Type 0
+Argument = List ℕ
 
-pub record ReadingRequest : Type 0 where
-  pub image : Text
-  pub header : Option Text
+pub record HeaderRequest : Type 0 where
+  pub image : Argument
+  pub header : Option Argument
 
-pub record OpeningRequest : Type 0 where
-  pub image : Text
-  pub header : Option Text
-  pub key_file : Text
+pub record VolumeRequest : Type 0 where
+  pub image : Argument
+  pub header : Option Argument
+  pub key_file : Argument
   pub key_slot : Option ℕ
   pub max_iterations : Option ℕ
 
-pub record SplittingRequest : Type 0 where
+pub record SplitRequest : Type 0 where
   pub hash : Hash
   pub stripes : ℕ
-  pub random : Text
-  pub key : Text
+  pub random : Argument
+  pub key : Argument
 
-pub record MergingRequest : Type 0 where
+pub record MergeRequest : Type 0 where
   pub hash : Hash
   pub stripes : ℕ
   pub key_bytes : ℕ
-  pub stripes_file : Text
+  pub stripes_file : Argument
 
 pub data Request : Type 0 where
-  is_luks : ReadingRequest → Request
-  luks_uuid : ReadingRequest → Request
-  luks_dump : ReadingRequest → Request
-  luks_check : ReadingRequest → Request
-  test_passphrase : OpeningRequest → Request
-  luks_cat : OpeningRequest → Request
-  af_split : SplittingRequest → Request
-  af_merge : MergingRequest → Request
+  is_luks : HeaderRequest → Request
+  luks_uuid : HeaderRequest → Request
+  luks_dump : HeaderRequest → Request
+  luks_check : HeaderRequest → Request
+  test_passphrase : VolumeRequest → Request
+  luks_cat : VolumeRequest → Request
+  af_split : SplitRequest → Request
+  af_merge : MergeRequest → Request
 
 -- the first input: IMAGE, KEY or STRIPES
-abbrev pub image_of : Request → Text
+abbrev pub image_of : Request → Argument
 image_of (is_luks r) = r.image
 image_of (luks_uuid r) = r.image
 image_of (luks_dump r) = r.image
@@ -60,7 +60,7 @@ image_of (af_split s) = s.key
 image_of (af_merge m) = m.stripes_file
 
 -- FILE of `--header`, if it is given: the detached header
-abbrev pub header_file_of : Request → Option Text
+abbrev pub header_file_of : Request → Option Argument
 header_file_of (is_luks r) = r.header
 header_file_of (luks_uuid r) = r.header
 header_file_of (luks_dump r) = r.header
@@ -74,14 +74,14 @@ abbrev pub has_header_file : Request → Bool
 has_header_file request = is_some (header_file_of request)
 
 -- the second input, if there is one: FILE of `--key-file` or `--random`
-abbrev pub secret_of : Request → Option Text
+abbrev pub secret_of : Request → Option Argument
 secret_of (test_passphrase o) = Some o.key_file
 secret_of (luks_cat o) = Some o.key_file
 secret_of (af_split s) = Some s.random
 secret_of _ = None
 
 -- the input is there and is standard input
-abbrev pub is_standard : Option Text → Bool
+abbrev pub is_standard : Option Argument → Bool
 is_standard input = option_map_or (λ name. bytes_eq name (codes "-")) input false
 
 -- at least two of the three hold
@@ -98,11 +98,11 @@ reuses_stdin request = two_of
 
 -- ---- the request that a `Command` is
 
-abbrev pub reading_request : Reading → ReadingRequest
-reading_request r = record { image = r.image.now; header = option_map (λ file. file.now) r.header }
+abbrev pub header_request : HeaderArgs → HeaderRequest
+header_request r = record { image = r.image.now; header = option_map (λ file. file.now) r.header }
 
-abbrev pub opening_request : Opening → OpeningRequest
-opening_request o = record {
+abbrev pub volume_request : VolumeArgs → VolumeRequest
+volume_request o = record {
   image = o.image.now;
   header = option_map (λ file. file.now) o.header;
   key_file = o.key_file.now;
@@ -110,16 +110,16 @@ opening_request o = record {
   max_iterations = option_map (λ limit. limit.iterations) o.max_iterations;
 }
 
-abbrev pub splitting_request : Splitting → SplittingRequest
-splitting_request s = record {
+abbrev pub split_request : SplitArgs → SplitRequest
+split_request s = record {
   hash = s.hash;
   stripes = s.stripes.count;
   random = s.random.now;
   key = s.key.now;
 }
 
-abbrev pub merging_request : Merging → MergingRequest
-merging_request m = record {
+abbrev pub merge_request : MergeArgs → MergeRequest
+merge_request m = record {
   hash = m.hash;
   stripes = m.stripes.count;
   key_bytes = m.key_bytes.bytes;
@@ -127,11 +127,11 @@ merging_request m = record {
 }
 
 abbrev pub request_of : Command → Request
-request_of (IsLuks r) = is_luks (reading_request r)
-request_of (LuksUuid r) = luks_uuid (reading_request r)
-request_of (LuksDump r) = luks_dump (reading_request r)
-request_of (LuksCheck r) = luks_check (reading_request r)
-request_of (TestPassphrase o) = test_passphrase (opening_request o)
-request_of (LuksCat o) = luks_cat (opening_request o)
-request_of (AfSplit s) = af_split (splitting_request s)
-request_of (AfMerge m) = af_merge (merging_request m)
+request_of (IsLuks r) = is_luks (header_request r)
+request_of (LuksUuid r) = luks_uuid (header_request r)
+request_of (LuksDump r) = luks_dump (header_request r)
+request_of (LuksCheck r) = luks_check (header_request r)
+request_of (TestPassphrase o) = test_passphrase (volume_request o)
+request_of (LuksCat o) = luks_cat (volume_request o)
+request_of (AfSplit s) = af_split (split_request s)
+request_of (AfMerge m) = af_merge (merge_request m)

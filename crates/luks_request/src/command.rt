@@ -12,26 +12,26 @@ use luks_kdf::Hash;
 #[derive(Clone, Copy, PartialEq, Eq, Debug)]
 pub enum Command<'a> {
     /// `isLuks`: reports whether the image has a LUKS header.
-    IsLuks(Reading<'a>),
+    IsLuks(HeaderArgs<'a>),
     /// `luksUUID`: prints the UUID of the header.
-    LuksUuid(Reading<'a>),
+    LuksUuid(HeaderArgs<'a>),
     /// `luksDump`: prints the header.
-    LuksDump(Reading<'a>),
+    LuksDump(HeaderArgs<'a>),
     /// `luksCheck`: prints what is wrong with the header.
-    LuksCheck(Reading<'a>),
+    LuksCheck(HeaderArgs<'a>),
     /// `testPassphrase`: prints the key slot that the passphrase opens.
-    TestPassphrase(Opening<'a>),
+    TestPassphrase(VolumeArgs<'a>),
     /// `luksCat`: writes the plain sectors.
-    LuksCat(Opening<'a>),
+    LuksCat(VolumeArgs<'a>),
     /// `afSplit`: writes a key as stripes.
-    AfSplit(Splitting<'a>),
+    AfSplit(SplitArgs<'a>),
     /// `afMerge`: writes the key of stripes.
-    AfMerge(Merging<'a>),
+    AfMerge(MergeArgs<'a>),
 }
 
 /// A header to be read.
 #[derive(Clone, Copy, PartialEq, Eq, Debug)]
-pub struct Reading<'a> {
+pub struct HeaderArgs<'a> {
     /// The name of the input with the volume.
     pub image: &'a str,
     /// The name of the file with the header, if that is detached.
@@ -40,7 +40,7 @@ pub struct Reading<'a> {
 
 /// A volume to be opened.
 #[derive(Clone, Copy, PartialEq, Eq, Debug)]
-pub struct Opening<'a> {
+pub struct VolumeArgs<'a> {
     /// The name of the input with the volume.
     pub image: &'a str,
     /// The name of the file with the header, if that is detached.
@@ -55,7 +55,7 @@ pub struct Opening<'a> {
 
 /// A key to be split into stripes.
 #[derive(Clone, Copy, PartialEq, Eq, Debug)]
-pub struct Splitting<'a> {
+pub struct SplitArgs<'a> {
     /// The hash function of the diffusion.
     pub hash: Hash,
     /// How many stripes are made.
@@ -68,7 +68,7 @@ pub struct Splitting<'a> {
 
 /// Stripes to be merged into their key.
 #[derive(Clone, Copy, PartialEq, Eq, Debug)]
-pub struct Merging<'a> {
+pub struct MergeArgs<'a> {
     /// The hash function of the diffusion.
     pub hash: Hash,
     /// How many stripes there are.
@@ -132,7 +132,7 @@ impl<'a> Command<'a> {
     }
 
     /// Whether two of the inputs that there are would be standard input, which can be read once.
-    pub fn reads_standard_twice(&self) -> bool
+    pub fn reuses_stdin(&self) -> bool
         ensures { result ≡ reuses_stdin (request_of self.now) }
     {
         let image = is_standard(Some(self.image()));

@@ -2,9 +2,9 @@
 use Rattle.std.specs.Prelude.{◌==◌}
 use Rattle.std.proofs.Common.{◌≡◌, ℕ, ◌≤◌, Bool, true, false, List, Option, Result, Ok, Err, refl}
 use Rattle.std.proofs.Common.{length, arith}
-use Rattle.luks_io.specs.Bytes.{Appended, ConsumedExactly, counted}
-use Rattle.luks_io.proofs.Taking.{adds-none}
-use Rattle.luks_header.specs.Header.{BreaksReading, header_read_len, header_of}
+use Rattle.luks_io.specs.Devices.{Appended, ConsumedExactly, counted}
+use Rattle.luks_io.proofs.Consuming.{adds-none}
+use Rattle.luks_header.specs.Header.{AbortsReading, header_read_len, header_of}
 use Rattle.luks_header.proofs.HeaderLemmas.{memory_below}
 use Rattle.luks_header.specs.declared.header.Header.{Header}
 use Rattle.luks_area.specs.declared.fault.HeaderFault.{HeaderFault}
@@ -12,28 +12,30 @@ use Rattle.luks_area.specs.declared.fault.HeaderFault.TheVariants.{NotLuks as No
 use Rattle.luks_area.specs.declared.fault.HeaderFault.TheVariants.{Read, Memory}
 use Rattle.luks_report.specs.declared.message.Message.{Message}
 use Rattle.luks_report.specs.declared.message.Message.TheVariants.{Done, OutOfMemory, ReadFailed, WriteFailed}
-use Rattle.luks_runs.specs.Header.{answer_to_is_luks}
+use Rattle.luks_runs.specs.HeaderOutcome.{answer_to_is_luks}
 use Rattle.luks_report.specs.Faults.{message_for_header}
 use Rattle.luks_runs.specs.Ending.{Outcome, no_output}
-use Rattle.luks_runs.specs.MayEnd.{CheckMessage, PageMessage}
-use Rattle.luks_runs.specs.Header.{is_luks_outcome, print_outcome_by, printout_text, printout_message}
+use Rattle.luks_runs.specs.RunMessages.{CheckMessage, PrintoutMessage}
+use Rattle.luks_runs.specs.HeaderOutcome.{is_luks_outcome, print_outcome_by, printout_text, printout_message}
 use Rattle.luks_runs.specs.Printing.{Prints}
-use Rattle.luks_runs.specs.Standing.{reading_of}
-use Rattle.luks_runs.specs.declared.standing.Standing.{Standing}
-use Rattle.luks_runs.proofs.HeaderTaking.{reading_fault}
-use Rattle.luks_runs.specs.declared.headers.Page.{Page}
-use Rattle.luks_runs.specs.declared.headers.Page.TheVariants.{Uuid, Dump, Check}
-use Rattle.luks_report.specs.Check.{check_of, findings_of, message_for_check}
-use Rattle.luks_runs.specs.Run.{Counts, IsPrefixLen, IsSilent, RunMatches, Aborted, TookNone, at_any_pace, failures_of}
+use Rattle.luks_runs.specs.Location.{reader_for}
+use Rattle.luks_runs.specs.declared.location.HeaderLocation.{HeaderLocation}
+use Rattle.luks_runs.proofs.HeaderConsumption.{reading_fault}
+use Rattle.luks_runs.specs.declared.headers.Printout.{Printout}
+use Rattle.luks_runs.specs.declared.headers.Printout.TheVariants.{Uuid, Dump, Check}
+use Rattle.luks_report.specs.CheckOutput.{check_of, findings_of, message_for_check}
+use Rattle.luks_runs.specs.Run.{Counts, IsPrefixLen, IsSilent, RunMatches, Aborted, ConsumedNothing, at_any_pace}
+use Rattle.luks_runs.specs.Run.{failures_of}
 use Rattle.luks_runs.specs.Run.{is_run_write_failure}
 
 -- a run that ended before any output
 early : (o : Outcome) (image : List ℕ) (message : Message) (i w : Option (List ℕ)) (count : ℕ) → IsSilent message 0
-    → IsPrefixLen message 0 (length o.output) → count ≤ o.image_taken
-    → ConsumedExactly image i count → Aborted at_any_pace o message (ConsumedExactly image i) TookNone (Appended w w)
+    → IsPrefixLen message 0 (length o.output) → count ≤ o.image_consumed
+    → ConsumedExactly image i count
+    → Aborted at_any_pace o message (ConsumedExactly image i) ConsumedNothing (Appended w w)
 early o image message i w count silent begins few took = record {
-  image_taken = count;
-  secret_taken = 0;
+  image_consumed = count;
+  secret_consumed = 0;
   output_len = 0;
   image_within = few;
   secret_within = omega arith;
@@ -46,7 +48,7 @@ early o image message i w count silent begins few took = record {
 }
 
 -- what is told once a page is printed is one of its messages
-pub told_may_end : (page : Page) (header : Header) → PageMessage page (printout_message page header)
+pub told_may_end : (printout : Printout) (header : Header) → PrintoutMessage printout (printout_message printout header)
 unfolding message_for_check
 told_may_end Uuid header = tt
 told_may_end Dump header = tt
@@ -56,7 +58,8 @@ told_may_end Check header = by (length (findings_of header) == 0) refl where
   by false is = rw is tt
 
 -- no write failed
-pub told_unfailed : (page : Page) (header : Header) → is_run_write_failure (printout_message page header) ≡ false
+pub told_unfailed : (printout : Printout) (header : Header)
+    → is_run_write_failure (printout_message printout header) ≡ false
 unfolding message_for_check
 told_unfailed Uuid header = refl
 told_unfailed Dump header = refl
@@ -66,9 +69,10 @@ told_unfailed Check header = by (length (findings_of header) == 0) refl where
   by false is = rw is refl
 
 -- and its text was written
-pub told_prints : (page : Page) (header : Header) (text : List ℕ) (before after : Option (List ℕ))
-    → text ≡ printout_text page header → Appended before after text
-    → Prints (printout_text page header) (printout_message page header) before after (printout_message page header)
+pub told_prints : (printout : Printout) (header : Header) (text : List ℕ) (before after : Option (List ℕ))
+    → text ≡ printout_text printout header → Appended before after text
+    → Prints (printout_text printout header) (printout_message printout header) before after
+    (printout_message printout header)
 unfolding message_for_check
 told_prints Uuid header text before after is a = (refl, rw is at a)
 told_prints Dump header text before after is a = (refl, rw is at a)
@@ -86,39 +90,39 @@ pub printing_counts : (text : List ℕ) (told : Message) (before after : Option 
 printing_counts text told before after ReadFailed image secret written written' lost is = absurd lost
 printing_counts text told before after _ image secret written written' prints is = rw is refl
 
-module _ (stand : Standing) (text : Header → List ℕ) (told : Header → Message) (image : List ℕ)
+module _ (location : HeaderLocation) (text : Header → List ℕ) (told : Header → Message) (image : List ℕ)
     (i w : Option (List ℕ)) where
   -- the header was read
-  module _ (header : Header) (found : reading_of stand image
+  module _ (header : Header) (found : reader_for location image
       ≡ Ok header) (left : ConsumedExactly image i (header_read_len image)) where
-    print_found : print_outcome_by (reading_of stand) text told image
+    print_found : print_outcome_by (reader_for location) text told image
         ≡ record {
           output = text header;
           message = told header;
-          image_taken = header_read_len image;
-          secret_taken = 0;
-          payload_taken = 0;
+          image_consumed = header_read_len image;
+          secret_consumed = 0;
+          payload_consumed = 0;
         }
     unfolding print_outcome_by
     print_found = rw found refl
 
     -- memory was refused for its text
-    runs_without_text : RunMatches at_any_pace (print_outcome_by (reading_of stand) text told image) OutOfMemory
-        (ConsumedExactly image i) TookNone
+    runs_without_text : RunMatches at_any_pace (print_outcome_by (reader_for location) text told image) OutOfMemory
+        (ConsumedExactly image i) ConsumedNothing
         (Appended w w)
     runs_without_text =
         rw print_found (early _ image OutOfMemory i w (header_read_len image) refl (omega arith) (omega arith)
         (left))
 
     -- the page was printed, as far as it came
-    pub runs_with_page : (message : Message) (w' : Option (List ℕ)) → Prints (text header) (told header) w w' message
-        → RunMatches at_any_pace (print_outcome_by (reading_of stand) text told image) message
-        (ConsumedExactly image i) TookNone
+    pub runs_with_text : (message : Message) (w' : Option (List ℕ)) → Prints (text header) (told header) w w' message
+        → RunMatches at_any_pace (print_outcome_by (reader_for location) text told image) message
+        (ConsumedExactly image i) ConsumedNothing
         (Appended w w')
-    runs_with_page OutOfMemory w' same = rw same runs_without_text
-    runs_with_page WriteFailed w' part = rw print_found (record {
-      image_taken = header_read_len image;
-      secret_taken = 0;
+    runs_with_text OutOfMemory w' same = rw same runs_without_text
+    runs_with_text WriteFailed w' part = rw print_found (record {
+      image_consumed = header_read_len image;
+      secret_consumed = 0;
       output_len = part.0;
       image_within = omega arith;
       secret_within = omega arith;
@@ -129,24 +133,24 @@ module _ (stand : Standing) (text : Header → List ℕ) (told : Header → Mess
       secret = refl;
       output = part.2;
     })
-    runs_with_page ReadFailed w' lost = absurd lost
-    runs_with_page _ w' all =
+    runs_with_text ReadFailed w' lost = absurd lost
+    runs_with_text _ w' all =
         rw print_found (record { as_stated = all.0; image = left; secret = refl; output = all.1 })
 
-  print_cost : (print_outcome_by (reading_of stand) text told image).image_taken ≡ header_read_len image
+  print_cost : (print_outcome_by (reader_for location) text told image).image_consumed ≡ header_read_len image
   unfolding print_outcome_by
   print_cost = refl
 
   print_none : (fault : HeaderFault) → header_of image ≡ Err fault
-      → print_outcome_by (reading_of stand) text told image
+      → print_outcome_by (reader_for location) text told image
       ≡ no_output (message_for_header fault) (header_read_len image) 0
   unfolding print_outcome_by
-  print_none fault found = rw (reading_fault stand image fault found) refl
+  print_none fault found = rw (reading_fault location image fault found) refl
 
   -- there was no header, or reading it failed
-  pub runs_without_header : (ends ends' : ℕ) (fault : HeaderFault) → BreaksReading image i ends ends' fault
-      → RunMatches at_any_pace (print_outcome_by (reading_of stand) text told image) (message_for_header fault)
-      (ConsumedExactly image i) TookNone (Appended w w)
+  pub runs_without_header : (ends ends' : ℕ) (fault : HeaderFault) → AbortsReading image i ends ends' fault
+      → RunMatches at_any_pace (print_outcome_by (reader_for location) text told image) (message_for_header fault)
+      (ConsumedExactly image i) ConsumedNothing (Appended w w)
   runs_without_header ends ends' NoLuks stop =
       rw (print_none NoLuks stop.0) (record
       { as_stated = refl; image = stop.1.0; secret = refl; output = adds-none w })
@@ -164,7 +168,7 @@ module _ (stand : Standing) (text : Header → List ℕ) (told : Header → Mess
       early _ image OutOfMemory i w some.0 refl (omega arith) (omega (arith, some.1, print_cost)) some.2
 
 module _ (image : List ℕ) (i w : Option (List ℕ)) where
-  asked_cost : (is_luks_outcome image).image_taken ≡ header_read_len image
+  asked_cost : (is_luks_outcome image).image_consumed ≡ header_read_len image
   unfolding is_luks_outcome
   asked_cost = refl
 
@@ -176,15 +180,15 @@ module _ (image : List ℕ) (i w : Option (List ℕ)) where
 
   -- `isLuks` of an image with a header
   pub is_luks_found : (header : Header) → header_of image ≡ Ok header → ConsumedExactly image i (header_read_len image)
-      → RunMatches at_any_pace (is_luks_outcome image) Done (ConsumedExactly image i) TookNone (Appended w w)
+      → RunMatches at_any_pace (is_luks_outcome image) Done (ConsumedExactly image i) ConsumedNothing (Appended w w)
   is_luks_found header found left =
       rw (asked (Ok header) found) (record
       { as_stated = refl; image = left; secret = refl; output = adds-none w })
 
   -- `isLuks` of one without a header that can be read
-  pub is_luks_refused : (ends ends' : ℕ) (fault : HeaderFault) → BreaksReading image i ends ends' fault
+  pub is_luks_refused : (ends ends' : ℕ) (fault : HeaderFault) → AbortsReading image i ends ends' fault
       → RunMatches at_any_pace (is_luks_outcome image) (answer_to_is_luks (Err fault))
-      (ConsumedExactly image i) TookNone (Appended w w)
+      (ConsumedExactly image i) ConsumedNothing (Appended w w)
   is_luks_refused ends ends' NoLuks stop =
       rw (asked (Err NoLuks) stop.0) (record
       { as_stated = refl; image = stop.1.0; secret = refl; output = adds-none w })

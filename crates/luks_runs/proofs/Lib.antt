@@ -1,8 +1,8 @@
 pub mod Counting
+pub mod HeaderConsumption
 pub mod HeaderRuns
-pub mod HeaderTaking
+pub mod KeyFileLemmas
 pub mod MergeLemmas
 pub mod PayloadLemmas
-pub mod SecretLemmas
 pub mod SplitLemmas
 pub mod StripeLemmas

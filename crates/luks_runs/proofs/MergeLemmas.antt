@@ -2,20 +2,20 @@
 use Rattle.std.proofs.Common.{◌≡◌, ℕ, ◌+◌, ◌-◌, ◌*◌, ◌<◌, ◌≤◌, List, [], ◌++◌, true, false, suc, length-take-le, Option}
 use Rattle.std.proofs.Common.{Some, ◌∙◌, ap, sym, refl, take, drop, length, length-drop, arith, zero-mul}
 use Rattle.std.proofs.lemmas.List.{take-append-drop}
-use Rattle.luks_io.proofs.Taking.{adds-none, took-none, took_behind}
-use Rattle.luks_io.specs.Bytes.{Appended, ConsumedExactly, IfKnown}
+use Rattle.luks_io.proofs.Consuming.{adds-none, took-none, consumed_behind}
+use Rattle.luks_io.specs.Devices.{Appended, ConsumedExactly, IfKnown}
 use Rattle.std.proofs.lemmas.Bool.Decides.{nat_tests}
 use Rattle.std.proofs.Math.Nat.{mul-le-mul_right}
 use Rattle.std.specs.Prelude.{nat_le}
 use Rattle.luks_kdf.specs.declared.hash.Hash.{Hash}
 use Rattle.luks_kdf.specs.Bytes.{xor}
-use Rattle.luks_stripes.specs.Stripes.{AfSplitterModel, chain_after, chain_of, merged, stripe_at}
-use Rattle.luks_stripes.proofs.StripesLemmas.{chain_of-append, merged_by_number, stripe_at-append}
+use Rattle.luks_kdf.specs.Stripes.{AfSplitterModel, chain_after, chain_of, merged, stripe_at}
+use Rattle.luks_kdf.proofs.StripesLemmas.{chain_of-append, merged_by_number, stripe_at-append}
 use Rattle.luks_report.specs.declared.message.Message.{Message}
 use Rattle.luks_report.specs.declared.message.Message.TheVariants.{Done, FewStripes, ReadFailed, WriteFailed}
 use Rattle.luks_runs.specs.Stripe.{merge_outcome}
-use Rattle.luks_runs.specs.Run.{RunMatches, Aborted, Completed, TookNone, at_any_pace}
-use Rattle.luks_runs.specs.StripeParts.{StopsTaking}
+use Rattle.luks_runs.specs.Run.{RunMatches, Aborted, Completed, ConsumedNothing, at_any_pace}
+use Rattle.luks_runs.specs.StripeParts.{AbortsReadingStripes}
 use Rattle.luks_runs.proofs.StripeLemmas.{is_stripe}
 
 -- before any byte is taken
@@ -30,26 +30,26 @@ module _ (bytes : List ℕ) (i len : ℕ) (s : Option (List ℕ)) (p : ConsumedE
   stripe_more s' stripe t =
       let here = t (drop (i * len) bytes) p.left in
       let more : i * len + len ≡ (i + 1) * len = omega arith in
-      (rw more at (took_behind bytes s s' (i * len) len p here.1), is_stripe bytes i len stripe here.0)
+      (rw more at (consumed_behind bytes s s' (i * len) len p here.1), is_stripe bytes i len stripe here.0)
 
   -- the next one could not be taken
   pub stops_at : (count : ℕ) (message : Message) (s' : Option (List ℕ)) → (i + 1) * len ≤ count * len
-      → IfKnown s (λ rest. StopsTaking 1 len rest s' message)
-      → StopsTaking count len bytes s' message
+      → IfKnown s (λ rest. AbortsReadingStripes 1 len rest s' message)
+      → AbortsReadingStripes count len bytes s' message
   stops_at count FewStripes s' below stop =
       let rest = drop (i * len) bytes in
       let here = stop rest p.left in
       let all : i * len + length rest ≡ length bytes = omega (arith, length-drop (i * len) bytes, p.within) in
-      (omega (arith, here.0), rw all at (took_behind bytes s s' (i * len) (length rest) p here.1))
+      (omega (arith, here.0), rw all at (consumed_behind bytes s s' (i * len) (length rest) p here.1))
   stops_at count ReadFailed s' below stop =
       let here = stop (drop (i * len) bytes) p.left in
-      (i * len + here.0, omega (arith, here.1), took_behind bytes s s' (i * len) here.0 p here.2)
+      (i * len + here.0, omega (arith, here.1), consumed_behind bytes s s' (i * len) here.0 p here.2)
   stops_at count _ s' below stop = absurd (stop (drop (i * len) bytes) p.left)
 
 -- what stops before all but one stripe are there stops before all are
 pub stops_before : (count len : ℕ) (bytes : List ℕ) (s : Option (List ℕ)) (message : Message)
-    → StopsTaking (count - 1) len bytes s message
-    → StopsTaking count len bytes s message
+    → AbortsReadingStripes (count - 1) len bytes s message
+    → AbortsReadingStripes count len bytes s message
 stops_before count len bytes s FewStripes stop = let fewer : (count - 1) * len
     ≤ count * len = mul-le-mul_right len (omega arith) in (omega (arith, stop.0), stop.1)
 stops_before count len bytes s ReadFailed stop = let fewer : (count - 1) * len
@@ -62,36 +62,43 @@ module _ (h : Hash) (count len : ℕ) (bytes : List ℕ) where
       ≡ record {
         output = merged h len (take (count * len) bytes);
         message = Done;
-        image_taken = count * len;
-        secret_taken = 0;
-        payload_taken = 0;
+        image_consumed = count * len;
+        secret_consumed = 0;
+        payload_consumed = 0;
       }
   unfolding merge_outcome
   stripes_enough enough = let yes : nat_le (count * len) (length bytes) ≡ true = grind (arith, nat_tests) in rw yes refl
 
   stripes_few : length bytes < count * len
       → merge_outcome h count len bytes
-      ≡ record { output = []; message = FewStripes; image_taken = length bytes; secret_taken = 0; payload_taken = 0 }
+      ≡ record {
+        output = [];
+        message = FewStripes;
+        image_consumed = length bytes;
+        secret_consumed = 0;
+        payload_consumed = 0;
+      }
   unfolding merge_outcome
   stripes_few few = let no_more : nat_le (count * len) (length bytes)
       ≡ false = grind (arith, nat_tests) in rw no_more refl
 
   -- what was taken of the stripes may be
   taken_within : (taken : ℕ) → taken ≤ count * len → taken ≤ length bytes
-      → taken ≤ (merge_outcome h count len bytes).image_taken
+      → taken ≤ (merge_outcome h count len bytes).image_consumed
   unfolding merge_outcome
   taken_within taken needed there = grind (arith, nat_tests)
 
 -- the stripes were not all there, or a read of them failed
 pub runs_without_stripes : (h : Hash) (count len : ℕ) (bytes : List ℕ) (message : Message) (s w : Option (List ℕ))
-    → StopsTaking count len bytes s message
-    → RunMatches at_any_pace (merge_outcome h count len bytes) message (ConsumedExactly bytes s) TookNone (Appended w w)
+    → AbortsReadingStripes count len bytes s message
+    → RunMatches at_any_pace (merge_outcome h count len bytes) message (ConsumedExactly bytes s) ConsumedNothing
+    (Appended w w)
 runs_without_stripes h count len bytes FewStripes s w stop =
     rw (stripes_few h count len bytes stop.0) (record
     { as_stated = refl; image = stop.1; secret = refl; output = adds-none w })
 runs_without_stripes h count len bytes ReadFailed s w stop = record {
-  image_taken = stop.0;
-  secret_taken = 0;
+  image_consumed = stop.0;
+  secret_consumed = 0;
   output_len = 0;
   image_within = taken_within h count len bytes stop.0 stop.1 stop.2.within;
   secret_within = omega arith;
@@ -109,17 +116,17 @@ module _ (h : Hash) (count len : ℕ) (bytes : List ℕ) (s w w' : Option (List 
     (key_is : key ≡ merged h len (take (count * len) bytes)) where
   -- the key was written
   pub runs_to_end : Appended w w' key → Completed (merge_outcome h count len bytes) Done
-      (ConsumedExactly bytes s) TookNone (Appended w w')
+      (ConsumedExactly bytes s) ConsumedNothing (Appended w w')
   runs_to_end a = rw (stripes_enough h count len bytes p.within, ← key_is)
       (record { as_stated = refl; image = p; secret = refl; output = a })
 
   -- a write failed within it
   pub runs_without_key : (n : ℕ) → n < length key → Appended w w' (take n key)
-      → Aborted at_any_pace (merge_outcome h count len bytes) WriteFailed (ConsumedExactly bytes s) TookNone
+      → Aborted at_any_pace (merge_outcome h count len bytes) WriteFailed (ConsumedExactly bytes s) ConsumedNothing
       (Appended w w')
   runs_without_key n within a = rw (stripes_enough h count len bytes p.within, ← key_is) (record {
-    image_taken = count * len;
-    secret_taken = 0;
+    image_consumed = count * len;
+    secret_consumed = 0;
     output_len = n;
     image_within = omega arith;
     secret_within = omega arith;

@@ -2,7 +2,6 @@
 use Rattle.std.proofs.Common.{◌≡◌, ◌≢◌, ℕ, zero, suc, ◌+◌, ◌-◌, ◌*◌, ◌/◌, ◌%◌, ◌^◌, ◌<◌, ◌≤◌, ◌⊎◌, inl, inr, List, []}
 use Rattle.std.proofs.Common.{◌++◌, Option, None, Some, Result, Ok, Err, ◌∙◌, ap, sym, refl, take, drop, length}
 use Rattle.std.proofs.Common.{take_all, length-take-le, length-drop, length-append, append-nil, add-one, max, arith}
-use Rattle.std.proofs.Common.{true, false}
 use Rattle.std.proofs.lemmas.Bool.{cases_lt}
 use Rattle.std.proofs.lemmas.List.{drop-drop, drop-take, drop_all, take-append-le}
 use Rattle.std.proofs.Math.Nat.{div-eq_of_lt-le, div-mul-le_self, mul-le-mul_left, mul-le-mul_right}
@@ -14,13 +13,14 @@ use Rattle.luks_header.specs.SectorSize.{bytes_of}
 use Rattle.luks_verdict.specs.declared.sector_size.SectorSize.{SectorSize}
 use Rattle.luks_verdict.specs.declared.sector_size.SectorSize.TheVariants.{B512, B1024, B2048, B4096}
 use Rattle.luks_verdict.specs.declared.segment.Segment.{Segment}
-use Rattle.luks_io.proofs.Taking.{adds-more, adds-none}
-use Rattle.luks_io.specs.Bytes.{Appended, ConsumedExactly, counted}
-use Rattle.luks_payload.specs.Passing.{is_pump_read_failure as is_lost, is_pump_write_failure as is_unwritten}
+use Rattle.luks_io.proofs.Consuming.{adds-more, adds-none}
+use Rattle.luks_io.specs.Devices.{Appended, ConsumedExactly, counted}
+use Rattle.luks_payload.specs.SectorEffects.{is_pump_read_failure as is_lost, is_pump_write_failure as is_unwritten}
 use Rattle.luks_payload.specs.Plain.{end_within, ending_of, payload_end_of, plain_of, sector_len, sector_plaintext}
 use Rattle.luks_payload.specs.Plain.{sector_start, sectors_of, unit_plain, within_size}
-use Rattle.luks_payload.specs.Pumped.{EndEffect, PumpModel, StandsIn, StepEffect, WritesSectors, after_step, next_offset, position}
-use Rattle.luks_payload.specs.Pumped.{hits_eof_at, consumed_by}
+use Rattle.luks_payload.specs.PumpEffects.{EndEffect, PumpModel, PositionedIn, StepEffect, WritesSectors, after_step}
+use Rattle.luks_payload.specs.PumpEffects.{next_offset, position}
+use Rattle.luks_payload.specs.PumpEffects.{hits_eof_at, consumed_by}
 use Rattle.luks_payload.specs.declared.fault.VolumeFault.{VolumeFault}
 use Rattle.luks_payload.specs.declared.fault.VolumeFault.TheVariants.{CutBeforePayload as IsCutBefore, Tail as HasTail}
 use Rattle.luks_payload.specs.declared.fault.VolumeFault.TheVariants.{Short as IsShort, Read, Write}
@@ -28,11 +28,10 @@ use Rattle.luks_payload.specs.declared.state.State.{State}
 use Rattle.luks_payload.specs.declared.state.State.TheVariants.{BeforePayload, InPayload, Ended, Faulted}
 use Rattle.luks_payload.specs.declared.state.Step.{Step}
 use Rattle.luks_payload.specs.declared.state.Step.TheVariants.{Sector, End}
-use Rattle.luks_runs.specs.Payload.{FindsPayloadEnd, PassesPayload}
+use Rattle.luks_runs.specs.Payload.{HitsPayloadEof, ForwardsPayload}
 use Rattle.luks_report.specs.Faults.{message_at_end, message_for_payload}
-use Rattle.luks_runs.specs.Run.{HitsEofOnce, is_run_read_failure, is_run_write_failure}
-use Rattle.luks_report.specs.declared.message.Message.{Message}
-use Rattle.luks_report.specs.declared.message.Message.TheVariants.{Done, OutOfMemory, ReadFailed, WriteFailed}
+use Rattle.luks_runs.specs.Run.{is_run_read_failure, is_run_write_failure}
+use Rattle.luks_report.specs.declared.message.Message.TheVariants.{Done, OutOfMemory}
 
 -- ---- lengths
 
@@ -170,20 +169,20 @@ place_le Ended consumed start few = omega arith
 place_le (Faulted _) consumed start few = omega arith
 
 -- a pump stands in an image of which so many bytes were taken before, and the sectors that it has passed on are written
-pub record Passing (p : PumpModel) (image : List ℕ) (held : ℕ) (left before after : Option (List ℕ)) : Type 0 where
-  pub stands : StandsIn image p left
+pub record Forwarding (p : PumpModel) (image : List ℕ) (held : ℕ) (left before after : Option (List ℕ)) : Type 0 where
+  pub stands : PositionedIn image p left
   pub early : p.consumed ≤ p.segment.offset
   pub bare : ((p.count ≡ 0) × (p.front ≡ [])) ⊎ (p.state ≡ InPayload)
   pub reach : consumed_by p ≡ max held (position p)
   pub few : p.count ≤ sectors_of p.segment image
   pub wrote : Appended before after (joined (sector_plaintext p.segment p.cipher image) p.count)
 
-pub passing_start : (p : PumpModel) (image : List ℕ) (held : ℕ) (left w : Option (List ℕ)) → p.count ≡ 0
+pub forwarding_start : (p : PumpModel) (image : List ℕ) (held : ℕ) (left w : Option (List ℕ)) → p.count ≡ 0
     → p.consumed ≤ p.segment.offset → (p.front ≡ []) ⊎ (p.state ≡ InPayload) → consumed_by p ≡ held
-    → StandsIn image p left
-    → Passing p image held left w w
+    → PositionedIn image p left
+    → Forwarding p image held left w w
 unfolding joined
-passing_start p image held left w none early bare reach stands = record {
+forwarding_start p image held left w none early bare reach stands = record {
   stands = stands;
   early = early;
   bare = elim bare [ inl empty ↦ inl (none, empty) | inr is ↦ inr is ];
@@ -193,7 +192,7 @@ passing_start p image held left w none early bare reach stands = record {
 }
 
 module _ (p : PumpModel) (image : List ℕ) (held : ℕ) (l b w l' w' : Option (List ℕ))
-    (so_far : Passing p image held l b w)
+    (so_far : Forwarding p image held l b w)
   where
     -- a pump does not stand behind its next sector
     place : position p ≤ sector_start p.segment p.count
@@ -233,10 +232,10 @@ module _ (p : PumpModel) (image : List ℕ) (held : ℕ) (l b w l' w' : Option (
               omega (arith, next_start, less)
         ]
 
-    pub passing_more : StepEffect p.segment p.cipher p.count (consumed_by p) image (Ok Sector) l' w w'
-        → Passing (after_step p (Ok Sector)) image held l' b w'
+    pub forwarding_more : StepEffect p.segment p.cipher p.count (consumed_by p) image (Ok Sector) l' w w'
+        → Forwarding (after_step p (Ok Sector)) image held l' b w'
     unfolding joined
-    passing_more step =
+    forwarding_more step =
         let taken = step.0 in
         record {
           stands = record {
@@ -272,13 +271,13 @@ module _ (p : PumpModel) (image : List ℕ) (held : ℕ) (l b w l' w' : Option (
         omega (arith, so_far.reach, place_in_end) in
         (ap message_at_end end.as_stated, rw all at end.took, rw (same, ← end.all) so_far.wrote)
 
-    pub passing_ends : StepEffect p.segment p.cipher p.count (consumed_by p) image (Ok End) l' w w' → w' ≡ w
-        → PassesPayload p.segment p.cipher image held l' b w' Done
-    passing_ends step same = ended (Ok End) step same
+    pub forwarding_ends : StepEffect p.segment p.cipher p.count (consumed_by p) image (Ok End) l' w w' → w' ≡ w
+        → ForwardsPayload p.segment p.cipher image held l' b w' Done
+    forwarding_ends step same = ended (Ok End) step same
 
     -- a read failed within the next sector
     lost : StepEffect p.segment p.cipher p.count (consumed_by p) image (Err Read) l' w w' → w' ≡ w
-        → PassesPayload p.segment p.cipher image held l' b w' (message_for_payload Read)
+        → ForwardsPayload p.segment p.cipher image held l' b w' (message_for_payload Read)
     lost step same =
         let z = sector_blocks p.segment.sector_size in
         let end = step.0 in
@@ -304,7 +303,7 @@ module _ (p : PumpModel) (image : List ℕ) (held : ℕ) (l b w l' w' : Option (
 
     -- a write failed within it
     unwritten : StepEffect p.segment p.cipher p.count (consumed_by p) image (Err Write) l' w w'
-        → PassesPayload p.segment p.cipher image held l' b w' (message_for_payload Write)
+        → ForwardsPayload p.segment p.cipher image held l' b w' (message_for_payload Write)
     unwritten step =
         let taken = step.0 in
         let written = step.1 in
@@ -323,14 +322,14 @@ module _ (p : PumpModel) (image : List ℕ) (held : ℕ) (l b w l' w' : Option (
         )
 
     -- a step was not made
-    pub passing_breaks : (fault : VolumeFault) (Same : Type 0) → (Same → w' ≡ w) → WritesSectors (Err fault) Same
+    pub forwarding_aborts : (fault : VolumeFault) (Same : Type 0) → (Same → w' ≡ w) → WritesSectors (Err fault) Same
         → StepEffect p.segment p.cipher p.count (consumed_by p) image (Err fault) l' w w'
-        → PassesPayload p.segment p.cipher image held l' b w' (message_for_payload fault)
-    passing_breaks IsCutBefore Same same is step = ended (Err IsCutBefore) step (same is)
-    passing_breaks (HasTail bytes) Same same is step = ended (Err (HasTail bytes)) step (same is)
-    passing_breaks (IsShort bytes) Same same is step = ended (Err (IsShort bytes)) step (same is)
-    passing_breaks Read Same same is step = lost step (same is)
-    passing_breaks Write Same same is step = unwritten step
+        → ForwardsPayload p.segment p.cipher image held l' b w' (message_for_payload fault)
+    forwarding_aborts IsCutBefore Same same is step = ended (Err IsCutBefore) step (same is)
+    forwarding_aborts (HasTail bytes) Same same is step = ended (Err (HasTail bytes)) step (same is)
+    forwarding_aborts (IsShort bytes) Same same is step = ended (Err (IsShort bytes)) step (same is)
+    forwarding_aborts Read Same same is step = lost step (same is)
+    forwarding_aborts Write Same same is step = unwritten step
 
 -- ---- a pump behind what is held
 
@@ -342,10 +341,10 @@ module _ (held image : List ℕ) (offset : ℕ) (within : offset ≤ length held
   pub held_reach : offset + length (take (length held - offset) (drop offset held)) ≡ length held
   held_reach = omega (arith, front_len)
 
-  pub stands_within : held ≡ take (length held) image
+  pub positioned_within : held ≡ take (length held) image
       → take (length held - offset) (drop offset held)
       ≡ take (length (take (length held - offset) (drop offset held))) (drop offset image)
-  stands_within front =
+  positioned_within front =
       let more : length held ≡ offset + (length held - offset) = omega arith in
       take_all (length held - offset) (drop offset held) (omega (arith, length-drop offset held))
       ∙ ap (drop offset) front ∙ ap (λ n. drop offset (take n image)) more
@@ -355,18 +354,12 @@ module _ (held image : List ℕ) (offset : ℕ) (within : offset ≤ length held
 -- ---- counts of ends and of failures
 
 pub ends_are : (s : Segment) (count : ℕ) (fault : VolumeFault) (n n' : ℕ)
-    → n' ≡ counted (hits_eof_at s count (Err fault)) n → FindsPayloadEnd (message_for_payload fault) n n'
+    → n' ≡ counted (hits_eof_at s count (Err fault)) n → HitsPayloadEof (message_for_payload fault) n n'
 ends_are s count IsCutBefore n n' is = is
 ends_are s count (HasTail bytes) n n' is = is
 ends_are s count (IsShort bytes) n n' is = is
 ends_are s count Read n n' is = is
 ends_are s count Write n n' is = is
-
-pub payload_ends_once : (message : Message) (n n' : ℕ) → FindsPayloadEnd message n n' → HitsEofOnce n n'
-payload_ends_once Done n n' is = is
-payload_ends_once ReadFailed n n' is = (false, is)
-payload_ends_once WriteFailed n n' is = (false, is)
-payload_ends_once _ n n' is = (true, is)
 
 pub reads_are : (fault : VolumeFault) (n : ℕ)
     → counted (is_lost {T = Step} (Err fault)) n ≡ counted (is_run_read_failure (message_for_payload fault)) n

@@ -11,17 +11,17 @@ use Rattle.std.proofs.lemmas.Nat.{le-div}
 use Rattle.std.specs.Prelude.{◌&&◌, nat_lt, nat_le}
 use Rattle.luks_kdf.specs.declared.hash.Hash.{Hash}
 use Rattle.luks_kdf.specs.Bytes.{xor}
-use Rattle.luks_stripes.specs.Stripes.{AfSplitterModel, chain_after, chain_of}
-use Rattle.luks_stripes.proofs.StripesLemmas.{chain_of-append}
-use Rattle.luks_io.proofs.Taking.{adds-more, adds-none, took-none}
-use Rattle.luks_io.specs.Bytes.{Appended, ConsumedExactly}
+use Rattle.luks_kdf.specs.Stripes.{AfSplitterModel, chain_after, chain_of}
+use Rattle.luks_kdf.proofs.StripesLemmas.{chain_of-append}
+use Rattle.luks_io.proofs.Consuming.{adds-more, adds-none, took-none}
+use Rattle.luks_io.specs.Devices.{Appended, ConsumedExactly}
 use Rattle.luks_report.specs.declared.message.Message.{Message}
 use Rattle.luks_report.specs.declared.message.Message.TheVariants.{Done, KeyLength, FewRandomBytes, ReadFailed}
 use Rattle.luks_report.specs.declared.message.Message.TheVariants.{WriteFailed}
 use Rattle.luks_runs.specs.Ending.{Outcome}
 use Rattle.luks_runs.specs.Stripe.{split_key_outcome, split_outcome, split_stripes}
 use Rattle.luks_runs.specs.Run.{IsPrefixLen, IsSilent, RunMatches, Aborted, Completed}
-use Rattle.luks_runs.specs.StripeParts.{NoKeyRead, Passed, StopsAtStripe, split_promptly}
+use Rattle.luks_runs.specs.StripeParts.{NoKeyRead, ForwardedBytes, AbortsAtStripe, split_promptly}
 
 module _ (h : Hash) (count : ℕ) (key random : List ℕ) where
   -- a key of a length that is allowed
@@ -37,16 +37,16 @@ module _ (h : Hash) (count : ℕ) (key random : List ℕ) where
       ≡ record {
         output = [];
         message = KeyLength;
-        image_taken = min (length key) 513;
-        secret_taken = 0;
-        payload_taken = 0;
+        image_consumed = min (length key) 513;
+        secret_consumed = 0;
+        payload_consumed = 0;
       }
   unfolding split_outcome
   key_refused bad = let none : (nat_lt 0 (length key) && nat_le (length key) 512)
       ≡ false = grind (arith, nat_tests) in rw none refl
 
   -- no more of the key is taken than it has
-  key_taken : (c : ℕ) → c ≤ min (length key) 513 → c ≤ (split_outcome h count key random).image_taken
+  key_taken : (c : ℕ) → c ≤ min (length key) 513 → c ≤ (split_outcome h count key random).image_consumed
   unfolding split_outcome split_key_outcome
   key_taken c few = grind (arith, nat_tests)
 
@@ -55,9 +55,9 @@ module _ (h : Hash) (count : ℕ) (key random : List ℕ) where
       ≡ record {
         output = split_stripes h count key (take ((count - 1) * length key) random);
         message = Done;
-        image_taken = length key;
-        secret_taken = (count - 1) * length key;
-        payload_taken = 0;
+        image_consumed = length key;
+        secret_consumed = (count - 1) * length key;
+        payload_consumed = 0;
       }
   unfolding split_key_outcome
   random_enough enough = let yes : nat_le ((count - 1) * length key) (length random)
@@ -68,9 +68,9 @@ module _ (h : Hash) (count : ℕ) (key random : List ℕ) where
       ≡ record {
         output = take (length random / length key * length key) random;
         message = FewRandomBytes;
-        image_taken = length key;
-        secret_taken = length random;
-        payload_taken = 0;
+        image_consumed = length key;
+        secret_consumed = length random;
+        payload_consumed = 0;
       }
   unfolding split_key_outcome
   random_few few = let no : nat_le ((count - 1) * length key) (length random)
@@ -86,8 +86,8 @@ runs_without_key h count key random KeyLength k r w refused is =
     rw (key_refused h count key random refused.0) (record
     { as_stated = refl; image = refused.1; secret = took-none random r is; output = adds-none w })
 runs_without_key h count key random ReadFailed k r w failed is = record {
-  image_taken = failed.0;
-  secret_taken = 0;
+  image_consumed = failed.0;
+  secret_consumed = 0;
   output_len = 0;
   image_within = key_taken h count key random failed.0 failed.1;
   secret_within = omega arith;
@@ -101,20 +101,20 @@ runs_without_key h count key random ReadFailed k r w failed is = record {
 runs_without_key h count key random _ k r w p is = absurd p
 
 -- the stated output begins with the whole random stripes that there are, and they may be taken
-record MayPass (o : Outcome) (random : List ℕ) (taken written : ℕ) : Type 0 where
-  within : taken ≤ o.secret_taken
+record MayForward (o : Outcome) (random : List ℕ) (taken written : ℕ) : Type 0 where
+  within : taken ≤ o.secret_consumed
   fits : written ≤ length o.output
   begins : take written o.output ≡ take written random
 
-may_pass : (h : Hash) (count : ℕ) (key random : List ℕ) (j taken written : ℕ) → 1 ≤ length key
+may_forward : (h : Hash) (count : ℕ) (key random : List ℕ) (j taken written : ℕ) → 1 ≤ length key
     → taken ≤ (count - 1) * length key → taken ≤ length random
     → j ≤ count - 1 → j * length key ≤ length random → written ≤ j * length key
-    → MayPass (split_key_outcome h count key random) random taken written
-may_pass h count key random j taken written some within there below fits few =
+    → MayForward (split_key_outcome h count key random) random taken written
+may_forward h count key random j taken written some within there below fits few =
     let needed = (count - 1) * length key in
     let more : j * length key ≤ needed = mul-le-mul_right (length key) below in
     elim (cases_lt (length random) needed) as
-    (λ _. MayPass (split_key_outcome h count key random) random taken written) [
+    (λ _. MayForward (split_key_outcome h count key random) random taken written) [
       | inl lacking ↦
           let whole : j ≤ length random / length key = le-div j (length random) (length key) some fits in
           let span : j * length key ≤ length random / length key * length key = mul-le-mul_right (length key) whole in
@@ -142,21 +142,21 @@ may_pass h count key random j taken written some within there below fits few =
 
 module _ (h : Hash) (count : ℕ) (key random : List ℕ) (k r b w : Option (List ℕ)) (some : 1 ≤ length key)
     (room : length key ≤ 512) (took : ConsumedExactly key k (length key)) where
-  key_whole : length key ≤ (split_key_outcome h count key random).image_taken
+  key_whole : length key ≤ (split_key_outcome h count key random).image_consumed
   unfolding split_key_outcome
   key_whole = grind (arith, nat_tests)
 
   -- the random bytes were taken and written so far
   broken : (message : Message) (taken written : ℕ) → IsSilent message written
-      → MayPass (split_key_outcome h count key random) random taken written
+      → MayForward (split_key_outcome h count key random) random taken written
       → IsPrefixLen message written (length (split_key_outcome h count key random).output)
-      → split_promptly (length key) message (length key) taken written → Passed random r b w taken written
+      → split_promptly (length key) message (length key) taken written → ForwardedBytes random r b w taken written
       → Aborted (split_promptly (length key)) (split_outcome h count key random) message (ConsumedExactly key k)
       (ConsumedExactly random r)
       (Appended b w)
   broken message taken written silent may begins prompt p = rw (key_allowed h count key random some room) (record {
-    image_taken = length key;
-    secret_taken = taken;
+    image_consumed = length key;
+    secret_consumed = taken;
     output_len = written;
     image_within = key_whole;
     secret_within = may.within;
@@ -169,7 +169,7 @@ module _ (h : Hash) (count : ℕ) (key random : List ℕ) (k r b w : Option (Lis
   })
 
   -- the random stripes could not be passed on
-  pub runs_without_stripes : (message : Message) → StopsAtStripe (count - 1) (length key) random r b w message
+  pub runs_without_stripes : (message : Message) → AbortsAtStripe (count - 1) (length key) random r b w message
       → RunMatches (split_promptly (length key)) (split_outcome h count key random) message (ConsumedExactly key k)
       (ConsumedExactly random r)
       (Appended b w)
@@ -184,7 +184,8 @@ module _ (h : Hash) (count : ℕ) (key random : List ℕ) (k r b w : Option (Lis
       let below : stop.0 + 1 ≤ count - 1 = omega (arith, stop.2) in
       let span : (stop.0 + 1) * length key ≤ (count - 1) * length key = mul-le-mul_right (length key) below in
       let there = stop.5.took.within in
-      let may = may_pass h count key random stop.0 stop.1 (stop.0 * length key) some (omega arith) there (omega arith)
+      let may =
+      may_forward h count key random stop.0 stop.1 (stop.0 * length key) some (omega arith) there (omega arith)
       (omega arith) (omega arith) in
       broken ReadFailed stop.1 (stop.0 * length key) tt may may.fits
       (ap (λ q. q * length key) (sym (div-eq_of_lt-le (length key) stop.3 stop.4))) stop.5
@@ -193,16 +194,16 @@ module _ (h : Hash) (count : ℕ) (key random : List ℕ) (k r b w : Option (Lis
       let span : (stop.0 + 1) * length key ≤ (count - 1) * length key = mul-le-mul_right (length key) below in
       let whole = (stop.0 + 1) * length key in
       let there = stop.5.took.within in
-      let may = may_pass h count key random (stop.0 + 1) whole stop.1 some span there (omega arith) there
+      let may = may_forward h count key random (stop.0 + 1) whole stop.1 some span there (omega arith) there
       (omega arith) in
-      let all = may_pass h count key random (stop.0 + 1) whole whole some span there (omega arith) there
+      let all = may_forward h count key random (stop.0 + 1) whole whole some span there (omega arith) there
       (omega arith) in
       broken WriteFailed whole stop.1 tt may (omega (arith, all.fits, stop.4))
       (rw (div-eq_of_lt-le (length key) stop.3 stop.4) (omega arith)) stop.5
   runs_without_stripes _ stop = absurd stop
 
   -- all random stripes were passed on, and the last stripe is this one
-  module _ (last : List ℕ) (p : Passed random r b w ((count - 1) * length key) ((count - 1) * length key))
+  module _ (last : List ℕ) (p : ForwardedBytes random r b w ((count - 1) * length key) ((count - 1) * length key))
       (last_is : last ≡ xor (chain_of h (length key) (take ((count - 1) * length key) random) (count - 1)) key)
       (w' : Option (List ℕ)) where
     -- the last stripe was written
@@ -232,8 +233,8 @@ module _ (h : Hash) (count : ℕ) (key random : List ℕ) (k r b w : Option (Lis
         let row : (needed + n) / length key ≡ count - 1 = div-eq_of_lt-le (length key) (omega arith) (omega arith) in
         rw (key_allowed h count key random some room, random_enough h count key random p.took.within)
         (record {
-          image_taken = length key;
-          secret_taken = needed;
+          image_consumed = length key;
+          secret_consumed = needed;
           output_len = needed + n;
           image_within = omega arith;
           secret_within = omega arith;

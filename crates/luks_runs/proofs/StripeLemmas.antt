@@ -2,16 +2,16 @@
 use Rattle.std.proofs.Common.{◌≡◌, ℕ, ◌+◌, ◌*◌, ◌<◌, List, Option, Some, ◌∙◌, ap, sym, subst, take, drop, length}
 use Rattle.std.proofs.Common.{length-drop, take-take, take_all, arith, zero-mul}
 use Rattle.std.proofs.Math.Seq.{take-add}
-use Rattle.luks_io.proofs.Taking.{adds-more, adds-none, took-none, took_behind}
-use Rattle.luks_io.specs.Bytes.{Appended, ConsumedInto, IfKnown}
-use Rattle.luks_stripes.specs.Stripes.{stripe_at}
-use Rattle.luks_runs.specs.StripeParts.{Passed, StopsAtStripe, StopsInStripe}
+use Rattle.luks_io.proofs.Consuming.{adds-more, adds-none, took-none, consumed_behind}
+use Rattle.luks_io.specs.Devices.{Appended, ConsumedInto, IfKnown}
+use Rattle.luks_kdf.specs.Stripes.{stripe_at}
+use Rattle.luks_runs.specs.StripeParts.{ForwardedBytes, AbortsAtStripe, AbortsInStripe}
 use Rattle.luks_report.specs.declared.message.Message.{Message}
 use Rattle.luks_report.specs.declared.message.Message.TheVariants.{FewRandomBytes, ReadFailed, WriteFailed}
 
 -- before any byte is taken
 pub passed_none : (random : List ℕ) (r w : Option (List ℕ)) (len : ℕ) → r ≡ Some random
-    → Passed random r w w (0 * len) (0 * len)
+    → ForwardedBytes random r w w (0 * len) (0 * len)
 passed_none random r w len is = rw zero-mul (record { took = took-none random r is; added = adds-none w })
 
 -- the bytes that stand first among those that are there are the next stripe
@@ -28,37 +28,38 @@ module _ (random : List ℕ) (r : Option (List ℕ)) (stripe : List ℕ) (t : Co
 
   -- and written
   pub stripe_passed : (w w' : Option (List ℕ)) → Appended w w' stripe
-      → Passed random r w w' (length stripe) (length stripe)
+      → ForwardedBytes random r w w' (length stripe) (length stripe)
   stripe_passed w w' a = record { took = t.0; added = subst (Appended w w') is_next a }
 
   -- or a write failed within it
   pub stripe_torn : (w w' : Option (List ℕ)) (n : ℕ) → n < length stripe → Appended w w' (take n stripe)
-      → Passed random r w w' (length stripe) n
+      → ForwardedBytes random r w w' (length stripe) n
   stripe_torn w w' n few a = record {
     took = t.0;
     added = subst (Appended w w') (ap (take n) is_next ∙ take-take n (length stripe) random (omega arith)) a;
   }
 
-module _ (random : List ℕ) (i len : ℕ) (r b w : Option (List ℕ)) (p : Passed random r b w (i * len) (i * len)) where
+module _ (random : List ℕ) (i len : ℕ) (r b w : Option (List ℕ))
+    (p : ForwardedBytes random r b w (i * len) (i * len)) where
   -- n bytes more were taken, and the first k of them were written
-  more_passed : (n k : ℕ) (r' w' : Option (List ℕ)) → Passed (drop (i * len) random) r' w w' n k
-      → Passed random r' b w' (i * len + n) (i * len + k)
+  more_passed : (n k : ℕ) (r' w' : Option (List ℕ)) → ForwardedBytes (drop (i * len) random) r' w w' n k
+      → ForwardedBytes random r' b w' (i * len + n) (i * len + k)
   more_passed n k r' w' next = record {
-    took = took_behind random r r' (i * len) n p.took next.took;
+    took = consumed_behind random r r' (i * len) n p.took next.took;
     added = subst (Appended b w') (sym (take-add (i * len) k random))
         (adds-more b w w' (take (i * len) random) (take k (drop (i * len) random)) p.added next.added);
   }
 
   -- one whole stripe more
-  pub passed_more : (r' w' : Option (List ℕ)) → Passed (drop (i * len) random) r' w w' len len
-      → Passed random r' b w' ((i + 1) * len) ((i + 1) * len)
+  pub passed_more : (r' w' : Option (List ℕ)) → ForwardedBytes (drop (i * len) random) r' w w' len len
+      → ForwardedBytes random r' b w' ((i + 1) * len) ((i + 1) * len)
   passed_more r' w' next =
       let more : (i + 1) * len ≡ i * len + len = omega arith in rw more (more_passed len len r' w' next)
 
   -- the next one could not be passed on
   pub stops_at : (count : ℕ) (message : Message) (r' w' : Option (List ℕ)) → i < count
-      → IfKnown r (λ rest. StopsInStripe len rest r' w w' message)
-      → StopsAtStripe count len random r' b w' message
+      → IfKnown r (λ rest. AbortsInStripe len rest r' w w' message)
+      → AbortsAtStripe count len random r' b w' message
   stops_at count FewRandomBytes r' w' below stop =
       let rest = drop (i * len) random in
       let here = stop rest p.took.left in

@@ -7,16 +7,16 @@ use Rattle.luks_report.specs.declared.message.Message.{Message}
 pub record Outcome : Type 0 where
   pub output : List ℕ
   pub message : Message
-  pub image_taken : ℕ
-  pub secret_taken : ℕ
-  pub payload_taken : ℕ
+  pub image_consumed : ℕ
+  pub secret_consumed : ℕ
+  pub payload_consumed : ℕ
 
 -- nothing is written
 abbrev pub no_output : Message → ℕ → ℕ → Outcome
-no_output message image_taken secret_taken = record {
+no_output message image_consumed secret_consumed = record {
   output = [];
   message = message;
-  image_taken = image_taken;
-  secret_taken = secret_taken;
-  payload_taken = 0;
+  image_consumed = image_consumed;
+  secret_consumed = secret_consumed;
+  payload_consumed = 0;
 }

@@ -1,11 +1,11 @@
 pub mod Ending
-pub mod Header
-pub mod MayEnd
+pub mod HeaderOutcome
+pub mod HeaderReading
+pub mod KeyFile
+pub mod Location
 pub mod Payload
 pub mod Printing
-pub mod Reading
 pub mod Run
-pub mod Secret
-pub mod Standing
+pub mod RunMessages
 pub mod Stripe
 pub mod StripeParts

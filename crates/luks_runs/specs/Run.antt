@@ -2,17 +2,17 @@
 -- a run consumes so many bytes of the image and of the second input, and writes these; what that means for a device is
 -- a separate fact.
 use Rattle.std.specs.Prelude.{◌≡◌, ℕ, ◌<◌, ◌≤◌, List, length, take, Bool, true, false, MatchBool, ◌⊎◌, Result, Ok, Err}
-use Rattle.luks_io.specs.Bytes.{counted, saturating_inc}
+use Rattle.luks_io.specs.Devices.{counted, saturating_inc}
 use Rattle.luks_runs.specs.Ending.{Outcome}
 use Rattle.luks_report.specs.declared.message.Message.{Message}
 use Rattle.luks_report.specs.declared.message.Message.TheVariants.{Done, OutOfMemory, ReadFailed, WriteFailed}
 
 -- an allocation, a read or a write failed
-abbrev pub breaks_off : Message → Bool
-breaks_off OutOfMemory = true
-breaks_off ReadFailed = true
-breaks_off WriteFailed = true
-breaks_off _ = false
+abbrev pub aborts : Message → Bool
+aborts OutOfMemory = true
+aborts ReadFailed = true
+aborts WriteFailed = true
+aborts _ = false
 
 -- how prompt an aborted run is: a fact about its message, the bytes of the image and of the second input that it
 -- consumed, and the length of its output
@@ -34,47 +34,48 @@ IsPrefixLen WriteFailed output stated = output < stated
 IsPrefixLen _ output stated = output ≤ stated
 
 -- an aborted run: its output is a prefix of the specified one, and no input was consumed further than specified
-pub record Aborted (is_prompt' : Promptness) (o : Outcome) (message : Message) (TookImage TookSecret : ℕ → Type 0)
+pub record Aborted (is_prompt' : Promptness) (o : Outcome) (message : Message)
+    (ConsumedImage ConsumedSecret : ℕ → Type 0)
     (Wrote : List ℕ → Type 0) : Type 0 where
-  pub image_taken : ℕ
-  pub secret_taken : ℕ
+  pub image_consumed : ℕ
+  pub secret_consumed : ℕ
   pub output_len : ℕ
-  pub image_within : image_taken ≤ o.image_taken
-  pub secret_within : secret_taken ≤ o.secret_taken
+  pub image_within : image_consumed ≤ o.image_consumed
+  pub secret_within : secret_consumed ≤ o.secret_consumed
   pub output_within : IsPrefixLen message output_len (length o.output)
   pub is_silent : IsSilent message output_len
-  pub is_prompt : is_prompt' message image_taken secret_taken output_len
-  pub image : TookImage image_taken
-  pub secret : TookSecret secret_taken
+  pub is_prompt : is_prompt' message image_consumed secret_consumed output_len
+  pub image : ConsumedImage image_consumed
+  pub secret : ConsumedSecret secret_consumed
   pub output : Wrote (take output_len o.output)
 
 -- a run that was not aborted: the specified message, output and bytes consumed
-pub record Completed (o : Outcome) (message : Message) (TookImage TookSecret : ℕ → Type 0)
+pub record Completed (o : Outcome) (message : Message) (ConsumedImage ConsumedSecret : ℕ → Type 0)
     (Wrote : List ℕ → Type 0) : Type 0 where
   pub as_stated : message ≡ o.message
-  pub image : TookImage o.image_taken
-  pub secret : TookSecret o.secret_taken
+  pub image : ConsumedImage o.image_consumed
+  pub secret : ConsumedSecret o.secret_consumed
   pub output : Wrote o.output
 
 -- a run with the stated outcome, as far as it came
 abbrev pub RunMatches : Promptness → Outcome → Message → (ℕ → Type 0) → (ℕ → Type 0) → (List ℕ → Type 0) → Type 0
-RunMatches is_prompt o message TookImage TookSecret Wrote =
-    MatchBool (breaks_off message) (Aborted is_prompt o message TookImage TookSecret Wrote)
-    (Completed o message TookImage TookSecret Wrote)
+RunMatches is_prompt o message ConsumedImage ConsumedSecret Wrote =
+    MatchBool (aborts message) (Aborted is_prompt o message ConsumedImage ConsumedSecret Wrote)
+    (Completed o message ConsumedImage ConsumedSecret Wrote)
 
 -- a run whose payload is in another image than the header: as one over the header, and as many bytes of the payload's
 -- image are consumed as specified, or no more if it is aborted
 pub record DetachedRunMatches (is_prompt' : ℕ → Promptness) (o : Outcome) (message : Message)
-    (TookImage TookPayload TookSecret : ℕ → Type 0) (Wrote : List ℕ → Type 0) : Type 0 where
-  pub payload_taken : ℕ
-  pub payload_within : MatchBool (breaks_off message) (payload_taken ≤ o.payload_taken)
-      (payload_taken ≡ o.payload_taken)
-  pub payload : TookPayload payload_taken
-  pub run : RunMatches (is_prompt' payload_taken) o message TookImage TookSecret Wrote
+    (ConsumedImage ConsumedPayload ConsumedSecret : ℕ → Type 0) (Wrote : List ℕ → Type 0) : Type 0 where
+  pub payload_consumed : ℕ
+  pub payload_within : MatchBool (aborts message) (payload_consumed ≤ o.payload_consumed)
+      (payload_consumed ≡ o.payload_consumed)
+  pub payload : ConsumedPayload payload_consumed
+  pub run : RunMatches (is_prompt' payload_consumed) o message ConsumedImage ConsumedSecret Wrote
 
 -- nothing is consumed of an input that a command does not have
-abbrev pub TookNone : ℕ → Type 0
-TookNone count = count ≡ 0
+abbrev pub ConsumedNothing : ℕ → Type 0
+ConsumedNothing count = count ≡ 0
 
 -- the message of a part of a run
 abbrev pub result_message : {T : Type 0} → Result T Message → Message
@@ -94,10 +95,6 @@ is_run_write_failure _ = false
 -- the end of a source was found at most once
 abbrev pub HitsEofOnce : ℕ → ℕ → Type 0
 HitsEofOnce before after = (found : Bool) × (after ≡ counted found before)
-
--- at most twice
-abbrev pub HitsEofTwice : ℕ → ℕ → Type 0
-HitsEofTwice before after = (first : Bool) × (second : Bool) × (after ≡ counted second (counted first before))
 
 -- how many reads of the image and of the second input and how many writes have failed
 pub record Failures : Type 0 where

@@ -1,14 +1,14 @@
 -- The outcomes of the commands on stripes.
 use Rattle.std.specs.Prelude.{ℕ, ◌+◌, ◌-◌, ◌*◌, ◌/◌, ◌&&◌, ◌++◌, List, length, take, min, nat_lt, nat_le, if◌then◌else◌}
 use Rattle.luks_kdf.specs.Bytes.{xor}
-use Rattle.luks_stripes.specs.Stripes.{chain_of, merged}
+use Rattle.luks_kdf.specs.Stripes.{chain_of, merged}
 use Rattle.luks_kdf.specs.declared.hash.Hash.{Hash}
 use Rattle.luks_report.specs.declared.message.Message.TheVariants.{Done, KeyLength, FewRandomBytes, FewStripes}
 use Rattle.luks_runs.specs.Ending.{Outcome, no_output}
 
 -- the longest key
-abbrev pub longest_key : ℕ
-longest_key = 512
+abbrev pub max_key_len : ℕ
+max_key_len = 512
 
 -- the stripes of a key: the random ones, and the one that makes them merge to the key
 abbrev pub split_stripes : Hash → ℕ → List ℕ → List ℕ → List ℕ
@@ -22,24 +22,24 @@ split_key_outcome hash count key random =
     then record {
       output = split_stripes hash count key (take needed random);
       message = Done;
-      image_taken = length key;
-      secret_taken = needed;
-      payload_taken = 0;
+      image_consumed = length key;
+      secret_consumed = needed;
+      payload_consumed = 0;
     }
     else record {
       output = take (length random / length key * length key) random;
       message = FewRandomBytes;
-      image_taken = length key;
-      secret_taken = length random;
-      payload_taken = 0;
+      image_consumed = length key;
+      secret_consumed = length random;
+      payload_consumed = 0;
     }
 
 -- `afSplit`: the key is the whole first input, and the random bytes are the second one
 unfoldable pub split_outcome : Hash → ℕ → List ℕ → List ℕ → Outcome
 split_outcome hash count key random =
-    if nat_lt 0 (length key) && nat_le (length key) longest_key
+    if nat_lt 0 (length key) && nat_le (length key) max_key_len
     then split_key_outcome hash count key random
-    else no_output KeyLength (min (length key) (longest_key + 1)) 0
+    else no_output KeyLength (min (length key) (max_key_len + 1)) 0
 
 -- `afMerge`: the stripes are the first bytes of the image
 unfoldable pub merge_outcome : Hash → ℕ → ℕ → List ℕ → Outcome
@@ -49,8 +49,8 @@ merge_outcome hash count key_bytes image =
     then record {
       output = merged hash key_bytes (take needed image);
       message = Done;
-      image_taken = needed;
-      secret_taken = 0;
-      payload_taken = 0;
+      image_consumed = needed;
+      secret_consumed = 0;
+      payload_consumed = 0;
     }
     else no_output FewStripes (length image) 0

@@ -1,55 +1,56 @@
 -- What the parts of the stripe commands leave in their devices.
 use Rattle.std.specs.Prelude.{◌≡◌, ℕ, ◌+◌, ◌*◌, ◌/◌, ◌<◌, ◌≤◌, ◌⊎◌, Bool, true, false, List, length, take, min}
 use Rattle.std.specs.Prelude.{Option}
-use Rattle.luks_io.specs.Bytes.{Appended, ConsumedExactly, ConsumedAtMost}
+use Rattle.luks_io.specs.Devices.{Appended, ConsumedExactly, ConsumedAtMost}
 use Rattle.luks_report.specs.declared.message.Message.{Message}
 use Rattle.luks_report.specs.declared.message.Message.TheVariants.{KeyLength, FewRandomBytes, FewStripes, ReadFailed}
 use Rattle.luks_report.specs.declared.message.Message.TheVariants.{WriteFailed}
-use Rattle.luks_runs.specs.Stripe.{longest_key}
+use Rattle.luks_runs.specs.Stripe.{max_key_len}
 
 -- how reading a key failed: if it is too long, one byte more is consumed than the longest one has
 abbrev pub NoKeyRead : List ℕ → Option (List ℕ) → Message → Type 0
 NoKeyRead key left KeyLength =
-    (min (length key) (longest_key + 1) ≡ 0 ⊎ longest_key < length key)
-    × ConsumedExactly key left (min (length key) (longest_key + 1))
-NoKeyRead key left ReadFailed = ConsumedAtMost key left (min (length key) (longest_key + 1))
+    (min (length key) (max_key_len + 1) ≡ 0 ⊎ max_key_len < length key)
+    × ConsumedExactly key left (min (length key) (max_key_len + 1))
+NoKeyRead key left ReadFailed = ConsumedAtMost key left (min (length key) (max_key_len + 1))
 NoKeyRead key left _ = ⊥
 
 -- so many random bytes were consumed, and so many of them written
-pub record Passed (random : List ℕ) (left before after : Option (List ℕ)) (taken written : ℕ) : Type 0 where
+pub record ForwardedBytes (random : List ℕ) (left before after : Option (List ℕ)) (taken written : ℕ) : Type 0 where
   pub took : ConsumedExactly random left taken
   pub added : Appended before after (take written random)
 
 -- forwarding one random stripe of `len` bytes was aborted: by the end of the random bytes, or by a failed read, before
 -- any byte was written, or by a failed write
-abbrev pub StopsInStripe : ℕ → List ℕ → Option (List ℕ) → Option (List ℕ) → Option (List ℕ) → Message → Type 0
-StopsInStripe len random left before after FewRandomBytes =
-    (length random < len) × Passed random left before after (length random) 0
-StopsInStripe len random left before after ReadFailed =
-    (taken : ℕ) × (taken < len) × Passed random left before after taken 0
-StopsInStripe len random left before after WriteFailed =
-    (written : ℕ) × (written < len) × Passed random left before after len written
-StopsInStripe len random left before after _ = ⊥
+abbrev pub AbortsInStripe : ℕ → List ℕ → Option (List ℕ) → Option (List ℕ) → Option (List ℕ) → Message → Type 0
+AbortsInStripe len random left before after FewRandomBytes =
+    (length random < len) × ForwardedBytes random left before after (length random) 0
+AbortsInStripe len random left before after ReadFailed =
+    (taken : ℕ) × (taken < len) × ForwardedBytes random left before after taken 0
+AbortsInStripe len random left before after WriteFailed =
+    (written : ℕ) × (written < len) × ForwardedBytes random left before after len written
+AbortsInStripe len random left before after _ = ⊥
 
 -- forwarding `count` random stripes of `len` bytes was aborted at stripe i, from 0: at the end of the random bytes or
 -- by a failed read after the whole stripes, and by a failed write within the stripe
-abbrev pub StopsAtStripe : ℕ → ℕ → List ℕ → Option (List ℕ) → Option (List ℕ) → Option (List ℕ) → Message → Type 0
-StopsAtStripe count len random left before after FewRandomBytes =
+abbrev pub AbortsAtStripe : ℕ → ℕ → List ℕ → Option (List ℕ) → Option (List ℕ) → Option (List ℕ) → Message → Type 0
+AbortsAtStripe count len random left before after FewRandomBytes =
     (i : ℕ) × (i < count) × (i * len ≤ length random) × (length random < (i + 1) * len)
-    × Passed random left before after (length random) (i * len)
-StopsAtStripe count len random left before after ReadFailed =
+    × ForwardedBytes random left before after (length random) (i * len)
+AbortsAtStripe count len random left before after ReadFailed =
     (i : ℕ) × (taken : ℕ) × (i < count) × (i * len ≤ taken) × (taken < (i + 1) * len)
-    × Passed random left before after taken (i * len)
-StopsAtStripe count len random left before after WriteFailed =
+    × ForwardedBytes random left before after taken (i * len)
+AbortsAtStripe count len random left before after WriteFailed =
     (i : ℕ) × (written : ℕ) × (i < count) × (i * len ≤ written) × (written < (i + 1) * len)
-    × Passed random left before after ((i + 1) * len) written
-StopsAtStripe count len random left before after _ = ⊥
+    × ForwardedBytes random left before after ((i + 1) * len) written
+AbortsAtStripe count len random left before after _ = ⊥
 
 -- reading `count` stripes of `len` bytes was aborted: by the end of the bytes, or by a failed read
-abbrev pub StopsTaking : ℕ → ℕ → List ℕ → Option (List ℕ) → Message → Type 0
-StopsTaking count len known left FewStripes = (length known < count * len) × ConsumedExactly known left (length known)
-StopsTaking count len known left ReadFailed = ConsumedAtMost known left (count * len)
-StopsTaking count len known left _ = ⊥
+abbrev pub AbortsReadingStripes : ℕ → ℕ → List ℕ → Option (List ℕ) → Message → Type 0
+AbortsReadingStripes count len known left FewStripes = (length known < count * len)
+    × ConsumedExactly known left (length known)
+AbortsReadingStripes count len known left ReadFailed = ConsumedAtMost known left (count * len)
+AbortsReadingStripes count len known left _ = ⊥
 
 -- an aborted split: if a write fails, nothing past the stripe of the last byte written was consumed; if a read fails,
 -- the whole random stripes that were consumed are written

@@ -3,7 +3,7 @@
 #![tactic(auto)]
 
 pub mod headers;
+pub mod key_file;
+pub mod location;
 pub mod payload;
-pub mod secret;
-pub mod standing;
 pub mod stripes;

@@ -2,11 +2,12 @@
 
 ghost use Rattle.std.specs.Prelude.{◌≡◌, ◌≢◌, ◌<◌, ◌≤◌, ◌⊎◌, ◌^◌, List, [], ℕ, Option, IfErr, true};
 ghost use Rattle.std.specs.Prelude.{length, take};
-ghost use Rattle.luks_runs.specs.Payload.{FindsPayloadEnd, PassesHeld, most_needed};
-ghost use Rattle.luks_runs.specs.MayEnd.{PayloadMessage};
+ghost use Rattle.luks_runs.specs.Payload.{HitsPayloadEof, ForwardsHeld, max_needed};
+ghost use Rattle.luks_runs.specs.RunMessages.{PayloadMessage};
 ghost use Rattle.luks_runs.specs.Run.{is_run_read_failure, is_run_write_failure, result_message};
-ghost use Rattle.luks_io.specs.Bytes.{ConsumedExactly, counted};
-ghost use Rattle.luks_payload.specs.Pumped.{StandsIn, is_running, consumed_by};
+ghost use Rattle.luks_io.specs.Devices.{ConsumedExactly, counted};
+ghost use Rattle.luks_io.specs.Counts.{ReadsAsNeeded, WritesAsNeeded};
+ghost use Rattle.luks_payload.specs.PumpEffects.{PositionedIn, is_running, consumed_by};
 
 use luks_cipher::SectorCipher;
 use luks_header::segment::Segment;
@@ -28,7 +29,7 @@ fn pump_behind<'a>(segment: Segment, cipher: SectorCipher, held: &'a [u8]) -> Pu
     ensures reach { consumed_by result ≡ length held.now }
     ensures stands { (whole : List ℕ) (left : Option (List ℕ))
         → held.now ≡ take (length held.now) whole → ConsumedExactly whole left (length held.now)
-        → StandsIn whole result left }
+        → PositionedIn whole result left }
 {
     let consumed = held.len() as u64;
     if consumed <= segment.offset {
@@ -40,7 +41,7 @@ fn pump_behind<'a>(segment: Segment, cipher: SectorCipher, held: &'a [u8]) -> Pu
 /// How many bytes of an image, however long it is, are requested at most to forward its payload, if
 /// so many of its first ones are loaded: those behind them, up to the payload's end.
 fn bytes_needed(segment: &Segment, held: usize) -> u64
-    ensures { result ≡ most_needed segment.now.size segment.now.offset held }
+    ensures { result ≡ max_needed segment.now.size segment.now.offset held }
 {
     let end = match segment.size {
         Some(size) => segment.offset.saturating_add(size),
@@ -58,15 +59,18 @@ pub fn write_payload<I: Source, O: Sink>(
     image: &mut I,
     out: &mut O,
 ) -> Result<(), Message>
-    ensures run { PassesHeld segment cipher held.now (I.to_come image.old) (I.to_come image.new)
+    ensures run { ForwardsHeld segment cipher held.now (I.to_come image.old) (I.to_come image.new)
         (O.written out.old) (O.written out.new) (result_message result) }
     ensures only { PayloadMessage (result_message result) }
     ensures memory { IfErr result (λ message. message ≢ Message.OutOfMemory) }
-    ensures reads { I.failures image.new
-        ≡ counted (is_run_read_failure (result_message result)) (I.failures image.old) }
-    ensures writes { O.failures out.new
-        ≡ counted (is_run_write_failure (result_message result)) (O.failures out.old) }
-    ensures ends { FindsPayloadEnd (result_message result) (I.ends image.old) (I.ends image.new) }
+    ensures reads { (I.counts image.new).failures
+        ≡ counted (is_run_read_failure (result_message result)) (I.counts image.old).failures }
+    ensures writes { (O.counts out.new).failures
+        ≡ counted (is_run_write_failure (result_message result)) (O.counts out.old).failures }
+    ensures ends { HitsPayloadEof (result_message result) (I.counts image.old).ends
+        (I.counts image.new).ends }
+    ensures needed_reads { ReadsAsNeeded (I.counts image.old) (I.counts image.new) }
+    ensures needed_writes { WritesAsNeeded (O.counts out.old) (O.counts out.new) }
 {
     image.announce(bytes_needed(&segment, held.len()));
     let mut pump = pump_behind(segment, cipher, held);

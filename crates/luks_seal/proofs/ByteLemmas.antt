@@ -9,7 +9,7 @@ use Rattle.luks_aes.specs.Bytes.{IsBytes}
 use Rattle.luks_aes.proofs.ByteLists.{bytes_append, bytes_cons, bytes_nil, bytes_take}
 use Rattle.luks_kdf.specs.Bytes.{joined, xor}
 use Rattle.luks_kdf.specs.Hash.{hash_of, digest_len}
-use Rattle.luks_stripes.specs.Stripes.{chain_of, diffused, diffused_piece, piece_of, stripe_at}
+use Rattle.luks_kdf.specs.Stripes.{chain_of, diffused, diffused_piece, piece_of, stripe_at}
 use Rattle.luks_kdf.specs.declared.hash.Hash.{Hash}
 use Rattle.luks_kdf.specs.declared.hash.Hash.TheVariants.{Sha1, Sha224, Sha256, Sha384, Sha512}
 use Rattle.luks_seal.specs.Pieces.{padded, stripes_of}

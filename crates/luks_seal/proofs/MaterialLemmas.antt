@@ -5,14 +5,14 @@ use Rattle.std.specs.Int.{div_ceil}
 use Rattle.std.proofs.lemmas.List.{take_all}
 use Rattle.std.proofs.Math.Nat.{mul-le-mul_right}
 use Rattle.luks_aes.specs.Bytes.{IsBytes}
-use Rattle.luks_area.specs.Field.{at}
+use Rattle.luks_area.specs.Fields.{at}
 use Rattle.luks_cipher.specs.declared.mode.Mode.{Mode}
 use Rattle.luks_kdf.specs.Bytes.{xor}
 use Rattle.luks_kdf.specs.Pbkdf2.{derived_key}
-use Rattle.luks_stripes.specs.Stripes.{chain_of}
+use Rattle.luks_kdf.specs.Stripes.{chain_of}
 use Rattle.luks_kdf.specs.declared.hash.Hash.{Hash}
 use Rattle.luks_kdf.proofs.BytesLemmas.{length-xor}
-use Rattle.luks_stripes.proofs.StripesLemmas.{length-chain_of}
+use Rattle.luks_kdf.proofs.StripesLemmas.{length-chain_of}
 use Rattle.luks_verdict.specs.Rule.{need_of}
 use Rattle.luks_verdict.specs.declared.slot.SlotParts.{SlotParts}
 use Rattle.luks_seal.specs.Pieces.{encrypted_material, stripes_of, wrapping_number, sector_padded}
@@ -40,10 +40,10 @@ unfolding sector_padded
 whole_sectors_bytes bytes all = padded_bytes (div_ceil (length bytes) 512 * 512) bytes all
 
 -- as long as the key material is that is encrypted
-pub length-material_of : (mode : Mode) (area_key stripes : List ℕ)
+pub length-encrypted_material : (mode : Mode) (area_key stripes : List ℕ)
     → length (encrypted_material (mode, area_key) stripes) ≡ (length stripes + 511) / 512 * 512
 unfolding encrypted_material
-length-material_of mode area_key stripes =
+length-encrypted_material mode area_key stripes =
     let len = length-whole_sectors stripes in
     length-sectors_encrypted (mode, area_key) 0 1 512 (sector_padded stripes) refl (omega arith) ∙ len
 

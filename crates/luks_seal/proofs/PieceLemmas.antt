@@ -6,7 +6,7 @@ use Rattle.std.proofs.Math.Nat.{eq_of_mul-eq-mul_right}
 use Rattle.luks_cipher.specs.Sector.{Cipher, sector_encrypted}
 use Rattle.luks_cipher.specs.Xts.{joined}
 use Rattle.luks_kdf.specs.Bytes.{xor}
-use Rattle.luks_stripes.specs.Stripes.{IsSplit, chain_of}
+use Rattle.luks_kdf.specs.Stripes.{IsSplit, chain_of}
 use Rattle.luks_kdf.specs.declared.hash.Hash.{Hash}
 use Rattle.luks_seal.specs.Pieces.{encrypted_sector, stripes_of, wrapping_number}
 

@@ -5,7 +5,7 @@ use Rattle.std.proofs.lemmas.Bool.{cases_lt}
 use Rattle.std.proofs.Math.Nat.{mul-le-mul_right}
 use Rattle.luks_aes.specs.Aes.{add_round_key, cipher, encrypted}
 use Rattle.luks_aes.specs.Bytes.{IsBytes}
-use Rattle.luks_area.specs.Field.{at}
+use Rattle.luks_area.specs.Fields.{at}
 use Rattle.luks_cipher.specs.Cbc.{cbc_encrypted, chained}
 use Rattle.luks_cipher.specs.Sector.{Cipher, sector_encrypted}
 use Rattle.luks_cipher.specs.Xts.{block_encrypted, block_xor, joined, xts_encrypted}

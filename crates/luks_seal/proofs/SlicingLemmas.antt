@@ -3,7 +3,7 @@ use Rattle.std.proofs.Common.{◌≡◌, ◌∙◌, ℕ, ◌+◌, ◌-◌, ◌�
 use Rattle.std.proofs.Common.{arith, length-append, length-drop}
 use Rattle.std.proofs.lemmas.List.{drop-append-le, drop-drop, drop-take, drop_at, length-replicate, length-take-le}
 use Rattle.std.proofs.lemmas.List.{take-append-le, take-take, take_all}
-use Rattle.luks_area.specs.Field.{at}
+use Rattle.luks_area.specs.Fields.{at}
 use Rattle.luks_seal.specs.Pieces.{padded}
 
 -- a part that lies in the first of two lists

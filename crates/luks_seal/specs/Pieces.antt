@@ -4,7 +4,7 @@ use Rattle.std.specs.Int.{div_ceil}
 use Rattle.luks_cipher.specs.Sector.{Cipher, sector_encrypted}
 use Rattle.luks_cipher.specs.Xts.{joined}
 use Rattle.luks_kdf.specs.Bytes.{xor}
-use Rattle.luks_stripes.specs.Stripes.{chain_of}
+use Rattle.luks_kdf.specs.Stripes.{chain_of}
 use Rattle.luks_kdf.specs.declared.hash.Hash.{Hash}
 
 -- some bytes, and zeros behind them up to this length

@@ -14,8 +14,8 @@ abbrev pub FitsText : ℕ → List ℕ → Type 0
 FitsText most text = (length text ≤ most) × ((i : ℕ) → i < length text → slice_index text i ≢ 0)
 
 -- the longest plain text that is sealed
-abbrev pub longest_plain : ℕ
-longest_plain = 8388608
+abbrev pub max_plain_len : ℕ
+max_plain_len = 8388608
 
 -- a volume, or why there is none: wrong parameters exactly if they are wrong, and otherwise only running out of memory
 abbrev pub SealAnswer : {T : Type 0} → Type 0 → Result T SealFault → Type 0

@@ -9,8 +9,7 @@ ghost use Rattle.luks_seal.specs.Ranges.{FitsKey};
 ghost use Rattle.luks_verdict.specs.SectorSize.{bytes_of};
 
 use luks_cipher::{Mode, SectorCipher};
-use luks_kdf::Hash;
-use luks_stripes::af_split;
+use luks_kdf::{Hash, af_split};
 use luks_verdict::sector_size::SectorSize;
 use std::alloc::{AllocError, Global};
 
@@ -126,7 +125,7 @@ pub fn stripes_of(
 
 /// Key material: these stripes in whole sectors of 512 bytes, encrypted and numbered from 0.
 #[tactic(auto, unfolding(crate::specs::Pieces::encrypted_material, crate::specs::Pieces::sector_padded))]
-pub fn material_of(
+pub fn encrypted_material(
     alloc: Global,
     mode: Mode,
     key: &[u8],

@@ -1,22 +1,13 @@
 //! Devices over memory that move a few bytes a call, and of which one call fails.
 
-ghost use Rattle.std.specs.Prelude.{◌≡◌, ◌<◌, ◌==◌, ℕ, List, [], Some, IfOk, length};
-ghost use Rattle.luks_io.specs.Bytes.{counted};
+ghost use Rattle.std.specs.Prelude.{◌≡◌, ◌<◌, ℕ, List, [], Some, IfOk, length};
 
 use luks_io::DeviceFault;
+use luks_io::counts::{ReadCounts, WriteCounts};
 use luks_io::memory::MemSink;
 use luks_io::sink::Sink;
-use luks_io::source::{Source, count_end};
+use luks_io::source::Source;
 use std::alloc::{AllocError, Global};
-
-// Counts a call that moves no byte, since it has none or no capacity for one.
-fn count_empty(empty_calls: &mut u64, len: usize)
-    ensures { empty_calls.new ≡ counted (len == 0) empty_calls.old }
-{
-    if len == 0 {
-        *empty_calls = empty_calls.saturating_add(1);
-    }
-}
 
 /// A source that gives at most `piece` bytes a call, or all that are requested if `piece` is 0.
 /// Call number `failing`, from 0, fails, and later ones succeed.
@@ -26,28 +17,23 @@ pub struct Flaky<'a> {
     piece: usize,
     failing: u64,
     calls: u64,
-    /// How many calls failed.
-    pub failures: u64,
-    /// How many calls found the end.
-    pub ends: u64,
-    /// How many calls had no capacity for a byte.
-    pub empty_calls: u64,
+    /// How many calls failed, hit the end, and were needless.
+    pub counts: ReadCounts,
 }
 
 impl<'a> Flaky<'a> {
     /// A source of these bytes.
     pub fn new(bytes: &'a [u8], piece: usize, failing: u64) -> Flaky<'a>
         ensures bytes { ⟦<Flaky<'a> as Source>⟧.to_come result ≡ Some bytes.entry.now }
-        ensures failures { ⟦<Flaky<'a> as Source>⟧.failures result ≡ 0 }
+        ensures counts { ⟦<Flaky<'a> as Source>⟧.counts result
+            ≡ record { failures = 0; ends = 0; needless = 0 } }
     {
         Flaky {
             left: bytes,
             piece,
             failing,
             calls: 0,
-            failures: 0,
-            ends: 0,
-            empty_calls: 0,
+            counts: ReadCounts::new(),
         }
     }
 
@@ -70,17 +56,13 @@ impl<'a> Source for Flaky<'a> {
 
     ghost to_come = { λ s. Some s.left.now };
 
-    ghost failures = { λ s. s.failures };
-
-    ghost ends = { λ s. s.ends };
+    ghost counts = { λ s. s.counts };
 
     fn read(&mut self, buf: &mut [u8]) -> Result<usize, DeviceFault> {
         let call = self.calls;
         self.calls = call.wrapping_add(1);
-        count_empty(&mut self.empty_calls, buf.len());
         if call == self.failing {
-            self.failures = self.failures.saturating_add(1);
-            return Err(DeviceFault);
+            return self.counts.count(Err(DeviceFault), buf.len());
         }
         let mut count = buf.len().min(self.left.len());
         if self.piece > 0 {
@@ -89,8 +71,7 @@ impl<'a> Source for Flaky<'a> {
         let (now, later) = self.left.split_at(count);
         buf[..count].copy_from_slice(now);
         self.left = later;
-        count_end(&mut self.ends, count, buf.len());
-        Ok(count)
+        self.counts.count(Ok(count), buf.len())
     }
 }
 
@@ -102,9 +83,8 @@ pub struct Leaky {
     piece: usize,
     failing: u64,
     calls: u64,
-    failures: u64,
-    /// How many calls brought no byte.
-    pub empty_calls: u64,
+    /// How many calls failed, and were needless.
+    pub counts: WriteCounts,
     ghost some: { 0 < piece },
 }
 
@@ -112,15 +92,15 @@ impl Leaky {
     /// A sink with capacity for so many bytes.
     pub fn new(alloc: Global, room: usize, piece: usize, failing: u64) -> Result<Leaky, AllocError>
         ensures bytes { IfOk result (λ sink. ⟦<Leaky as Sink>⟧.written sink ≡ Some []) }
-        ensures failures { IfOk result (λ sink. ⟦<Leaky as Sink>⟧.failures sink ≡ 0) }
+        ensures counts { IfOk result (λ sink. ⟦<Leaky as Sink>⟧.counts sink
+            ≡ record { failures = 0; needless = 0 }) }
     {
         Ok(Leaky {
             sink: MemSink::new(alloc, room)?,
             piece: piece.max(1),
             failing,
             calls: 0,
-            failures: 0,
-            empty_calls: 0,
+            counts: WriteCounts::new(),
         })
     }
 
@@ -138,9 +118,9 @@ impl Leaky {
 
     /// How many of them failed.
     pub fn failures(&self) -> u64
-        ensures { result ≡ ⟦<Leaky as Sink>⟧.failures self.now }
+        ensures { result ≡ (⟦<Leaky as Sink>⟧.counts self.now).failures }
     {
-        self.failures
+        self.counts.failures
     }
 }
 
@@ -149,24 +129,17 @@ impl Sink for Leaky {
 
     ghost written = { λ s. Some s.sink.written };
 
-    ghost failures = { λ s. s.failures };
+    ghost counts = { λ s. s.counts };
 
     fn write(&mut self, buf: &[u8]) -> Result<usize, DeviceFault> {
         let call = self.calls;
         self.calls = call.wrapping_add(1);
-        count_empty(&mut self.empty_calls, buf.len());
         if call == self.failing {
-            self.failures = self.failures.saturating_add(1);
-            return Err(DeviceFault);
+            return self.counts.count(Err(DeviceFault), buf.len());
         }
         let count = buf.len().min(self.piece);
-        match self.sink.write(&buf[..count]) {
-            Ok(count) => Ok(count),
-            Err(fault) => {
-                self.failures = self.failures.saturating_add(1);
-                Err(fault)
-            }
-        }
+        let answer = self.sink.write(&buf[..count]);
+        self.counts.count(answer, buf.len())
     }
 }
 
@@ -175,22 +148,21 @@ impl Sink for Leaky {
 pub struct Broken<'a> {
     left: &'a [u8],
     given: usize,
-    /// How many calls failed.
-    pub failures: u64,
-    ends: u64,
+    /// How many calls failed, hit the end, and were needless.
+    pub counts: ReadCounts,
 }
 
 impl<'a> Broken<'a> {
     /// A source of these bytes, of which so many are given.
     pub fn new(bytes: &'a [u8], given: usize) -> Broken<'a>
         ensures bytes { ⟦<Broken<'a> as Source>⟧.to_come result ≡ Some bytes.entry.now }
-        ensures failures { ⟦<Broken<'a> as Source>⟧.failures result ≡ 0 }
+        ensures counts { ⟦<Broken<'a> as Source>⟧.counts result
+            ≡ record { failures = 0; ends = 0; needless = 0 } }
     {
         Broken {
             left: bytes,
             given,
-            failures: 0,
-            ends: 0,
+            counts: ReadCounts::new(),
         }
     }
 
@@ -208,21 +180,17 @@ impl<'a> Source for Broken<'a> {
 
     ghost to_come = { λ s. Some s.left.now };
 
-    ghost failures = { λ s. s.failures };
-
-    ghost ends = { λ s. s.ends };
+    ghost counts = { λ s. s.counts };
 
     fn read(&mut self, buf: &mut [u8]) -> Result<usize, DeviceFault> {
         if self.given == 0 {
-            self.failures = self.failures.saturating_add(1);
-            return Err(DeviceFault);
+            return self.counts.count(Err(DeviceFault), buf.len());
         }
         let count = buf.len().min(self.left.len()).min(self.given);
         self.given -= count;
         let (now, later) = self.left.split_at(count);
         buf[..count].copy_from_slice(now);
         self.left = later;
-        count_end(&mut self.ends, count, buf.len());
-        Ok(count)
+        self.counts.count(Ok(count), buf.len())
     }
 }

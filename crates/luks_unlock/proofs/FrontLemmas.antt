@@ -1,8 +1,8 @@
 -- The first bytes of an image decide how it is opened: its first 33,554,432 bytes, the most that a header area holds.
-use Rattle.std.proofs.Common.{◌≡◌, ◌∙◌, ℕ, ◌+◌, ◌*◌, ◌<◌, ◌≤◌, List, [], ◌∷◌, Option, None, Some, Result, Ok, Err, Bool}
+use Rattle.std.proofs.Common.{◌≡◌, ◌∙◌, ℕ, ◌≤◌, List, [], ◌∷◌, Result, Ok, Err, Bool}
 use Rattle.std.proofs.Common.{true, false, inl, inr, ap, sym, refl, take, take_all, length, length-take-le, max, arith}
 use Rattle.std.specs.List.{AllByRecursion}
-use Rattle.std.specs.Prelude.{nat_lt, ok_or, if◌then◌else◌}
+use Rattle.std.specs.Prelude.{ok_or, if◌then◌else◌}
 use Rattle.std.proofs.lemmas.Bool.{cases_lt, le-ltb}
 use Rattle.std.proofs.lemmas.List.{take-take}
 use Rattle.luks_area.specs.Area.{max_area_len}
@@ -17,7 +17,7 @@ use Rattle.luks2_binary.proofs.StableLemmas.{stable_by}
 use Rattle.luks2_binary.proofs.ValidLemmas.{fits_parts, size_range, valid_range}
 use Rattle.luks2_binary.proofs.WalkLemmas.{furthest}
 use Rattle.luks2_binary.specs.Choice2.{binary_at, fits, header2_of, is_valid}
-use Rattle.luks2_binary.specs.Cost2.{header2_read_len, reach2_of, probe_end}
+use Rattle.luks2_binary.specs.ReadLen2.{header2_read_len, reach2_of, probe_end}
 use Rattle.luks2_binary.specs.Front2.{IsPrefixOf}
 use Rattle.luks2_binary.specs.Header2.{sizes}
 use Rattle.luks2_binary.specs.Text2.{json_text_of}
@@ -25,20 +25,18 @@ use Rattle.luks2_binary.specs.declared.header.Header2.{Header2}
 use Rattle.luks2_json.specs.Tree.{tree_of}
 use Rattle.luks_header.proofs.HeldLemmas.{begins_longer}
 use Rattle.luks_header.specs.Header.{header_read_len, header_of, with_metadata, with_text}
-use Rattle.luks_header.specs.declared.header.Header.{Header}
 use Rattle.luks_open.proofs.CallerLemmas.{opening_beginning}
-use Rattle.luks_open.proofs.OrderLemmas.{held_of-within}
+use Rattle.luks_open.proofs.OrderLemmas.{key_areas_end-within}
 use Rattle.luks_open.specs.Opening.{opening_of}
 use Rattle.luks_open.specs.Order.{key_areas_end}
 use Rattle.luks_open.specs.declared.fault.OpenFault.{OpenFault}
 use Rattle.luks_open.specs.declared.opening.Opened.{Opened}
 use Rattle.luks_report.specs.declared.message.Message.{Message}
-use Rattle.luks_request.specs.Request.{OpeningRequest}
-use Rattle.luks_runs.specs.Reading.{as_detached}
-use Rattle.luks_runs.specs.Secret.{longest_key_file}
-use Rattle.luks_runs.specs.Standing.{reading_of}
-use Rattle.luks_runs.specs.declared.standing.Standing.{Standing}
-use Rattle.luks_runs.specs.declared.standing.Standing.TheVariants.{Attached, Detached}
+use Rattle.luks_request.specs.Request.{VolumeRequest}
+use Rattle.luks_runs.specs.HeaderReading.{as_detached}
+use Rattle.luks_runs.specs.Location.{reader_for}
+use Rattle.luks_runs.specs.declared.location.HeaderLocation.{HeaderLocation}
+use Rattle.luks_runs.specs.declared.location.HeaderLocation.TheVariants.{Attached, Detached}
 use Rattle.luks_unlock.specs.Volume.{OnOpened, Volume, found_outcome, opened_outcome, outcome_after, volume_by}
 use Rattle.luks_unlock.specs.Volume.{volume_in_header, volume_outcome_by}
 
@@ -172,7 +170,7 @@ module _ (image : List ℕ) (n : ℕ) (far : 8388608 ≤ n) where
 
 -- ---- opening by the first bytes
 
-module _ (stand : Standing) (o : OpeningRequest) (image pass : List ℕ) (n : ℕ) (far : max_area_len ≤ n)
+module _ (location : HeaderLocation) (o : VolumeRequest) (image pass : List ℕ) (n : ℕ) (far : max_area_len ≤ n)
     (on_opened : OnOpened) where
   opened_front : (v : Volume) (r : Result Opened OpenFault)
       → opened_outcome on_opened o.key_slot v (take n image) pass r
@@ -187,7 +185,7 @@ module _ (stand : Standing) (o : OpeningRequest) (image pass : List ℕ) (n : �
   unfolding found_outcome
   found_front more v =
       let long = length-take-le n image more in
-      let within = held_of-within v.tries.slots in
+      let within = key_areas_end-within v.tries.slots in
       let all = le-ltb (length (take n image)) (key_areas_end v.tries.slots) (omega (arith, long)) in
       let whole = le-ltb (length image) (key_areas_end v.tries.slots) (omega arith) in
       let opening = opening_beginning v.tries n image pass (omega arith) in
@@ -199,28 +197,29 @@ module _ (stand : Standing) (o : OpeningRequest) (image pass : List ℕ) (n : �
   after_front more (Ok v) = found_front more v
   after_front more (Err message) = rw (header_front image n (omega arith)).1 refl
 
-  reading_front : reading_of stand (take n image) ≡ reading_of stand image
-  reading_front = by stand where
-    by : (standing : Standing) → reading_of standing (take n image) ≡ reading_of standing image
+  reading_front : reader_for location (take n image) ≡ reader_for location image
+  reading_front = by location where
+    by : (location : HeaderLocation) → reader_for location (take n image) ≡ reader_for location image
     by Attached = (header_front image n (omega arith)).0
     by Detached = ap as_detached (header_front image n (omega arith)).0
 
   -- a command comes to the same by the first bytes of an image as by all of it
-  pub outcome_front : volume_outcome_by (reading_of stand) on_opened o (take n image) pass
-      ≡ volume_outcome_by (reading_of stand) on_opened o image pass
+  pub outcome_front : volume_outcome_by (reader_for location) on_opened o (take n image) pass
+      ≡ volume_outcome_by (reader_for location) on_opened o image pass
   unfolding volume_outcome_by volume_by
   outcome_front = elim (cases_lt n (length image)) [
     | inl more ↦
         ap (λ r. outcome_after on_opened o.key_slot (take n image) pass (volume_in_header o r)) reading_front
-        ∙ after_front (omega arith) (volume_in_header o (reading_of stand image))
-    | inr all ↦ ap (λ bytes. volume_outcome_by (reading_of stand) on_opened o bytes pass) (take_all n image all)
+        ∙ after_front (omega arith) (volume_in_header o (reader_for location image))
+    | inr all ↦ ap (λ bytes. volume_outcome_by (reader_for location) on_opened o bytes pass) (take_all n image all)
   ]
 
 -- images with the same first bytes are opened alike
-pub outcome_decided : (stand : Standing) (o : OpeningRequest) (a b pass : List ℕ) (on_opened : OnOpened)
+pub outcome_decided : (location : HeaderLocation) (o : VolumeRequest) (a b pass : List ℕ) (on_opened : OnOpened)
     → take max_area_len a ≡ take max_area_len b
-    → volume_outcome_by (reading_of stand) on_opened o a pass ≡ volume_outcome_by (reading_of stand) on_opened o b pass
-outcome_decided stand o a b pass on_opened same =
-    sym (outcome_front stand o a pass max_area_len (omega arith) on_opened)
-    ∙ ap (λ bytes. volume_outcome_by (reading_of stand) on_opened o bytes pass) same
-    ∙ outcome_front stand o b pass max_area_len (omega arith) on_opened
+    → volume_outcome_by (reader_for location) on_opened o a pass
+    ≡ volume_outcome_by (reader_for location) on_opened o b pass
+outcome_decided location o a b pass on_opened same =
+    sym (outcome_front location o a pass max_area_len (omega arith) on_opened)
+    ∙ ap (λ bytes. volume_outcome_by (reader_for location) on_opened o bytes pass) same
+    ∙ outcome_front location o b pass max_area_len (omega arith) on_opened

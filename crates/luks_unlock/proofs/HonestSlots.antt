@@ -12,7 +12,7 @@ use Rattle.luks_cipher.proofs.ModeLemmas.{key_length_of_mode}
 use Rattle.luks_verdict.specs.declared.digest.KeyDigest.{KeyDigest}
 use Rattle.luks_verdict.specs.declared.segment.Segment.{Segment}
 use Rattle.luks_verdict.specs.declared.slot.Slot.{Slot}
-use Rattle.luks_header.specs.Segment.{segment_of}
+use Rattle.luks_header.specs.HeaderSegment.{segment_of}
 use Rattle.luks_header.specs.declared.header.Header.{Header}
 use Rattle.luks_header.proofs.KnownLemmas.{known_usable, slot_of_usable}
 use Rattle.luks_open.specs.Candidate.{candidate_of, matches_digest}

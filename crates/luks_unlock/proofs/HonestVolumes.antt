@@ -11,14 +11,14 @@ use Rattle.luks_open.specs.declared.opening.Opened.{Opened}
 use Rattle.luks_open.proofs.CallerLemmas.{held_before_payload}
 use Rattle.luks_open.proofs.OrderLemmas.{All-tries, IsOf}
 use Rattle.luks_seal.specs.Sealed.{Sealed, SealsKey}
-use Rattle.luks_request.specs.Request.{OpeningRequest}
+use Rattle.luks_request.specs.Request.{VolumeRequest}
 use Rattle.luks_report.specs.Faults.{message_at_end}
 use Rattle.luks_report.specs.declared.message.Message.TheVariants.{Done}
 use Rattle.luks_runs.specs.Ending.{Outcome}
 use Rattle.luks_unlock.specs.Honest.{GivesNoOther, IsHonest}
 use Rattle.luks_unlock.specs.Volume.{Volume, found_outcome, held_for, opened_outcome, payload_outcome, volume_by}
 use Rattle.luks_unlock.specs.Volume.{volume_outcome, volume_outcome_by}
-use Rattle.luks_runs.specs.Secret.{longest_key_file}
+use Rattle.luks_runs.specs.KeyFile.{max_key_file_len}
 use Rattle.luks_unlock.proofs.HonestPayload.{ending_again, plain_again}
 use Rattle.luks_unlock.proofs.HonestSlots.{first_again, key_again}
 use Rattle.luks_unlock.proofs.OutcomeLemmas.{found_whole}
@@ -37,7 +37,7 @@ in_the_middle : {X : Type 0} (P : X → Type 0) (before : List X) (x : X) (after
 in_the_middle P [] x after all = all.0
 in_the_middle P (y ∷ before) x after all = in_the_middle P before x after all.1
 
-module _ (o : OpeningRequest) (image passphrase plain : List ℕ) (honest : IsHonest o image passphrase plain) where
+module _ (o : VolumeRequest) (image passphrase plain : List ℕ) (honest : IsHonest o image passphrase plain) where
   abbrev volume : Volume
   volume = record { header = honest.sealed.header; segment = honest.sealed.segment; tries = honest.tries }
 
@@ -103,9 +103,9 @@ module _ (o : OpeningRequest) (image passphrase plain : List ℕ) (honest : IsHo
       )
 
 -- a key slot that is named, and no limit, leave nothing to ask for of what is tried
-pub named_is_honest : (o : OpeningRequest) (image passphrase plain key : List ℕ) (passphrases : List (ℕ × List ℕ))
+pub named_is_honest : (o : VolumeRequest) (image passphrase plain key : List ℕ) (passphrases : List (ℕ × List ℕ))
     (number : ℕ) → Sealed image passphrases key plain → Contains passphrases (number, passphrase)
-    → length passphrase ≤ longest_key_file → o.key_slot ≡ Some number → o.max_iterations ≡ None
+    → length passphrase ≤ max_key_file_len → o.key_slot ≡ Some number → o.max_iterations ≡ None
     → IsHonest o image passphrase plain
 unfolding order_of entry_at
 named_is_honest o image passphrase plain key passphrases number sealed is short named unlimited =

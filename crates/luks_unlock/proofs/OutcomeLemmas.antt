@@ -1,5 +1,5 @@
 -- What a command that opens a volume comes to, once the volume is found.
-use Rattle.std.proofs.Common.{◌≡◌, ℕ, ◌+◌, ◌-◌, ◌<◌, ◌≤◌, List, ◌++◌, Option, None, Some, Result, Ok, Err, ◌∙◌, ap}
+use Rattle.std.proofs.Common.{◌≡◌, ℕ, ◌+◌, ◌-◌, ◌<◌, ◌≤◌, List, ◌++◌, Option, None, Some, Result, Ok, ◌∙◌, ap}
 use Rattle.std.proofs.Common.{sym, refl, take, drop, length, length-drop, length-take-le, max, min, arith, true, false}
 use Rattle.std.proofs.lemmas.Bool.Decides.{nat_tests}
 use Rattle.std.proofs.lemmas.List.{drop-drop}
@@ -7,10 +7,10 @@ use Rattle.std.proofs.Math.Seq.{take-add}
 use Rattle.std.specs.Prelude.{nat_lt}
 use Rattle.luks_header.specs.Area.{ConsumedOnto}
 use Rattle.luks_header.specs.Header.{header_read_len}
-use Rattle.luks_header.specs.Segment.{segment_of}
+use Rattle.luks_header.specs.HeaderSegment.{segment_of}
 use Rattle.luks_header.specs.declared.header.Header.{Header}
 use Rattle.luks_verdict.specs.declared.segment.Segment.{Segment}
-use Rattle.luks_io.specs.Bytes.{ConsumedExactly}
+use Rattle.luks_io.specs.Devices.{ConsumedExactly}
 use Rattle.luks_open.proofs.CallerLemmas.{opening_beginning}
 use Rattle.luks_open.specs.Opening.{opening_of}
 use Rattle.luks_open.specs.Order.{OrderModel, key_areas_end, order_of}
@@ -18,12 +18,12 @@ use Rattle.luks_open.specs.declared.fault.OpenFault.{OpenFault}
 use Rattle.luks_open.specs.declared.opening.Opened.{Opened}
 use Rattle.luks_report.specs.declared.message.Message.{Message}
 use Rattle.luks_report.specs.declared.message.Message.TheVariants.{Cut, KeyFileLength}
-use Rattle.luks_request.specs.Request.{OpeningRequest}
-use Rattle.luks_runs.proofs.HeaderTaking.{cost_there}
+use Rattle.luks_request.specs.Request.{VolumeRequest}
+use Rattle.luks_runs.proofs.HeaderConsumption.{cost_there}
 use Rattle.luks_runs.specs.Ending.{no_output}
-use Rattle.luks_runs.specs.Secret.{longest_key_file}
-use Rattle.luks_runs.specs.Standing.{reading_of}
-use Rattle.luks_runs.specs.declared.standing.Standing.{Standing}
+use Rattle.luks_runs.specs.KeyFile.{max_key_file_len}
+use Rattle.luks_runs.specs.Location.{reader_for}
+use Rattle.luks_runs.specs.declared.location.HeaderLocation.{HeaderLocation}
 use Rattle.luks_unlock.proofs.VolumeLemmas.{cost_held, volume_is}
 use Rattle.luks_unlock.specs.Volume.{OnOpened, Volume, found_outcome, opened_outcome, outcome_after, volume_by}
 use Rattle.luks_unlock.specs.Volume.{volume_outcome_by}
@@ -31,26 +31,26 @@ use Rattle.luks_unlock.specs.Volume.{volume_outcome_by}
 -- ---- the outcome of a volume that was found
 
 module _ (on_opened : OnOpened) (named : Option ℕ) (v : Volume) (image secret : List ℕ) where
-  pub found_long : longest_key_file < length secret
+  pub found_long : max_key_file_len < length secret
       → found_outcome on_opened named v image secret
-      ≡ no_output KeyFileLength (header_read_len image) (longest_key_file + 1)
+      ≡ no_output KeyFileLength (header_read_len image) (max_key_file_len + 1)
   unfolding found_outcome
-  found_long long = let yes : nat_lt longest_key_file (length secret) ≡ true = grind (arith, nat_tests) in rw yes refl
+  found_long long = let yes : nat_lt max_key_file_len (length secret) ≡ true = grind (arith, nat_tests) in rw yes refl
 
-  pub found_cut : length secret ≤ longest_key_file → length image < key_areas_end v.tries.slots
+  pub found_cut : length secret ≤ max_key_file_len → length image < key_areas_end v.tries.slots
       → found_outcome on_opened named v image secret ≡ no_output Cut (length image) (length secret)
   unfolding found_outcome
   found_cut short few =
-      let no : nat_lt longest_key_file (length secret) ≡ false = grind (arith, nat_tests) in
+      let no : nat_lt max_key_file_len (length secret) ≡ false = grind (arith, nat_tests) in
       let yes : nat_lt (length image) (key_areas_end v.tries.slots) ≡ true = grind (arith, nat_tests) in
       rw (no, yes) refl
 
-  pub found_whole : length secret ≤ longest_key_file → key_areas_end v.tries.slots ≤ length image
+  pub found_whole : length secret ≤ max_key_file_len → key_areas_end v.tries.slots ≤ length image
       → found_outcome on_opened named v image secret
       ≡ opened_outcome on_opened named v image secret (opening_of v.tries image secret)
   unfolding found_outcome
   found_whole short enough =
-      let no : nat_lt longest_key_file (length secret) ≡ false = grind (arith, nat_tests) in
+      let no : nat_lt max_key_file_len (length secret) ≡ false = grind (arith, nat_tests) in
       let none : nat_lt (length image) (key_areas_end v.tries.slots) ≡ false = grind (arith, nat_tests) in
       rw (no, none) refl
 
@@ -112,31 +112,31 @@ module _ (image area area' : List ℕ) (i : Option (List ℕ)) (held : ℕ)
 abbrev pub volume_with : Header → Segment → OrderModel → Volume
 volume_with header segment tries = record { header = header; segment = segment; tries = tries }
 
-module _ (stand : Standing) (o : OpeningRequest) (image pass : List ℕ) where
-  pub outcome_is : (on_opened : OnOpened) (r : Result Volume Message) → volume_by (reading_of stand) o image ≡ r
-      → volume_outcome_by (reading_of stand) on_opened o image pass ≡ outcome_after on_opened o.key_slot image pass r
+module _ (location : HeaderLocation) (o : VolumeRequest) (image pass : List ℕ) where
+  pub outcome_is : (on_opened : OnOpened) (r : Result Volume Message) → volume_by (reader_for location) o image ≡ r
+      → volume_outcome_by (reader_for location) on_opened o image pass ≡ outcome_after on_opened o.key_slot image pass r
   unfolding volume_outcome_by
   outcome_is on_opened r is = rw is refl
 
   -- the header names this segment and these key slots to be tried
-  module _ (header : Header) (segment : Segment) (tries : OrderModel) (found : reading_of stand image ≡ Ok header)
+  module _ (header : Header) (segment : Segment) (tries : OrderModel) (found : reader_for location image ≡ Ok header)
       (is_segment : segment_of header ≡ Ok segment)
       (ordered : order_of header o.key_slot o.max_iterations ≡ Ok tries) where
     pub found_is : (on_opened : OnOpened)
-        → volume_outcome_by (reading_of stand) on_opened o image pass
+        → volume_outcome_by (reader_for location) on_opened o image pass
         ≡ found_outcome on_opened o.key_slot (volume_with header segment tries) image pass
     found_is on_opened =
         outcome_is on_opened (Ok (volume_with header segment tries))
-        (volume_is stand o image None header found segment is_segment tries ordered)
+        (volume_is location o image None header found segment is_segment tries ordered)
 
     -- the key areas are held, and the key slots answer so
-    pub tried_is : (short : length pass ≤ longest_key_file) (area area' : List ℕ) (i : Option (List ℕ))
+    pub tried_is : (short : length pass ≤ max_key_file_len) (area area' : List ℕ) (i : Option (List ℕ))
         (front : area ≡ take (header_read_len image) image)
         (grows : ConsumedOnto area area' (drop (header_read_len image) image) i
         (min (key_areas_end tries.slots - length area) (length (drop (header_read_len image) image))))
         (enough : key_areas_end tries.slots ≤ length area') (r : Result Opened OpenFault)
         (tried : opening_of tries area' pass ≡ r) (on_opened : OnOpened)
-        → volume_outcome_by (reading_of stand) on_opened o image pass
+        → volume_outcome_by (reader_for location) on_opened o image pass
         ≡ opened_outcome on_opened o.key_slot (volume_with header segment tries) image pass r
     tried_is short area area' i front grows enough r tried on_opened =
         let v = volume_with header segment tries in

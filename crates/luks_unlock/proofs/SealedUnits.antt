@@ -6,13 +6,13 @@ use Rattle.std.proofs.Math.Seq.{take-add}
 use Rattle.std.proofs.lemmas.List.{length-take-le, take_all}
 use Rattle.luks_aes.specs.Bytes.{IsBytes}
 use Rattle.luks_aes.proofs.ByteLists.{bytes_drop, bytes_take}
-use Rattle.luks_area.specs.Field.{at}
+use Rattle.luks_area.specs.Fields.{at}
 use Rattle.luks_cipher.specs.Sector.{Cipher, sector_decrypted}
 use Rattle.luks_cipher.specs.Xts.{joined}
 use Rattle.luks_cipher.proofs.UnitsUndone.{joined_same}
-use Rattle.luks_stripes.specs.Stripes.{merged}
+use Rattle.luks_kdf.specs.Stripes.{merged}
 use Rattle.luks_kdf.specs.declared.hash.Hash.{Hash}
-use Rattle.luks_stripes.proofs.StripesLemmas.{merged_split}
+use Rattle.luks_kdf.proofs.StripesLemmas.{merged_split}
 use Rattle.luks_verdict.specs.Rule.{need_of}
 use Rattle.luks_unlock.proofs.SectorsUndone.{sector_decrypted-sector_encrypted}
 use Rattle.luks_open.specs.Candidate.{decrypted_material, material_sector, unlocked}

@@ -4,8 +4,8 @@ use Rattle.luks_open.specs.Opening.{slot_key}
 use Rattle.luks_open.specs.Order.{OrderModel, order_of}
 use Rattle.luks_open.specs.declared.entry.Entry.{Entry}
 use Rattle.luks_seal.specs.Sealed.{Sealed}
-use Rattle.luks_request.specs.Request.{OpeningRequest}
-use Rattle.luks_runs.specs.Secret.{longest_key_file}
+use Rattle.luks_request.specs.Request.{VolumeRequest}
+use Rattle.luks_runs.specs.KeyFile.{max_key_file_len}
 
 -- if the key slot opens under this passphrase, it gives this key
 abbrev pub GivesNoOther : List ℕ → List ℕ → List ℕ → Entry → Type 0
@@ -22,13 +22,13 @@ pub record ComesFirst (number : ℕ) (entries : List Entry) (image passphrase ke
 
 -- the image is an honestly sealed volume of this plaintext, and this passphrase, which is no longer than a key file may
 -- be, is that of a key slot which is tried
-pub record IsHonest (o : OpeningRequest) (image passphrase plain : List ℕ) : Type 0 where
+pub record IsHonest (o : VolumeRequest) (image passphrase plain : List ℕ) : Type 0 where
   pub passphrases : List (ℕ × List ℕ)
   pub key : List ℕ
   pub sealed : Sealed image passphrases key plain
   pub number : ℕ
   pub is_passphrase : Contains passphrases (number, passphrase)
-  pub short : length passphrase ≤ longest_key_file
+  pub short : length passphrase ≤ max_key_file_len
   pub tries : OrderModel
   pub is_order : order_of sealed.header o.key_slot o.max_iterations ≡ Ok tries
   pub first : ComesFirst number tries.slots image passphrase key

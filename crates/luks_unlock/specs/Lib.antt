@@ -1,5 +1,5 @@
 pub mod Finding
 pub mod Honest
-pub mod MayEnd
+pub mod OpeningMessages
 pub mod Trying
 pub mod Volume

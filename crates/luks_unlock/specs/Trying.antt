@@ -11,8 +11,8 @@ use Rattle.luks_report.specs.declared.message.Message.{Message}
 use Rattle.luks_report.specs.declared.message.Message.TheVariants.{Cut}
 
 -- the image was consumed up to the end of the key areas, or up to its own end if that comes first
-abbrev pub TookAreas : OrderModel → List ℕ → List ℕ → List ℕ → Option (List ℕ) → Type 0
-TookAreas tries area area' rest left =
+abbrev pub ConsumedAreas : OrderModel → List ℕ → List ℕ → List ℕ → Option (List ℕ) → Type 0
+ConsumedAreas tries area area' rest left =
     ConsumedOnto area area' rest left (min (key_areas_end tries.slots - length area) (length rest))
 
 -- the key slots of a volume whose header was read were tried: the key areas were consumed, and this is the result of
@@ -20,11 +20,11 @@ TookAreas tries area area' rest left =
 -- ended within them
 abbrev pub TriesSlots : Option ℕ → OrderModel → List ℕ → List ℕ → List ℕ → List ℕ → Option (List ℕ)
     → Result Opened Message → Type 0
-TriesSlots named tries pass area area' rest left (Ok opened) = TookAreas tries area area' rest left
+TriesSlots named tries pass area area' rest left (Ok opened) = ConsumedAreas tries area area' rest left
     × (key_areas_end tries.slots ≤ length area') × (opening_of tries area' pass ≡ Ok opened)
 TriesSlots named tries pass area area' rest left (Err message) =
     ((fault : HeaderFault) × (message ≡ message_for_header fault)
     × AbortsConsuming (key_areas_end tries.slots - length area) area area' rest left fault)
-    ⊎ (TookAreas tries area area' rest left × ((message ≡ Cut × (length area' < key_areas_end tries.slots))
+    ⊎ (ConsumedAreas tries area area' rest left × ((message ≡ Cut × (length area' < key_areas_end tries.slots))
     ⊎ ((fault : OpenFault) × (message ≡ message_for_opening named fault) × (key_areas_end tries.slots ≤ length area')
     × (opening_of tries area' pass ≡ Err fault))))

@@ -2,7 +2,7 @@
 -- First what an image's header says of its volume, before any key slot is tried; then the outcome of a run.
 use Rattle.std.specs.Prelude.{ℕ, ◌+◌, List, length, max, nat_lt, if◌then◌else◌, Option, Result, Ok, Err}
 use Rattle.luks_header.specs.Header.{header_read_len, header_of}
-use Rattle.luks_header.specs.Segment.{segment_of}
+use Rattle.luks_header.specs.HeaderSegment.{segment_of}
 use Rattle.luks_header.specs.declared.header.Header.{Header}
 use Rattle.luks_area.specs.declared.fault.HeaderFault.{HeaderFault}
 use Rattle.luks_verdict.specs.declared.refusal.SegmentFault.{SegmentFault}
@@ -10,16 +10,16 @@ use Rattle.luks_verdict.specs.declared.segment.Segment.{Segment}
 use Rattle.luks_open.specs.Order.{OrderModel, key_areas_end, order_of}
 use Rattle.luks_open.specs.declared.fault.OpenFault.{OpenFault}
 use Rattle.luks_report.specs.Faults.{message_for_header, message_for_opening}
-use Rattle.luks_request.specs.Request.{OpeningRequest}
+use Rattle.luks_request.specs.Request.{VolumeRequest}
 use Rattle.luks_open.specs.Opening.{opening_of}
 use Rattle.luks_open.specs.declared.opening.Opened.{Opened}
 use Rattle.luks_payload.specs.Plain.{ending_of, payload_end_of, plain_of}
 use Rattle.luks_report.specs.Faults.{message_at_end}
 use Rattle.luks_report.specs.Texts.{opened_line}
 use Rattle.luks_report.specs.declared.message.Message.TheVariants.{Done, Cut, KeyFileLength}
-use Rattle.luks_runs.specs.Secret.{longest_key_file}
+use Rattle.luks_runs.specs.KeyFile.{max_key_file_len}
 use Rattle.luks_runs.specs.Ending.{Outcome, no_output}
-use Rattle.luks_runs.specs.Reading.{Reading}
+use Rattle.luks_runs.specs.HeaderReading.{HeaderReader}
 use Rattle.luks_report.specs.declared.message.Message.{Message}
 use Rattle.luks_report.specs.declared.message.Message.TheVariants.{SegmentRefused}
 
@@ -35,23 +35,23 @@ volume_in_order named header segment (Ok tries) = Ok (record { header = header; 
 volume_in_order named header segment (Err fault) = Err (message_for_opening named fault)
 
 -- the volume with this segment
-abbrev pub volume_in_segment : OpeningRequest → Header → Result Segment SegmentFault → Result Volume Message
+abbrev pub volume_in_segment : VolumeRequest → Header → Result Segment SegmentFault → Result Volume Message
 volume_in_segment o header (Ok segment) =
     volume_in_order o.key_slot header segment (order_of header o.key_slot o.max_iterations)
 volume_in_segment o header (Err fault) = Err (SegmentRefused fault)
 
 -- the volume with this header
-abbrev pub volume_in_header : OpeningRequest → Result Header HeaderFault → Result Volume Message
+abbrev pub volume_in_header : VolumeRequest → Result Header HeaderFault → Result Volume Message
 volume_in_header o (Ok header) = volume_in_segment o header (segment_of header)
 volume_in_header o (Err fault) = Err (message_for_header fault)
 
 -- the volume whose header is read so, or the message if there is none: about its header first, then about its segment,
 -- then about the order of its key slots
-unfoldable pub volume_by : Reading → OpeningRequest → List ℕ → Result Volume Message
+unfoldable pub volume_by : HeaderReader → VolumeRequest → List ℕ → Result Volume Message
 volume_by read o image = volume_in_header o (read image)
 
 -- the volume of an image
-abbrev pub volume_of : OpeningRequest → List ℕ → Result Volume Message
+abbrev pub volume_of : VolumeRequest → List ℕ → Result Volume Message
 volume_of = volume_by header_of
 
 -- how many bytes of the image are consumed to open the volume: the header and the key areas of the slots that are tried
@@ -68,9 +68,9 @@ abbrev pub slot_outcome : List ℕ → OnOpened
 slot_outcome secret segment opened held = record {
   output = opened_line opened.slot;
   message = Done;
-  image_taken = held;
-  secret_taken = length secret;
-  payload_taken = 0;
+  image_consumed = held;
+  secret_consumed = length secret;
+  payload_consumed = 0;
 }
 
 -- `luksCat`: the payload is written as plaintext
@@ -78,9 +78,9 @@ abbrev pub payload_outcome : List ℕ → List ℕ → OnOpened
 payload_outcome image secret segment opened held = record {
   output = plain_of segment (segment.mode, opened.key) image;
   message = message_at_end (ending_of segment image);
-  image_taken = max held (payload_end_of segment image);
-  secret_taken = length secret;
-  payload_taken = 0;
+  image_consumed = max held (payload_end_of segment image);
+  secret_consumed = length secret;
+  payload_consumed = 0;
 }
 
 -- `luksCat` with a detached header: the image holds the payload alone
@@ -88,9 +88,9 @@ abbrev pub detached_payload_outcome : List ℕ → List ℕ → OnOpened
 detached_payload_outcome image secret segment opened held = record {
   output = plain_of segment (segment.mode, opened.key) image;
   message = message_at_end (ending_of segment image);
-  image_taken = held;
-  secret_taken = length secret;
-  payload_taken = payload_end_of segment image;
+  image_consumed = held;
+  secret_consumed = length secret;
+  payload_consumed = payload_end_of segment image;
 }
 
 -- the key slots were tried
@@ -103,8 +103,8 @@ opened_outcome on_opened named volume image secret (Err fault) =
 -- tried
 unfoldable pub found_outcome : OnOpened → Option ℕ → Volume → List ℕ → List ℕ → Outcome
 found_outcome on_opened named volume image secret =
-    if nat_lt longest_key_file (length secret) then no_output KeyFileLength (header_read_len image)
-    (longest_key_file + 1)
+    if nat_lt max_key_file_len (length secret) then no_output KeyFileLength (header_read_len image)
+    (max_key_file_len + 1)
     else (if nat_lt (length image) (key_areas_end volume.tries.slots) then no_output Cut (length image) (length secret)
     else opened_outcome on_opened named volume image secret (opening_of volume.tries image secret))
 
@@ -114,10 +114,10 @@ outcome_after on_opened named image secret (Ok volume) = found_outcome on_opened
 outcome_after on_opened named image secret (Err message) = no_output message (header_read_len image) 0
 
 -- a command that opens a volume whose header is read so
-unfoldable pub volume_outcome_by : Reading → OnOpened → OpeningRequest → List ℕ → List ℕ → Outcome
+unfoldable pub volume_outcome_by : HeaderReader → OnOpened → VolumeRequest → List ℕ → List ℕ → Outcome
 volume_outcome_by read on_opened o image secret =
     outcome_after on_opened o.key_slot image secret (volume_by read o image)
 
 -- a command that opens a volume
-abbrev pub volume_outcome : OnOpened → OpeningRequest → List ℕ → List ℕ → Outcome
+abbrev pub volume_outcome : OnOpened → VolumeRequest → List ℕ → List ℕ → Outcome
 volume_outcome = volume_outcome_by header_of

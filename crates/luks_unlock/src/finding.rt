@@ -2,15 +2,16 @@
 
 ghost use Rattle.std.specs.Prelude.{◌≡◌, ◌≢◌, ◌⊎◌, Option, Ok, Err, IfOk, IfErr};
 ghost use Rattle.std.specs.Prelude.{false, is_err, length, take};
-ghost use Rattle.luks_io.specs.Bytes.{ConsumedExactly, IfKnown, counted};
+ghost use Rattle.luks_io.specs.Counts.{ReadsAsNeeded};
+ghost use Rattle.luks_io.specs.Devices.{ConsumedExactly, IfKnown, counted};
 ghost use Rattle.luks_header.specs.Header.{header_read_len};
-ghost use Rattle.luks_header.specs.Segment.{segment_of};
+ghost use Rattle.luks_header.specs.HeaderSegment.{segment_of};
 ghost use Rattle.luks_open.specs.Order.{order_of};
-ghost use Rattle.luks_request.specs.Request.{opening_request};
-ghost use Rattle.luks_runs.specs.Run.{HitsEofOnce, is_run_read_failure, result_message};
-ghost use Rattle.luks_runs.specs.Standing.{reading_of};
+ghost use Rattle.luks_request.specs.Request.{volume_request};
+ghost use Rattle.luks_runs.specs.Run.{is_run_read_failure, result_message};
+ghost use Rattle.luks_runs.specs.Location.{LoadedFrom, reader_for};
 ghost use Rattle.luks_unlock.specs.Finding.{AbortsFinding};
-ghost use Rattle.luks_unlock.specs.MayEnd.{OpeningMessage};
+ghost use Rattle.luks_unlock.specs.OpeningMessages.{OpeningMessage};
 ghost use Rattle.luks_unlock.specs.Volume.{volume_by, volume_in_header};
 
 use luks_header::area::HeaderArea;
@@ -21,8 +22,8 @@ use luks_io::source::Source;
 use luks_open::order::order;
 use luks_open::tries::Order;
 use luks_report::message::Message;
-use luks_request::command::Opening;
-use luks_runs::standing::{Standing, find_header};
+use luks_request::command::VolumeArgs;
+use luks_runs::location::{HeaderLocation, read_header_at};
 use std::alloc::Global;
 
 /// A volume whose header was read: its segment, and which key slots are tried.
@@ -39,8 +40,8 @@ pub struct FoundVolume {
 }
 
 /// The number of the key slot that is named.
-pub(crate) fn named_slot(opening: &Opening<'_>) -> Option<u8>
-    ensures { result ≡ (opening_request opening.now).key_slot }
+pub(crate) fn named_slot(opening: &VolumeArgs<'_>) -> Option<u8>
+    ensures { result ≡ (volume_request opening.now).key_slot }
 {
     match opening.key_slot {
         Some(slot) => Some(slot.get()),
@@ -49,8 +50,8 @@ pub(crate) fn named_slot(opening: &Opening<'_>) -> Option<u8>
 }
 
 /// The limit on iterations.
-fn limit(opening: &Opening<'_>) -> Option<u32>
-    ensures { result ≡ (opening_request opening.now).max_iterations }
+fn limit(opening: &VolumeArgs<'_>) -> Option<u32>
+    ensures { result ≡ (volume_request opening.now).max_iterations }
 {
     match opening.max_iterations {
         Some(limit) => Some(limit.get()),
@@ -61,14 +62,14 @@ fn limit(opening: &Opening<'_>) -> Option<u32>
 /// Finds the segment of a header, and the key slots that are tried.
 fn find_slots(
     alloc: Global,
-    opening: &Opening<'_>,
+    opening: &VolumeArgs<'_>,
     header: &Header,
 ) -> Result<(Segment, Order), Message>
     ensures segment { IfOk result (λ found. segment_of header.now ≡ Ok found.0) }
-    ensures order { IfOk result (λ found. let o = opening_request opening.now in
+    ensures order { IfOk result (λ found. let o = volume_request opening.now in
         order_of header.now o.key_slot o.max_iterations ≡ Ok found.1) }
     ensures err { IfErr result (λ message. (message ≡ Message.OutOfMemory)
-        ⊎ (volume_in_header (opening_request opening.now) (Ok header.now) ≡ Err message)) }
+        ⊎ (volume_in_header (volume_request opening.now) (Ok header.now) ≡ Err message)) }
     ensures only { IfErr result OpeningMessage }
     ensures untouched { IfErr result
         (λ message. (message ≢ Message.WriteFailed) × (message ≢ Message.ReadFailed)) }
@@ -84,32 +85,36 @@ fn find_slots(
 /// Reads an attached or a detached header, and finds its segment and the key slots that are tried.
 pub fn find_volume<I: Source>(
     alloc: Global,
-    standing: Standing,
-    opening: &Opening<'_>,
+    location: HeaderLocation,
+    opening: &VolumeArgs<'_>,
     image: &mut I,
 ) -> Result<FoundVolume, Message>
     ensures ok { IfOk result (λ volume. IfKnown (I.to_come image.old)
-        (λ known. (reading_of standing known ≡ Ok volume.header)
-        × (volume.area ≡ take (header_read_len known) known)
+        (λ known. (reader_for location known ≡ Ok volume.header)
+        × (volume.area.bytes ≡ take (header_read_len known) known)
         × ConsumedExactly known (I.to_come image.new) (header_read_len known))) }
     ensures err { IfErr result (λ message. IfKnown (I.to_come image.old)
-        (λ known. AbortsFinding (reading_of standing) (opening_request opening.now) known
+        (λ known. AbortsFinding (reader_for location) (volume_request opening.now) known
         (I.to_come image.new) message)) }
     ensures only { IfErr result OpeningMessage }
     ensures segment { IfOk result (λ volume. segment_of volume.header ≡ Ok volume.segment) }
-    ensures order { IfOk result (λ volume. let o = opening_request opening.now in
+    ensures order { IfOk result (λ volume. let o = volume_request opening.now in
         order_of volume.header o.key_slot o.max_iterations ≡ Ok volume.order) }
     ensures volume { IfOk result (λ _. IfKnown (I.to_come image.old)
-        (λ known. is_err (volume_by (reading_of standing) (opening_request opening.now) known)
+        (λ known. is_err (volume_by (reader_for location) (volume_request opening.now) known)
         ≡ false)) }
-    ensures area { IfOk result (λ volume. length volume.area ≡ header_read_len volume.area) }
-    ensures front { IfOk result (λ volume. reading_of standing volume.area ≡ Ok volume.header) }
+    ensures area { IfOk result (λ volume.
+        length volume.area.bytes ≡ header_read_len volume.area.bytes) }
+    ensures front { IfOk result (λ volume.
+        reader_for location volume.area.bytes ≡ Ok volume.header) }
     ensures writes { IfErr result (λ message. message ≢ Message.WriteFailed) }
-    ensures reads { I.failures image.new
-        ≡ counted (is_run_read_failure (result_message result)) (I.failures image.old) }
-    ensures end { HitsEofOnce (I.ends image.old) (I.ends image.new) }
+    ensures reads { (I.counts image.new).failures
+        ≡ counted (is_run_read_failure (result_message result)) (I.counts image.old).failures }
+    ensures needed { ReadsAsNeeded (I.counts image.old) (I.counts image.new) }
+    ensures loaded { IfOk result (λ volume. LoadedFrom volume.area (I.to_come image.old)
+        (I.to_come image.new) (I.counts image.old) (I.counts image.new)) }
 {
-    let (header, area) = find_header(alloc, standing, image)?;
+    let (header, area) = read_header_at(alloc, location, image)?;
     match find_slots(alloc, opening, &header) {
         Ok((segment, order)) => Ok(FoundVolume {
             header,

@@ -1,3 +1,3 @@
-pub mod JudgedLemmas
 pub mod MadeLemmas
 pub mod TableLemmas
+pub mod VerdictLemmas

@@ -6,9 +6,9 @@ use Rattle.std.proofs.Math.Bool.{Bool-set}
 use Rattle.std.proofs.Math.Nat.{ℕ_set}
 use Rattle.std.proofs.lemmas.Option.{none-some, same_Some}
 use Rattle.luks_cipher.specs.declared.mode.Mode.{Mode}
-use Rattle.luks_verdict.specs.Digest.{digest_from, digest_of, is_undigested, is_usable}
+use Rattle.luks_verdict.specs.Digest.{digest_from, digest_of, has_no_usable_digest, is_usable}
 use Rattle.luks_verdict.specs.Evidence.{evidence_if}
-use Rattle.luks_verdict.specs.Rule.{InRange, IsDigest, in_range, is_beyond, usable_digest}
+use Rattle.luks_verdict.specs.Rule.{InRange, IsDigest, in_range, iterations_out_of_range, usable_digest}
 use Rattle.luks_verdict.specs.SectorSize.{AreWhole, are_sectors, are_whole}
 use Rattle.luks_verdict.specs.Segment.{refused_or, segment_by, segment_of_all, segment_with}
 use Rattle.luks_verdict.specs.Slot.{are_in_range, parts_end, slot_from, slot_of, slot_with}
@@ -20,21 +20,21 @@ use Rattle.luks_verdict.specs.declared.segment.Segment.{Segment}
 use Rattle.luks_verdict.specs.declared.slot.SlotParts.{SlotParts}
 
 -- where a test holds there is evidence, and there is but one
-pub where_true-yes : (test : Bool) (is : test ≡ true) → evidence_if test ≡ Some is
-where_true-yes true is = let all : IsProp (true ≡ true) = hlevel (Bool-set) in ap Some (all refl is)
-where_true-yes false is = absurd cc
+pub evidence_if-yes : (test : Bool) (is : test ≡ true) → evidence_if test ≡ Some is
+evidence_if-yes true is = let all : IsProp (true ≡ true) = hlevel (Bool-set) in ap Some (all refl is)
+evidence_if-yes false is = absurd cc
 
-pub where_true-no : (test : Bool) → test ≡ false → evidence_if test ≡ None
-where_true-no true is = absurd cc
-where_true-no false is = refl
+pub evidence_if-no : (test : Bool) → test ≡ false → evidence_if test ≡ None
+evidence_if-no true is = absurd cc
+evidence_if-no false is = refl
 
 pub slot_from-yes : (parts : SlotParts) (is : are_in_range parts ≡ true) → slot_from parts ≡ Some (slot_of parts is)
 unfolding slot_from
-slot_from-yes parts is = ap (option_map (slot_of parts)) (where_true-yes (are_in_range parts) is)
+slot_from-yes parts is = ap (option_map (slot_of parts)) (evidence_if-yes (are_in_range parts) is)
 
 pub slot_from-no : (parts : SlotParts) → are_in_range parts ≡ false → slot_from parts ≡ None
 unfolding slot_from
-slot_from-no parts is = ap (option_map (slot_of parts)) (where_true-no (are_in_range parts) is)
+slot_from-no parts is = ap (option_map (slot_of parts)) (evidence_if-no (are_in_range parts) is)
 
 pub slot_made : (parts : SlotParts) (range : InRange parts.iterations parts.stripes (parts_end parts))
     → are_in_range parts ≡ true → Some (slot_with parts range) ≡ slot_from parts
@@ -48,11 +48,11 @@ slot_made parts range is =
 pub digest_from-yes : (parts : DigestParts) (is : is_usable parts ≡ true)
     → digest_from parts ≡ Some (digest_of parts is)
 unfolding digest_from
-digest_from-yes parts is = ap (option_map (digest_of parts)) (where_true-yes (is_usable parts) is)
+digest_from-yes parts is = ap (option_map (digest_of parts)) (evidence_if-yes (is_usable parts) is)
 
 pub digest_from-no : (parts : DigestParts) → is_usable parts ≡ false → digest_from parts ≡ None
 unfolding digest_from
-digest_from-no parts is = ap (option_map (digest_of parts)) (where_true-no (is_usable parts) is)
+digest_from-no parts is = ap (option_map (digest_of parts)) (evidence_if-no (is_usable parts) is)
 
 made_digest : (parts : DigestParts) → IsDigest parts.iterations (length parts.value) → KeyDigest
 made_digest parts usable =
@@ -81,14 +81,14 @@ pub segment_of_all-yes : (offset : ℕ) (size : Option ℕ) (iv_tweak : ℕ) (se
     ≡ Some (segment_by offset size iv_tweak sector_size mode is)
 segment_of_all-yes offset size iv_tweak sector_size mode is =
     ap (option_map (segment_by offset size iv_tweak sector_size mode))
-    (where_true-yes (are_sectors size sector_size) is)
+    (evidence_if-yes (are_sectors size sector_size) is)
 
 pub segment_of_all-no : (offset : ℕ) (size : Option ℕ) (iv_tweak : ℕ) (sector_size : SectorSize) (mode : Mode)
     → are_sectors size sector_size ≡ false
     → segment_of_all (Some offset) (Some size) (Some iv_tweak) (Some sector_size) (Some mode) ≡ None
 segment_of_all-no offset size iv_tweak sector_size mode is =
     ap (option_map (segment_by offset size iv_tweak sector_size mode))
-    (where_true-no (are_sectors size sector_size) is)
+    (evidence_if-no (are_sectors size sector_size) is)
 
 pub segment_made : (offset : ℕ) (size : Option ℕ) (iv_tweak : ℕ) (sector_size : SectorSize) (mode : Mode)
     (whole : AreWhole size sector_size)
@@ -123,15 +123,15 @@ refused_or-ok None (Some there) made segment is = (refl, cc)
 refused_or-ok None None made segment is = absurd (made refl refl)
 
 -- whether a slot is tried against the digest of which this was read
-pub undigested-yes : (limit : Option ℕ) (parts : DigestParts) → is_usable parts ≡ true
-    → is_undigested limit (digest_from parts) ≡ is_beyond limit parts.iterations
-unfolding is_undigested digest_of
-undigested-yes limit parts is = ap (is_undigested limit) (digest_from-yes parts is)
+pub no_usable_digest-yes : (limit : Option ℕ) (parts : DigestParts) → is_usable parts ≡ true
+    → has_no_usable_digest limit (digest_from parts) ≡ iterations_out_of_range limit parts.iterations
+unfolding has_no_usable_digest digest_of
+no_usable_digest-yes limit parts is = ap (has_no_usable_digest limit) (digest_from-yes parts is)
 
-pub undigested-no : (limit : Option ℕ) (parts : DigestParts) → is_usable parts ≡ false
-    → is_undigested limit (digest_from parts) ≡ true
-unfolding is_undigested
-undigested-no limit parts is = ap (is_undigested limit) (digest_from-no parts is)
+pub no_usable_digest-no : (limit : Option ℕ) (parts : DigestParts) → is_usable parts ≡ false
+    → has_no_usable_digest limit (digest_from parts) ≡ true
+unfolding has_no_usable_digest
+no_usable_digest-no limit parts is = ap (has_no_usable_digest limit) (digest_from-no parts is)
 
 -- a digest that was made has the numbers that were read
 pub digest_from-some : (parts : DigestParts) (digest : KeyDigest) → digest_from parts ≡ Some digest

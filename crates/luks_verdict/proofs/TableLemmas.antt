@@ -23,29 +23,31 @@ none_holds ((holds, name) ∷ lines) none =
     (first.0, none_holds lines first.1)
 
 -- nothing is made of no number
-pub rising_none : {T : Type 0} (f : ℕ → Option T) → ascending f 0 ≡ []
+pub ascending_none : {T : Type 0} (f : ℕ → Option T) → ascending f 0 ≡ []
 unfolding ascending
-rising_none f = refl
+ascending_none f = refl
 
 -- one number more
-pub rising_more : {T : Type 0} (f : ℕ → Option T) (n : ℕ) → ascending f (n + 1) ≡ ascending f n ++ cons_option (f n) []
+pub ascending_more : {T : Type 0} (f : ℕ → Option T) (n : ℕ)
+    → ascending f (n + 1) ≡ ascending f n ++ cons_option (f n) []
 unfolding ascending
-rising_more f n = rw add-one refl
+ascending_more f n = rw add-one refl
 
 -- of which nothing is made
-pub rising_not : {T : Type 0} (f : ℕ → Option T) (n : ℕ) → f n ≡ None → ascending f (n + 1) ≡ ascending f n
-rising_not f n none = rising_more f n ∙ (ap (λ o. ascending f n ++ cons_option o []) none ∙ append-nil (ascending f n))
+pub ascending_not : {T : Type 0} (f : ℕ → Option T) (n : ℕ) → f n ≡ None → ascending f (n + 1) ≡ ascending f n
+ascending_not f n none = ascending_more f n
+    ∙ (ap (λ o. ascending f n ++ cons_option o []) none ∙ append-nil (ascending f n))
 
 -- of which something is made
-pub rising_one : {T : Type 0} (f : ℕ → Option T) (n : ℕ) (x : T) → f n ≡ Some x
+pub ascending_one : {T : Type 0} (f : ℕ → Option T) (n : ℕ) (x : T) → f n ≡ Some x
     → ascending f (n + 1) ≡ ascending f n ++ x ∷ []
-rising_one f n x one = rising_more f n ∙ ap (λ o. ascending f n ++ cons_option o []) one
+ascending_one f n x one = ascending_more f n ∙ ap (λ o. ascending f n ++ cons_option o []) one
 
 -- no more than there are numbers
-pub length-rising : {T : Type 0} (f : ℕ → Option T) (n : ℕ) → length (ascending f n) ≤ n
+pub length-ascending : {T : Type 0} (f : ℕ → Option T) (n : ℕ) → length (ascending f n) ≤ n
 unfolding ascending
-length-rising f zero = omega arith
-length-rising {T = T} f (suc n) = of_one (f n) (length-rising f n)
+length-ascending f zero = omega arith
+length-ascending {T = T} f (suc n) = of_one (f n) (length-ascending f n)
   where
     of_one : (o : Option T) → length (ascending f n) ≤ n → length (ascending f n ++ cons_option o []) ≤ suc n
     of_one None few = omega (arith, length-append (ascending f n) [])
@@ -58,12 +60,12 @@ AllByRecursion-append P [] ys all others = others
 AllByRecursion-append P (x ∷ xs) ys all others = (all.0, AllByRecursion-append P xs ys all.1 others)
 
 -- what holds of whatever is made holds of all that is made
-pub All-rising : {X : Type 0} (P : X → Type 0) (f : ℕ → Option X) (n : ℕ) → ((i : ℕ) (x : X) → f i ≡ Some x → P x)
+pub All-ascending : {X : Type 0} (P : X → Type 0) (f : ℕ → Option X) (n : ℕ) → ((i : ℕ) (x : X) → f i ≡ Some x → P x)
     → AllByRecursion P (ascending f n)
 unfolding ascending
-All-rising P f zero each = tt
-All-rising {X = X} P f (suc n) each =
-    AllByRecursion-append P (ascending f n) (cons_option (f n) []) (All-rising P f n each) (of_one (f n) refl)
+All-ascending P f zero each = tt
+All-ascending {X = X} P f (suc n) each =
+    AllByRecursion-append P (ascending f n) (cons_option (f n) []) (All-ascending P f n each) (of_one (f n) refl)
   where
     of_one : (o : Option X) → f n ≡ o → AllByRecursion P (cons_option o [])
     of_one None is = tt

@@ -1,7 +1,7 @@
 -- Digests, made of what was read of them.
 use Rattle.std.specs.Prelude.{◌≡◌, ℕ, Bool, true, Option, Some, None, length, option_map}
 use Rattle.luks_verdict.specs.Evidence.{evidence_if}
-use Rattle.luks_verdict.specs.Rule.{is_beyond, is_digest, usable_digest}
+use Rattle.luks_verdict.specs.Rule.{iterations_out_of_range, is_digest, usable_digest}
 use Rattle.luks_verdict.specs.declared.digest.DigestParts.{DigestParts}
 use Rattle.luks_verdict.specs.declared.digest.KeyDigest.{KeyDigest}
 
@@ -24,6 +24,6 @@ unfoldable pub digest_from : DigestParts → Option KeyDigest
 digest_from parts = option_map (digest_of parts) (evidence_if (is_usable parts))
 
 -- there is no digest to try a key slot against, or its iterations are not made
-unfoldable pub is_undigested : Option ℕ → Option KeyDigest → Bool
-is_undigested limit None = true
-is_undigested limit (Some digest) = is_beyond limit digest.iterations
+unfoldable pub has_no_usable_digest : Option ℕ → Option KeyDigest → Bool
+has_no_usable_digest limit None = true
+has_no_usable_digest limit (Some digest) = iterations_out_of_range limit digest.iterations

@@ -8,8 +8,9 @@ use Rattle.luks_verdict.specs.declared.slot.Slot.{Slot}
 use Rattle.luks_verdict.specs.declared.slot.SlotParts.{SlotParts}
 use Rattle.luks_verdict.specs.declared.slot.Verdict.{Verdict}
 use Rattle.luks_verdict.specs.declared.slot.Verdict.TheVariants.{Usable, Disabled, Skipped}
-use Rattle.luks_verdict.specs.declared.slot.Judgement.{Judgement}
-use Rattle.luks_verdict.specs.declared.slot.Judgement.TheVariants.{Usable as Open, Disabled as Unused, Skipped as Shut}
+use Rattle.luks_verdict.specs.declared.slot.VerdictKind.{VerdictKind}
+use Rattle.luks_verdict.specs.declared.slot.VerdictKind.TheVariants.{Usable as Open, Disabled as Unused}
+use Rattle.luks_verdict.specs.declared.slot.VerdictKind.TheVariants.{Skipped as Shut}
 
 -- where key material ends in the image
 abbrev pub parts_end : SlotParts → ℕ
@@ -36,13 +37,13 @@ unfoldable pub slot_from : SlotParts → Option Slot
 slot_from parts = option_map (slot_of parts) (evidence_if (are_in_range parts))
 
 -- a key slot that there is no reason to skip can be tried. (If there is no reason, the parts are there and in range.)
-abbrev pub judged : Option SkipReason → Option Slot → Verdict
-judged (Some reason) slot = Skipped reason
-judged None (Some slot) = Usable slot
-judged None None = Skipped Member
+abbrev pub verdict_by : Option SkipReason → Option Slot → Verdict
+verdict_by (Some reason) slot = Skipped reason
+verdict_by None (Some slot) = Usable slot
+verdict_by None None = Skipped Member
 
 -- the verdict on a key slot, without what is needed to open it
-abbrev pub judgement_of : Verdict → Judgement
-judgement_of (Usable slot) = Open slot.parts.priority
-judgement_of Disabled = Unused
-judgement_of (Skipped reason) = Shut reason
+abbrev pub verdict_kind_of : Verdict → VerdictKind
+verdict_kind_of (Usable slot) = Open slot.parts.priority
+verdict_kind_of Disabled = Unused
+verdict_kind_of (Skipped reason) = Shut reason

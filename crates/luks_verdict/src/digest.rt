@@ -4,7 +4,7 @@ ghost use Rattle.std.specs.Prelude.{◌≡◌, length};
 ghost use Rattle.luks_verdict.specs.Rule.{IsDigest};
 
 use crate::bytes::HeaderBytes;
-use crate::rule::{beyond, usable_digest};
+use crate::rule::{iterations_out_of_range, usable_digest};
 use luks_kdf::Hash;
 
 /// What is read of a digest, before it is judged.
@@ -39,16 +39,17 @@ pub struct KeyDigest {
 
 impl DigestParts {
     ghost use Rattle.std.specs.Prelude.{◌≡◌, length};
-    ghost use Rattle.luks_verdict.specs.Digest.{digest_from, is_undigested};
+    ghost use Rattle.luks_verdict.specs.Digest.{digest_from, has_no_usable_digest};
     ghost use Rattle.luks_verdict.specs.declared.digest.DigestParts.{DigestParts};
 
     /// Whether a key slot is not tried against a digest of so many iterations and bytes: its
     /// numbers are out of range, or it has more iterations than the limit.
-    pub fn undigested(limit: Option<u32>, iterations: u32, len: usize) -> bool
+    pub fn no_usable_digest(limit: Option<u32>, iterations: u32, len: usize) -> bool
         ensures { (parts : DigestParts) → parts.iterations ≡ iterations → length parts.value ≡ len
-            → result ≡ is_undigested limit (digest_from parts) }
+            → result ≡ has_no_usable_digest limit (digest_from parts) }
     {
-        !usable_digest(u64::from(iterations), len) || beyond(limit, u64::from(iterations))
+        !usable_digest(u64::from(iterations), len)
+            || iterations_out_of_range(limit, u64::from(iterations))
     }
 }
 

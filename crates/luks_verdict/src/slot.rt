@@ -92,7 +92,7 @@ pub enum Verdict {
 
 /// The verdict on a key slot, without what is needed to open it.
 #[derive(Clone, Copy, PartialEq, Eq, Debug)]
-pub enum Judgement {
+pub enum VerdictKind {
     /// It can be tried, and has this priority.
     Usable(u8),
     /// It is not in use.

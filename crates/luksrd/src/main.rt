@@ -10,7 +10,7 @@ mod target;
 
 use input::{Input, InputFault};
 use luks_cli::execute::{execute, execute_detached};
-use luks_cli::{Command, Message, NOT_OPENED, Report, not_opened_page, plan};
+use luks_cli::{Command, Message, NOT_OPENED, Report, not_opened_text, plan};
 use luks_io::adapters::{ReadSource, WriteSink};
 use luks_io::ahead::AheadSource;
 use luks_io::sink::put_all;
@@ -19,7 +19,7 @@ use std::env;
 use std::io::{BufWriter, ErrorKind, Write};
 use std::process::ExitCode;
 
-/// The most bytes of a file or a payload that are read at once, and of the output that are written.
+/// The capacity in bytes of the buffers for the image and for the output.
 const BUFFER: usize = 65536;
 
 fn main(rt: HostRuntime) -> ExitCode {
@@ -40,8 +40,9 @@ fn main(rt: HostRuntime) -> ExitCode {
     }
 }
 
-/// Opens the inputs, the image first and its detached header next, and runs the command over them.
-/// If one cannot be opened, the error is the exit status that says so.
+/// Opens the inputs and runs the command over them: the image is opened first, then a detached
+/// header's file, then the second input. The result is the exit status either way. It is an error
+/// if the command could not be started, or its output not be flushed.
 fn run(rt: &HostRuntime, command: &Command<'_>) -> Result<ExitCode, ExitCode> {
     let image = ReadSource::new(open(rt, Some(command.image()))?);
     let Ok(mut image) = AheadSource::new(rt.alloc(), BUFFER, image) else {
@@ -86,10 +87,10 @@ fn report_fault(rt: &HostRuntime, fault: InputFault, name: &str) -> ExitCode {
     if fault == InputFault::Memory {
         return end(rt, Message::OutOfMemory);
     }
-    let Ok(page) = not_opened_page(rt.alloc(), name) else {
+    let Ok(line) = not_opened_text(rt.alloc(), name) else {
         return end(rt, Message::OutOfMemory);
     };
-    let _ = put_all(&mut WriteSink::new(rt.stderr()), page.as_bytes());
+    let _ = put_all(&mut WriteSink::new(rt.stderr()), line.as_bytes());
     ExitCode::from(NOT_OPENED)
 }
 

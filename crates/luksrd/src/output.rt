@@ -1,13 +1,13 @@
 //! Standard output, and the descriptors that a program may be started without.
 
-use luks_io::adapters::REPEATS;
+use luks_io::adapters::MAX_RETRIES;
 use std::fs::{self, File};
 use std::io::{self, ErrorKind, Write};
 use std::os::fd::AsRawFd;
 
-/// A writer that retries an interrupted call, [`REPEATS`] times at most, and makes no call after
-/// one has failed. A buffer over the bare writer would retry without end, and would write once more
-/// after a failure when it is dropped.
+/// A writer that retries an interrupted call, [`MAX_RETRIES`] times at most, and makes no call
+/// after one has failed. A buffer over the bare writer would retry without end, and would write
+/// once more after a failure when it is dropped.
 #[derive(Drop)]
 pub struct RetryingWriter<W> {
     writer: W,
@@ -35,7 +35,7 @@ impl<W: Write> Write for RetryingWriter<W> {
         if self.failed {
             return Err(self.fail());
         }
-        for _ in 0..=REPEATS {
+        for _ in 0..=MAX_RETRIES {
             match self.writer.write(buf) {
                 Ok(count) => return Ok(count),
                 Err(e) if e.kind() == ErrorKind::Interrupted => {}

@@ -167,7 +167,7 @@ fn check_failed(rt: &(impl Abort + AllocGlobal), bytes: &[u8], given: usize) {
         (None, 0)
     };
     assert_in(rt, given, fault == want);
-    assert_in(rt, given, source.failures == failures);
+    assert_in(rt, given, source.counts.failures == failures);
     assert_in(
         rt,
         given,

@@ -107,13 +107,15 @@ pub fn image_of(rt: &(impl Abort + AllocGlobal), len: usize, headers: &[Sketch<'
     image
 }
 
-/// What is read of a source whose first 592 bytes are held before.
+/// What is read of a source whose first 592 bytes are loaded before. A shorter one has no header.
 pub fn read_from<S: Source>(
     alloc: Global,
     source: &mut S,
 ) -> Result<(Header2, HeaderArea), HeaderFault> {
     let mut area = HeaderArea::new(alloc);
-    area.extend_to(source, 592)?;
+    if !area.extend_to(source, 592)? {
+        return Err(HeaderFault::NotLuks);
+    }
     let header = read_header2(&mut area, source)?;
     Ok((header, area))
 }

@@ -6,7 +6,7 @@ ghost use Rattle.luks2_metadata.specs.Slot2.{has_members, is_af, is_area, is_kdf
 ghost use Rattle.luks2_metadata.specs.Slot2.{priority_of};
 ghost use Rattle.serde_json.specs.View.{view as data_of};
 
-use luks2_json::member::{base64_len, decimal_text, is_type, text, whole_number};
+use luks2_json::member::{base64_len, decimal_member, integer_member, is_type, string_member};
 use serde_json::Value;
 
 /// The priority of the slot: 0, 1 or 2, and 1 if it has none.
@@ -17,7 +17,7 @@ pub(super) fn priority(slot: &Value) -> Option<u8>
     if slot.get("priority").is_none() {
         return Some(1);
     }
-    match whole_number(slot, "priority")? {
+    match integer_member(slot, "priority")? {
         0 => Some(0),
         1 => Some(1),
         2 => Some(2),
@@ -30,7 +30,9 @@ pub(super) fn priority(slot: &Value) -> Option<u8>
 fn is_af(af: &Value) -> bool
     ensures { result ≡ is_af (data_of af.now) }
 {
-    is_type(af, "luks1") && whole_number(af, "stripes").is_some() && text(af, "hash").is_some()
+    is_type(af, "luks1")
+        && integer_member(af, "stripes").is_some()
+        && string_member(af, "hash").is_some()
 }
 
 // Where the key material is, and how it is encrypted.
@@ -39,10 +41,10 @@ fn is_area(area: &Value) -> bool
     ensures { result ≡ is_area (data_of area.now) }
 {
     is_type(area, "raw")
-        && decimal_text(area, "offset").is_some()
-        && decimal_text(area, "size").is_some()
-        && text(area, "encryption").is_some()
-        && whole_number(area, "key_size").is_some()
+        && decimal_member(area, "offset").is_some()
+        && decimal_member(area, "size").is_some()
+        && string_member(area, "encryption").is_some()
+        && integer_member(area, "key_size").is_some()
 }
 
 // The parameters of PBKDF2.
@@ -50,8 +52,8 @@ fn is_area(area: &Value) -> bool
 fn is_pbkdf2(kdf: &Value) -> bool
     ensures { result ≡ is_pbkdf2 (data_of kdf.now) }
 {
-    text(kdf, "hash").is_some()
-        && whole_number(kdf, "iterations").is_some()
+    string_member(kdf, "hash").is_some()
+        && integer_member(kdf, "iterations").is_some()
         && base64_len(kdf, "salt").is_some()
 }
 
@@ -60,7 +62,7 @@ fn is_pbkdf2(kdf: &Value) -> bool
 fn is_kdf(kdf: &Value) -> bool
     ensures { result ≡ is_kdf (data_of kdf.now) }
 {
-    text(kdf, "type").is_some() && (!is_type(kdf, "pbkdf2") || is_pbkdf2(kdf))
+    string_member(kdf, "type").is_some() && (!is_type(kdf, "pbkdf2") || is_pbkdf2(kdf))
 }
 
 // The slot's `af` is whole.
@@ -98,7 +100,7 @@ fn has_kdf(slot: &Value) -> bool
 pub(super) fn has_members(slot: &Value) -> bool
     ensures { result ≡ has_members (data_of slot.now) }
 {
-    whole_number(slot, "key_size").is_some()
+    integer_member(slot, "key_size").is_some()
         && priority(slot).is_some()
         && has_af(slot)
         && has_area(slot)

@@ -6,14 +6,14 @@ use super::rows::{Subject, check_rows};
 use luks_kdf::Hash;
 use luks_verdict::digest::KeyDigest;
 use luks_verdict::refusal::SkipReason;
-use luks_verdict::slot::Judgement;
+use luks_verdict::slot::VerdictKind;
 use luks2_json::tree::Metadata;
+use luks2_metadata::bounds::Bounds;
 use luks2_metadata::digest::{Digest, digest_for, digests};
-use luks2_metadata::slot::judge;
-use luks2_segment::bounds::Bounds;
+use luks2_metadata::slot::verdict_kind;
 use std::process::Abort;
 
-const UNDIGESTED: Judgement = Judgement::Skipped(SkipReason::Digest);
+const UNDIGESTED: VerdictKind = VerdictKind::Skipped(SkipReason::Digest);
 
 // The iterations of the digest of a slot, if it has one.
 fn iterations(rt: &(impl Abort + AllocGlobal), metadata: &Metadata, slot: u8) -> Option<u32> {
@@ -39,12 +39,12 @@ pub(super) fn verdict(
     bounds: Bounds,
 ) -> &'static str {
     let found = iterations(rt, metadata, 2);
-    let judgement = if found.is_some() {
-        Judgement::Usable(1)
+    let kind = if found.is_some() {
+        VerdictKind::Usable(1)
     } else {
         UNDIGESTED
     };
-    let agrees = judge(metadata, bounds, None, 2) == Some(judgement);
+    let agrees = verdict_kind(metadata, bounds, None, 2) == Some(kind);
     assert_of(rt, "the slot's verdict", agrees);
     match (first_usable(rt, metadata), found) {
         (Some(true), Some(1)) => "1",
@@ -178,8 +178,8 @@ fn the_digests_as_they_are(rt: HostRuntime) {
 #[test]
 fn limits_on_digests(rt: HostRuntime) {
     let more = metadata(&rt, "'iterations':1000 -> 'iterations':2000");
-    let below = judge(&more, ATTACHED, Some(1999), 2);
+    let below = verdict_kind(&more, ATTACHED, Some(1999), 2);
     assert_of(&rt, "1999", below == Some(UNDIGESTED));
-    let enough = judge(&more, ATTACHED, Some(2000), 2);
-    assert_of(&rt, "2000", enough == Some(Judgement::Usable(1)));
+    let enough = verdict_kind(&more, ATTACHED, Some(2000), 2);
+    assert_of(&rt, "2000", enough == Some(VerdictKind::Usable(1)));
 }

@@ -4,7 +4,7 @@
 //! on the way.
 
 use luks2_json::tree::Metadata;
-use luks2_segment::bounds::Bounds;
+use luks2_metadata::bounds::Bounds;
 use std::process::Abort;
 
 /// The bounds of a header of twice 16,384 bytes in the payload's image.

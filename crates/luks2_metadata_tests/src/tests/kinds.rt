@@ -3,10 +3,10 @@
 use super::assert_of;
 use super::fixture::with_member;
 use luks_cipher::Mode;
-use luks2_json::encryption::{is_length_for, mode_of};
+use luks2_json::encryption::{encryption_mode, is_length_for};
 use luks2_json::list::has_texts;
 use luks2_json::member::{
-    base64_len, base64_text, decimal_text, is_named, is_type, text, whole_number,
+    base64_len, base64_member, decimal_member, integer_member, is_named, is_type, string_member,
 };
 use std::process::Abort;
 
@@ -63,12 +63,12 @@ fn check_number(
     decimal: Option<u64>,
 ) {
     let metadata = with_member(rt, value);
-    assert_of(rt, value, whole_number(metadata.tree(), "x") == whole);
-    assert_of(rt, value, decimal_text(metadata.tree(), "x") == decimal);
+    assert_of(rt, value, integer_member(metadata.tree(), "x") == whole);
+    assert_of(rt, value, decimal_member(metadata.tree(), "x") == decimal);
     assert_of(
         rt,
         value,
-        whole.is_none() || text(metadata.tree(), "x").is_none(),
+        whole.is_none() || string_member(metadata.tree(), "x").is_none(),
     );
 }
 
@@ -83,8 +83,8 @@ fn whole_numbers_and_decimal_texts(rt: HostRuntime) {
 fn a_text_is_what_it_spells(rt: HostRuntime) {
     let metadata = with_member(&rt, "'raw'");
     let tree = metadata.tree();
-    assert_of(&rt, "x", text(tree, "x").unwrap_or("") == "raw");
-    assert_of(&rt, "y", text(tree, "y").is_none());
+    assert_of(&rt, "x", string_member(tree, "x").unwrap_or("") == "raw");
+    assert_of(&rt, "y", string_member(tree, "y").is_none());
     let named = [
         is_named(tree, "x", "raw"),
         is_named(tree, "x", "Raw"),
@@ -126,7 +126,7 @@ static BASE64_TEXTS: [(&str, Option<&str>); 25] = [
 
 fn check_base64(rt: &(impl Abort + AllocGlobal), value: &str, want: Option<&str>) {
     let metadata = with_member(rt, value);
-    let bytes = base64_text(rt.alloc(), metadata.tree(), "x").expect(rt, "memory");
+    let bytes = base64_member(rt.alloc(), metadata.tree(), "x").expect(rt, "memory");
     let len = base64_len(metadata.tree(), "x");
     match (&bytes, want) {
         (Some(bytes), Some(want)) => {
@@ -193,7 +193,7 @@ fn check_lengths(rt: &impl Abort, case: &str, mode: Option<Mode>, lengths: &[u64
 #[test]
 fn encryptions_and_their_keys(rt: HostRuntime) {
     for (name, want) in &ENCRYPTIONS {
-        assert_of(&rt, name, mode_of(name) == *want);
+        assert_of(&rt, name, encryption_mode(name) == *want);
     }
     check_lengths(&rt, "xts", Some(Mode::XtsPlain64), &[32, 64]);
     check_lengths(&rt, "cbc", Some(Mode::CbcPlain64), &[16, 32]);

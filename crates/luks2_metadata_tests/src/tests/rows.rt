@@ -6,7 +6,7 @@
 use super::fixture::{ATTACHED, DETACHED, metadata};
 use super::{assert_answer, digests, segments, slots};
 use luks2_json::tree::Metadata;
-use luks2_segment::bounds::Bounds;
+use luks2_metadata::bounds::Bounds;
 use std::process::Abort;
 
 /// What the verdicts of a table are on.

@@ -7,8 +7,8 @@ use luks_cipher::Mode;
 use luks_verdict::sector_size::SectorSize;
 use luks_verdict::segment::{Segment, SegmentParts};
 use luks2_json::tree::Metadata;
-use luks2_segment::bounds::Bounds;
-use luks2_segment::payload::segment;
+use luks2_metadata::bounds::Bounds;
+use luks2_metadata::payload::segment;
 use std::process::Abort;
 
 /// The verdict on the segment.

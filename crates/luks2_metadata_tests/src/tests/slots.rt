@@ -5,20 +5,20 @@ use super::rows::{Subject, check_rows, check_verdicts};
 use super::{assert_answer, assert_of};
 use luks_cipher::Mode;
 use luks_kdf::Hash;
-use luks_verdict::slot::{Judgement, Slot};
+use luks_verdict::slot::{Slot, VerdictKind};
 use luks2_json::tree::Metadata;
-use luks2_metadata::slot::{judge, slot};
-use luks2_segment::bounds::Bounds;
+use luks2_metadata::bounds::Bounds;
+use luks2_metadata::slot::{slot, verdict_kind};
 use std::process::Abort;
 
-fn word(judgement: Option<Judgement>) -> &'static str {
-    match judgement {
-        Some(Judgement::Usable(0)) => "usable 0",
-        Some(Judgement::Usable(1)) => "usable 1",
-        Some(Judgement::Usable(2)) => "usable 2",
-        Some(Judgement::Usable(_)) => "usable",
-        Some(Judgement::Disabled) => "disabled",
-        Some(Judgement::Skipped(reason)) => reason.text(),
+fn word(kind: Option<VerdictKind>) -> &'static str {
+    match kind {
+        Some(VerdictKind::Usable(0)) => "usable 0",
+        Some(VerdictKind::Usable(1)) => "usable 1",
+        Some(VerdictKind::Usable(2)) => "usable 2",
+        Some(VerdictKind::Usable(_)) => "usable",
+        Some(VerdictKind::Disabled) => "disabled",
+        Some(VerdictKind::Skipped(reason)) => reason.text(),
         None => "not there",
     }
 }
@@ -30,7 +30,7 @@ pub(super) fn verdict(
     metadata: &Metadata,
     bounds: Bounds,
 ) -> &'static str {
-    let word = word(judge(metadata, bounds, None, 2));
+    let word = word(verdict_kind(metadata, bounds, None, 2));
     let slot = slot(rt.alloc(), metadata, bounds, 2).expect(rt, "memory");
     assert_of(rt, word, slot.is_some() == word.starts_with("usable"));
     word
@@ -76,7 +76,7 @@ static JUDGED: [(u8, Option<u32>, &str); 9] = [
 fn the_slots_as_they_are(rt: HostRuntime) {
     let metadata = metadata(&rt, "");
     for (number, limit, want) in &JUDGED {
-        let word = word(judge(&metadata, ATTACHED, *limit, *number));
+        let word = word(verdict_kind(&metadata, ATTACHED, *limit, *number));
         assert_answer(&rt, want, word, want);
     }
     let slot = slot(rt.alloc(), &metadata, ATTACHED, 2).expect(&rt, "memory");

@@ -3,9 +3,9 @@
 use super::fixture::{BEFORE_X, joined, quoted, read, with_member};
 use super::{assert_answer, assert_of};
 use luks_area::fault::HeaderFault;
-use luks2_json::list::{lists, texts_at};
-use luks2_json::member::{text, whole_number};
-use luks2_json::numbered::{numbered, passes_over};
+use luks2_json::list::{array_contains, texts_at};
+use luks2_json::member::{integer_member, string_member};
+use luks2_json::numbered::{has_key_out_of_range, object_numbered};
 use luks2_json::tree::Metadata;
 use std::process::Abort;
 
@@ -120,7 +120,7 @@ fn names_of_members(rt: HostRuntime) {
     for (members, want) in &MEMBERS {
         let metadata = with_member(&rt, members);
         let object = metadata.tree().get("x").expect(&rt, "an object");
-        assert_of(&rt, members, whole_number(object, "a") == *want);
+        assert_of(&rt, members, integer_member(object, "a") == *want);
     }
 }
 
@@ -143,9 +143,13 @@ fn check_name(rt: &(impl Abort + AllocGlobal), name: &str, number: Option<u8>) {
     let before = "{'segments':{},'digests':{},'keyslots':{'";
     let text = joined(rt, &[before, name, "':'here'}}"]);
     let metadata = read(rt, text.as_str());
-    assert_of(rt, name, passes_over(&metadata) == number.is_none());
+    assert_of(
+        rt,
+        name,
+        has_key_out_of_range(&metadata) == number.is_none(),
+    );
     for i in 0..=255 {
-        let found = numbered(metadata.tree(), "keyslots", i).is_some();
+        let found = object_numbered(metadata.tree(), "keyslots", i).is_some();
         assert_of(rt, name, found == (number == Some(i)));
     }
 }
@@ -155,7 +159,11 @@ fn names_that_are_numbers(rt: HostRuntime) {
     for (name, number) in &NAMES {
         check_name(&rt, name, *number);
     }
-    assert_of(&rt, "no slots", !passes_over(&with_member(&rt, "0")));
+    assert_of(
+        &rt,
+        "no slots",
+        !has_key_out_of_range(&with_member(&rt, "0")),
+    );
 }
 
 // The member is a list of these texts.
@@ -164,7 +172,7 @@ fn check_texts(rt: &(impl Abort + AllocGlobal), metadata: &Metadata, name: &str,
     assert_of(rt, name, texts.as_slice().len() == wants.len());
     for (i, text) in texts.as_slice().iter().enumerate() {
         assert_of(rt, name, wants.get(i).copied() == Some(text.as_str()));
-        assert_of(rt, name, lists(metadata.tree(), name, text));
+        assert_of(rt, name, array_contains(metadata.tree(), name, text));
     }
 }
 
@@ -173,7 +181,7 @@ fn lists_of_texts(rt: HostRuntime) {
     let metadata = with_member(&rt, "['0',7,'','1\\u0030','\\u00e9']");
     check_texts(&rt, &metadata, "x", &["0", "", "10", "é"]);
     check_texts(&rt, &metadata, "y", &[]);
-    assert_of(&rt, "7", !lists(metadata.tree(), "x", "7"));
-    assert_of(&rt, "0", !lists(metadata.tree(), "y", "0"));
-    assert_of(&rt, "x", text(metadata.tree(), "x").is_none());
+    assert_of(&rt, "7", !array_contains(metadata.tree(), "x", "7"));
+    assert_of(&rt, "0", !array_contains(metadata.tree(), "y", "0"));
+    assert_of(&rt, "x", string_member(metadata.tree(), "x").is_none());
 }

@@ -4,7 +4,7 @@ use luks_access::image::{ReadAt, ReadAtFault};
 use luks_access::memory::MemImage;
 use luks_access::options::Options;
 use luks_access::volume::Volume;
-use luks_access::{Message, Standing};
+use luks_access::{HeaderLocation, Message};
 use luks_seal::parameters::Seal2;
 use luks_seal_fixtures::bytes::counted;
 use luks_seal_fixtures::parameters::{parameters1, parameters2, slot1, slot2};
@@ -19,7 +19,7 @@ pub const PASS: &[u8] = b"second";
 
 /// The options that open each volume here.
 pub const OPTIONS: Options = Options {
-    standing: Standing::Attached,
+    location: HeaderLocation::Attached,
     key_slot: None,
     max_iterations: None,
 };

@@ -3,8 +3,8 @@
 use super::fixture::{OPTIONS, PASS, image1, image2, opened, refusal, text};
 use luks_access::memory::MemImage;
 use luks_access::options::Options;
-use luks_access::volume::{LONGEST_PASSPHRASE, Volume};
-use luks_access::{IterationLimit, Message, SlotNumber, Standing};
+use luks_access::volume::{MAX_PASSPHRASE_LEN, Volume};
+use luks_access::{HeaderLocation, IterationLimit, Message, SlotNumber};
 use luks_seal_fixtures::bytes::at;
 use luks_seal_fixtures::parameters::KEY;
 use luks_test_support::scarce::Scarcity;
@@ -43,7 +43,7 @@ fn a_volume_is_opened_or_refused_as_luks_cat_does(rt: HostRuntime) {
     );
     assert!(rt; matches!(refusal(&rt, &OPTIONS, &whole, b"Second"), Message::NoKey(_)));
     assert!(rt; matches!(refusal(&rt, &OPTIONS, &whole, b""), Message::NoKey(_)));
-    let long = text(&rt, LONGEST_PASSPHRASE + 1);
+    let long = text(&rt, MAX_PASSPHRASE_LEN + 1);
     assert!(rt; refusal(&rt, &OPTIONS, &whole, &long) == Message::KeyFileLength);
     assert!(rt; refusal(&rt, &OPTIONS, &MemImage::new(&long), PASS) == Message::NotLuks);
     let cut = MemImage::new(at(&image, 0, 33_000));
@@ -75,7 +75,7 @@ fn a_detached_header_opens_another_image(rt: HostRuntime) {
     let end = image.len().min(65_536);
     image[..end].fill(0);
     let options = Options {
-        standing: Standing::Detached,
+        location: HeaderLocation::Detached,
         ..OPTIONS
     };
     let volume = opened(&rt, &options, at(&header, 0, 65_536));

@@ -1,6 +1,6 @@
 use Rattle.std.proofs.Common.{◌∙◌, Some, ap, sym}
 use Rattle.luks_io.specs.Memory.{MemSourceModel}
-use Rattle.luks_c.proofs.OpenLemmas.{no_read, opened_for, refused_for, small_code, some_code}
+use Rattle.luks_c.proofs.OpenLemmas.{no_read, opened_for, refused_for, some_code}
 use Rattle.luks_c.proofs.StoredLemmas.{short_key}
 use Rattle.luks_c.proofs.luksrd_open.Goals as goal
 

@@ -1,14 +1,13 @@
 //! What the commands do over a header in a file of its own.
 
-ghost use Rattle.std.specs.Prelude.{◌≡◌, None, true};
-ghost use Rattle.luks_io.specs.Bytes.{IfKnown};
+ghost use Rattle.std.specs.Prelude.{◌≡◌, true};
 ghost use Rattle.luks_report.specs.Report.{report_of};
-ghost use Rattle.luks_request.specs.Request.{has_header_file, request_of, secret_of};
-ghost use Rattle.luks_cli.specs.Detached.{CountsDetached, EndsWithoutKey, NeedsNoPayload};
+ghost use Rattle.luks_request.specs.Request.{has_header_file, request_of};
+ghost use Rattle.luks_cli.specs.Detached.{CountsCallsDetached, NeedsNoPayload};
 ghost use Rattle.luks_cli.specs.Detached.{NeedsNoSecretDetached, RunsDetached};
-ghost use Rattle.luks_cli.specs.Run.{HitsFirstEof, ReadsFirst};
-ghost use Rattle.luks_runs.specs.Run.{failures_of, HitsEofOnce, result_message};
-ghost use Rattle.luks_cli.specs.MayEnd.{MayReport};
+ghost use Rattle.luks_cli.specs.CommandRun.{ReadsFirst};
+ghost use Rattle.luks_runs.specs.Run.{result_message};
+ghost use Rattle.luks_cli.specs.CommandMessages.{MayReport};
 
 use super::volumes;
 use luks_io::sink::Sink;
@@ -16,8 +15,8 @@ use luks_io::source::Source;
 use luks_report::message::Message;
 use luks_report::report::Report;
 use luks_request::command::Command;
-use luks_runs::headers::{self, Page};
-use luks_runs::standing::Standing;
+use luks_runs::headers::{self, Printout};
+use luks_runs::location::HeaderLocation;
 use std::alloc::Global;
 
 /// Runs a command with a detached header over the header's file, the image with the payload, the
@@ -42,20 +41,15 @@ pub fn execute_detached<H: Source, I: Source, K: Source, O: Sink>(
         (K.to_come secret.old) (K.to_come secret.new) (O.written out.old) (O.written out.new) }
     ensures only { MayReport (request_of command.now) result.message }
     ensures status { result ≡ report_of result.message }
-    ensures unread { secret_of (request_of command.now) ≡ None → secret.new ≡ secret.old }
-    ensures unneeded { IfKnown (H.to_come header.old) (λ file.
-        NeedsNoSecretDetached (request_of command.now) file → secret.new ≡ secret.old) }
-    ensures untouched { NeedsNoPayload (request_of command.now) → image.new ≡ image.old }
-    ensures before_key { EndsWithoutKey result.message → image.new ≡ image.old }
+    ensures unneeded { NeedsNoSecretDetached (request_of command.now) (H.to_come header.old)
+        → secret.new ≡ secret.old }
+    ensures untouched { NeedsNoPayload (request_of command.now) result.message
+        → image.new ≡ image.old }
     ensures reads_first { ReadsFirst (request_of command.now) → result.message ≡ Message.ReadFailed
         → out.new ≡ out.old }
-    ensures counts { CountsDetached result.message (H.failures header.old) (H.failures header.new)
-        (failures_of (I.failures image.old) (K.failures secret.old) (O.failures out.old))
-        (failures_of (I.failures image.new) (K.failures secret.new) (O.failures out.new)) }
-    ensures header_end { HitsFirstEof (request_of command.now) (H.ends header.old)
-        (H.ends header.new) }
-    ensures image_end { HitsEofOnce (I.ends image.old) (I.ends image.new) }
-    ensures secret_end { HitsEofOnce (K.ends secret.old) (K.ends secret.new) }
+    ensures calls { CountsCallsDetached result.message
+        (H.counts header.old) (H.counts header.new) (I.counts image.old) (I.counts image.new)
+        (K.counts secret.old) (K.counts secret.new) (O.counts out.old) (O.counts out.new) }
 {
     match perform_detached(alloc, command, header, image, secret, out) {
         Ok(()) => Report::of(Message::Done),
@@ -77,30 +71,24 @@ fn perform_detached<H: Source, I: Source, K: Source, O: Sink>(
         (H.to_come header.old) (H.to_come header.new) (I.to_come image.old) (I.to_come image.new)
         (K.to_come secret.old) (K.to_come secret.new) (O.written out.old) (O.written out.new) }
     ensures only { MayReport (request_of command.now) (result_message result) }
-    ensures unread { secret_of (request_of command.now) ≡ None → secret.new ≡ secret.old }
-    ensures unneeded { IfKnown (H.to_come header.old) (λ file.
-        NeedsNoSecretDetached (request_of command.now) file → secret.new ≡ secret.old) }
-    ensures untouched { NeedsNoPayload (request_of command.now) → image.new ≡ image.old }
-    ensures before_key { EndsWithoutKey (result_message result) → image.new ≡ image.old }
+    ensures unneeded { NeedsNoSecretDetached (request_of command.now) (H.to_come header.old)
+        → secret.new ≡ secret.old }
+    ensures untouched { NeedsNoPayload (request_of command.now) (result_message result)
+        → image.new ≡ image.old }
     ensures reads_first { ReadsFirst (request_of command.now)
         → result_message result ≡ Message.ReadFailed → out.new ≡ out.old }
-    ensures counts { CountsDetached (result_message result) (H.failures header.old)
-        (H.failures header.new)
-        (failures_of (I.failures image.old) (K.failures secret.old) (O.failures out.old))
-        (failures_of (I.failures image.new) (K.failures secret.new) (O.failures out.new)) }
-    ensures header_end { HitsFirstEof (request_of command.now) (H.ends header.old)
-        (H.ends header.new) }
-    ensures image_end { HitsEofOnce (I.ends image.old) (I.ends image.new) }
-    ensures secret_end { HitsEofOnce (K.ends secret.old) (K.ends secret.new) }
+    ensures calls { CountsCallsDetached (result_message result)
+        (H.counts header.old) (H.counts header.new) (I.counts image.old) (I.counts image.new)
+        (K.counts secret.old) (K.counts secret.new) (O.counts out.old) (O.counts out.new) }
 {
-    let standing = Standing::Detached;
+    let location = HeaderLocation::Detached;
     match command {
         Command::IsLuks(_) => headers::is_luks(alloc, header),
-        Command::LuksUuid(_) => headers::print(alloc, Page::Uuid, standing, header, out),
-        Command::LuksDump(_) => headers::print(alloc, Page::Dump, standing, header, out),
-        Command::LuksCheck(_) => headers::print(alloc, Page::Check, standing, header, out),
+        Command::LuksUuid(_) => headers::print(alloc, Printout::Uuid, location, header, out),
+        Command::LuksDump(_) => headers::print(alloc, Printout::Dump, location, header, out),
+        Command::LuksCheck(_) => headers::print(alloc, Printout::Check, location, header, out),
         Command::TestPassphrase(opening) => {
-            volumes::test_passphrase(alloc, standing, opening, header, secret, out)
+            volumes::test_passphrase(alloc, location, opening, header, secret, out)
         }
         Command::LuksCat(opening) => {
             volumes::cat_detached(alloc, opening, header, image, secret, out)

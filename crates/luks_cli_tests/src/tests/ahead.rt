@@ -135,7 +135,7 @@ fn check_failed_read(
     let sectors = consumed.saturating_sub(36_864) / 512;
     let whole = at(plain, 0, sectors.saturating_mul(512));
     assert_same_in(rt, &call, out.as_slice(), whole);
-    assert_same_in(rt, &call, source.get_ref().empty_calls, 0);
+    assert_same_in(rt, &call, source.get_ref().counts.needless, 0);
     let asked = source.get_ref().calls();
     assert_in(rt, &call, asked <= call.saturating_add(1));
     report

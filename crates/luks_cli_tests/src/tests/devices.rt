@@ -63,14 +63,18 @@ impl Failing {
 // The source was asked for nothing in vain: for no bytes, nor once more after its end, nor again
 // after the call that failed.
 fn check_asked(rt: &impl Abort, failing: Failing, source: &Flaky<'_>) {
-    assert_in(rt, &failing, source.ends <= 1 && source.empty_calls == 0);
-    let last = source.failures == 0 || source.calls() == failing.call.saturating_add(1);
+    assert_in(
+        rt,
+        &failing,
+        source.counts.ends <= 1 && source.counts.needless == 0,
+    );
+    let last = source.counts.failures == 0 || source.calls() == failing.call.saturating_add(1);
     assert_in(rt, &failing, last);
 }
 
 // The output was brought nothing in vain: no bytes, nor any after the call that failed.
 fn check_brought(rt: &impl Abort, failing: Failing, out: &Leaky) {
-    assert_in(rt, &failing, out.empty_calls == 0);
+    assert_in(rt, &failing, out.counts.needless == 0);
     let last = out.failures() == 0 || out.calls() == failing.call.saturating_add(1);
     assert_in(rt, &failing, last);
 }
@@ -119,7 +123,9 @@ fn run_failing(
     check_asked(rt, failing, &image);
     check_asked(rt, failing, &secret);
     check_brought(rt, failing, &out);
-    let of_input = header.failures != 0 || image.failures != 0 || secret.failures != 0;
+    let of_input = header.counts.failures != 0
+        || image.counts.failures != 0
+        || secret.counts.failures != 0;
     let failed = of_input || out.failures() != 0;
     let consumed = trial.image.len() - image.left().min(trial.image.len());
     let moved = (out.as_slice(), consumed.saturating_sub(trial.start));
@@ -179,4 +185,34 @@ pub(super) fn check_pieces(rt: &(impl Abort + AllocGlobal), trial: &Trial<'_>, p
     assert_same_in(rt, &pieces, out.as_slice(), trial.whole);
     let lefts = (header.left(), image.left(), secret.left());
     assert_same_in(rt, &pieces, lefts, (0, trial.left, 0));
+}
+
+/// The image ends before its key areas. That is reported, and its end was hit once.
+pub(super) fn check_truncated(
+    rt: &(impl Abort + AllocGlobal),
+    line: &str,
+    image: &[u8],
+    secret: &[u8],
+) {
+    let words = words_of(rt, line);
+    let command = plan(rt.alloc(), &words).expect(rt, "a command");
+    let mut out = Leaky::new(rt.alloc(), 4096, 0, u64::MAX).expect(rt, "room");
+    let mut header = Flaky::new(&[], 0, u64::MAX);
+    let mut image = Flaky::new(image, 0, u64::MAX);
+    let mut secret = Flaky::new(secret, 0, u64::MAX);
+    let report = report_over(
+        rt.alloc(),
+        &command,
+        &mut header,
+        &mut image,
+        &mut secret,
+        &mut out,
+    );
+    assert_same_in(rt, &line, report, Report::of(Message::Cut));
+    assert_in(
+        rt,
+        &line,
+        image.counts.ends == 1 && image.counts.needless == 0,
+    );
+    assert_in(rt, &line, out.as_slice().is_empty());
 }

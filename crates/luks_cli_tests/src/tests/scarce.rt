@@ -41,9 +41,9 @@ fn check_first(rt: &(impl Abort + AllocGlobal), command: &Command<'_>, trial: &T
     assert_same_in(rt, &trial.line, out.as_slice(), trial.whole);
 }
 
-// Runs until one does not report want of memory, with one more piece of it each time: what that run
-// reports, how many came before it, and whether each of those wrote nothing and, if the header is
-// detached, left the image as it was.
+// Runs with one more piece of memory each time, until a run does not report that it is out of
+// memory: what that run reports, how many came before it, and whether each of those wrote nothing
+// and, if the header is detached, left the image as it was.
 fn run_until_done(
     alloc: Global,
     command: &Command<'_>,
@@ -65,8 +65,9 @@ fn run_until_done(
 }
 
 /// Runs a line with less and less memory refused, until a run meets no refusal. So many bytes come
-/// back at a time, and so many runs are refused at least. Each of them reports want of memory,
-/// writes nothing and leaves the image of a detached header as it was; the last run ends as stated.
+/// back at a time, and so many runs are refused at least. Each of them reports that it is out of
+/// memory, writes nothing and leaves the image of a detached header as it was; the last run ends as
+/// stated.
 pub(super) fn check_refusals(
     rt: &(impl Abort + AllocGlobal),
     trial: &Trial<'_>,

@@ -1,9 +1,9 @@
 //! Volumes of LUKS2: which key slots are tried, key slots by Argon2, fixed sizes, and a damaged
 //! primary header whose search goes past the payload's start.
 
-use super::devices::{Trial, check_pieces};
+use super::devices::{Trial, check_pieces, check_truncated};
 use super::passphrases::{NOT_OPENED, OPENED, Opening, check_openings};
-use super::runs::{ALL, BEFORE, CAT, DONE, Ends, Inputs, WRITE_FAILED, check, check_within};
+use super::runs::{ALL, BEFORE, CAT, DONE, Ends, Inputs, TEST, WRITE_FAILED, check, check_within};
 use super::volume::{
     Changes, KEY, NAMES_64_KIB, PASSPHRASE, PLAIN_LEN, SLOT, SMALL_LEN, changed, followed,
     front2_of, plain_of, sealed2, text_of,
@@ -200,5 +200,14 @@ fn what_a_search_has_read_is_written(rt: HostRuntime) {
     };
     for piece in [1, 511, 4097] {
         check_pieces(&rt, &trial, (0, piece, 0, 4096));
+    }
+}
+
+// An image that ends within its second header is not read again, for the key areas or the payload.
+#[test]
+fn a_second_header_that_is_truncated_ends_the_image(rt: HostRuntime) {
+    let image = sealed2(&rt, "dynamic");
+    for line in [TEST, CAT] {
+        check_truncated(&rt, line, at(image.as_slice(), 0, 20_000), PASSPHRASE);
     }
 }

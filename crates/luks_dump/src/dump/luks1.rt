@@ -12,54 +12,55 @@ use std::alloc::{AllocError, Global};
 
 /// The line with the UUID alone.
 #[tactic(auto, unfolding(crate::specs::Dump1::uuid_line))]
-pub(super) fn uuid_page(alloc: Global, header: &Header1) -> Result<String, AllocError>
-    ensures { IfOk result (λ page. string_bytes page ≡ uuid_line header.now) }
+pub(super) fn uuid_text(alloc: Global, header: &Header1) -> Result<String, AllocError>
+    ensures { IfOk result (λ lines. string_bytes lines ≡ uuid_line header.now) }
 {
-    let mut page = escape(alloc, header.uuid.as_bytes())?;
-    page.push('\n')?;
-    Ok(page)
+    let mut lines = escape(alloc, header.uuid.as_bytes())?;
+    lines.push('\n')?;
+    Ok(lines)
 }
 
 /// The dump of a header.
 #[tactic(auto, unfolding(crate::specs::Dump1::dump1_of))]
-pub(super) fn dump_page(alloc: Global, header: &Header1) -> Result<String, AllocError>
-    ensures { IfOk result (λ page. string_bytes page ≡ dump1_of header.now) }
+pub(super) fn dump_text(alloc: Global, header: &Header1) -> Result<String, AllocError>
+    ensures { IfOk result (λ lines. string_bytes lines ≡ dump1_of header.now) }
 {
-    let mut page = String::new(alloc);
-    push_texts(alloc, &mut page, header)?;
-    push_numbers(alloc, &mut page, header)?;
-    push_slots(alloc, &mut page, &header.slots)?;
-    Ok(page)
+    let mut lines = String::new(alloc);
+    push_texts(alloc, &mut lines, header)?;
+    push_numbers(alloc, &mut lines, header)?;
+    push_slots(alloc, &mut lines, &header.slots)?;
+    Ok(lines)
 }
 
 /// Adds the lines from the version to the hash.
 #[tactic(auto, unfolding(crate::specs::Dump1::text1_lines))]
-fn push_texts(alloc: Global, page: &mut String, header: &Header1) -> Result<(), AllocError>
-    ensures { OnOk result (string_bytes page.new ≡ string_bytes page.old ++ text1_lines header.now) }
+fn push_texts(alloc: Global, lines: &mut String, header: &Header1) -> Result<(), AllocError>
+    ensures { OnOk result
+        (string_bytes lines.new ≡ string_bytes lines.old ++ text1_lines header.now) }
 {
     let name = escape(alloc, header.cipher_name.as_bytes())?;
     let mode = escape(alloc, header.cipher_mode.as_bytes())?;
     let cipher = format!(in alloc; "{name}-{mode}")?;
-    push_field(page, "Version", "1")?;
-    push_text(alloc, page, "UUID", header.uuid.as_bytes())?;
-    push_field(page, "Cipher", cipher.as_str())?;
-    push_text(alloc, page, "Hash", header.hash_spec.as_bytes())?;
+    push_field(lines, "Version", "1")?;
+    push_text(alloc, lines, "UUID", header.uuid.as_bytes())?;
+    push_field(lines, "Cipher", cipher.as_str())?;
+    push_text(alloc, lines, "Hash", header.hash_spec.as_bytes())?;
     Ok(())
 }
 
 /// Adds the lines from the payload's offset to the iterations of the digest.
 #[tactic(auto, unfolding(crate::specs::Dump1::number_lines))]
-fn push_numbers(alloc: Global, page: &mut String, header: &Header1) -> Result<(), AllocError>
+fn push_numbers(alloc: Global, lines: &mut String, header: &Header1) -> Result<(), AllocError>
     ensures { OnOk result
-        (string_bytes page.new ≡ string_bytes page.old ++ number_lines header.now) }
+        (string_bytes lines.new ≡ string_bytes lines.old ++ number_lines header.now) }
 {
-    push_number(alloc, page, "Payload offset", header.payload_offset as u64)?;
-    push_number(alloc, page, "Key bytes", header.key_bytes as u64)?;
-    push_bytes(alloc, page, "MK digest", &header.digest)?;
-    push_bytes(alloc, page, "MK salt", &header.digest_salt)?;
+    push_number(alloc, lines, "Payload offset", header.payload_offset as u64)?;
+    push_number(alloc, lines, "Key bytes", header.key_bytes as u64)?;
+    push_bytes(alloc, lines, "MK digest", &header.digest)?;
+    push_bytes(alloc, lines, "MK salt", &header.digest_salt)?;
     push_number(
         alloc,
-        page,
+        lines,
         "MK iterations",
         header.digest_iterations as u64,
     )?;
@@ -68,13 +69,13 @@ fn push_numbers(alloc: Global, page: &mut String, header: &Header1) -> Result<()
 
 /// Adds a line for each key slot.
 #[tactic(auto, unfolding(crate::specs::Dump1::slot1_lines))]
-fn push_slots(alloc: Global, page: &mut String, slots: &[KeySlot]) -> Result<(), AllocError>
+fn push_slots(alloc: Global, lines: &mut String, slots: &[KeySlot]) -> Result<(), AllocError>
     requires { length slots.now ≤ 8 }
     ensures { OnOk result
-        (string_bytes page.new ≡ string_bytes page.old ++ slot1_lines 0 slots.now) }
+        (string_bytes lines.new ≡ string_bytes lines.old ++ slot1_lines 0 slots.now) }
 {
     for (number, slot) in slots.iter().enumerate() {
-        push_slot(alloc, page, number, slot)?;
+        push_slot(alloc, lines, number, slot)?;
     }
     Ok(())
 }
@@ -83,16 +84,16 @@ fn push_slots(alloc: Global, page: &mut String, slots: &[KeySlot]) -> Result<(),
 #[tactic(auto, unfolding(crate::specs::Dump1::slot1_line))]
 fn push_slot(
     alloc: Global,
-    page: &mut String,
+    lines: &mut String,
     number: usize,
     slot: &KeySlot,
 ) -> Result<(), AllocError>
     ensures { OnOk result
-        (string_bytes page.new ≡ string_bytes page.old ++ slot1_line number slot.now) }
+        (string_bytes lines.new ≡ string_bytes lines.old ++ slot1_line number slot.now) }
 {
     let name = format!(in alloc; "Slot {number}")?;
     let text = describe_slot(alloc, slot)?;
-    push_field(page, name.as_str(), text.as_str())
+    push_field(lines, name.as_str(), text.as_str())
 }
 
 /// What is said of a key slot.

@@ -16,43 +16,43 @@ mod slots;
 
 /// The line with the UUID alone.
 #[tactic(auto, unfolding(crate::specs::Dump2::uuid2_line))]
-pub(crate) fn uuid_page(alloc: Global, header: &Header2) -> Result<String, AllocError>
-    ensures { IfOk result (λ page. string_bytes page ≡ uuid2_line header.now) }
+pub(crate) fn uuid_text(alloc: Global, header: &Header2) -> Result<String, AllocError>
+    ensures { IfOk result (λ lines. string_bytes lines ≡ uuid2_line header.now) }
 {
-    let mut page = escape(alloc, header.uuid.as_bytes())?;
-    page.push('\n')?;
-    Ok(page)
+    let mut lines = escape(alloc, header.uuid.as_bytes())?;
+    lines.push('\n')?;
+    Ok(lines)
 }
 
 /// The dump of a header and what its JSON area says.
 #[tactic(auto, unfolding(crate::specs::Dump2::dump2_of))]
-pub(crate) fn dump_page(
+pub(crate) fn dump_text(
     alloc: Global,
     header: &Header2,
     metadata: &Metadata,
 ) -> Result<String, AllocError>
-    ensures { IfOk result (λ page. string_bytes page ≡ dump2_of header.now metadata.now) }
+    ensures { IfOk result (λ lines. string_bytes lines ≡ dump2_of header.now metadata.now) }
 {
     let bounds = bounds(header);
-    let mut page = String::new(alloc);
-    push_place(alloc, &mut page, header)?;
-    push_texts(alloc, &mut page, header)?;
-    slots::push_slots(alloc, &mut page, metadata, bounds)?;
-    payload::push_segment(alloc, &mut page, metadata, bounds)?;
-    digests::push_digests(alloc, &mut page, metadata)?;
-    Ok(page)
+    let mut lines = String::new(alloc);
+    push_place(alloc, &mut lines, header)?;
+    push_texts(alloc, &mut lines, header)?;
+    slots::push_slots(alloc, &mut lines, metadata, bounds)?;
+    payload::push_segment(alloc, &mut lines, metadata, bounds)?;
+    digests::push_digests(alloc, &mut lines, metadata)?;
+    Ok(lines)
 }
 
 // Adds the lines from the version to the header's length.
 #[tactic(auto, unfolding(crate::specs::Dump2::place_lines))]
-fn push_place(alloc: Global, page: &mut String, header: &Header2) -> Result<(), AllocError>
+fn push_place(alloc: Global, lines: &mut String, header: &Header2) -> Result<(), AllocError>
     ensures { OnOk result
-        (string_bytes page.new ≡ string_bytes page.old ++ place_lines header.now) }
+        (string_bytes lines.new ≡ string_bytes lines.old ++ place_lines header.now) }
 {
-    push_field(page, "Version", "2")?;
-    push_field(page, "Header", place_text(header.place))?;
-    push_number(alloc, page, "Sequence", header.sequence)?;
-    push_number(alloc, page, "Header size", header.size as u64)
+    push_field(lines, "Version", "2")?;
+    push_field(lines, "Header", place_text(header.place))?;
+    push_number(alloc, lines, "Sequence", header.sequence)?;
+    push_number(alloc, lines, "Header size", header.size as u64)
 }
 
 // Which of the two headers it is.
@@ -67,11 +67,12 @@ fn place_text(place: Place) -> &'static str
 
 // Adds the lines from the UUID to the hash function of the checksum.
 #[tactic(auto, unfolding(crate::specs::Dump2::text2_lines))]
-fn push_texts(alloc: Global, page: &mut String, header: &Header2) -> Result<(), AllocError>
-    ensures { OnOk result (string_bytes page.new ≡ string_bytes page.old ++ text2_lines header.now) }
+fn push_texts(alloc: Global, lines: &mut String, header: &Header2) -> Result<(), AllocError>
+    ensures { OnOk result
+        (string_bytes lines.new ≡ string_bytes lines.old ++ text2_lines header.now) }
 {
-    push_text(alloc, page, "UUID", header.uuid.as_bytes())?;
-    push_text(alloc, page, "Label", header.label.as_bytes())?;
-    push_text(alloc, page, "Subsystem", header.subsystem.as_bytes())?;
-    push_field(page, "Checksum", header.hash.name())
+    push_text(alloc, lines, "UUID", header.uuid.as_bytes())?;
+    push_text(alloc, lines, "Label", header.label.as_bytes())?;
+    push_text(alloc, lines, "Subsystem", header.subsystem.as_bytes())?;
+    push_field(lines, "Checksum", header.hash.name())
 }

@@ -1,9 +1,9 @@
 //! Headers of both formats, read and then marked as detached.
 
 use super::fixture::{changed, parse};
-use super::judging::{Numbers, PAYLOAD_OFFSET, SLOT_OFFSET, fault_of, is_there};
+use super::validation::{Numbers, PAYLOAD_OFFSET, SLOT_OFFSET, fault_of, is_there};
 use luks_header::header::Header;
-use luks_header::slot::{Judgement, judge};
+use luks_header::slot::{VerdictKind, verdict_kind};
 use luks_test_support::header2::image_of;
 use std::process::Abort;
 
@@ -33,10 +33,10 @@ fn second(rt: &(impl Abort + AllocGlobal), offset: &str) -> Header {
 
 // What becomes of key slot 0.
 fn slot_word(header: &Header) -> &'static str {
-    match judge(header, None, 0) {
-        Some(Judgement::Usable(_)) => "usable",
-        Some(Judgement::Disabled) => "disabled",
-        Some(Judgement::Skipped(reason)) => reason.text(),
+    match verdict_kind(header, None, 0) {
+        Some(VerdictKind::Usable(_)) => "usable",
+        Some(VerdictKind::Disabled) => "disabled",
+        Some(VerdictKind::Skipped(reason)) => reason.text(),
         None => "not there",
     }
 }

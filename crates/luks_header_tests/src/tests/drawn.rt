@@ -1,7 +1,7 @@
 //! Headers of drawn numbers: the verdicts on their slots.
 
 use super::fixture::{parse, patch, volume_header};
-use super::judging::{
+use super::validation::{
     DIGEST_ITERATIONS, ITERATIONS, KEY_BYTES, PAYLOAD_OFFSET, SLOT_OFFSET, STATE, STRIPES,
     has_digest, is_there,
 };

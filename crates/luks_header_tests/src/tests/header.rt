@@ -165,7 +165,7 @@ static LACKING: [(usize, bool, usize); 8] = [
     (9, true, 9),
     (10, true, 10),
     (11, false, 10),
-    (HeaderArea::LONGEST, false, 10),
+    (HeaderArea::MAX_LEN, false, 10),
 ];
 
 // The area holds the first bytes, and the others are left.

@@ -1,11 +1,11 @@
 //! Images of LUKS2, read whole: the binary header and its JSON text.
 
-use super::judging::has_digest;
+use super::validation::has_digest;
 use luks_header::fault::HeaderFault;
 use luks_header::header::{Finding, Header, Header2, Place, read_header};
 use luks_header::payload::segment;
 use luks_header::refusal::SegmentFault;
-use luks_header::slot::{judge, slots};
+use luks_header::slot::{slots, verdict_kind};
 use luks_io::memory::MemSource;
 use luks_test_support::header2::{SIZE, empty_image, write_header};
 use std::process::Abort;
@@ -30,7 +30,7 @@ fn check_fields(rt: &impl Abort, second: &Header2) {
 
 fn check_header(rt: &(impl Abort + AllocGlobal), header: &Header) {
     assert!(rt; segment(header).err() == Some(SegmentFault::Segments));
-    assert!(rt; judge(header, None, 0).is_none() && !has_digest(rt, header, 0));
+    assert!(rt; verdict_kind(header, None, 0).is_none() && !has_digest(rt, header, 0));
     let verdicts = slots(rt.alloc(), header, None).expect(rt, "verdicts");
     assert!(rt; verdicts.is_empty());
     let Header::V2(second, _metadata) = header else {

@@ -1,66 +1,56 @@
 //! Sources over std's readers.
 
-ghost use Rattle.std.specs.Prelude.{◌≡◌, ℕ, List, Option, None, length, is_err};
+ghost use Rattle.std.specs.Prelude.{◌≡◌, ℕ, List, Option, None};
 ghost use Rattle.std.specs.Io.{ReadsAtMost};
 ghost use Rattle.std.specs.Io.KnownBytes.{ReadConsumes};
-ghost use Rattle.luks_io.specs.Answers.{AnswerConsumes, GivesNext, ReportsFirst, max_retries, read_result};
-ghost use Rattle.luks_io.specs.Bytes.{counted, is_end};
-ghost use Rattle.luks_io.specs.declared.adapters.Answer.{Answer};
+ghost use Rattle.luks_io.specs.CallOutcomes.{OutcomeConsumes, GivesNext, ReportsFirst, max_retries};
+ghost use Rattle.luks_io.specs.CallOutcomes.{read_result};
+ghost use Rattle.luks_io.specs.declared.adapters.CallOutcome.{CallOutcome};
 
-use super::{Answer, REPEATS, answer_of};
+use super::{CallOutcome, MAX_RETRIES, call_outcome};
 use crate::DeviceFault;
-use crate::source::{Source, count_end};
+use crate::counts::ReadCounts;
+use crate::source::Source;
 use std::io::Read;
 
 /// A device that answers one read at a time. If its answers are known, clauses say which of them
 /// are requested and what is reported of them.
-trait Reading {
+trait RawReader {
     /// The remaining bytes, if they are known.
     ghost bytes: { Self → Option (List ℕ) };
 
     /// The answers of the calls from here on, if they are known.
-    ghost answers: { Self → Option (List Answer) };
+    ghost answers: { Self → Option (List CallOutcome) };
 
-    fn ask(&mut self, buf: &mut [u8]) -> Answer
+    fn ask(&mut self, buf: &mut [u8]) -> CallOutcome
         ensures next { GivesNext (answers self.old) result (answers self.new) }
-        ensures moved { AnswerConsumes (bytes self.old) (bytes self.new) result buf.new };
+        ensures moved { OutcomeConsumes (bytes self.old) (bytes self.new) result buf.new };
 }
 
-impl<R: Read> Reading for R {
+impl<R: Read> RawReader for R {
     ghost bytes = { λ r. R.remaining r };
 
     ghost answers = { λ _. None };
 
-    fn ask(&mut self, buf: &mut [u8]) -> Answer {
-        answer_of(self.read(buf))
+    fn ask(&mut self, buf: &mut [u8]) -> CallOutcome {
+        call_outcome(self.read(buf))
     }
 }
 
-/// Reads once, and again while the read is interrupted and a retry is left. Ends and failures are
-/// counted.
-fn read_counted<D: Reading>(
-    device: &mut D,
-    buf: &mut [u8],
-    failures: &mut u64,
-    ends: &mut u64,
-) -> Result<usize, DeviceFault>
+/// Reads once, and again while the read is interrupted and a retry is left.
+fn read_patiently<D: RawReader>(device: &mut D, buf: &mut [u8]) -> Result<usize, DeviceFault>
     ensures told { ReportsFirst read_result (D.answers device.old) max_retries result
         (D.answers device.new) }
     ensures bound { ReadsAtMost result buf.new }
     ensures bytes { ReadConsumes (D.bytes device.old) (D.bytes device.new) result buf.new }
-    ensures counts { failures.new ≡ counted (is_err result) failures.old }
-    ensures ends { ends.new ≡ counted (is_end result (length buf.new)) ends.old }
 {
-    let mut tries = REPEATS;
+    let mut tries = MAX_RETRIES;
     'tries: loop {
         match device.ask(buf) {
-            Answer::Moved(count) => {
-                count_end(ends, count, buf.len());
-                return Ok(count);
-            }
-            Answer::Interrupted if tries > 0 => tries -= 1,
-            Answer::Interrupted => return Err(DeviceFault::counted(failures)),
-            Answer::Failed => return Err(DeviceFault::counted(failures)),
+            CallOutcome::Moved(count) => return Ok(count),
+            CallOutcome::Interrupted if tries > 0 => tries -= 1,
+            CallOutcome::Interrupted => return Err(DeviceFault),
+            CallOutcome::Failed => return Err(DeviceFault),
         }
     }
 }
@@ -70,21 +60,19 @@ fn read_counted<D: Reading>(
 #[derive(Drop)]
 pub struct ReadSource<R> {
     reader: R,
-    failures: u64,
-    ends: u64,
+    counts: ReadCounts,
 }
 
 impl<R: Read> ReadSource<R> {
-    /// A source over this reader, with no failure and no end so far.
+    /// A source over this reader, with nothing counted so far.
     pub fn new(reader: R) -> ReadSource<R>
         ensures bytes { ⟦<ReadSource<R> as Source>⟧.to_come result ≡ R.remaining reader }
-        ensures failures { ⟦<ReadSource<R> as Source>⟧.failures result ≡ 0 }
-        ensures ends { ⟦<ReadSource<R> as Source>⟧.ends result ≡ 0 }
+        ensures counts { ⟦<ReadSource<R> as Source>⟧.counts result
+            ≡ record { failures = 0; ends = 0; needless = 0 } }
     {
         ReadSource {
             reader,
-            failures: 0,
-            ends: 0,
+            counts: ReadCounts::new(),
         }
     }
 }
@@ -92,17 +80,15 @@ impl<R: Read> ReadSource<R> {
 impl<R: Read> Source for ReadSource<R> {
     ghost use Rattle.luks_io.specs.Reads.{left_of};
 
-    ghost to_come = { λ s. left_of s.ends (R.remaining s.reader) };
+    ghost to_come = { λ s. left_of s.counts.ends (R.remaining s.reader) };
 
-    ghost failures = { λ s. s.failures };
-
-    ghost ends = { λ s. s.ends };
+    ghost counts = { λ s. s.counts };
 
     fn read(&mut self, buf: &mut [u8]) -> Result<usize, DeviceFault> {
-        if self.ends > 0 {
-            count_end(&mut self.ends, 0, buf.len());
-            return Ok(0);
+        if self.counts.ends > 0 {
+            return self.counts.count(Ok(0), buf.len());
         }
-        read_counted(&mut self.reader, buf, &mut self.failures, &mut self.ends)
+        let answer = read_patiently(&mut self.reader, buf);
+        self.counts.count(answer, buf.len())
     }
 }

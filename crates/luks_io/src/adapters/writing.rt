@@ -1,87 +1,95 @@
 //! Sinks over std's writers.
 
-ghost use Rattle.std.specs.Prelude.{◌≡◌, ◌<◌, ℕ, List, Ok, Option, None, length, is_err};
+ghost use Rattle.std.specs.Prelude.{◌≡◌, ◌<◌, ℕ, List, Ok, Option, None, length};
 ghost use Rattle.std.specs.Io.KnownBytes.{WriteAppends};
-ghost use Rattle.luks_io.specs.Answers.{AnswerAppends, GivesNext, ReportsFirst, max_retries};
-ghost use Rattle.luks_io.specs.Answers.{told_of_write};
-ghost use Rattle.luks_io.specs.Bytes.{TakesSome, counted};
-ghost use Rattle.luks_io.specs.declared.adapters.Answer.{Answer};
+ghost use Rattle.luks_io.specs.CallOutcomes.{OutcomeAppends, GivesNext, ReportsFirst, max_retries};
+ghost use Rattle.luks_io.specs.CallOutcomes.{write_result};
+ghost use Rattle.luks_io.specs.Devices.{AcceptsSome};
+ghost use Rattle.luks_io.specs.Counts.{after_write};
+ghost use Rattle.luks_io.specs.declared.adapters.CallOutcome.{CallOutcome};
 
-use super::{Answer, REPEATS, answer_of};
+use super::{CallOutcome, MAX_RETRIES, call_outcome};
 use crate::DeviceFault;
+use crate::counts::WriteCounts;
 use crate::sink::Sink;
 use std::io::Write;
+use std::marker::Model;
 
 /// A device that answers one write at a time. If its answers are known, clauses say which of them
 /// are requested and what is reported of them.
-trait Writing {
+trait RawWriter {
     /// The bytes that were written, if they are known.
     ghost bytes: { Self → Option (List ℕ) };
 
     /// The answers of the calls from here on, if they are known.
-    ghost answers: { Self → Option (List Answer) };
+    ghost answers: { Self → Option (List CallOutcome) };
 
-    fn ask(&mut self, buf: &[u8]) -> Answer
+    fn ask(&mut self, buf: &[u8]) -> CallOutcome
         ensures next { GivesNext (answers self.old) result (answers self.new) }
-        ensures moved { AnswerAppends (bytes self.old) (bytes self.new) result buf.now };
+        ensures moved { OutcomeAppends (bytes self.old) (bytes self.new) result buf.now };
 }
 
-impl<W: Write> Writing for W {
+impl<W: Write> RawWriter for W {
     ghost bytes = { λ w. W.contents w };
 
     ghost answers = { λ _. None };
 
-    fn ask(&mut self, buf: &[u8]) -> Answer {
-        answer_of(self.write(buf))
+    fn ask(&mut self, buf: &[u8]) -> CallOutcome {
+        call_outcome(self.write(buf))
     }
 }
 
-/// Writes once, and again while the write is interrupted and a retry is left. Failures are counted;
-/// a write that accepts nothing is one. An empty buffer is not written.
-fn write_counted<D: Writing>(
-    device: &mut D,
-    buf: &[u8],
-    failures: &mut u64,
-) -> Result<usize, DeviceFault>
+/// Writes once, and again while the write is interrupted and a retry is left. A write that accepts
+/// nothing has failed. An empty buffer is not written.
+fn write_patiently<D: RawWriter>(device: &mut D, buf: &[u8]) -> Result<usize, DeviceFault>
     ensures told { 0 < length buf.now
-        → ReportsFirst told_of_write (D.answers device.old) max_retries result
+        → ReportsFirst write_result (D.answers device.old) max_retries result
         (D.answers device.new) }
     ensures empty { length buf.now ≡ 0 → (result ≡ Ok 0) × (device.new ≡ device.old) }
-    ensures bound { TakesSome result buf.now }
+    ensures bound { AcceptsSome result buf.now }
     ensures bytes { WriteAppends (D.bytes device.old) (D.bytes device.new) result buf.now }
-    ensures counts { failures.new ≡ counted (is_err result) failures.old }
 {
     if buf.is_empty() {
         return Ok(0);
     }
-    let mut tries = REPEATS;
+    let mut tries = MAX_RETRIES;
     'tries: loop {
         match device.ask(buf) {
-            Answer::Moved(0) => return Err(DeviceFault::counted(failures)),
-            Answer::Moved(count) => return Ok(count),
-            Answer::Interrupted if tries > 0 => tries -= 1,
-            Answer::Interrupted => return Err(DeviceFault::counted(failures)),
-            Answer::Failed => return Err(DeviceFault::counted(failures)),
+            CallOutcome::Moved(0) => return Err(DeviceFault),
+            CallOutcome::Moved(count) => return Ok(count),
+            CallOutcome::Interrupted if tries > 0 => tries -= 1,
+            CallOutcome::Interrupted => return Err(DeviceFault),
+            CallOutcome::Failed => return Err(DeviceFault),
         }
     }
 }
 
-/// A sink over a writer. It knows the bytes that the writer knows.
+/// A sink over a writer. It knows the bytes that the writer knows. A clause sees the writer, and
+/// what is counted.
 #[derive(Drop)]
 pub struct WriteSink<W> {
     writer: W,
-    failures: u64,
+    counts: WriteCounts,
+}
+
+impl<W> Model for WriteSink<W> {
+    ghost use Rattle.luks_io.specs.Writer.{WriteSinkModel};
+
+    ghost Value = { WriteSinkModel W };
+
+    ghost view = { λ s. record { writer = s.writer; counts = s.counts } };
 }
 
 impl<W: Write> WriteSink<W> {
-    /// A sink over this writer, with no failure so far.
+    /// A sink over this writer, with nothing counted so far.
     pub fn new(writer: W) -> WriteSink<W>
         ensures bytes { ⟦<WriteSink<W> as Sink>⟧.written result ≡ W.contents writer }
-        ensures failures { ⟦<WriteSink<W> as Sink>⟧.failures result ≡ 0 }
+        ensures counts { ⟦<WriteSink<W> as Sink>⟧.counts result
+            ≡ record { failures = 0; needless = 0 } }
     {
         WriteSink {
             writer,
-            failures: 0,
+            counts: WriteCounts::new(),
         }
     }
 
@@ -96,18 +104,20 @@ impl<W: Write> WriteSink<W> {
 impl<W: Write> Sink for WriteSink<W> {
     ghost written = { λ s. W.contents s.writer };
 
-    ghost failures = { λ s. s.failures };
+    ghost counts = { λ s. s.counts };
 
     /// Writes a prefix of the buffer. A writer that accepts nothing of a buffer with bytes has
     /// failed. An empty buffer does not reach the writer.
     fn write(&mut self, buf: &[u8]) -> Result<usize, DeviceFault>
-        ensures bound { TakesSome result buf.now }
+        ensures bound { AcceptsSome result buf.now }
         ensures bytes { WriteAppends (⟦<WriteSink<W> as Sink>⟧.written self.old)
             (⟦<WriteSink<W> as Sink>⟧.written self.new) result buf.now }
-        ensures counts { ⟦<WriteSink<W> as Sink>⟧.failures self.new
-            ≡ counted (is_err result) (⟦<WriteSink<W> as Sink>⟧.failures self.old) }
-        ensures empty { length buf.now ≡ 0 → (result ≡ Ok 0) × (self.new ≡ self.old) }
+        ensures counts { ⟦<WriteSink<W> as Sink>⟧.counts self.new
+            ≡ after_write result (length buf.now) (⟦<WriteSink<W> as Sink>⟧.counts self.old) }
+        ensures empty { length buf.now ≡ 0 → (result ≡ Ok 0)
+            × (self.new.writer ≡ self.old.writer) }
     {
-        write_counted(&mut self.writer, buf, &mut self.failures)
+        let answer = write_patiently(&mut self.writer, buf);
+        self.counts.count(answer, buf.len())
     }
 }

@@ -16,8 +16,9 @@ const BYTES: &[u8] = b"abcdefghij";
 type Step = (Option<u64>, usize, Result<usize, DeviceFault>, usize, u64);
 
 /// A source with capacity for four bytes, over one that gives at most so many bytes a call, or all,
-/// and fails at the call of this number. In the end that one has failed and hit its end so often.
-type Row = (&'static str, (usize, u64), &'static [Step], (u64, u64));
+/// and fails at the call of this number. In the end that one has counted so many failures, ends and
+/// needless calls. Each call after a failure is needless.
+type Row = (&'static str, (usize, u64), &'static [Step], (u64, u64, u64));
 
 static ROWS: [Row; 7] = [
     (
@@ -31,7 +32,7 @@ static ROWS: [Row; 7] = [
             (None, 0, Ok(0), 4, 2),
             (None, 1, Ok(1), 4, 2),
         ],
-        (0, 0),
+        (0, 0, 0),
     ),
     (
         "takes nothing ahead that is not announced",
@@ -44,7 +45,7 @@ static ROWS: [Row; 7] = [
             (None, 1, Ok(1), 3, 4),
             (None, 1, Ok(1), 2, 5),
         ],
-        (0, 0),
+        (0, 0, 0),
     ),
     // At the third read one byte is still announced.
     (
@@ -56,7 +57,7 @@ static ROWS: [Row; 7] = [
             (None, 1, Ok(1), 0, 3),
             (None, 1, Ok(0), 0, 4),
         ],
-        (0, 1),
+        (0, 1, 0),
     ),
     (
         "what is held counts as announced",
@@ -70,7 +71,7 @@ static ROWS: [Row; 7] = [
             (Some(2), 0, Ok(0), 4, 3),
             (Some(0), 1, Ok(1), 3, 4),
         ],
-        (0, 0),
+        (0, 0, 0),
     ),
     (
         "hands on more than a later announcement",
@@ -80,7 +81,7 @@ static ROWS: [Row; 7] = [
             (Some(2), 4, Ok(3), 6, 1),
             (None, 2, Ok(2), 4, 2),
         ],
-        (0, 0),
+        (0, 0, 0),
     ),
     (
         "hands on what came of few bytes",
@@ -92,7 +93,7 @@ static ROWS: [Row; 7] = [
             (None, 1, Ok(1), 5, 2),
             (None, 1, Ok(1), 4, 3),
         ],
-        (0, 0),
+        (0, 0, 0),
     ),
     (
         "tells a failure in its turn",
@@ -105,7 +106,7 @@ static ROWS: [Row; 7] = [
             (None, 3, Ok(1), 2, 3),
             (None, 1, Ok(1), 1, 4),
         ],
-        (1, 0),
+        (1, 0, 2),
     ),
 ];
 
@@ -129,9 +130,9 @@ fn check_row(rt: &(impl Abort + AllocGlobal), (name, (piece, failing), steps, la
     for (i, step) in steps.iter().enumerate() {
         assert_at(rt, name, i, is_as_told(&mut source, step));
     }
-    let below = source.get_ref();
-    assert_at(rt, name, steps.len(), (below.failures, below.ends) == *last);
-    assert_at(rt, name, steps.len(), below.empty_calls == 0);
+    let counts = source.get_ref().counts;
+    let counted = (counts.failures, counts.ends, counts.needless);
+    assert_at(rt, name, steps.len(), counted == *last);
 }
 
 #[test]
@@ -157,7 +158,7 @@ fn check_bytes(
     for part in buf.chunks_mut(piece.max(1)) {
         count = fill(&mut source, part).map_or(99, |got| got.saturating_add(count));
     }
-    let all = count == 10 && buf == *b"abcdefghij--" && source.get_ref().ends == ends;
+    let all = count == 10 && buf == *b"abcdefghij--" && source.get_ref().counts.ends == ends;
     assert!(rt;
         all,
         "{announced} announced, room for {room}, in pieces of {piece}"

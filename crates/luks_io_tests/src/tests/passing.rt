@@ -3,10 +3,10 @@
 
 use super::assert_at;
 use luks_io::ahead::AheadSource;
-use luks_io::change::Change;
 use luks_io::memory::{MemSink, MemSource};
 use luks_io::sink::WriteFault;
 use luks_io::source::Source;
+use luks_io::transform::Transform;
 use luks_test_support::devices::{Flaky, Leaky};
 use std::process::Abort;
 use std::test::Fail;
@@ -14,14 +14,14 @@ use std::test::Fail;
 // Turns bytes round.
 struct Reversed;
 
-impl Change for Reversed {
+impl Transform for Reversed {
     ghost use Rattle.std.specs.Prelude.{⊤, reverse};
 
-    ghost takes = { λ _ _. ⊤ };
+    ghost accepts = { λ _ _. ⊤ };
 
-    ghost changed = { λ _ bytes. reverse bytes };
+    ghost transformed = { λ _ bytes. reverse bytes };
 
-    fn change(&self, bytes: &mut [u8]) {
+    fn apply(&self, bytes: &mut [u8]) {
         bytes.reverse();
     }
 }
@@ -81,7 +81,7 @@ fn check_row(
     assert_at(rt, name, 0, is_first && source.get_ref().left() == 4);
     let mut sink = Leaky::new(rt.alloc(), *room, 9, 99).expect(rt, "memory");
     for (count, answer) in *passes {
-        let got = source.pass_on(*count, &Reversed, &mut sink);
+        let got = source.forward_buffered(*count, &Reversed, &mut sink);
         assert_at(rt, name, 1, got == *answer);
     }
     let is_alone = source.get_ref().calls() == 1;
@@ -89,7 +89,7 @@ fn check_row(
     let is_counted = sink.calls() == *calls && sink.failures() == *failures;
     assert_at(rt, name, 3, is_counted);
     assert_at(rt, name, 4, gives(&mut source, held, 1));
-    let more = source.pass_on(1, &Reversed, &mut sink);
+    let more = source.forward_buffered(1, &Reversed, &mut sink);
     assert_at(rt, name, 5, more.is_none());
     assert_at(rt, name, 6, source.get_ref().calls() == 1);
     assert_at(rt, name, 7, gives(&mut source, b"gh", 2));
@@ -110,7 +110,7 @@ fn sources_that_hold_nothing_pass_nothing_on(rt: HostRuntime) -> Result<(), Fail
         &rt,
         "a source",
         0,
-        flaky.pass_on(1, &Reversed, &mut sink).is_none(),
+        flaky.forward_buffered(1, &Reversed, &mut sink).is_none(),
     );
     assert_at(&rt, "a source", 1, flaky.calls() == 0);
     let mut memory = MemSource::new(b"abc");
@@ -118,7 +118,7 @@ fn sources_that_hold_nothing_pass_nothing_on(rt: HostRuntime) -> Result<(), Fail
         &rt,
         "memory",
         0,
-        memory.pass_on(1, &Reversed, &mut sink).is_none(),
+        memory.forward_buffered(1, &Reversed, &mut sink).is_none(),
     );
     assert_at(&rt, "memory", 1, memory.left() == b"abc".as_slice());
     let mut ahead = AheadSource::new(rt.alloc(), 4, Flaky::new(b"abc", 0, 99))?;
@@ -127,7 +127,7 @@ fn sources_that_hold_nothing_pass_nothing_on(rt: HostRuntime) -> Result<(), Fail
         &rt,
         "ahead",
         0,
-        ahead.pass_on(1, &Reversed, &mut sink).is_none(),
+        ahead.forward_buffered(1, &Reversed, &mut sink).is_none(),
     );
     assert_at(&rt, "ahead", 1, ahead.get_ref().calls() == 0);
     assert_at(&rt, "the sink", 0, sink.as_slice().is_empty());

@@ -33,7 +33,12 @@ fn a_flaky_source_fails_once_and_gives_pieces(rt: HostRuntime) {
         let got = source.read(&mut buf);
         assert_at(&rt, "flaky", i, got == *answer && source.left() == *left);
     }
-    assert_at(&rt, "flaky", 5, source.calls() == 5 && source.failures == 1);
+    assert_at(
+        &rt,
+        "flaky",
+        5,
+        source.calls() == 5 && source.counts.failures == 1,
+    );
     let got = Flaky::new(b"abcdefgh", 0, 9).read(&mut buf[..7]);
     assert_at(
         &rt,
@@ -50,7 +55,7 @@ fn a_broken_source_gives_so_many_bytes(rt: HostRuntime) {
         let got = source.read(&mut [0; 4]);
         assert_at(&rt, "broken", i, got == *answer && source.left() == *left);
     }
-    assert_at(&rt, "broken", 4, source.failures == 2);
+    assert_at(&rt, "broken", 4, source.counts.failures == 2);
 }
 
 static LEAKY: [(&[u8], Result<usize, DeviceFault>); 5] = [

@@ -2,8 +2,7 @@ ghost use Rattle.std.specs.Prelude.{◌≡◌, length};
 
 use super::mac::check_digest;
 use super::{HASHES, assert_hex, assert_in, number};
-use luks_kdf::{Hash, digest, xor_into};
-use luks_stripes::{AfSplitter, af_merge, af_split};
+use luks_kdf::{AfSplitter, Hash, af_merge, af_split, digest, xor_into};
 use std::process::Abort;
 
 // Splits the key, and asserts that the stripes begin with the random ones and merge to the key.

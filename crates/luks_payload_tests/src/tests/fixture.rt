@@ -5,9 +5,9 @@ use luks_header::sector_size::SectorSize;
 use luks_header::segment::{Segment, SegmentParts};
 use luks_io::DeviceFault;
 use luks_io::ahead::AheadSource;
-use luks_io::change::Change;
 use luks_io::sink::{Sink, WriteFault};
 use luks_io::source::{Source, fill};
+use luks_io::transform::Transform;
 use luks_payload::fault::VolumeFault;
 use luks_payload::pump::Pump;
 use luks_payload::state::Step;
@@ -111,9 +111,7 @@ struct Passing<S> {
 impl<S: Source> Source for Passing<S> {
     ghost to_come = { λ p. S.to_come p.source };
 
-    ghost failures = { λ p. S.failures p.source };
-
-    ghost ends = { λ p. S.ends p.source };
+    ghost counts = { λ p. S.counts p.source };
 
     fn read(&mut self, buf: &mut [u8]) -> Result<usize, DeviceFault> {
         self.source.read(buf)
@@ -123,13 +121,13 @@ impl<S: Source> Source for Passing<S> {
         self.source.announce(count);
     }
 
-    fn pass_on<C: Change, O: Sink>(
+    fn forward_buffered<C: Transform, O: Sink>(
         &mut self,
         count: usize,
-        change: &C,
+        transform: &C,
         sink: &mut O,
     ) -> Option<Result<(), WriteFault>> {
-        let answer = self.source.pass_on(count, change, sink);
+        let answer = self.source.forward_buffered(count, transform, sink);
         if answer.is_some() {
             self.passed = self.passed.saturating_add(1);
         }

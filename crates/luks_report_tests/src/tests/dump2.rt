@@ -1,7 +1,7 @@
 //! What is printed of LUKS2 headers.
 
-use super::fixture::{assert_page, check_findings, read};
-use luks_dump::dump::{dump_page, uuid_page};
+use super::fixture::{assert_text, check_findings, read};
+use luks_dump::dump::{dump_text, uuid_text};
 use luks_test_support::header2::{SIZE, empty_image, write_header};
 use std::process::Abort;
 
@@ -134,11 +134,11 @@ fn check_dump(rt: &(impl Abort + AllocGlobal), row: &Dump) {
     let json = joined(rt, &json);
     let image = image(rt, [Some(one), Some(other)], json.as_str());
     let header = read(rt, &image);
-    let page = dump_page(rt.alloc(), &header).expect(rt, "memory");
+    let page = dump_text(rt.alloc(), &header).expect(rt, "memory");
     let wanted = joined(rt, &[VERSION, first, HEADER_LINES, rest[0], rest[1]]);
-    assert_page(rt, page.as_str(), wanted.as_str());
-    let page = uuid_page(rt.alloc(), &header).expect(rt, "memory");
-    assert_page(rt, page.as_str(), UUID);
+    assert_text(rt, page.as_str(), wanted.as_str());
+    let page = uuid_text(rt.alloc(), &header).expect(rt, "memory");
+    assert_text(rt, page.as_str(), UUID);
 }
 
 #[test]

@@ -3,7 +3,7 @@
 use luks_check::check::findings;
 use luks_header::header::{Header, read_header};
 use luks_io::memory::MemSource;
-use luks_report::check::check_page;
+use luks_report::check::check_text;
 use luks_report::message::Message;
 use std::process::Abort;
 
@@ -15,7 +15,7 @@ pub fn read(rt: &(impl Abort + AllocGlobal), image: &[u8]) -> Header {
 }
 
 /// Asserts that a text is as it has to be.
-pub fn assert_page(rt: &impl Abort, page: &str, wanted: &str) {
+pub fn assert_text(rt: &impl Abort, page: &str, wanted: &str) {
     assert!(rt; page == wanted, "{page}, and not {wanted}");
 }
 
@@ -23,13 +23,13 @@ pub fn assert_page(rt: &impl Abort, page: &str, wanted: &str) {
 pub fn check_findings(rt: &(impl Abort + AllocGlobal), image: &[u8], wanted: &str) {
     let header = read(rt, image);
     let found = findings(rt.alloc(), &header).expect(rt, "memory");
-    assert_page(rt, found.as_str(), wanted);
+    assert_text(rt, found.as_str(), wanted);
     let (page, message) = if wanted.is_empty() {
         ("clean\n", Message::Done)
     } else {
         (wanted, Message::Findings)
     };
-    let checked = check_page(rt.alloc(), &header).expect(rt, "memory");
-    assert_page(rt, checked.0.as_str(), page);
+    let checked = check_text(rt.alloc(), &header).expect(rt, "memory");
+    assert_text(rt, checked.0.as_str(), page);
     assert!(rt; checked.1 == message, "{page}");
 }

@@ -1,7 +1,7 @@
 use Rattle.std.proofs.Common.{◌∙◌, ◌*◌, ap, sym, arith}
 use Rattle.std.proofs.lemmas.Result.{err_from_is_err_and}
 use Rattle.luks2_binary.specs.Choice2.{with_valid_primary}
-use Rattle.luks2_binary.specs.Cost2.{reach2_of, probe_end}
+use Rattle.luks2_binary.specs.ReadLen2.{reach2_of, probe_end}
 use Rattle.luks2_binary.proofs.ChoiceLemmas.{beside_same, chosen_primary, found_chosen, found_early, found_over}
 use Rattle.luks2_binary.proofs.ChoiceLemmas.{found_settled, no_size_valid, primary_within, reach_first, reach_other}
 use Rattle.luks2_binary.proofs.ChoiceLemmas.{reach_primary, size_valid}
@@ -21,7 +21,7 @@ returns-in_err-size-clause-early g c =
 -- the primary header is not valid
 pub returns-in_default-clause-chosen : goal.returns-in_default-clause-chosen
 returns-in_default-clause-chosen g c =
-    found_chosen c.search.new.area c.search.new.ended c.search.result
+    found_chosen c.search.new.area.bytes c.search.new.area.ended c.search.result
     (λ image front. no_size_valid image 0
     (sym c.in_default.is ∙ c.in_ok-size.ensures.valid image (c.search.ensures.grew.fronts image front)))
     c.search.ensures.found
@@ -35,21 +35,22 @@ returns-in_default-clause-within g c = λ image front.
 pub returns-in_default-clause-settled : goal.returns-in_default-clause-settled
 returns-in_default-clause-settled g c =
     let grew = c.search.ensures.grew in
-    found_settled c.search.new.area c.search.new.ended c.search.result
+    found_settled c.search.new.area.bytes c.search.new.area.ended c.search.result
     (λ image front. no_size_valid image 0
     (sym c.in_default.is ∙ c.in_ok-size.ensures.valid image (grew.fronts image front)))
     (λ image front goes.
     omega (
       arith,
       c.in_ok-size.ensures.settled image (grew.fronts image front)
-          (not_ended c.header_at.new.ended c.search.new.ended grew.stays goes),
+          (not_ended c.header_at.new.area.ended c.search.new.area.ended grew.stays goes),
       grew.longer,
     ))
     c.search.ensures.settled
 
 pub returns-in_default-clause-over : goal.returns-in_default-clause-over
 returns-in_default-clause-over g c =
-    found_over c.header_at.new.area c.search.new.area c.args.ended.now c.header_at.new.ended c.search.new.ended
+    found_over c.header_at.new.area.bytes c.search.new.area.bytes c.args.area.now.ended c.header_at.new.area.ended
+    c.search.new.area.ended
     c.search.result c.search.ensures.grew.fronts
     (λ image front. no_size_valid image 0
     (sym c.in_default.is ∙ c.in_ok-size.ensures.valid image (c.search.ensures.grew.fronts image front)))
@@ -57,7 +58,7 @@ returns-in_default-clause-over g c =
 
 pub returns-in_default-clause-early : goal.returns-in_default-clause-early
 returns-in_default-clause-early g c =
-    found_early c.search.new.area c.search.new.ended c.search.result
+    found_early c.search.new.area.bytes c.search.new.area.ended c.search.result
     (λ image front. no_size_valid image 0
     (sym c.in_default.is ∙ c.in_ok-size.ensures.valid image (c.search.ensures.grew.fronts image front)))
     c.search.ensures.early
@@ -66,7 +67,7 @@ returns-in_default-clause-early g c =
 pub returns-in_err-grow-clause-within : goal.returns-in_err-grow-clause-within
 returns-in_err-grow-clause-within g c = λ image front.
     let first = c.grow.ensures.grew.fronts image front in
-    primary_within image c.args.area.now c.header_at.new.area c.grow.new.area c.in-Some.size
+    primary_within image c.args.area.now.bytes c.header_at.new.area.bytes c.grow.new.area.bytes c.in-Some.size
     (sym c.in-Some.is ∙ c.in_ok-size.ensures.valid image first) (c.header_at.ensures.within image first)
     c.grow.ensures.within
 
@@ -82,16 +83,16 @@ pub returns-clause-chosen : goal.returns-clause-chosen
 returns-clause-chosen g c = λ image front.
     let first = c.grow.ensures.grew.fronts image front in
     let is = size_valid image 0 c.in-Some.size (sym c.in-Some.is ∙ c.in_ok-size.ensures.valid image first) in
-    c.beside_primary.ensures
+    c.with_valid_primary.ensures
     ∙ ap with_valid_primary c.as_slice.ensures.value
-    ∙ beside_same c.grow.new.area c.grow.new.ended image front is.0
+    ∙ beside_same c.grow.new.area.bytes c.grow.new.area.ended image front is.0
     (λ goes. omega (arith, c.in_ok-grow.ensures.settled goes, is.1))
     ∙ sym (chosen_primary image is.0)
 
 pub returns-clause-within : goal.returns-clause-within
 returns-clause-within g c = λ image front.
     let first = c.grow.ensures.grew.fronts image front in
-    primary_within image c.args.area.now c.header_at.new.area c.grow.new.area c.in-Some.size
+    primary_within image c.args.area.now.bytes c.header_at.new.area.bytes c.grow.new.area.bytes c.in-Some.size
     (sym c.in-Some.is ∙ c.in_ok-size.ensures.valid image first) (c.header_at.ensures.within image first)
     c.grow.ensures.within
 
@@ -105,7 +106,8 @@ pub returns-clause-over : goal.returns-clause-over
 returns-clause-over g c = λ image front.
     let first = c.grow.ensures.grew.fronts image front in
     let is = size_valid image 0 c.in-Some.size (sym c.in-Some.is ∙ c.in_ok-size.ensures.valid image first) in
-    over_joined image c.header_at.new.area c.grow.new.area c.args.ended.now c.header_at.new.ended c.grow.new.ended
+    over_joined image c.header_at.new.area.bytes c.grow.new.area.bytes c.args.area.now.ended c.header_at.new.area.ended
+    c.grow.new.area.ended
     (probe_end image 0) (2 * c.in-Some.size) (reach2_of image) first front
     (c.in_ok-size.ensures.over image first) c.in_ok-grow.ensures.over (reach_first image)
     (omega (arith, reach_primary image is.0, is.1))

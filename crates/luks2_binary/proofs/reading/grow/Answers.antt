@@ -1,27 +1,32 @@
-use Rattle.std.proofs.Common.{◌-◌, Err, ap, length, min}
+use Rattle.std.proofs.Common.{◌∙◌, ◌-◌, Err, ap, sym, length, min}
+use Rattle.std.specs.Prelude.{not}
 use Rattle.std.proofs.lemmas.Result.{err_from_is_err_and}
-use Rattle.luks2_binary.proofs.FrontLemmas.{ended_short, grew_by, not_grown}
+use Rattle.luks_area.specs.Area.{HeaderAreaModel}
+use Rattle.luks2_binary.proofs.FrontLemmas.{ended_is, ended_short, grew_by, not_grown}
 use Rattle.luks2_binary.proofs.reading.grow.Goals as goal
 
-pub returns-in_err-whole-clause-early : goal.returns-in_err-whole-clause-early
-returns-in_err-whole-clause-early g c =
+pub returns-in_err-extend_to-clause-early : goal.returns-in_err-extend_to-clause-early
+returns-in_err-extend_to-clause-early g c =
     let p = err_from_is_err_and c.from_residual.result c.from_residual.ensures.1 in
-    let stopped = c.in_err-whole.ensures in
+    let stopped = c.in_err-extend_to.ensures in
     rw (p.1, p.2) (λ stops.
     let same = stopped.memory (ap Err stops) in
-    not_grown c.args.area.now c.extend_to.new.self c.args.end same.0
+    not_grown c.args.area.now.bytes c.extend_to.new.self.bytes c.args.end
+    (ap (λ (area : HeaderAreaModel). area.bytes) same.0)
     (λ all. (let answered = stopped.already all in let wrong = answered.0 in cc)))
 
 pub returns-clause-grew : goal.returns-clause-grew
 returns-clause-grew g c =
-    let old = c.args.area.now in
-    let new = c.extend_to.new.self in
-    rw (c.if-ended.false)
-    (grew_by old new _ _ _ _ _ c.in_ok-whole.ensures.held
+    let old = c.args.area.now.bytes in
+    let new = c.extend_to.new.self.bytes in
+    let goes = sym c.has_ended.ensures ∙ c.if-has_ended.false in
+    let ended =
+    ended_is c.extend_to.result c.in_ok-extend_to.field-0 _ _ c.in_ok-extend_to.was goes c.extend_to.ensures.ended in
+    rw (goes, ended) (grew_by old new (not c.in_ok-extend_to.field-0) _ _ _ _ _ c.in_ok-extend_to.ensures.held
     (λ known knows. (
       min (c.args.end - length old) (length known),
-      c.in_ok-whole.ensures.taken known knows,
-      ended_short old new known c.in_ok-whole.whole _ c.args.end (c.in_ok-whole.ensures.taken known knows)
-          c.in_ok-whole.ensures.whole,
+      c.in_ok-extend_to.ensures.taken known knows,
+      ended_short old new known c.in_ok-extend_to.field-0 _ c.args.end (c.in_ok-extend_to.ensures.taken known knows)
+          c.in_ok-extend_to.ensures.whole,
     ))
-    c.in_ok-whole.ensures.ends)
+    c.in_ok-extend_to.ensures.ends c.in_ok-extend_to.ensures.reads c.extend_to.ensures.needed)

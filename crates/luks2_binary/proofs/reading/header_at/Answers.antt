@@ -1,7 +1,7 @@
 use Rattle.std.proofs.Common.{◌∙◌, ◌+◌, ◌≤◌, ap, length, arith}
 use Rattle.std.specs.Bool.{then_some}
 use Rattle.std.proofs.lemmas.Result.{err_from_is_err_and}
-use Rattle.luks2_binary.specs.Cost2.{probe_end}
+use Rattle.luks2_binary.specs.ReadLen2.{probe_end}
 use Rattle.luks2_binary.proofs.AgreeLemmas.{fit_here, no_size, reach_fit, reach_least, reach_unfit, short-valid}
 use Rattle.luks2_binary.proofs.AgreeLemmas.{unfit_here, valid_here, whole_image}
 use Rattle.luks2_binary.proofs.FrontLemmas.{over_joined}
@@ -22,7 +22,8 @@ returns-in_err-grow-clause-early g c =
 pub returns-then-not-branch-clause-valid : goal.returns-then-not-branch-clause-valid
 returns-then-not-branch-clause-valid g c =
     λ image front.
-    let all = whole_image c.grow.new.area c.grow.new.ended image c.in_ok-grow.field-0 (c.args.place + 4096) front
+    let all = whole_image c.grow.new.area.bytes c.grow.new.area.ended image c.in_ok-grow.field-0 (c.args.place + 4096)
+    front
     c.in_ok-grow.ensures.whole c.in_ok-grow.ensures.settled c.if-not-branch.true in
     let short = short-fits image c.args.place (omega (arith, all.1, ap length all.0)) in
     no_size image c.args.place (unfit-is_valid image c.args.place short)
@@ -39,7 +40,7 @@ returns-then-not-branch-clause-over g c =
 pub returns-in_default-clause-valid : goal.returns-in_default-clause-valid
 returns-in_default-clause-valid g c =
     λ image front.
-    let unfit = unfit_here c.grow.new.area c.grow.new.ended image c.as_slice.result.now c.args.place front
+    let unfit = unfit_here c.grow.new.area.bytes c.grow.new.area.ended image c.as_slice.result.now c.args.place front
     c.as_slice.ensures.value (c.in_ok-grow.ensures.whole.0 c.if-not-branch.false) c.in_default.ensures.value in
     no_size image c.args.place (unfit-is_valid image c.args.place unfit)
 
@@ -50,15 +51,16 @@ returns-in_default-clause-within g c =
 pub returns-in_default-clause-settled : goal.returns-in_default-clause-settled
 returns-in_default-clause-settled g c =
     λ image front goes.
-    let there : c.args.place + 4096 ≤ length c.grow.new.area = c.in_ok-grow.ensures.whole.0 c.if-not-branch.false in
-    let unfit = unfit_here c.grow.new.area c.grow.new.ended image c.as_slice.result.now c.args.place front
+    let there : c.args.place + 4096 ≤ length c.grow.new.area.bytes = c.in_ok-grow.ensures.whole.0 c.if-not-branch.false
+    in
+    let unfit = unfit_here c.grow.new.area.bytes c.grow.new.area.ended image c.as_slice.result.now c.args.place front
     c.as_slice.ensures.value there c.in_default.ensures.value in
     omega (arith, there, reach_unfit image c.args.place unfit)
 
 pub returns-in_err-grow-2-clause-within : goal.returns-in_err-grow-2-clause-within
 returns-in_err-grow-2-clause-within g c =
     λ image front.
-    let fit = fit_here c.grow.new.area c.grow.new.ended image c.as_slice.result.now c.args.place
+    let fit = fit_here c.grow.new.area.bytes c.grow.new.area.ended image c.as_slice.result.now c.args.place
     (c.grow-2.ensures.grew.fronts image front) c.as_slice.ensures.value
     (c.in_ok-grow.ensures.whole.0 c.if-not-branch.false) c.in-Some.size c.in-Some.ensures.value in
     omega (arith, c.grow.ensures.within, c.grow-2.ensures.within, reach_fit image c.args.place fit.0, fit.1)
@@ -67,7 +69,7 @@ pub returns-in_err-grow-2-clause-early : goal.returns-in_err-grow-2-clause-early
 returns-in_err-grow-2-clause-early g c =
     let p = err_from_is_err_and c.from_residual-in_err-grow-2.result c.from_residual-in_err-grow-2.ensures.1 in
     rw (p.1, p.2) (λ stops image front.
-    let fit = fit_here c.grow.new.area c.grow.new.ended image c.as_slice.result.now c.args.place
+    let fit = fit_here c.grow.new.area.bytes c.grow.new.area.ended image c.as_slice.result.now c.args.place
     (c.grow-2.ensures.grew.fronts image front) c.as_slice.ensures.value
     (c.in_ok-grow.ensures.whole.0 c.if-not-branch.false) c.in-Some.size c.in-Some.ensures.value in
     omega (arith, c.in_err-grow-2.ensures.early stops, reach_fit image c.args.place fit.0, fit.1))
@@ -76,10 +78,10 @@ returns-in_err-grow-2-clause-early g c =
 pub returns-then-not-branch-2-clause-valid : goal.returns-then-not-branch-2-clause-valid
 returns-then-not-branch-2-clause-valid g c =
     λ image front.
-    let fit = fit_here c.grow.new.area c.grow.new.ended image c.as_slice.result.now c.args.place
+    let fit = fit_here c.grow.new.area.bytes c.grow.new.area.ended image c.as_slice.result.now c.args.place
     (c.grow-2.ensures.grew.fronts image front) c.as_slice.ensures.value
     (c.in_ok-grow.ensures.whole.0 c.if-not-branch.false) c.in-Some.size c.in-Some.ensures.value in
-    let all = whole_image c.grow-2.new.area c.grow-2.new.ended image c.in_ok-grow-2.field-0
+    let all = whole_image c.grow-2.new.area.bytes c.grow-2.new.area.ended image c.in_ok-grow-2.field-0
     (c.args.place + c.in-Some.size) front
     c.in_ok-grow-2.ensures.whole c.in_ok-grow-2.ensures.settled c.if-not-branch-2.true in
     no_size image c.args.place (short-valid image c.args.place fit.0 (omega (arith, all.1, ap length all.0, fit.1)))
@@ -87,7 +89,7 @@ returns-then-not-branch-2-clause-valid g c =
 pub returns-then-not-branch-2-clause-within : goal.returns-then-not-branch-2-clause-within
 returns-then-not-branch-2-clause-within g c =
     λ image front.
-    let fit = fit_here c.grow.new.area c.grow.new.ended image c.as_slice.result.now c.args.place
+    let fit = fit_here c.grow.new.area.bytes c.grow.new.area.ended image c.as_slice.result.now c.args.place
     (c.grow-2.ensures.grew.fronts image front) c.as_slice.ensures.value
     (c.in_ok-grow.ensures.whole.0 c.if-not-branch.false) c.in-Some.size c.in-Some.ensures.value in
     omega (arith, c.grow.ensures.within, c.grow-2.ensures.within, reach_fit image c.args.place fit.0, fit.1)
@@ -96,10 +98,11 @@ pub returns-then-not-branch-2-clause-over : goal.returns-then-not-branch-2-claus
 returns-then-not-branch-2-clause-over g c =
     λ image front.
     let first = c.grow-2.ensures.grew.fronts image front in
-    let fit = fit_here c.grow.new.area c.grow.new.ended image c.as_slice.result.now c.args.place
+    let fit = fit_here c.grow.new.area.bytes c.grow.new.area.ended image c.as_slice.result.now c.args.place
     first c.as_slice.ensures.value
     (c.in_ok-grow.ensures.whole.0 c.if-not-branch.false) c.in-Some.size c.in-Some.ensures.value in
-    over_joined image c.grow.new.area c.grow-2.new.area c.args.ended.now c.grow.new.ended c.grow-2.new.ended
+    over_joined image c.grow.new.area.bytes c.grow-2.new.area.bytes c.args.area.now.ended c.grow.new.area.ended
+    c.grow-2.new.area.ended
     (c.args.place + 4096) (c.args.place + c.in-Some.size) (probe_end image c.args.place) first front
     c.in_ok-grow.ensures.over c.in_ok-grow-2.ensures.over (reach_least image c.args.place)
     (omega (arith, reach_fit image c.args.place fit.0, fit.1))
@@ -107,19 +110,21 @@ returns-then-not-branch-2-clause-over g c =
 pub returns-clause-valid : goal.returns-clause-valid
 returns-clause-valid g c =
     λ image front.
-    let there : c.args.place + 4096 ≤ length c.grow.new.area = c.in_ok-grow.ensures.whole.0 c.if-not-branch.false in
-    let fit = fit_here c.grow.new.area c.grow.new.ended image c.as_slice.result.now c.args.place
+    let there : c.args.place + 4096 ≤ length c.grow.new.area.bytes = c.in_ok-grow.ensures.whole.0 c.if-not-branch.false
+    in
+    let fit = fit_here c.grow.new.area.bytes c.grow.new.area.ended image c.as_slice.result.now c.args.place
     (c.grow-2.ensures.grew.fronts image front) c.as_slice.ensures.value there c.in-Some.size c.in-Some.ensures.value in
     c.then_some.ensures
     ∙ ap (λ b. then_some b c.in-Some.size) c.is_valid.ensures
-    ∙ valid_here c.grow-2.new.area c.grow-2.new.ended image c.as_slice-2.result.now c.args.place c.in-Some.size front
+    ∙ valid_here c.grow-2.new.area.bytes c.grow-2.new.area.ended image c.as_slice-2.result.now c.args.place
+    c.in-Some.size front
     c.as_slice-2.ensures.value (omega (arith, there, c.grow-2.ensures.grew.longer)) fit.1
     (c.in_ok-grow-2.ensures.whole.0 c.if-not-branch-2.false)
 
 pub returns-clause-within : goal.returns-clause-within
 returns-clause-within g c =
     λ image front.
-    let fit = fit_here c.grow.new.area c.grow.new.ended image c.as_slice.result.now c.args.place
+    let fit = fit_here c.grow.new.area.bytes c.grow.new.area.ended image c.as_slice.result.now c.args.place
     (c.grow-2.ensures.grew.fronts image front) c.as_slice.ensures.value
     (c.in_ok-grow.ensures.whole.0 c.if-not-branch.false) c.in-Some.size c.in-Some.ensures.value in
     omega (arith, c.grow.ensures.within, c.grow-2.ensures.within, reach_fit image c.args.place fit.0, fit.1)
@@ -127,8 +132,9 @@ returns-clause-within g c =
 pub returns-clause-settled : goal.returns-clause-settled
 returns-clause-settled g c =
     λ image front goes.
-    let there : c.args.place + 4096 ≤ length c.grow.new.area = c.in_ok-grow.ensures.whole.0 c.if-not-branch.false in
-    let fit = fit_here c.grow.new.area c.grow.new.ended image c.as_slice.result.now c.args.place
+    let there : c.args.place + 4096 ≤ length c.grow.new.area.bytes = c.in_ok-grow.ensures.whole.0 c.if-not-branch.false
+    in
+    let fit = fit_here c.grow.new.area.bytes c.grow.new.area.ended image c.as_slice.result.now c.args.place
     (c.grow-2.ensures.grew.fronts image front) c.as_slice.ensures.value there c.in-Some.size c.in-Some.ensures.value in
     let whole = c.in_ok-grow-2.ensures.whole.0 c.if-not-branch-2.false in
     omega (arith, there, whole, c.grow-2.ensures.grew.longer, reach_fit image c.args.place fit.0, fit.1)

@@ -1,4 +1,4 @@
-use Rattle.std.proofs.Common.{◌∙◌, ◌<◌, ap, sym, refl, length, get_or, arith}
+use Rattle.std.proofs.Common.{◌∙◌, ◌<◌, ap, sym, length, get_or, arith}
 use Rattle.std.specs.Prelude.{option_and_then}
 use Rattle.std.proofs.lemmas.Result.{err_from_is_err_and}
 use Rattle.luks2_binary.specs.Choice2.{found_at}
@@ -11,10 +11,9 @@ use Rattle.luks2_binary.proofs.reading.search.Goals as goal
 
 pub loop-place-init : goal.loop-place-init
 loop-place-init g c = record {
-  searched = λ image front. searched_none image c.args.area.now c.args.ended.now;
+  searched = λ image front. searched_none image c.args.area.now.bytes c.args.area.now.ended;
   over = λ image front goes found. absurd (cc);
-  grew = grew_none c.args.area.now c.args.ended.now _ _;
-  reads = refl;
+  grew = grew_none c.args.area.now.bytes c.args.area.now.ended _ _;
 }
 
 pub header_at-requires : goal.header_at-requires
@@ -27,7 +26,8 @@ header_at-requires g c =
 pub returns-in_err-header_at-clause-within : goal.returns-in_err-header_at-clause-within
 returns-in_err-header_at-clause-within g c = λ image front.
     let grew = c.header_at.ensures.grew in
-    searched_within image c.args.area.now c.loop-place.area _ c.loop-place.ended _ c.loop-place.place-index _
+    searched_within image c.args.area.now.bytes c.loop-place.area.bytes _ c.loop-place.area.ended _
+    c.loop-place.place-index _
     c.places-place-items.ensures c.loop-place-test.true
     (c.loop-place.invariant.searched image (grew.fronts image front)) grew.longer grew.stays
     (c.header_at.ensures.within image front)
@@ -37,7 +37,8 @@ returns-in_err-header_at-clause-early g c =
     let p = err_from_is_err_and c.from_residual.result c.from_residual.ensures.1 in
     let grew = c.header_at.ensures.grew in
     rw (p.1, p.2) (λ is image front.
-    let below = reach_below image c.args.area.now c.loop-place.area _ c.loop-place.ended _ c.loop-place.place-index _
+    let below = reach_below image c.args.area.now.bytes c.loop-place.area.bytes _ c.loop-place.area.ended _
+    c.loop-place.place-index _
     c.places-place-items.ensures c.loop-place-test.true
     (c.loop-place.invariant.searched image (grew.fronts image front)) grew.longer grew.stays
     (c.header_at.ensures.within image front) in
@@ -47,7 +48,8 @@ returns-in_err-header_at-clause-early g c =
 pub valid_header-requires-clause-valid : goal.valid_header-requires-clause-valid
 valid_header-requires-clause-valid g c =
     rw c.as_slice-bytes.ensures.value (some_valid _ _ c.in_ok-header_at.field-0
-    (c.in_ok-header_at.ensures.valid c.header_at.new.area (front_self c.header_at.new.area c.header_at.new.ended))
+    (c.in_ok-header_at.ensures.valid c.header_at.new.area.bytes
+    (front_self c.header_at.new.area.bytes c.header_at.new.area.ended))
     (sym c.is_some.ensures ∙ c.if-is_some.true))
 
 pub valid_header-requires-clause-range : goal.valid_header-requires-clause-range
@@ -61,21 +63,23 @@ returns-then-is_some-clause-found g c = λ image front.
     let some = sym c.is_some.ensures ∙ c.if-is_some.true in
     let place = get_or c.places-place-items.result.now c.loop-place.place-index 0 in
     let grew = c.header_at.ensures.grew in
-    let first = searched_place image c.args.area.now c.loop-place.area _ c.loop-place.ended _
+    let first = searched_place image c.args.area.now.bytes c.loop-place.area.bytes _ c.loop-place.area.ended _
     c.loop-place.place-index _ c.places-place-items.ensures c.loop-place-test.true
     (c.loop-place.invariant.searched image (grew.fronts image front)) grew.longer grew.stays
     (c.header_at.ensures.within image front)
     (some_valid image place c.in_ok-header_at.field-0 (c.in_ok-header_at.ensures.valid image front) some) in
-    let valid = some_valid c.header_at.new.area place c.in_ok-header_at.field-0
-    (c.in_ok-header_at.ensures.valid c.header_at.new.area (front_self c.header_at.new.area c.header_at.new.ended))
+    let valid = some_valid c.header_at.new.area.bytes place c.in_ok-header_at.field-0
+    (c.in_ok-header_at.ensures.valid c.header_at.new.area.bytes
+    (front_self c.header_at.new.area.bytes c.header_at.new.area.ended))
     some in
-    found_least c.header_at.new.area c.header_at.new.ended image c.as_slice-bytes.result.now place
+    found_least c.header_at.new.area.bytes c.header_at.new.area.ended image c.as_slice-bytes.result.now place
     c.valid_header.result front c.as_slice-bytes.ensures.value valid c.valid_header.ensures first
 
 pub returns-then-is_some-clause-within : goal.returns-then-is_some-clause-within
 returns-then-is_some-clause-within g c = λ image front.
     let grew = c.header_at.ensures.grew in
-    searched_within image c.args.area.now c.loop-place.area _ c.loop-place.ended _ c.loop-place.place-index _
+    searched_within image c.args.area.now.bytes c.loop-place.area.bytes _ c.loop-place.area.ended _
+    c.loop-place.place-index _
     c.places-place-items.ensures c.loop-place-test.true
     (c.loop-place.invariant.searched image (grew.fronts image front)) grew.longer grew.stays
     (c.header_at.ensures.within image front)
@@ -84,7 +88,8 @@ pub returns-then-is_some-clause-settled : goal.returns-then-is_some-clause-settl
 returns-then-is_some-clause-settled g c = λ image front goes.
     let place = get_or c.places-place-items.result.now c.loop-place.place-index 0 in
     let grew = c.header_at.ensures.grew in
-    searched_settled image c.args.area.now c.loop-place.area _ c.loop-place.ended _ c.loop-place.place-index _
+    searched_settled image c.args.area.now.bytes c.loop-place.area.bytes _ c.loop-place.area.ended _
+    c.loop-place.place-index _
     c.places-place-items.ensures c.loop-place-test.true
     (c.loop-place.invariant.searched image (grew.fronts image front)) grew.longer grew.stays
     (c.header_at.ensures.within image front)
@@ -96,10 +101,11 @@ pub returns-then-is_some-clause-over : goal.returns-then-is_some-clause-over
 returns-then-is_some-clause-over g c = λ image front.
     let grew = c.header_at.ensures.grew in
     let first = grew.fronts image front in
-    over_here image c.args.area.now c.loop-place.area _ c.loop-place.ended _ c.loop-place.place-index _
+    over_here image c.args.area.now.bytes c.loop-place.area.bytes _ c.loop-place.area.ended _ c.loop-place.place-index _
     c.places-place-items.ensures c.loop-place-test.true
     (c.loop-place.invariant.searched image first) grew.longer grew.stays (c.header_at.ensures.within image front)
-    c.args.ended.now first front (c.loop-place.invariant.over image first) (c.in_ok-header_at.ensures.over image front)
+    c.args.area.now.ended first front (c.loop-place.invariant.over image first)
+    (c.in_ok-header_at.ensures.over image front)
 
 -- none is: the search goes on
 pub loop-place-preserved : goal.loop-place-preserved
@@ -107,7 +113,8 @@ loop-place-preserved g c = record {
   searched = λ image front.
       let place = get_or c.places-place-items.result.now c.loop-place.place-index 0 in
       let grew = c.header_at.ensures.grew in
-      searched_on image c.args.area.now c.loop-place.area _ c.loop-place.ended _ c.loop-place.place-index _
+      searched_on image c.args.area.now.bytes c.loop-place.area.bytes _ c.loop-place.area.ended _
+      c.loop-place.place-index _
       c.places-place-items.ensures c.loop-place-test.true
       (c.loop-place.invariant.searched image (grew.fronts image front)) grew.longer grew.stays
       (c.header_at.ensures.within image front)
@@ -117,19 +124,20 @@ loop-place-preserved g c = record {
   over = λ image front.
       let grew = c.header_at.ensures.grew in
       let first = grew.fronts image front in
-      over_here image c.args.area.now c.loop-place.area _ c.loop-place.ended _ c.loop-place.place-index _
+      over_here image c.args.area.now.bytes c.loop-place.area.bytes _ c.loop-place.area.ended _ c.loop-place.place-index
+      _
       c.places-place-items.ensures c.loop-place-test.true
       (c.loop-place.invariant.searched image first) grew.longer grew.stays (c.header_at.ensures.within image front)
-      c.args.ended.now first front (c.loop-place.invariant.over image first)
+      c.args.area.now.ended first front (c.loop-place.invariant.over image first)
       (c.in_ok-header_at.ensures.over image front);
-  grew = grew_more _ _ _ _ _ _ _ _ _ _ _ _ c.loop-place.invariant.grew c.header_at.ensures.grew;
-  reads = c.in_ok-header_at.ensures.reads ∙ c.loop-place.invariant.reads;
+  grew = grew_more _ _ _ _ _ _ _ _ _ _ _ _ _ c.loop-place.invariant.grew c.in_ok-header_at.ensures.grew;
 }
 
 -- no place has one
 pub returns-clause-found : goal.returns-clause-found
 returns-clause-found g c = λ image front.
-    let none = searched_all image c.args.area.now c.loop-place.area c.loop-place.ended c.loop-place.place-index
+    let none = searched_all image c.args.area.now.bytes c.loop-place.area.bytes c.loop-place.area.ended
+    c.loop-place.place-index
     (c.loop-place.invariant.searched image front)
     (omega (arith, c.loop-place-test.false, ap length c.places-place-items.ensures)) in
     sym (ap (option_and_then (found_at image)) (least_is image ∙ none.0))
@@ -142,7 +150,8 @@ returns-clause-within g c = λ image front.
 pub returns-clause-settled : goal.returns-clause-settled
 returns-clause-settled g c = λ image front goes.
     let so_far = c.loop-place.invariant.searched image front in
-    let none = searched_all image c.args.area.now c.loop-place.area c.loop-place.ended c.loop-place.place-index so_far
+    let none = searched_all image c.args.area.now.bytes c.loop-place.area.bytes c.loop-place.area.ended
+    c.loop-place.place-index so_far
     (omega (arith, c.loop-place-test.false, ap length c.places-place-items.ensures)) in
     omega (arith, so_far.settled goes, none.1, search_reach_is image)
 

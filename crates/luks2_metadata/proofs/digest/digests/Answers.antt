@@ -1,13 +1,13 @@
 use Rattle.std.proofs.Common.{◌≡◌, ◌∙◌, ◌++◌, ◌∷◌, [], ℕ, List, Option, Some, None, sym, ap, arith, length}
 use Rattle.luks2_metadata.specs.declared.digest.Digest.{Digest}
-use Rattle.luks_verdict.proofs.TableLemmas.{length-rising, rising_none, rising_not, rising_one}
+use Rattle.luks_verdict.proofs.TableLemmas.{length-ascending, ascending_none, ascending_not, ascending_one}
 use Rattle.luks_verdict.specs.Table.{ascending}
 use Rattle.luks2_metadata.specs.Digest2.{digest2_numbered, digests2_of}
 use Rattle.luks2_metadata.proofs.digest.digests.Goals as goal
 use Rattle.luks2_metadata.proofs.digest.digests.Goals.{in-Some+in_ok-push, in_default}
 
 pub loop-number-init : goal.loop-number-init
-loop-number-init c = c.new-digests.ensures.items ∙ sym (rising_none (digest2_numbered c.args.metadata.now))
+loop-number-init c = c.new-digests.ensures.items ∙ sym (ascending_none (digest2_numbered c.args.metadata.now))
 
 pub loop-number-preserved : goal.loop-number-preserved
 loop-number-preserved c =
@@ -21,10 +21,10 @@ loop-number-preserved c =
           (let one : f n ≡ Some w.in-Some.digest = sym here ∙ w.in-Some.is in
           rw w.digests-is (w.in_ok-push.ensures.items
           ∙ (ap (λ (l : List (ℕ × Option Digest)). l ++ w.in-Some.digest ∷ []) before
-          ∙ sym (rising_one f n w.in-Some.digest one))))
+          ∙ sym (ascending_one f n w.in-Some.digest one))))
       | in_default w ↦
           (let none : f n ≡ None = sym here ∙ w.in_default.is in
-          rw w.digests-is (before ∙ sym (rising_not f n none)))
+          rw w.digests-is (before ∙ sym (ascending_not f n none)))
     ]
 
 pub returns-clause-value : goal.returns-clause-value
@@ -39,6 +39,6 @@ returns-clause-few c =
     omega (
       arith,
       ap length c.loop-number.invariant,
-      length-rising (digest2_numbered c.args.metadata.now) c.loop-number.number,
+      length-ascending (digest2_numbered c.args.metadata.now) c.loop-number.number,
       c.loop-number.digests.ok.0,
     )

@@ -3,5 +3,5 @@ use Rattle.luks2_metadata.proofs.DigestLemmas.{many_iterations}
 use Rattle.luks2_metadata.proofs.digest.usable.Goals as goal
 use Rattle.serde_json.specs.View.{view}
 
-pub returns-then-iterations-gt-MOST_ITERATIONS : goal.returns-then-iterations-gt-MOST_ITERATIONS
-returns-then-iterations-gt-MOST_ITERATIONS c = sym (many_iterations (view c.args.digest.now) (cc) (omega arith))
+pub returns-then-iterations-gt-MAX_ITERATIONS : goal.returns-then-iterations-gt-MAX_ITERATIONS
+returns-then-iterations-gt-MAX_ITERATIONS c = sym (many_iterations (view c.args.digest.now) (cc) (omega arith))

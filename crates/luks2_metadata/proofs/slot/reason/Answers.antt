@@ -3,9 +3,9 @@ use Rattle.luks2_metadata.proofs.slot.reason.Goals as goal
 use Rattle.luks2_metadata.specs.Slot2.{stripes_member}
 use Rattle.serde_json.specs.View.{view}
 
-pub is_misplaced-requires-clause-short : goal.is_misplaced-requires-clause-short
-is_misplaced-requires-clause-short c =
+pub area2_out_of_range-requires-clause-short : goal.area2_out_of_range-requires-clause-short
+area2_out_of_range-requires-clause-short c =
     (key_sizes_few c.payload_mode.result (view c.args.slot.now) (cc)).1
 
-pub is_misplaced-requires-clause-few : goal.is_misplaced-requires-clause-few
-is_misplaced-requires-clause-few c = stripes_few (stripes_member (view c.args.slot.now)) (cc)
+pub area2_out_of_range-requires-clause-few : goal.area2_out_of_range-requires-clause-few
+area2_out_of_range-requires-clause-few c = stripes_few (stripes_member (view c.args.slot.now)) (cc)

@@ -1,6 +1,6 @@
 use Rattle.std.proofs.Common.{rules, ◌≡◌, ◌-◌, ◌∙◌, ap, sym, length, vec_len, arith}
 use Rattle.std.proofs.lemmas.Grind.{common_steps}
-use Rattle.luks_area.proofs.AreaLemmas.{front_filled, length-room, took_all_behind, took_behind}
+use Rattle.luks_area.proofs.AreaLemmas.{front_filled, length-room, consumed_all_behind, consumed_behind}
 use Rattle.luks_area.proofs.area.extend.Goals as goal
 
 pub returns-in-Ok-clause-taken : goal.returns-in-Ok-clause-taken
@@ -15,7 +15,7 @@ returns-in-Ok-clause-taken g c =
     front_filled old c.deref_mut.result.now c.fill.new.buf c.len-held.result n is-whole is-held c.fill.auto.buf _ _
     c.truncate.new.self.items c.make_room.new.bytes.len c.in-Ok.count
     is-len c.in-Ok.ensures.bound c.truncate.ensures.items in
-    took_all_behind old c.truncate.new.self.items told c.fill.new.buf _ c.in-Ok.count (length c.fill.new.buf) n is
+    consumed_all_behind old c.truncate.new.self.items told c.fill.new.buf _ c.in-Ok.count (length c.fill.new.buf) n is
     (c.in-Ok.ensures.bytes told tells) (c.in-Ok.ensures.end told tells)
     (length-room old c.deref_mut.result.now c.fill.new.buf c.len-held.result n is-whole is-held c.fill.auto.buf)
 
@@ -38,7 +38,7 @@ returns-in-Err-clause-broken g c =
     is-len (omega (arith, stops)) c.truncate-in-Err.ensures.items in (
       got,
       omega (arith, stops),
-      took_behind old c.truncate-in-Err.new.self.items told c.fill.new.buf _ got is
+      consumed_behind old c.truncate-in-Err.new.self.items told c.fill.new.buf _ got is
           (c.in-Err.ensures.bytes told tells),
     )
 

@@ -25,8 +25,8 @@ returns-in-Ok-clause-run g c = rw c.of.ensures c.in-Ok.ensures.run
 pub returns-in-Ok-clause-only : goal.returns-in-Ok-clause-only
 returns-in-Ok-clause-only g c = rw c.of.ensures c.in-Ok.ensures.only
 
-pub returns-in-Ok-clause-counts : goal.returns-in-Ok-clause-counts
-returns-in-Ok-clause-counts g c = rw c.of.ensures c.in-Ok.ensures.counts
+pub returns-in-Ok-clause-calls : goal.returns-in-Ok-clause-calls
+returns-in-Ok-clause-calls g c = rw c.of.ensures c.in-Ok.ensures.calls
 
 pub returns-in-Err-clause-run : goal.returns-in-Err-clause-run
 returns-in-Err-clause-run g c = rw c.of-in-Err.ensures c.in-Err.ensures.run
@@ -34,5 +34,5 @@ returns-in-Err-clause-run g c = rw c.of-in-Err.ensures c.in-Err.ensures.run
 pub returns-in-Err-clause-only : goal.returns-in-Err-clause-only
 returns-in-Err-clause-only g c = rw c.of-in-Err.ensures c.in-Err.ensures.only
 
-pub returns-in-Err-clause-counts : goal.returns-in-Err-clause-counts
-returns-in-Err-clause-counts g c = rw c.of-in-Err.ensures c.in-Err.ensures.counts
+pub returns-in-Err-clause-calls : goal.returns-in-Err-clause-calls
+returns-in-Err-clause-calls g c = rw c.of-in-Err.ensures c.in-Err.ensures.calls

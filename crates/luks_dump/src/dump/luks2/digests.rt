@@ -16,27 +16,27 @@ use std::alloc::{AllocError, Global};
 /// Adds a line for each digest.
 pub(super) fn push_digests(
     alloc: Global,
-    page: &mut String,
+    lines: &mut String,
     metadata: &Metadata,
 ) -> Result<(), AllocError>
-    ensures { OnOk result (string_bytes page.new
-        ≡ string_bytes page.old ++ digest_lines (digests2_of metadata.now)) }
+    ensures { OnOk result (string_bytes lines.new
+        ≡ string_bytes lines.old ++ digest_lines (digests2_of metadata.now)) }
 {
     let digests = digests(alloc, metadata)?;
-    push_all(alloc, page, digests.as_slice())
+    push_all(alloc, lines, digests.as_slice())
 }
 
 // Adds a line for each of these digests.
 fn push_all(
     alloc: Global,
-    page: &mut String,
+    lines: &mut String,
     digests: &[(u8, Option<Digest>)],
 ) -> Result<(), AllocError>
     ensures { OnOk result
-        (string_bytes page.new ≡ string_bytes page.old ++ digest_lines digests.now) }
+        (string_bytes lines.new ≡ string_bytes lines.old ++ digest_lines digests.now) }
 {
     for digest in digests {
-        push_digest(alloc, page, digest)?;
+        push_digest(alloc, lines, digest)?;
     }
     Ok(())
 }
@@ -44,16 +44,16 @@ fn push_all(
 // Adds the line of a digest.
 fn push_digest(
     alloc: Global,
-    page: &mut String,
+    lines: &mut String,
     digest: &(u8, Option<Digest>),
 ) -> Result<(), AllocError>
     ensures { OnOk result
-        (string_bytes page.new ≡ string_bytes page.old ++ digest_line digest.now) }
+        (string_bytes lines.new ≡ string_bytes lines.old ++ digest_line digest.now) }
 {
     let (number, digest) = digest;
     let name = format!(in alloc; "Digest {number}")?;
     let text = describe(alloc, digest)?;
-    push_field(page, name.as_str(), text.as_str())
+    push_field(lines, name.as_str(), text.as_str())
 }
 
 // What is said of a digest.

@@ -3,34 +3,34 @@
 ghost use Rattle.std.specs.Prelude.{◌≡◌, ◌++◌, IfOk, OnOk, codes, string_bytes};
 ghost use Rattle.luks_dump.specs.Dump2.{segment_line, segment_text, size_text};
 ghost use Rattle.luks_verdict.specs.SegmentFault.{fault_text};
-ghost use Rattle.luks2_segment.specs.Segment2.{segment2_of};
+ghost use Rattle.luks2_metadata.specs.Segment2.{segment2_of};
 
 use crate::field::push_field;
 use luks_header::header::Bounds;
 use luks_verdict::refusal::SegmentFault;
 use luks_verdict::segment::Segment;
 use luks2_json::tree::Metadata;
-use luks2_segment::payload::segment;
+use luks2_metadata::payload::segment;
 use std::alloc::{AllocError, Global};
 
 /// Adds the line of the segment of a header with these bounds, or of its fault.
 pub(super) fn push_segment(
     alloc: Global,
-    page: &mut String,
+    lines: &mut String,
     metadata: &Metadata,
     bounds: Bounds,
 ) -> Result<(), AllocError>
-    ensures { OnOk result (string_bytes page.new
-        ≡ string_bytes page.old ++ segment_line (segment2_of metadata.now bounds)) }
+    ensures { OnOk result (string_bytes lines.new
+        ≡ string_bytes lines.old ++ segment_line (segment2_of metadata.now bounds)) }
 {
     match segment(metadata, bounds) {
         Ok(segment) => {
             let text = describe(alloc, segment)?;
-            push_field(page, "Segment 0", text.as_str())
+            push_field(lines, "Segment 0", text.as_str())
         }
         Err(fault) => {
             let text = describe_fault(alloc, fault)?;
-            push_field(page, "Segment", text.as_str())
+            push_field(lines, "Segment", text.as_str())
         }
     }
 }

@@ -8,25 +8,25 @@ ghost use Rattle.luks2_metadata.specs.Slot2.{verdict2_at};
 use crate::field::push_field;
 use luks_header::header::Bounds;
 use luks_kdf::Hash;
-use luks_verdict::rule::MOST_SLOTS;
-use luks_verdict::slot::{Judgement, SlotParts, Verdict};
+use luks_verdict::rule::MAX_SLOTS;
+use luks_verdict::slot::{SlotParts, Verdict, VerdictKind};
 use luks2_json::tree::Metadata;
-use luks2_metadata::slot::{judge, slot};
+use luks2_metadata::slot::{slot, verdict_kind};
 use std::alloc::{AllocError, Global};
 
 /// Adds a line for each key slot of a header with these bounds.
 #[tactic(auto, unfolding(crate::specs::Dump2::slot2_lines))]
 pub(super) fn push_slots(
     alloc: Global,
-    page: &mut String,
+    lines: &mut String,
     metadata: &Metadata,
     bounds: Bounds,
 ) -> Result<(), AllocError>
     ensures { OnOk result
-        (string_bytes page.new ≡ string_bytes page.old ++ slot2_lines metadata.now bounds) }
+        (string_bytes lines.new ≡ string_bytes lines.old ++ slot2_lines metadata.now bounds) }
 {
-    for number in 0..MOST_SLOTS {
-        push_slot(alloc, page, metadata, bounds, number)?;
+    for number in 0..MAX_SLOTS {
+        push_slot(alloc, lines, metadata, bounds, number)?;
     }
     Ok(())
 }
@@ -34,16 +34,17 @@ pub(super) fn push_slots(
 // Adds the line of the key slot of a number, if there is one.
 fn push_slot(
     alloc: Global,
-    page: &mut String,
+    lines: &mut String,
     metadata: &Metadata,
     bounds: Bounds,
     number: u8,
 ) -> Result<(), AllocError>
     ensures { OnOk result
-        (string_bytes page.new ≡ string_bytes page.old ++ slot_line_at metadata.now bounds number) }
+        (string_bytes lines.new ≡ string_bytes lines.old
+        ++ slot_line_at metadata.now bounds number) }
 {
     match verdict(alloc, metadata, bounds, number)? {
-        Some(verdict) => push_verdict(alloc, page, number, &verdict),
+        Some(verdict) => push_verdict(alloc, lines, number, &verdict),
         None => Ok(()),
     }
 }
@@ -57,11 +58,11 @@ fn verdict(
 ) -> Result<Option<Verdict>, AllocError>
     ensures { IfOk result (λ verdict. verdict ≡ verdict2_at metadata.now bounds None number) }
 {
-    match judge(metadata, bounds, None, number) {
+    match verdict_kind(metadata, bounds, None, number) {
         None => Ok(None),
-        Some(Judgement::Disabled) => Ok(Some(Verdict::Disabled)),
-        Some(Judgement::Skipped(reason)) => Ok(Some(Verdict::Skipped(reason))),
-        Some(Judgement::Usable(_)) => match slot(alloc, metadata, bounds, number)? {
+        Some(VerdictKind::Disabled) => Ok(Some(Verdict::Disabled)),
+        Some(VerdictKind::Skipped(reason)) => Ok(Some(Verdict::Skipped(reason))),
+        Some(VerdictKind::Usable(_)) => match slot(alloc, metadata, bounds, number)? {
             Some(slot) => Ok(Some(Verdict::Usable(slot))),
             None => unreachable!(),
         },
@@ -71,16 +72,16 @@ fn verdict(
 // Adds the line of a key slot.
 fn push_verdict(
     alloc: Global,
-    page: &mut String,
+    lines: &mut String,
     number: u8,
     verdict: &Verdict,
 ) -> Result<(), AllocError>
     ensures { OnOk result
-        (string_bytes page.new ≡ string_bytes page.old ++ slot2_line number (Some verdict.now)) }
+        (string_bytes lines.new ≡ string_bytes lines.old ++ slot2_line number (Some verdict.now)) }
 {
     let name = format!(in alloc; "Slot {number}")?;
     let text = describe(alloc, verdict)?;
-    push_field(page, name.as_str(), text.as_str())
+    push_field(lines, name.as_str(), text.as_str())
 }
 
 // What is said of a key slot.

@@ -1,7 +1,7 @@
 use Rattle.std.proofs.Common.{◌∙◌, ◌≤◌, ◌++◌, Err, ap, sym, length, arith}
 use Rattle.std.proofs.lemmas.Result.{err_from_is_err_and}
 use Rattle.std.specs.Prelude.{nat_lt}
-use Rattle.luks_io.specs.Bytes.{counted}
+use Rattle.luks_io.specs.Devices.{counted}
 use Rattle.luks2_binary.specs.Text2.{json_text_of}
 use Rattle.luks2_json.specs.Tree.{tree_of}
 use Rattle.luks_header.proofs.HeldLemmas.{begins_behind, begins_longer, cost_other, header_read, reach_other}
@@ -12,8 +12,8 @@ pub returns-in_err-header-clause-broken : goal.returns-in_err-header-clause-brok
 returns-in_err-header-clause-broken g c =
     let p = err_from_is_err_and c.from_residual.result c.from_residual.ensures.1 in
     rw (p.1, p.2) (λ rest is.
-    let long : 8 ≤ length c.args.area.now = omega (arith, c.requires.held) in
-    let other = begins_behind c.args.area.now rest long ∙ c.requires.other in
+    let long : 8 ≤ length c.args.area.now.bytes = omega (arith, c.requires.held) in
+    let other = begins_behind c.args.area.now.bytes rest long ∙ c.requires.other in
     seeking_broken _ _ _ rest _ _ _ other c.in_err-header.field-0.0 (c.in_err-header.ensures.broken rest is)
     c.in_err-header.ensures.ends)
 
@@ -21,8 +21,8 @@ pub returns-in_err-metadata-clause-broken : goal.returns-in_err-metadata-clause-
 returns-in_err-metadata-clause-broken g c =
     let p = err_from_is_err_and c.from_residual-in_err-metadata.result c.from_residual-in_err-metadata.ensures.1 in
     rw (p.1, p.2) (λ rest is.
-    let long : 8 ≤ length c.args.area.now = omega (arith, c.requires.held) in
-    let other = begins_behind c.args.area.now rest long ∙ c.requires.other in
+    let long : 8 ≤ length c.args.area.now.bytes = omega (arith, c.requires.held) in
+    let other = begins_behind c.args.area.now.bytes rest long ∙ c.requires.other in
     let found = c.in_ok-header.ensures.taken rest is in
     let text = c.json_text.ensures ∙ ap (λ bytes. json_text_of bytes c.in_ok-header.header) c.as_slice.ensures.value in
     reading_broken _ _ _ rest _ _ _ other c.in_ok-header.header c.in_err-metadata.field-0.0 found.0 found.1
@@ -31,37 +31,46 @@ returns-in_err-metadata-clause-broken g c =
 
 pub returns-clause-taken : goal.returns-clause-taken
 returns-clause-taken g c rest is =
-    let long : 8 ≤ length c.args.area.now = omega (arith, c.requires.held) in
-    let other = begins_behind c.args.area.now rest long ∙ c.requires.other in
+    let long : 8 ≤ length c.args.area.now.bytes = omega (arith, c.requires.held) in
+    let other = begins_behind c.args.area.now.bytes rest long ∙ c.requires.other in
     let found = c.in_ok-header.ensures.taken rest is in
     let text = c.json_text.ensures ∙ ap (λ bytes. json_text_of bytes c.in_ok-header.header) c.as_slice.ensures.value in
     let same = text_held _ _ c.in_ok-header.header found.0 found.1.0 in (
-      header_read (c.args.area.now ++ rest) other c.in_ok-header.header c.in_ok-metadata.metadata found.0
+      header_read (c.args.area.now.bytes ++ rest) other c.in_ok-header.header c.in_ok-metadata.metadata found.0
           (ap tree_of (sym (text ∙ same)) ∙ c.in_ok-metadata.ensures.ok),
       found.1,
     )
 
 pub returns-clause-held : goal.returns-clause-held
 returns-clause-held g c =
-    let long : 8 ≤ length c.args.area.now = omega (arith, c.requires.held) in
+    let long : 8 ≤ length c.args.area.now.bytes = omega (arith, c.requires.held) in
     let read = c.in_ok-header.ensures in
-    let other = begins_longer c.args.area.now c.read_header2.new.area long read.kept ∙ c.requires.other in
+    let other = begins_longer c.args.area.now.bytes c.read_header2.new.area.bytes long read.kept ∙ c.requires.other in
     let text = c.json_text.ensures ∙ ap (λ bytes. json_text_of bytes c.in_ok-header.header) c.as_slice.ensures.value in
-    header_read c.read_header2.new.area other c.in_ok-header.header c.in_ok-metadata.metadata read.held
+    header_read c.read_header2.new.area.bytes other c.in_ok-header.header c.in_ok-metadata.metadata read.held
     (ap tree_of (sym text) ∙ c.in_ok-metadata.ensures.ok)
 
 pub returns-clause-only : goal.returns-clause-only
 returns-clause-only g c =
-    let long : 8 ≤ length c.args.area.now = omega (arith, c.requires.held) in
+    let long : 8 ≤ length c.args.area.now.bytes = omega (arith, c.requires.held) in
     let read = c.in_ok-header.ensures in
-    let other = begins_longer c.args.area.now c.read_header2.new.area long read.kept ∙ c.requires.other in
-    read.only ∙ sym (cost_other c.read_header2.new.area other)
+    let other = begins_longer c.args.area.now.bytes c.read_header2.new.area.bytes long read.kept ∙ c.requires.other in
+    read.only ∙ sym (cost_other c.read_header2.new.area.bytes other)
 
 pub returns-clause-ends : goal.returns-clause-ends
 returns-clause-ends g c =
-    let long : 8 ≤ length c.args.area.now = omega (arith, c.requires.held) in
+    let long : 8 ≤ length c.args.area.now.bytes = omega (arith, c.requires.held) in
     let read = c.in_ok-header.ensures in
-    let other = begins_longer c.args.area.now c.read_header2.new.area long read.kept ∙ c.requires.other in
+    let other = begins_longer c.args.area.now.bytes c.read_header2.new.area.bytes long read.kept ∙ c.requires.other in
     read.ends
-    ∙ ap (λ reach. counted (nat_lt (length c.read_header2.new.area) reach) (g.S.Source.ends c.args.source.now))
-    (sym (reach_other c.read_header2.new.area other))
+    ∙ ap (λ reach. counted (nat_lt (length c.read_header2.new.area.bytes) reach)
+    (g.S.Source.counts c.args.source.now).ends)
+    (sym (reach_other c.read_header2.new.area.bytes other))
+
+pub returns-clause-ended : goal.returns-clause-ended
+returns-clause-ended g c =
+    let long : 8 ≤ length c.args.area.now.bytes = omega (arith, c.requires.held) in
+    let read = c.in_ok-header.ensures in
+    let other = begins_longer c.args.area.now.bytes c.read_header2.new.area.bytes long read.kept ∙ c.requires.other in
+    read.ended
+    ∙ ap (nat_lt (length c.read_header2.new.area.bytes)) (sym (reach_other c.read_header2.new.area.bytes other))

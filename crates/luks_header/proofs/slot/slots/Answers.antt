@@ -1,9 +1,9 @@
 use Rattle.std.proofs.Common.{◌≡◌, ◌∙◌, ◌++◌, ◌∷◌, [], ℕ, List, length, Option, Some, None, sym, ap, arith}
 use Rattle.std.specs.Prelude.{option_map}
-use Rattle.luks_verdict.proofs.TableLemmas.{length-rising, rising_none, rising_not, rising_one}
+use Rattle.luks_verdict.proofs.TableLemmas.{length-ascending, ascending_none, ascending_not, ascending_one}
 use Rattle.luks_verdict.specs.Table.{ascending}
 use Rattle.luks_verdict.specs.declared.slot.Verdict.{Verdict}
-use Rattle.luks_header.specs.Slot.{numbered_verdict, verdicts_of}
+use Rattle.luks_header.specs.SlotVerdicts.{numbered_verdict, verdicts_of}
 use Rattle.luks_header.proofs.slot.slots.Goals as goal
 use Rattle.luks_header.proofs.slot.slots.Goals.{in-Some+in_ok-push, in_default}
 
@@ -12,7 +12,8 @@ beside : (n : ℕ) → Option Verdict → Option (ℕ × Verdict)
 beside n verdict = option_map (λ v. (n, v)) verdict
 
 pub loop-number-init : goal.loop-number-init
-loop-number-init c = c.new-verdicts.ensures.items ∙ sym (rising_none (numbered_verdict c.args.header.now c.args.limit))
+loop-number-init c = c.new-verdicts.ensures.items
+    ∙ sym (ascending_none (numbered_verdict c.args.header.now c.args.limit))
 
 pub loop-number-preserved : goal.loop-number-preserved
 unfolding beside
@@ -26,10 +27,10 @@ loop-number-preserved c =
           rw w.verdicts-is
           (w.in_ok-push.ensures.items
           ∙ (ap (λ (l : List (ℕ × Verdict)). l ++ (n, w.in-Some.verdict) ∷ []) before
-          ∙ sym (rising_one f n (n, w.in-Some.verdict) one))))
+          ∙ sym (ascending_one f n (n, w.in-Some.verdict) one))))
       | in_default w ↦
           (let none : f n ≡ None = ap (beside n) (sym c.in_ok-verdict.ensures ∙ w.in_default.is) in
-          rw w.verdicts-is (before ∙ sym (rising_not f n none)))
+          rw w.verdicts-is (before ∙ sym (ascending_not f n none)))
     ]
 
 pub returns-clause-value : goal.returns-clause-value
@@ -44,6 +45,6 @@ returns-clause-few c =
     omega (
       arith,
       ap length c.loop-number.invariant,
-      length-rising (numbered_verdict c.args.header.now c.args.limit) c.loop-number.number,
+      length-ascending (numbered_verdict c.args.header.now c.args.limit) c.loop-number.number,
       c.loop-number.verdicts.ok.0,
     )

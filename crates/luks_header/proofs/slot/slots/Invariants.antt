@@ -1,6 +1,6 @@
 use Rattle.std.proofs.Common.{◌≡◌}
 use Rattle.luks_verdict.specs.Table.{ascending}
-use Rattle.luks_header.specs.Slot.{numbered_verdict}
+use Rattle.luks_header.specs.SlotVerdicts.{numbered_verdict}
 use Rattle.luks_header.proofs.slot.slots.Given as goal
 
 -- the verdicts of the slots before this number

@@ -1,13 +1,13 @@
 use Rattle.std.proofs.Common.{◌≡◌, ◌∙◌, Some, None, ap, sym}
-use Rattle.luks_verdict.proofs.JudgedLemmas.{usable_from_open}
-use Rattle.luks_header.specs.Slot.{slot_at, verdict_at}
+use Rattle.luks_verdict.proofs.VerdictLemmas.{usable_from_open}
+use Rattle.luks_header.specs.SlotVerdicts.{slot_at, verdict_at}
 use Rattle.luks_header.proofs.KnownLemmas.{slot_of_usable}
 use Rattle.luks_header.proofs.slot.verdict.Goals as goal
 
 pub unreachable-requires : goal.unreachable-requires
 unreachable-requires c =
-    let judged = sym c.judge.ensures ∙ (c.in-Some-Usable.is ∙ ap Some c.in-Some-Usable.field-0-is) in
-    let usable = usable_from_open (verdict_at c.args.header.now c.args.limit c.args.number) _ judged in
+    let verdict_is = sym c.verdict_kind.ensures ∙ (c.in-Some-Usable.is ∙ ap Some c.in-Some-Usable.field-0-is) in
+    let usable = usable_from_open (verdict_at c.args.header.now c.args.limit c.args.number) _ verdict_is in
     let there : slot_at c.args.header.now c.args.number ≡ Some usable.0 =
     slot_of_usable c.args.header.now c.args.limit c.args.number usable.0 usable.1 in
     let made : c.in_ok-slot-in-Some-Usable.field-0
@@ -17,8 +17,8 @@ unreachable-requires c =
 
 pub returns-in-Some : goal.returns-in-Some
 returns-in-Some c =
-    let judged = sym c.judge.ensures ∙ (c.in-Some-Usable.is ∙ ap Some c.in-Some-Usable.field-0-is) in
-    let usable = usable_from_open (verdict_at c.args.header.now c.args.limit c.args.number) _ judged in
+    let verdict_is = sym c.verdict_kind.ensures ∙ (c.in-Some-Usable.is ∙ ap Some c.in-Some-Usable.field-0-is) in
+    let usable = usable_from_open (verdict_at c.args.header.now c.args.limit c.args.number) _ verdict_is in
     let there : slot_at c.args.header.now c.args.number ≡ Some usable.0 =
     slot_of_usable c.args.header.now c.args.limit c.args.number usable.0 usable.1 in
     let made : c.in_ok-slot-in-Some-Usable.field-0

@@ -13,6 +13,7 @@ loop-at-preserved g c = record {
   written = Appends-next _ _ _ c.args.bytes.now c.loop-at.at c.in-Ok.n c.loop-at.invariant.written
       c.in-Ok.ensures.bytes;
   failures = search rules;
+  needed = search rules;
 }
 
 pub returns-in-Err-clause-ok : goal.returns-in-Err-clause-ok

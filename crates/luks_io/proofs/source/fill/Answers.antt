@@ -1,5 +1,5 @@
-use Rattle.std.proofs.Common.{◌∙◌, rules}
-use Rattle.luks_io.proofs.Moves.{Consumes-next, counted-some, took-front, took-kept, took-nothing}
+use Rattle.std.proofs.Common.{rules}
+use Rattle.luks_io.proofs.Moves.{Consumes-next, took-front, took-kept, took-nothing}
 use Rattle.luks_io.proofs.Moves.{took-whole}
 use Rattle.luks_io.proofs.source.fill.Goals as goal
 
@@ -9,7 +9,8 @@ loop-at-preserved g c = record {
   taken = Consumes-next _ _ _ c.loop-at.buf c.read.new.buf c.loop-at.at c.in-Ok.n c.loop-at.invariant.within
       c.in-Ok.ensures.bound.0 c.loop-at.invariant.taken c.in-Ok.ensures.bytes.0;
   failures = search rules;
-  ends = c.in-Ok.ensures.ends ∙ counted-some _ _ _ c.in-Ok.n-test.1 ∙ c.loop-at.invariant.ends;
+  ends = search rules;
+  needed = search rules;
 }
 
 pub returns-in-Ok-eq0-clause-bound : goal.returns-in-Ok-eq0-clause-bound

@@ -1,6 +1,6 @@
 use Rattle.std.proofs.Common.{◌≡◌, ◌+◌, ◌*◌, ◌++◌, ℕ, List, length, take}
 use Rattle.luks_kdf.specs.declared.hash.Hash.{Hash}
-use Rattle.luks_stripes.specs.Stripes.{chain_after}
+use Rattle.luks_kdf.specs.Stripes.{chain_after}
 use Rattle.luks_open.proofs.material.take_in.Given as goal
 
 -- the stripes before number i are taken in

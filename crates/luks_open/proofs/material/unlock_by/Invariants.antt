@@ -1,6 +1,6 @@
 use Rattle.std.proofs.Common.{◌≡◌, ◌*◌, length}
 use Rattle.luks_cipher.specs.Xts.{joined}
-use Rattle.luks_stripes.specs.Stripes.{chain_after}
+use Rattle.luks_kdf.specs.Stripes.{chain_after}
 use Rattle.luks_open.specs.Candidate.{material_sector}
 use Rattle.luks_open.proofs.material.unlock_by.Given as goal
 

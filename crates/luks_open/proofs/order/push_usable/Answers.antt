@@ -2,7 +2,7 @@ use Rattle.std.proofs.Common.{rules, ◌≡◌, ◌∙◌, ◌≤◌, ◌∷◌,
 use Rattle.std.proofs.Common.{append_assoc, arith}
 use Rattle.std.proofs.lemmas.List.{append-nil}
 use Rattle.luks_verdict.specs.Table.{ascending}
-use Rattle.luks_verdict.proofs.TableLemmas.{rising_none, rising_not, rising_one, some_rising}
+use Rattle.luks_verdict.proofs.TableLemmas.{ascending_none, ascending_not, ascending_one, some_rising}
 use Rattle.luks_open.specs.Order.{usable_at}
 use Rattle.luks_open.specs.declared.entry.Entry.{Entry}
 use Rattle.luks_open.proofs.order.push_usable.Goals as goal
@@ -12,7 +12,7 @@ pub loop-number-init : goal.loop-number-init
 loop-number-init c =
     let f = usable_at c.args.header.now c.args.limit c.args.priority in
     sym (append-nil c.args.entries.now.items)
-    ∙ ap (λ (l : List Entry). c.args.entries.now.items ++ l) (sym (rising_none f))
+    ∙ ap (λ (l : List Entry). c.args.entries.now.items ++ l) (sym (ascending_none f))
 
 pub returns-in_err-entry-clause-err : goal.returns-in_err-entry-clause-err
 returns-in_err-entry-clause-err c =
@@ -39,8 +39,8 @@ loop-number-preserved c =
           (let one : f n ≡ Some w.in-Some.entry = sym c.in_ok-entry.ensures.ok ∙ w.in-Some.is in
           rw w.entries-is (w.in_ok-push.ensures.items ∙ (ap (λ (l : List Entry). l ++ w.in-Some.entry ∷ []) before
           ∙ (append_assoc old (ascending f n) (w.in-Some.entry ∷ [])
-          ∙ ap (λ (l : List Entry). old ++ l) (sym (rising_one f n w.in-Some.entry one))))))
+          ∙ ap (λ (l : List Entry). old ++ l) (sym (ascending_one f n w.in-Some.entry one))))))
       | in_default w ↦
           (let none : f n ≡ None = sym c.in_ok-entry.ensures.ok ∙ w.in_default.is in
-          rw w.entries-is (before ∙ ap (λ (l : List Entry). old ++ l) (sym (rising_not f n none))))
+          rw w.entries-is (before ∙ ap (λ (l : List Entry). old ++ l) (sym (ascending_not f n none))))
     ]

@@ -5,9 +5,10 @@ use Rattle.luks_open.proofs.order.usable.Goals as goal
 
 pub returns-in-Some-Usable-clause-err : goal.returns-in-Some-Usable-clause-err
 returns-in-Some-Usable-clause-err c =
-    let judged = sym c.judge.ensures ∙ (c.in-Some-Usable.is ∙ ap Some c.in-Some-Usable.field-0-is) in
+    let verdict_is = sym c.verdict_kind.ensures ∙ (c.in-Some-Usable.is ∙ ap Some c.in-Some-Usable.field-0-is) in
     let some : IsSome (usable_at c.args.header.now c.args.limit c.args.priority c.args.number) =
-    usable_there c.args.header.now c.args.limit c.args.priority c.args.number (rw c.if-its-priority.true at judged) in
+    usable_there c.args.header.now c.args.limit c.args.priority c.args.number
+    (rw c.if-its-priority.true at verdict_is) in
     search (rules, some)
 
 pub returns-in-Some-Usable-clause-ok : goal.returns-in-Some-Usable-clause-ok

@@ -1,7 +1,7 @@
 use Rattle.std.proofs.Common.{rules, ◌≡◌, ◌<◌, ◌≤◌, ◌∙◌, take, length, length-take-le, arith}
 use Rattle.std.proofs.lemmas.Result.{err_from_is_err_and}
-use Rattle.luks_io.proofs.Taking.{counted-short, counted-whole}
-use Rattle.luks_payload.specs.Passing.{max_sectors}
+use Rattle.luks_io.proofs.Consuming.{counted-short, counted-whole}
+use Rattle.luks_payload.specs.SectorEffects.{max_sectors}
 use Rattle.luks_payload.specs.declared.state.State.TheVariants.{InPayload}
 use Rattle.luks_payload.specs.Plain.{sector_len}
 use Rattle.luks_payload.proofs.SectorLemmas.{at_most_4096}
@@ -24,7 +24,7 @@ returns-in_err-got-clause-run g c =
     length-take-le c.bytes-size.result c.args.buffer.now (omega arith) ∙ c.bytes-size.ensures in
     rw (p.1, p.2) (λ image few stands.
     steps_broken c.args.segment.now image c.args.count c.args.front.now _ stands c.args.cipher.now _ _ _ _ below
-    (rw (sized, c.number.ensures) at c.in_err-got.ensures.passes.err))
+    (rw (sized, c.number.ensures) at c.in_err-got.ensures.forwards.err))
 
 pub returns-then-got-size-clause-run : goal.returns-then-got-size-clause-run
 returns-then-got-size-clause-run g c image few stands =
@@ -34,7 +34,7 @@ returns-then-got-size-clause-run g c image few stands =
     length-take-le c.bytes-size.result c.args.buffer.now (omega arith) ∙ c.bytes-size.ensures in
     steps_torn c.args.segment.now image c.args.count c.args.front.now _ stands c.args.cipher.now _ _ _ _
     c.in_ok-got.got below
-    (rw sized at c.in_ok-got.ensures.passes.taken) (omega arith) c.ending.ensures
+    (rw sized at c.in_ok-got.ensures.forwards.taken) (omega arith) c.ending.ensures
 
 pub returns-clause-run : goal.returns-clause-run
 returns-clause-run g c image few stands =
@@ -42,12 +42,12 @@ returns-clause-run g c image few stands =
     let most = at_most_4096 c.args.segment.now.sector_size in
     let sized : length (take c.bytes-size.result c.args.buffer.now) ≡ sector_len c.args.segment.now =
     length-take-le c.bytes-size.result c.args.buffer.now (omega arith) ∙ c.bytes-size.ensures in
-    let got : c.in_ok-got.got ≡ sector_len c.args.segment.now = omega (arith, c.in_ok-got.ensures.passes.most) in
+    let got : c.in_ok-got.got ≡ sector_len c.args.segment.now = omega (arith, c.in_ok-got.ensures.forwards.most) in
     let full : c.in_ok-got.got ≡ length (take c.bytes-size.result c.args.buffer.now) = omega arith in (
       takes_sector c.args.segment.now image c.args.count c.args.front.now _ stands _ below
-          (λ rest is. rw got at (c.in_ok-got.ensures.passes.taken rest is).1),
+          (λ rest is. rw got at (c.in_ok-got.ensures.forwards.taken rest is).1),
       adds_sector c.args.segment.now image c.args.count c.args.front.now _ stands c.args.cipher.now _ _
-          (rw (c.number.ensures, got) at (c.in_ok-got.ensures.passes.written full)),
+          (rw (c.number.ensures, got) at (c.in_ok-got.ensures.forwards.written full)),
     )
 
 pub returns-then-got-size-clause-only : goal.returns-then-got-size-clause-only
@@ -95,8 +95,8 @@ returns-clause-passed g c is =
     let sized : length (take c.bytes-size.result c.args.buffer.now) ≡ sector_len c.args.segment.now =
     length-take-le c.bytes-size.result c.args.buffer.now (omega arith) ∙ c.bytes-size.ensures in
     let full : c.in_ok-got.got
-    ≡ length (take c.bytes-size.result c.args.buffer.now) = omega (arith, c.in_ok-got.ensures.passes.most) in
-    rw (c.number.ensures, sized) at (c.in_ok-got.ensures.passes.whole full)
+    ≡ length (take c.bytes-size.result c.args.buffer.now) = omega (arith, c.in_ok-got.ensures.forwards.most) in
+    rw (c.number.ensures, sized) at (c.in_ok-got.ensures.forwards.whole full)
 
 pub returns-then-got-size-clause-limit : goal.returns-then-got-size-clause-limit
 returns-then-got-size-clause-limit g c = search rules

@@ -1,27 +1,27 @@
 use Rattle.std.proofs.lemmas.Result.{err_from_is_err_and}
-use Rattle.luks_runs.specs.Header.{printout_text, printout_message}
-use Rattle.luks_runs.proofs.HeaderRuns.{printing_counts, runs_with_page, runs_without_header}
+use Rattle.luks_runs.specs.HeaderOutcome.{printout_text, printout_message}
+use Rattle.luks_runs.proofs.HeaderRuns.{printing_counts, runs_with_text, runs_without_header}
 use Rattle.luks_runs.proofs.headers.print.Goals as goal
 
 pub returns-in_err-header-clause-run : goal.returns-in_err-header-clause-run
 returns-in_err-header-clause-run g c =
     let p = err_from_is_err_and c.from_residual.result c.from_residual.ensures.1 in
     rw (p.1, p.2) (λ known is.
-    runs_without_header c.args.standing (printout_text c.args.page)
-    (printout_message c.args.page) known _ _ _ _ c.in_err-header.field-0.0
+    runs_without_header c.args.location (printout_text c.args.printout)
+    (printout_message c.args.printout) known _ _ _ _ c.in_err-header.field-0.0
     (c.in_err-header.ensures.broken known is))
 
 pub returns-clause-run : goal.returns-clause-run
 returns-clause-run g c known is =
     let read = c.in_ok-header.ensures.taken known is in
-    runs_with_page c.args.standing (printout_text c.args.page)
-    (printout_message c.args.page) known _ _ _ read.0 read.2 _ _
-    c.print_page.ensures.run
+    runs_with_text c.args.location (printout_text c.args.printout)
+    (printout_message c.args.printout) known _ _ _ read.0 read.2 _ _
+    c.print_text.ensures.run
 
 pub returns-clause-reads_first : goal.returns-clause-reads_first
-returns-clause-reads_first g c wrong = absurd (rw wrong at c.print_page.ensures.run)
+returns-clause-reads_first g c wrong = absurd (rw wrong at c.print_text.ensures.run)
 
 pub returns-clause-counts : goal.returns-clause-counts
 returns-clause-counts g c secret =
     rw c.in_ok-header.ensures.reads
-    (printing_counts _ _ _ _ _ _ secret _ _ c.print_page.ensures.run c.print_page.ensures.writes)
+    (printing_counts _ _ _ _ _ _ secret _ _ c.print_text.ensures.run c.print_text.ensures.writes)

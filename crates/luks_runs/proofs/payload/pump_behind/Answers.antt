@@ -1,7 +1,7 @@
 use Rattle.std.proofs.Common.{◌≡◌, ◌+◌, ◌-◌, ◌≤◌, length, take, drop, refl, subst, arith}
-use Rattle.luks_io.specs.Bytes.{ConsumedExactly}
+use Rattle.luks_io.specs.Devices.{ConsumedExactly}
 use Rattle.luks_payload.specs.Plain.{sector_start}
-use Rattle.luks_runs.proofs.PayloadLemmas.{held_reach, stands_within}
+use Rattle.luks_runs.proofs.PayloadLemmas.{held_reach, positioned_within}
 use Rattle.luks_runs.proofs.payload.pump_behind.Goals as goal
 
 pub returns-then-consumed-segment-clause-stands : goal.returns-then-consumed-segment-clause-stands
@@ -26,7 +26,7 @@ returns-clause-stands c whole left front took =
       stands = record {
         next = subst (λ n. take (length held - offset) (drop offset held)
             ≡ take (length (take (length held - offset) (drop offset held))) (drop n whole)) start
-            (stands_within held whole offset within front);
+            (positioned_within held whole offset within front);
         took = subst (ConsumedExactly whole left) all took;
       };
     })

@@ -3,10 +3,10 @@ use Rattle.std.proofs.lemmas.Result.{err_from_is_err_and}
 use Rattle.luks_runs.proofs.MergeLemmas.{runs_to_end, runs_without_key, runs_without_stripes}
 use Rattle.luks_runs.proofs.stripes.merge.Goals as goal
 
-pub returns-in_err-take_key-clause-run : goal.returns-in_err-take_key-clause-run
-returns-in_err-take_key-clause-run g c =
+pub returns-in_err-read_merged_key-clause-run : goal.returns-in_err-read_merged_key-clause-run
+returns-in_err-read_merged_key-clause-run g c =
     let p = err_from_is_err_and c.from_residual.result c.from_residual.ensures.1 in
-    rw (p.1, p.2) (λ bytes is. runs_without_stripes _ _ _ bytes _ _ _ (c.in_err-take_key.ensures.err bytes is))
+    rw (p.1, p.2) (λ bytes is. runs_without_stripes _ _ _ bytes _ _ _ (c.in_err-read_merged_key.ensures.err bytes is))
 
 pub returns-in_err-put_all-clause-run : goal.returns-in_err-put_all-clause-run
 returns-in_err-put_all-clause-run g c =
@@ -14,32 +14,32 @@ returns-in_err-put_all-clause-run g c =
     let m = c.args.merging.now in
     let failed = c.in_err-put_all.ensures.err in
     rw (p.1, p.2) (λ bytes is.
-    let taken = c.in_ok-take_key.ensures.ok bytes is in
-    runs_without_key m.hash m.stripes.count m.key_bytes.bytes bytes _ _ _ c.take_key.new.key taken.1 taken.0 _
+    let taken = c.in_ok-read_merged_key.ensures.ok bytes is in
+    runs_without_key m.hash m.stripes.count m.key_bytes.bytes bytes _ _ _ c.read_merged_key.new.key taken.1 taken.0 _
     failed.0 failed.1)
 
 pub returns-clause-run : goal.returns-clause-run
 returns-clause-run g c bytes is =
     let m = c.args.merging.now in
-    let taken = c.in_ok-take_key.ensures.ok bytes is in
-    runs_to_end m.hash m.stripes.count m.key_bytes.bytes bytes _ _ _ c.take_key.new.key taken.1 taken.0
+    let taken = c.in_ok-read_merged_key.ensures.ok bytes is in
+    runs_to_end m.hash m.stripes.count m.key_bytes.bytes bytes _ _ _ c.read_merged_key.new.key taken.1 taken.0
     c.in_ok-put_all.ensures.ok
 
-pub returns-in_err-take_key-clause-reads_first : goal.returns-in_err-take_key-clause-reads_first
-returns-in_err-take_key-clause-reads_first g c = λ lost. refl
+pub returns-in_err-read_merged_key-clause-reads_first : goal.returns-in_err-read_merged_key-clause-reads_first
+returns-in_err-read_merged_key-clause-reads_first g c = λ lost. refl
 
-pub returns-in_err-take_key-clause-counts : goal.returns-in_err-take_key-clause-counts
-returns-in_err-take_key-clause-counts g c secret =
+pub returns-in_err-read_merged_key-clause-counts : goal.returns-in_err-read_merged_key-clause-counts
+returns-in_err-read_merged_key-clause-counts g c secret =
     let p = err_from_is_err_and c.from_residual.result c.from_residual.ensures.1 in
-    rw (p.1, p.2) (elim c.in_err-take_key.ensures.only [
-      | inl few ↦ rw (few, rw few at c.in_err-take_key.ensures.reads) refl
-      | inr lost ↦ rw lost (inl (rw (rw lost at c.in_err-take_key.ensures.reads) refl))
+    rw (p.1, p.2) (elim c.in_err-read_merged_key.ensures.only [
+      | inl few ↦ rw (few, rw few at c.in_err-read_merged_key.ensures.reads) refl
+      | inr lost ↦ rw lost (inl (rw (rw lost at c.in_err-read_merged_key.ensures.reads) refl))
     ])
 
 pub returns-in_err-put_all-clause-counts : goal.returns-in_err-put_all-clause-counts
 returns-in_err-put_all-clause-counts g c secret =
     let p = err_from_is_err_and c.from_residual-in_err-put_all.result c.from_residual-in_err-put_all.ensures.1 in
-    rw (p.1, p.2, c.in_ok-take_key.ensures.reads, c.in_err-put_all.ensures.counts) refl
+    rw (p.1, p.2, c.in_ok-read_merged_key.ensures.reads, c.in_err-put_all.ensures.counts) refl
 
 pub returns-clause-counts : goal.returns-clause-counts
-returns-clause-counts g c secret = rw (c.in_ok-take_key.ensures.reads, c.in_ok-put_all.ensures.counts) refl
+returns-clause-counts g c secret = rw (c.in_ok-read_merged_key.ensures.reads, c.in_ok-put_all.ensures.counts) refl

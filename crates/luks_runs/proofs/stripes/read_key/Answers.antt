@@ -1,6 +1,6 @@
 use Rattle.std.proofs.Common.{◌≡◌, ◌∙◌, length, take_all, arith}
 use Rattle.std.proofs.lemmas.Result.{err_from_is_err_and}
-use Rattle.luks_io.proofs.Taking.{took-all}
+use Rattle.luks_io.proofs.Consuming.{took-all}
 use Rattle.luks_runs.proofs.stripes.read_key.Goals as goal
 
 pub returns-in_err-len-clause-err : goal.returns-in_err-len-clause-err

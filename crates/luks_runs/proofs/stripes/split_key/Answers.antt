@@ -1,5 +1,6 @@
 use Rattle.std.proofs.Common.{◌≡◌, ◌∙◌, length, length-take-le, arith}
 use Rattle.std.proofs.lemmas.Result.{err_from_is_err_and}
+use Rattle.luks_io.proofs.CountsLemmas.{writes_then}
 use Rattle.luks_runs.proofs.SplitLemmas.{last_stripe, runs_to_end, runs_without_last, runs_without_stripes}
 use Rattle.luks_runs.proofs.stripes.split_key.Goals as goal
 
@@ -7,8 +8,8 @@ pub returns-in_err-splitter-clause-run : goal.returns-in_err-splitter-clause-run
 returns-in_err-splitter-clause-run g c =
     let p = err_from_is_err_and c.from_residual.result c.from_residual.ensures.1 in
     let key = c.args.key.now in
-    let stripe : length c.pass_stripes.new.stripe ≡ length key =
-    c.pass_stripes.auto.stripe ∙ length-take-le (length key) _ (omega arith) in
+    let stripe : length c.forward_stripes.new.stripe ≡ length key =
+    c.forward_stripes.auto.stripe ∙ length-take-le (length key) _ (omega arith) in
     rw (p.1, p.2) (λ left took bytes known.
     runs_without_stripes _ _ key bytes left _ _ _ c.requires.some c.requires.room took _
     (rw (stripe, c.get.ensures) at (c.in_err-splitter.ensures.err bytes known)))
@@ -17,8 +18,8 @@ pub returns-in_err-put_all-clause-run : goal.returns-in_err-put_all-clause-run
 returns-in_err-put_all-clause-run g c =
     let p = err_from_is_err_and c.from_residual-in_err-put_all.result c.from_residual-in_err-put_all.ensures.1 in
     let key = c.args.key.now in
-    let stripe : length c.pass_stripes.new.stripe ≡ length key =
-    c.pass_stripes.auto.stripe ∙ length-take-le (length key) _ (omega arith) in
+    let stripe : length c.forward_stripes.new.stripe ≡ length key =
+    c.forward_stripes.auto.stripe ∙ length-take-le (length key) _ (omega arith) in
     rw (p.1, p.2) (λ left took bytes known.
     let passed = rw (stripe, c.get.ensures) at (c.in_ok-splitter.ensures.ok bytes known) in
     let last = last_stripe _ _ key bytes _ passed.0 passed.1.took.within c.last.new.out c.last.ensures in
@@ -29,9 +30,19 @@ returns-in_err-put_all-clause-run g c =
 pub returns-clause-run : goal.returns-clause-run
 returns-clause-run g c left took bytes known =
     let key = c.args.key.now in
-    let stripe : length c.pass_stripes.new.stripe ≡ length key =
-    c.pass_stripes.auto.stripe ∙ length-take-le (length key) _ (omega arith) in
+    let stripe : length c.forward_stripes.new.stripe ≡ length key =
+    c.forward_stripes.auto.stripe ∙ length-take-le (length key) _ (omega arith) in
     let passed = rw (stripe, c.get.ensures) at (c.in_ok-splitter.ensures.ok bytes known) in
     let last = last_stripe _ _ key bytes _ passed.0 passed.1.took.within c.last.new.out c.last.ensures in
     runs_to_end _ _ key bytes left _ _ _ c.requires.some c.requires.room took c.last.new.out passed.1 last _
     c.in_ok-put_all.ensures.ok
+
+pub returns-in_err-put_all-clause-needed_writes : goal.returns-in_err-put_all-clause-needed_writes
+returns-in_err-put_all-clause-needed_writes g c =
+    writes_then _ _ (g.O.Sink.counts c.put_all.new.sink) c.in_ok-splitter.ensures.writes
+    c.forward_stripes.ensures.needed_writes c.put_all.ensures.needed
+
+pub returns-clause-needed_writes : goal.returns-clause-needed_writes
+returns-clause-needed_writes g c =
+    writes_then _ _ (g.O.Sink.counts c.put_all.new.sink) c.in_ok-splitter.ensures.writes
+    c.forward_stripes.ensures.needed_writes c.put_all.ensures.needed

@@ -1,20 +1,20 @@
 use Rattle.std.proofs.lemmas.Result.{err_from_is_err_and}
 use Rattle.std.proofs.Common.{None}
-use Rattle.luks_request.specs.Request.{opening_request}
-use Rattle.luks_unlock.proofs.VolumeLemmas.{stops_without_header, stops_without_slots, volume_found}
+use Rattle.luks_request.specs.Request.{volume_request}
+use Rattle.luks_unlock.proofs.VolumeLemmas.{aborts_without_header, aborts_without_slots, volume_found}
 use Rattle.luks_unlock.proofs.finding.find_volume.Goals as goal
 
 pub returns-in_err-header-clause-err : goal.returns-in_err-header-clause-err
 returns-in_err-header-clause-err g c =
     let p = err_from_is_err_and c.from_residual.result c.from_residual.ensures.1 in
     rw (p.1, p.2) (λ known is.
-    stops_without_header c.args.standing _ known _ _ _ c.in_err-header.field-0.0
+    aborts_without_header c.args.location _ known _ _ _ c.in_err-header.field-0.0
     (c.in_err-header.ensures.broken known is))
 
 pub returns-in-Err-clause-err : goal.returns-in-Err-clause-err
 returns-in-Err-clause-err g c known is =
     let read = c.in_ok-header.ensures.taken known is in
-    stops_without_slots c.args.standing (opening_request c.args.opening.now) known _ c.in_ok-header.header read.0 read.2
+    aborts_without_slots c.args.location (volume_request c.args.opening.now) known _ c.in_ok-header.header read.0 read.2
     c.in-Err.message c.in-Err.ensures.err
 
 pub returns-in-Ok-clause-ok : goal.returns-in-Ok-clause-ok
@@ -23,5 +23,5 @@ returns-in-Ok-clause-ok g c = c.in_ok-header.ensures.taken
 pub returns-in-Ok-clause-volume : goal.returns-in-Ok-clause-volume
 returns-in-Ok-clause-volume g c known is =
     let read = c.in_ok-header.ensures.taken known is in
-    volume_found c.args.standing (opening_request c.args.opening.now) known None c.in_ok-header.header read.0
+    volume_found c.args.location (volume_request c.args.opening.now) known None c.in_ok-header.header read.0
     _ c.in-Ok.ensures.segment _ c.in-Ok.ensures.order

@@ -1,39 +1,41 @@
 use Rattle.std.proofs.lemmas.Result.{err_from_is_err_and}
-use Rattle.std.proofs.Common.{inl, inr, refl, sym}
+use Rattle.std.proofs.Common.{◌∙◌, ◌<◌, ap, inl, inr, length, refl, sym, arith}
 use Rattle.luks_header.proofs.HeaderLemmas.{short_from_not_whole}
+use Rattle.luks_open.specs.Order.{key_areas_end}
+use Rattle.luks_unlock.proofs.VolumeLemmas.{none_behind}
 use Rattle.luks_unlock.proofs.trying.try_slots.Goals as goal
 
 pub returns-in_err-extend_to-clause-run : goal.returns-in_err-extend_to-clause-run
 returns-in_err-extend_to-clause-run g c =
     let p = err_from_is_err_and c.from_residual.result c.from_residual.ensures.1 in
-    rw (p.1, p.2) (λ rest there.
+    rw (p.1, p.2) (λ rest there nothing.
     inl (
       c.in_err-extend_to.field-0.0,
       refl,
-      rw c.held_end.ensures.value at (c.in_err-extend_to.ensures.broken rest there),
+      rw c.held_end-end.ensures.value at (c.in_err-extend_to.ensures.broken rest there),
     ))
 
 pub returns-then-not-branch-clause-run : goal.returns-then-not-branch-clause-run
-returns-then-not-branch-clause-run g c rest there =
-    let end = c.held_end.ensures.value in
+returns-then-not-branch-clause-run g c rest there nothing =
+    let end = c.held_end-end.ensures.value in
     let few = short_from_not_whole c.in_ok-extend_to.field-0 _ _ c.in_ok-extend_to.ensures.whole c.if-not-branch.true in
     inr (rw end at (c.in_ok-extend_to.ensures.taken rest there), inl (refl, rw end at few))
 
 pub open-requires-clause-held : goal.open-requires-clause-held
 open-requires-clause-held g c =
-    rw c.held_end.ensures.value at (c.in_ok-extend_to.ensures.whole.0 c.if-not-branch.false)
+    rw c.held_end-end.ensures.value at (c.in_ok-extend_to.ensures.whole.0 c.if-not-branch.false)
 
 pub returns-in-Ok-clause-run : goal.returns-in-Ok-clause-run
-returns-in-Ok-clause-run g c rest there =
-    let end = c.held_end.ensures.value in (
+returns-in-Ok-clause-run g c rest there nothing =
+    let end = c.held_end-end.ensures.value in (
       rw end at (c.in_ok-extend_to.ensures.taken rest there),
       rw end at (c.in_ok-extend_to.ensures.whole.0 c.if-not-branch.false),
       sym c.in-Ok.ensures.value,
     )
 
 pub returns-in-Err-clause-run : goal.returns-in-Err-clause-run
-returns-in-Err-clause-run g c = rw (c.of_opening.ensures, c.named_slot.ensures) (λ rest there.
-    let end = c.held_end.ensures.value in
+returns-in-Err-clause-run g c = rw (c.of_opening.ensures, c.named_slot.ensures) (λ rest there nothing.
+    let end = c.held_end-end.ensures.value in
     inr (
       rw end at (c.in_ok-extend_to.ensures.taken rest there),
       inr (
@@ -43,3 +45,15 @@ returns-in-Err-clause-run g c = rw (c.of_opening.ensures, c.named_slot.ensures) 
         sym c.in-Err.ensures.value,
       ),
     ))
+
+-- the image's end was hit before, and the key areas are not all there
+pub returns-then-as_slice-end-clause-run : goal.returns-then-as_slice-end-clause-run
+returns-then-as_slice-end-clause-run g c rest there nothing =
+    let none = nothing (sym c.has_ended.ensures ∙ c.if-has_ended.true) in
+    let few : length c.args.volume.now.area.bytes < key_areas_end c.args.volume.now.order.slots = omega (
+      arith,
+      c.if-as_slice-end.true,
+      ap length c.as_slice.ensures.value,
+      c.held_end-end.ensures.value,
+    ) in
+    inr (none_behind c.args.volume.now.area.bytes rest _ _ there none, inl (refl, few))

@@ -1,7 +1,7 @@
 use Rattle.std.proofs.Common.{◌≡◌, false}
 use Rattle.luks_access.proofs.SourceLemmas.{known_err, known_ok}
 use Rattle.luks_access.specs.Opens.{IsCatOf, IsOnlyAborted, IsPlainOf, Opens, Refuses}
-use Rattle.luks_runs.specs.Run.{breaks_off}
+use Rattle.luks_runs.specs.Run.{aborts}
 use Rattle.luks_access.proofs.volume.Volume.open.Goals as goal
 
 pub returns-clause-opens : goal.returns-clause-opens
@@ -22,7 +22,7 @@ returns-clause-honest g c =
 pub returns-clause-refuses : goal.returns-clause-refuses
 returns-clause-refuses g c =
     known_err c.open_from.result
-    (λ message known. breaks_off message ≡ false → Refuses c.args.options.now known c.args.pass.now message)
+    (λ message known. aborts message ≡ false → Refuses c.args.options.now known c.args.pass.now message)
     (g.I.ReadAt.image c.args.image.now) _ c.new.ensures.bytes c.open_from.ensures.refuses
 
 pub returns-clause-refuses_no_honest : goal.returns-clause-refuses_no_honest

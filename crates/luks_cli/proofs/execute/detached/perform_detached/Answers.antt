@@ -1,8 +1,9 @@
-use Rattle.luks_runs.specs.Header.{printout_text, printout_message}
-use Rattle.luks_runs.specs.Reading.{detached_header_of}
+use Rattle.std.proofs.Common.{refl}
+use Rattle.luks_runs.specs.HeaderOutcome.{printout_text, printout_message}
+use Rattle.luks_runs.specs.HeaderReading.{detached_header_of}
 use Rattle.luks_runs.specs.Run.{at_any_pace}
-use Rattle.luks_runs.specs.declared.headers.Page.TheVariants.{Uuid, Dump, Check}
-use Rattle.luks_cli.proofs.DetachedRuns.{counts_apart, no_payload_for_answer, no_payload_for_page, no_payload_for_slot}
+use Rattle.luks_runs.specs.declared.headers.Printout.TheVariants.{Uuid, Dump, Check}
+use Rattle.luks_cli.proofs.DetachedRuns.{counts_apart, no_payload_for_answer, no_payload_for_text, no_payload_for_slot}
 use Rattle.luks_cli.proofs.DetachedRuns.{runs_apart}
 use Rattle.luks_cli.proofs.execute.detached.perform_detached.Goals as goal
 
@@ -12,19 +13,19 @@ returns-in-IsLuks-clause-run g c = rw c.in-IsLuks.is (λ file there known payloa
 
 pub returns-in-LuksUuid-clause-run : goal.returns-in-LuksUuid-clause-run
 returns-in-LuksUuid-clause-run g c = rw c.in-LuksUuid.is (λ file there known payload pass secret counted.
-    runs_apart at_any_pace _ _ _ _ _ (no_payload_for_page detached_header_of (printout_text Uuid)
+    runs_apart at_any_pace _ _ _ _ _ (no_payload_for_text detached_header_of (printout_text Uuid)
     (printout_message Uuid) file)
     (c.print.ensures.run file there))
 
 pub returns-in-LuksDump-clause-run : goal.returns-in-LuksDump-clause-run
 returns-in-LuksDump-clause-run g c = rw c.in-LuksDump.is (λ file there known payload pass secret counted.
-    runs_apart at_any_pace _ _ _ _ _ (no_payload_for_page detached_header_of (printout_text Dump)
+    runs_apart at_any_pace _ _ _ _ _ (no_payload_for_text detached_header_of (printout_text Dump)
     (printout_message Dump) file)
     (c.print-in-LuksDump.ensures.run file there))
 
 pub returns-in-LuksCheck-clause-run : goal.returns-in-LuksCheck-clause-run
 returns-in-LuksCheck-clause-run g c = rw c.in-LuksCheck.is (λ file there known payload pass secret counted.
-    runs_apart at_any_pace _ _ _ _ _ (no_payload_for_page detached_header_of (printout_text Check)
+    runs_apart at_any_pace _ _ _ _ _ (no_payload_for_text detached_header_of (printout_text Check)
     (printout_message Check) file)
     (c.print-in-LuksCheck.ensures.run file there))
 
@@ -38,23 +39,55 @@ pub returns-in-LuksCat-clause-run : goal.returns-in-LuksCat-clause-run
 returns-in-LuksCat-clause-run g c = rw c.in-LuksCat.is (λ file there known payload pass secret counted.
     c.cat_detached.ensures.run file there known payload pass secret counted)
 
-pub returns-in-IsLuks-clause-counts : goal.returns-in-IsLuks-clause-counts
-returns-in-IsLuks-clause-counts g c = counts_apart _ _ _ _ _ _ _ _ (c.is_luks.ensures.counts _ _)
+pub returns-in-IsLuks-clause-calls : goal.returns-in-IsLuks-clause-calls
+returns-in-IsLuks-clause-calls g c = record {
+  failures = counts_apart _ _ _ _ _ _ _ _ (c.is_luks.ensures.counts _ _);
+  header_needed = c.is_luks.ensures.needed;
+  image_needed = λ live. refl;
+  secret_needed = λ live. refl;
+  out_needed = λ live. refl;
+}
 
-pub returns-in-LuksUuid-clause-counts : goal.returns-in-LuksUuid-clause-counts
-returns-in-LuksUuid-clause-counts g c = counts_apart _ _ _ _ _ _ _ _ (c.print.ensures.counts _)
+pub returns-in-LuksUuid-clause-calls : goal.returns-in-LuksUuid-clause-calls
+returns-in-LuksUuid-clause-calls g c = record {
+  failures = counts_apart _ _ _ _ _ _ _ _ (c.print.ensures.counts _);
+  header_needed = c.print.ensures.needed_reads;
+  image_needed = λ live. refl;
+  secret_needed = λ live. refl;
+  out_needed = c.print.ensures.needed_writes;
+}
 
-pub returns-in-LuksDump-clause-counts : goal.returns-in-LuksDump-clause-counts
-returns-in-LuksDump-clause-counts g c = counts_apart _ _ _ _ _ _ _ _ (c.print-in-LuksDump.ensures.counts _)
+pub returns-in-LuksDump-clause-calls : goal.returns-in-LuksDump-clause-calls
+returns-in-LuksDump-clause-calls g c = record {
+  failures = counts_apart _ _ _ _ _ _ _ _ (c.print-in-LuksDump.ensures.counts _);
+  header_needed = c.print-in-LuksDump.ensures.needed_reads;
+  image_needed = λ live. refl;
+  secret_needed = λ live. refl;
+  out_needed = c.print-in-LuksDump.ensures.needed_writes;
+}
 
-pub returns-in-LuksCheck-clause-counts : goal.returns-in-LuksCheck-clause-counts
-returns-in-LuksCheck-clause-counts g c = counts_apart _ _ _ _ _ _ _ _ (c.print-in-LuksCheck.ensures.counts _)
+pub returns-in-LuksCheck-clause-calls : goal.returns-in-LuksCheck-clause-calls
+returns-in-LuksCheck-clause-calls g c = record {
+  failures = counts_apart _ _ _ _ _ _ _ _ (c.print-in-LuksCheck.ensures.counts _);
+  header_needed = c.print-in-LuksCheck.ensures.needed_reads;
+  image_needed = λ live. refl;
+  secret_needed = λ live. refl;
+  out_needed = c.print-in-LuksCheck.ensures.needed_writes;
+}
 
-pub returns-in-TestPassphrase-clause-counts : goal.returns-in-TestPassphrase-clause-counts
-returns-in-TestPassphrase-clause-counts g c = counts_apart _ _ _ _ _ _ _ _ c.test_passphrase.ensures.counts
+pub returns-in-TestPassphrase-clause-calls : goal.returns-in-TestPassphrase-clause-calls
+returns-in-TestPassphrase-clause-calls g c =
+    let calls = c.test_passphrase.ensures.calls in
+    record {
+      failures = counts_apart _ _ _ _ _ _ _ _ calls.failures;
+      header_needed = calls.image_needed;
+      image_needed = λ live. refl;
+      secret_needed = calls.secret_needed;
+      out_needed = calls.out_needed;
+    }
 
-pub returns-in-LuksCat-clause-counts : goal.returns-in-LuksCat-clause-counts
-returns-in-LuksCat-clause-counts g c = c.cat_detached.ensures.counts
+pub returns-in-LuksCat-clause-calls : goal.returns-in-LuksCat-clause-calls
+returns-in-LuksCat-clause-calls g c = c.cat_detached.ensures.calls
 
 pub returns-in-IsLuks-clause-only : goal.returns-in-IsLuks-clause-only
 returns-in-IsLuks-clause-only g c = rw c.in-IsLuks.is c.is_luks.ensures.only
@@ -75,13 +108,15 @@ pub returns-in-LuksCat-clause-only : goal.returns-in-LuksCat-clause-only
 returns-in-LuksCat-clause-only g c = rw c.in-LuksCat.is c.cat_detached.ensures.only
 
 pub returns-in-TestPassphrase-clause-unneeded : goal.returns-in-TestPassphrase-clause-unneeded
-returns-in-TestPassphrase-clause-unneeded g c = rw c.in-TestPassphrase.is c.test_passphrase.ensures.unneeded
+returns-in-TestPassphrase-clause-unneeded g c =
+    rw c.in-TestPassphrase.is (λ needs. c.test_passphrase.ensures.unneeded needs.0 needs.1 needs.2)
 
 pub returns-in-LuksCat-clause-unneeded : goal.returns-in-LuksCat-clause-unneeded
-returns-in-LuksCat-clause-unneeded g c = rw c.in-LuksCat.is c.cat_detached.ensures.unneeded
+returns-in-LuksCat-clause-unneeded g c =
+    rw c.in-LuksCat.is (λ needs. c.cat_detached.ensures.unneeded needs.0 needs.1 needs.2)
 
-pub returns-in-LuksCat-clause-before_key : goal.returns-in-LuksCat-clause-before_key
-returns-in-LuksCat-clause-before_key g c = c.cat_detached.ensures.before_key
+pub returns-in-LuksCat-clause-untouched : goal.returns-in-LuksCat-clause-untouched
+returns-in-LuksCat-clause-untouched g c = rw c.in-LuksCat.is c.cat_detached.ensures.before_key
 
 pub returns-in-LuksUuid-clause-reads_first : goal.returns-in-LuksUuid-clause-reads_first
 returns-in-LuksUuid-clause-reads_first g c = rw c.in-LuksUuid.is (λ _. c.print.ensures.reads_first)

@@ -1,13 +1,12 @@
 use Rattle.std.proofs.lemmas.Result.{err_from_is_err_and}
-use Rattle.std.proofs.Common.{false, refl}
-use Rattle.luks_io.proofs.Taking.{took-none}
-use Rattle.luks_request.specs.Request.{opening_request}
+use Rattle.std.proofs.Common.{refl}
+use Rattle.luks_io.proofs.Consuming.{took-none}
+use Rattle.luks_request.specs.Request.{volume_request}
 use Rattle.luks_runs.specs.Run.{result_message}
 use Rattle.luks_unlock.specs.Volume.{detached_payload_outcome}
 use Rattle.luks_cli.proofs.DetachedRuns.{counts_passed_apart, counts_apart, runs_passed_apart, runs_unopened_apart}
 use Rattle.luks_cli.proofs.DetachedRuns.{takes_detached_payload, with_key}
 use Rattle.luks_cli.proofs.OpenedRuns.{never_memory}
-use Rattle.luks_runs.proofs.PayloadLemmas.{payload_ends_once}
 use Rattle.luks_cli.proofs.execute.volumes.cat_detached.Goals as goal
 
 pub returns-in_err-unlocked-clause-run : goal.returns-in_err-unlocked-clause-run
@@ -15,7 +14,7 @@ returns-in_err-unlocked-clause-run g c =
     let p = err_from_is_err_and c.from_residual.result c.from_residual.ensures.1 in
     let stop = c.in_err-unlocked.ensures in
     rw (p.1, p.2) (λ file there known is pass has counted.
-    runs_unopened_apart (opening_request c.args.opening.now) file known pass _ _ _ _ _ stop.only
+    runs_unopened_apart (volume_request c.args.opening.now) file known pass _ _ _ _ _ stop.only
     (took-none known _ is) (stop.err _ file there pass has (detached_payload_outcome known pass)
     (takes_detached_payload known pass)))
 
@@ -23,24 +22,32 @@ pub returns-clause-run : goal.returns-clause-run
 returns-clause-run g c file there known is pass has counted =
     let u = c.in_ok-unlocked.ensures.ok file there pass has in
     runs_passed_apart _ file known pass _ _ _ _ _ u _ _ _ (result_message c.write_plain.result)
-    (never_memory c.write_plain.result c.write_plain.ensures.memory)
+    (never_memory _ c.write_plain.ensures.only)
     (c.write_plain.ensures.run known counted refl (took-none known _ is))
 
 pub returns-clause-before_key : goal.returns-clause-before_key
 returns-clause-before_key g c without = absurd (with_key _ c.write_plain.ensures.only without)
 
-pub returns-in_err-unlocked-clause-counts : goal.returns-in_err-unlocked-clause-counts
-returns-in_err-unlocked-clause-counts g c =
+pub returns-in_err-unlocked-clause-calls : goal.returns-in_err-unlocked-clause-calls
+returns-in_err-unlocked-clause-calls g c =
     let p = err_from_is_err_and c.from_residual.result c.from_residual.ensures.1 in
-    rw (p.1, p.2) (counts_apart _ _ _ _ _ _ _ _ (c.in_err-unlocked.ensures.counts _))
+    let stop = c.in_err-unlocked.ensures in
+    rw (p.1, p.2) (record {
+      failures = counts_apart _ _ _ _ _ _ _ _ (stop.counts _);
+      header_needed = stop.needed.0;
+      image_needed = λ live. refl;
+      secret_needed = stop.needed.1;
+      out_needed = λ live. refl;
+    })
 
-pub returns-clause-counts : goal.returns-clause-counts
-returns-clause-counts g c =
-    counts_passed_apart (result_message c.write_plain.result) _ _ _ _ _ _ _ _ c.in_ok-unlocked.ensures.counts
-    c.write_plain.ensures.reads c.write_plain.ensures.writes
-
-pub returns-clause-image_end : goal.returns-clause-image_end
-returns-clause-image_end g c = payload_ends_once (result_message c.write_plain.result) _ _ c.write_plain.ensures.ends
-
-pub returns-in_err-unlocked-clause-image_end : goal.returns-in_err-unlocked-clause-image_end
-returns-in_err-unlocked-clause-image_end g c = (false, refl)
+pub returns-clause-calls : goal.returns-clause-calls
+returns-clause-calls g c =
+    let unlocked = c.in_ok-unlocked.ensures in
+    record {
+      failures = counts_passed_apart (result_message c.write_plain.result) _ _ _ _ _ _ _ _ unlocked.counts
+          c.write_plain.ensures.reads c.write_plain.ensures.writes;
+      header_needed = unlocked.needed.0;
+      image_needed = c.write_plain.ensures.needed.0;
+      secret_needed = unlocked.needed.1;
+      out_needed = c.write_plain.ensures.needed.1;
+    }

@@ -15,22 +15,39 @@ returns-in_err-unlocked-clause-run g c =
 
 pub returns-clause-run : goal.returns-clause-run
 returns-clause-run g c known is pass has =
-    runs_slot c.args.standing _ known pass _ _ _ _ _ (c.in_ok-unlocked.ensures.ok known is pass has) _ _
-    (result_message c.tell_slot.result) c.tell_slot.ensures.told
+    runs_slot c.args.location _ known pass _ _ _ _ _ (c.in_ok-unlocked.ensures.ok known is pass has) _ _
+    (result_message c.report_slot.result) c.report_slot.ensures.told
 
 pub returns-clause-only : goal.returns-clause-only
 returns-clause-only g c =
-    slot_message c.in_ok-unlocked.unlocked.opened _ _ (result_message c.tell_slot.result) c.tell_slot.ensures.told
+    slot_message c.in_ok-unlocked.unlocked.opened _ _ (result_message c.report_slot.result) c.report_slot.ensures.told
 
 pub returns-clause-reads_first : goal.returns-clause-reads_first
 returns-clause-reads_first g c failed =
-    let told = slot_reads_nothing c.in_ok-unlocked.unlocked.opened _ _ (result_message c.tell_slot.result)
-    c.tell_slot.ensures.told in
+    let told = slot_reads_nothing c.in_ok-unlocked.unlocked.opened _ _ (result_message c.report_slot.result)
+    c.report_slot.ensures.told in
     absurd (cc (rw failed at told))
 
-pub returns-clause-counts : goal.returns-clause-counts
-returns-clause-counts g c =
-    let not_read = slot_reads_nothing c.in_ok-unlocked.unlocked.opened _ _ (result_message c.tell_slot.result)
-    c.tell_slot.ensures.told in
-    counts_passed (result_message c.tell_slot.result) _ _ _ _ _ _ _ c.in_ok-unlocked.ensures.counts
-    (rw not_read refl) c.tell_slot.ensures.writes
+pub returns-in_err-unlocked-clause-calls : goal.returns-in_err-unlocked-clause-calls
+returns-in_err-unlocked-clause-calls g c =
+    let p = err_from_is_err_and c.from_residual.result c.from_residual.ensures.1 in
+    let stop = c.in_err-unlocked.ensures in
+    rw (p.1, p.2) (record {
+      failures = stop.counts _;
+      image_needed = stop.needed.0;
+      secret_needed = stop.needed.1;
+      out_needed = λ live. refl;
+    })
+
+pub returns-clause-calls : goal.returns-clause-calls
+returns-clause-calls g c =
+    let not_read = slot_reads_nothing c.in_ok-unlocked.unlocked.opened _ _ (result_message c.report_slot.result)
+    c.report_slot.ensures.told in
+    let unlocked = c.in_ok-unlocked.ensures in
+    record {
+      failures = counts_passed (result_message c.report_slot.result) _ _ _ _ _ _ _ unlocked.counts
+          (rw not_read refl) c.report_slot.ensures.writes;
+      image_needed = unlocked.needed.0;
+      secret_needed = unlocked.needed.1;
+      out_needed = c.report_slot.ensures.needed;
+    }

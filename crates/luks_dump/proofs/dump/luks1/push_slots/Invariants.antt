@@ -5,5 +5,5 @@ use Rattle.luks_dump.proofs.dump.luks1.push_slots.Given as goal
 -- the lines so far and those of the slots that are left are those of all
 abbrev pub invariant-loop-number : goal.invariant-loop-number
 invariant-loop-number l =
-    string_bytes l.page ++ slot1_lines l.number (drop l.number l.slots) ≡ string_bytes l.initial.page
+    string_bytes l.lines ++ slot1_lines l.number (drop l.number l.slots) ≡ string_bytes l.initial.lines
     ++ slot1_lines 0 l.slots

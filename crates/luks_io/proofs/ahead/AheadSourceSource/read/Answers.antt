@@ -4,4 +4,6 @@ use Rattle.luks_io.proofs.ahead.AheadSourceSource.read.Goals as goal
 
 pub returns-then-ahead-buf-clause-within : goal.returns-then-ahead-buf-clause-within
 returns-then-ahead-buf-clause-within g c =
-    takes_at_most _ _ c.pass.result c.pass.new.buf _ (omega arith) c.pass.ensures.bound c.pass.ensures.bytes
+    rw c.counted.ensures.counts
+    (takes_at_most _ _ c.pass-answer.result c.pass-answer.new.buf _ (omega arith) c.pass-answer.ensures.bound
+    c.pass-answer.ensures.bytes)

@@ -14,9 +14,6 @@ returns-then-not-is_empty-clause-bound c = search rules
 pub returns-then-not-is_empty-clause-bytes : goal.returns-then-not-is_empty-clause-bytes
 returns-then-not-is_empty-clause-bytes c = search rules
 
-pub returns-then-not-is_empty-clause-counts : goal.returns-then-not-is_empty-clause-counts
-returns-then-not-is_empty-clause-counts c = search rules
-
 pub returns-then-not-is_empty-clause-count : goal.returns-then-not-is_empty-clause-count
 returns-then-not-is_empty-clause-count c = search rules
 
@@ -34,9 +31,6 @@ returns-clause-bound c = search rules
 
 pub returns-clause-bytes : goal.returns-clause-bytes
 returns-clause-bytes c = grind (arith, common_steps)
-
-pub returns-clause-counts : goal.returns-clause-counts
-returns-clause-counts c = search rules
 
 pub returns-clause-count : goal.returns-clause-count
 returns-clause-count c = search rules

@@ -10,6 +10,3 @@ returns-clause-rest c = grind (arith, common_steps)
 
 pub returns-clause-count : goal.returns-clause-count
 returns-clause-count c = search rules
-
-pub returns-clause-ends : goal.returns-clause-ends
-returns-clause-ends c = search rules

@@ -1,8 +1,9 @@
 use Rattle.std.proofs.Common.{◌≡◌, ◌∙◌, ap}
 use Rattle.std.proofs.lemmas.Result.{err_from_is_err_and}
-use Rattle.luks_payload.specs.Pumped.{PumpModel}
+use Rattle.luks_payload.specs.PumpEffects.{PumpModel}
 use Rattle.luks_payload.specs.declared.state.State.TheVariants.{Ended}
-use Rattle.luks_payload.proofs.StepLemmas.{first_answer, resumed, steps_resumed, steps_unskipped, unwritten}
+use Rattle.luks_payload.proofs.StepLemmas.{first_answer, needed_skipped, resumed, steps_resumed, steps_unskipped}
+use Rattle.luks_payload.proofs.StepLemmas.{unwritten}
 use Rattle.luks_payload.proofs.pump.Pump.step.Goals as goal
 
 pub returns-in_err-skip-clause-run : goal.returns-in_err-skip-clause-run
@@ -40,3 +41,9 @@ returns-clause-again g c =
     let going : c.self.inside.state ≡ Ended → ⊥ = λ ended. (let f = rw ended at c.if-eq.ensures in absurd cc) in
     first_answer c.args.self.now.state c.self.inside.state _ _ _ c.in_ok-skip.ensures.again
     (ap (λ (p : PumpModel). p.state) (c.self.view_is ∙ c.in_ok-skip.ensures.pump)) going
+
+pub returns-clause-needed_reads : goal.returns-clause-needed_reads
+returns-clause-needed_reads g c =
+    needed_skipped c.args.self.now.state _ _ _ (g.S.Source.counts c.next_sector-answer.new.source)
+    c.in_ok-skip.ensures.again (λ same. ap g.S.Source.counts same) c.in_ok-skip.ensures.reads c.in_ok-skip.ensures.ends
+    c.in_ok-skip.ensures.needed c.next_sector-answer.ensures.needed_reads

@@ -5,4 +5,4 @@ use Rattle.luks_dump.proofs.dump.luks2.digests.push_all.Given as goal
 -- the lines so far
 abbrev pub invariant-loop-digest : goal.invariant-loop-digest
 invariant-loop-digest l =
-    string_bytes l.page ≡ string_bytes l.initial.page ++ digest_lines (take l.digest-index l.digests)
+    string_bytes l.lines ≡ string_bytes l.initial.lines ++ digest_lines (take l.digest-index l.digests)

@@ -5,4 +5,4 @@ use Rattle.luks_dump.proofs.dump.luks2.slots.push_slots.Given as goal
 -- the lines of the key slots before this number
 abbrev pub invariant-loop-number : goal.invariant-loop-number
 invariant-loop-number l =
-    string_bytes l.page ≡ string_bytes l.initial.page ++ lines_below (slot_line_at l.metadata l.bounds) l.number
+    string_bytes l.lines ≡ string_bytes l.initial.lines ++ lines_below (slot_line_at l.metadata l.bounds) l.number

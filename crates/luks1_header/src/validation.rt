@@ -1,0 +1,243 @@
+//! Verdicts on the key slots, the digest and the segment of a header.
+
+ghost use Rattle.std.specs.Prelude.{◌≡◌, ◌*◌, option_map, IfOk};
+ghost use Rattle.luks_cipher.specs.Sector.{mode_named};
+ghost use Rattle.luks_verdict.specs.Digest.{has_no_usable_digest};
+ghost use Rattle.luks_verdict.specs.Slot.{verdict_kind_of};
+ghost use Rattle.luks1_header.specs.Segment1.{fault1_of, segment1_of, overlaps_header1};
+ghost use Rattle.luks1_header.specs.Slot1.{digest1_of, hash1_of, is_disabled, area1_out_of_range};
+ghost use Rattle.luks1_header.specs.Slot1.{mode1_of, payload1_start, reason1_of, slot1_at, slot1_of};
+ghost use Rattle.luks1_header.specs.Slot1.{verdict1_at, verdict1_of};
+
+use crate::header::{HEADER1_LEN, Header1, KeySlot, SlotState};
+use luks_cipher::Mode;
+use luks_kdf::Hash;
+use luks_verdict::bytes::HeaderBytes;
+use luks_verdict::digest::{DigestParts, KeyDigest};
+use luks_verdict::refusal::{SegmentFault, SkipReason};
+use luks_verdict::rule::{area_out_of_range, iterations_out_of_range, need, stripes_out_of_range};
+use luks_verdict::sector_size::SectorSize;
+use luks_verdict::segment::{Segment, SegmentParts};
+use luks_verdict::slot::{Slot, SlotParts, VerdictKind};
+use std::alloc::{AllocError, Global};
+use std::str;
+
+/// The first byte behind the header.
+const HEADER_END: u64 = HEADER1_LEN as u64;
+
+// The mode that a text names.
+fn mode_of(name: &[u8]) -> Option<Mode>
+    ensures { result ≡ mode_named name.now }
+{
+    match str::from_utf8(name) {
+        Ok(name) => Mode::from_name(name),
+        Err(_) => None,
+    }
+}
+
+impl Header1 {
+    /// The hash function of the slots, the stripes and the digest, if its name is known.
+    #[tactic(auto, unfolding(crate::specs::Slot1::hash1_of))]
+    pub fn hash(&self) -> Option<Hash>
+        ensures { result ≡ hash1_of self.now }
+    {
+        Hash::from_bytes(self.hash_spec.as_bytes())
+    }
+
+    /// The mode of AES in which sectors are encrypted, those of the payload and of key material
+    /// alike, if cipher and mode are known.
+    #[tactic(auto, unfolding(crate::specs::Slot1::mode1_of))]
+    pub fn mode(&self) -> Option<Mode>
+        ensures { result ≡ mode1_of self.now }
+    {
+        if self.cipher_name.as_bytes() == b"aes".as_slice() {
+            mode_of(self.cipher_mode.as_bytes())
+        } else {
+            None
+        }
+    }
+}
+
+// The place in bytes of a sector of 512 bytes.
+fn place(sector: u32) -> u64
+    ensures { result ≡ 512 * sector }
+{
+    512 * u64::from(sector)
+}
+
+// Where the payload starts, if the header is attached.
+#[tactic(auto, unfolding(crate::specs::Slot1::payload1_start))]
+fn payload(header: &Header1) -> Option<u64>
+    ensures { result ≡ payload1_start header.now }
+{
+    if header.detached {
+        None
+    } else {
+        Some(place(header.payload_offset))
+    }
+}
+
+// The key material of a slot starts inside the header, or it ends past the payload's start or past
+// byte 33,554,432.
+#[tactic(auto, unfolding(crate::specs::Slot1::area1_out_of_range))]
+fn area1_out_of_range(header: &Header1, slot: &KeySlot) -> bool
+    ensures { result ≡ area1_out_of_range header.now slot.now }
+{
+    let need = need(header.key_bytes, slot.stripes);
+    let payload = payload(header);
+    area_out_of_range(HEADER_END, payload, place(slot.offset), need, need)
+}
+
+// There is no digest to try a slot against, or its iterations are not made.
+#[tactic(auto, unfolding(crate::specs::Slot1::digest1_of, crate::specs::Slot1::digest_parts1_of))]
+fn no_usable_digest1(header: &Header1, limit: Option<u32>) -> bool
+    ensures { result ≡ has_no_usable_digest limit (digest1_of header.now) }
+{
+    DigestParts::no_usable_digest(limit, header.digest_iterations, header.digest.len())
+}
+
+// The first reason to skip a slot.
+#[tactic(auto, unfolding(crate::specs::Slot1::reason1_of))]
+fn reason(header: &Header1, limit: Option<u32>, slot: &KeySlot) -> Option<SkipReason>
+    ensures { result ≡ reason1_of header.now limit slot.now }
+{
+    if matches!(slot.state, SlotState::Damaged(_)) {
+        Some(SkipReason::State)
+    } else if stripes_out_of_range(u64::from(slot.stripes)) {
+        Some(SkipReason::Stripes)
+    } else if iterations_out_of_range(limit, u64::from(slot.iterations)) {
+        Some(SkipReason::Iterations)
+    } else if area1_out_of_range(header, slot) {
+        Some(SkipReason::Area)
+    } else if no_usable_digest1(header, limit) {
+        Some(SkipReason::Digest)
+    } else {
+        None
+    }
+}
+
+// A slot of this state is not in use.
+fn disabled(state: SlotState) -> bool
+    ensures { result ≡ is_disabled state }
+{
+    matches!(state, SlotState::Disabled)
+}
+
+// The verdict on a slot, without what is needed to open it.
+#[tactic(auto, unfolding(crate::specs::Slot1::verdict1_of))]
+fn slot_verdict_kind(header: &Header1, limit: Option<u32>, slot: &KeySlot) -> VerdictKind
+    ensures { result ≡ verdict_kind_of (verdict1_of header.now limit slot.now) }
+{
+    if disabled(slot.state) {
+        return VerdictKind::Disabled;
+    }
+    match reason(header, limit, slot) {
+        Some(reason) => VerdictKind::Skipped(reason),
+        None => VerdictKind::Usable(1),
+    }
+}
+
+/// The verdict on the slot of this number, without what is needed to open it. This allocates
+/// nothing.
+#[tactic(auto, unfolding(crate::specs::Slot1::verdict1_at))]
+pub fn verdict_kind(header: &Header1, limit: Option<u32>, number: u8) -> Option<VerdictKind>
+    ensures { result ≡ option_map verdict_kind_of (verdict1_at header.now limit number) }
+{
+    match header.slots.get(usize::from(number)) {
+        Some(slot) => Some(slot_verdict_kind(header, limit, slot)),
+        None => None,
+    }
+}
+
+// What is needed to open a slot, if its numbers are in range.
+#[tactic(auto, unfolding(crate::specs::Slot1::slot1_of, crate::specs::Slot1::slot_parts1_of))]
+fn usable(alloc: Global, header: &Header1, slot: &KeySlot) -> Result<Option<Slot>, AllocError>
+    ensures { IfOk result (λ usable. usable ≡ slot1_of header.now slot.now) }
+{
+    let parts = SlotParts {
+        priority: 1,
+        kdf_hash: header.hash(),
+        iterations: slot.iterations,
+        salt: HeaderBytes::new(alloc, &slot.salt)?,
+        af_hash: header.hash(),
+        stripes: slot.stripes,
+        key_bytes: header.key_bytes,
+        area_key_bytes: header.key_bytes,
+        area_offset: place(slot.offset),
+        area_size: need(header.key_bytes, slot.stripes),
+        area_mode: header.mode(),
+    };
+    Ok(Slot::from_parts(parts))
+}
+
+/// What is needed to open the slot of this number, if it is there and its numbers are in range.
+#[tactic(auto, unfolding(crate::specs::Slot1::slot1_at))]
+pub fn slot(alloc: Global, header: &Header1, number: u8) -> Result<Option<Slot>, AllocError>
+    ensures { IfOk result (λ usable. usable ≡ slot1_at header.now number) }
+{
+    match header.slots.get(usize::from(number)) {
+        Some(slot) => usable(alloc, header, slot),
+        None => Ok(None),
+    }
+}
+
+/// The digest of all slots, if its numbers are in range.
+#[tactic(auto, unfolding(crate::specs::Slot1::digest1_of, crate::specs::Slot1::digest_parts1_of))]
+pub fn digest(alloc: Global, header: &Header1) -> Result<Option<KeyDigest>, AllocError>
+    ensures { IfOk result (λ digest. digest ≡ digest1_of header.now) }
+{
+    let parts = DigestParts {
+        hash: header.hash(),
+        iterations: header.digest_iterations,
+        salt: HeaderBytes::new(alloc, &header.digest_salt)?,
+        value: HeaderBytes::new(alloc, &header.digest)?,
+    };
+    Ok(KeyDigest::from_parts(parts))
+}
+
+// The payload starts inside an attached header.
+#[tactic(auto, unfolding(crate::specs::Segment1::overlaps_header1))]
+fn overlaps_header1(header: &Header1) -> bool
+    ensures { result ≡ overlaps_header1 header.now }
+{
+    !header.detached && place(header.payload_offset) < HEADER_END
+}
+
+// The first fault of the segment.
+#[tactic(auto, unfolding(crate::specs::Segment1::fault1_of))]
+fn fault(header: &Header1) -> Option<SegmentFault>
+    ensures { result ≡ fault1_of header.now }
+{
+    let Some(mode) = header.mode() else {
+        return Some(SegmentFault::Encryption);
+    };
+    if header.hash().is_none() {
+        Some(SegmentFault::Hash)
+    } else if !mode.has_key_length(header.key_bytes as usize) {
+        Some(SegmentFault::KeyBytes)
+    } else if overlaps_header1(header) {
+        Some(SegmentFault::Offset)
+    } else {
+        None
+    }
+}
+
+/// The segment of a header, or its first fault. This allocates nothing.
+pub fn segment(header: &Header1) -> Result<Segment, SegmentFault>
+    ensures { result ≡ segment1_of header.now }
+{
+    if let Some(fault) = fault(header) {
+        return Err(fault);
+    }
+    let parts = SegmentParts {
+        offset: Some(place(header.payload_offset)),
+        size: Some(None),
+        iv_tweak: Some(0),
+        sector_size: Some(SectorSize::B512),
+        mode: header.mode(),
+    };
+    match Segment::from_parts(parts) {
+        Some(segment) => Ok(segment),
+        None => unreachable!(),
+    }
+}

@@ -1,0 +1,177 @@
+-- What becomes of the segment, the key slots and the digest of a sealed volume of LUKS1.
+use Rattle.std.proofs.Common.{◌≡◌, ◌∙◌, ℕ, ◌+◌, ◌*◌, ◌^◌, ◌<◌, ◌≤◌, true, false, length, Some, None, Ok, refl, ap}
+use Rattle.std.proofs.Common.{arith}
+use Rattle.std.proofs.Math.Nat.{mul-le-mul_right}
+use Rattle.std.proofs.lemmas.Bool.{le-ltb}
+use Rattle.std.proofs.lemmas.Bool.Decides.{nat_tests}
+use Rattle.luks_cipher.specs.Sector.{is_mode_key_length, mode_named, mode_name}
+use Rattle.luks_cipher.specs.declared.mode.Mode.{Mode}
+use Rattle.luks_cipher.specs.declared.mode.Mode.TheVariants.{XtsPlain64, XtsPlain, CbcEssivSha256, CbcPlain64}
+use Rattle.luks_kdf.specs.Hash.{hash_named, hash_name}
+use Rattle.luks_kdf.specs.declared.hash.Hash.{Hash}
+use Rattle.luks_kdf.specs.declared.hash.Hash.TheVariants.{Sha1, Sha224, Sha256, Sha384, Sha512}
+use Rattle.luks_kdf.proofs.Pbkdf2Lemmas.{length-derived_key}
+use Rattle.luks_verdict.specs.Digest.{digest_of, has_no_usable_digest, is_usable}
+use Rattle.luks_verdict.specs.Rule.{iterations_out_of_range, is_digest, area_out_of_range, stripes_out_of_range}
+use Rattle.luks_verdict.specs.Rule.{need_of}
+use Rattle.luks_verdict.specs.Segment.{segment_by, segment_from}
+use Rattle.luks_verdict.specs.Slot.{are_in_range, slot_of}
+use Rattle.luks_verdict.specs.declared.sector_size.SectorSize.TheVariants.{B512}
+use Rattle.luks_verdict.specs.declared.slot.Verdict.TheVariants.{Usable}
+use Rattle.luks_verdict.proofs.MadeLemmas.{digest_from-yes, no_usable_digest-yes}
+use Rattle.luks1_header.specs.Segment1.{fault1_of, segment1_of, segment_parts1_of, overlaps_header1}
+use Rattle.luks1_header.specs.Slot1.{digest1_of, digest_parts1_of, hash1_of, is_damaged, is_disabled}
+use Rattle.luks1_header.specs.Slot1.{area1_out_of_range}
+use Rattle.luks1_header.specs.Slot1.{mode1_of, payload1_start, reason1_of, slot_parts1_of, verdict1_of}
+use Rattle.luks1_header.specs.declared.header.Header1.{Header1}
+use Rattle.luks1_header.specs.declared.header.KeySlot.{KeySlot}
+use Rattle.luks1_header.proofs.SegmentLemmas.{segment1-none}
+use Rattle.luks1_header.proofs.SlotLemmas.{slot_there}
+use Rattle.luks_seal.specs.Sealed.{IsDigestOf}
+use Rattle.luks_seal.specs.declared.parameters.Seal1.{Seal1}
+use Rattle.luks_seal.specs.declared.parameters.Slot1.{Slot1}
+use Rattle.luks1_seal.specs.Layout1.{area_sectors_of}
+use Rattle.luks1_seal.specs.Ranges1.{AreParameters}
+use Rattle.luks1_seal.specs.Typed1.{AreTyped1}
+use Rattle.luks1_seal.proofs.Read1.{IsKeySlot, IsRead1}
+
+mode_by_name : (mode : Mode) → mode_named (mode_name mode) ≡ Some mode
+mode_by_name XtsPlain64 = refl
+mode_by_name XtsPlain = refl
+mode_by_name CbcEssivSha256 = refl
+mode_by_name CbcPlain64 = refl
+
+hash_by_name : (h : Hash) → hash_named (hash_name h) ≡ Some h
+hash_by_name Sha1 = refl
+hash_by_name Sha224 = refl
+hash_by_name Sha256 = refl
+hash_by_name Sha384 = refl
+hash_by_name Sha512 = refl
+
+module _ (p : Seal1) (header : Header1) (fits : AreParameters p) (typed : AreTyped1 p) (read : IsRead1 p header) where
+  pub mode1_is : mode1_of header ≡ Some p.mode
+  unfolding mode1_of
+  mode1_is = rw (read.cipher_name, read.cipher_mode) (mode_by_name p.mode)
+
+  pub hash1_is : hash1_of header ≡ Some p.hash
+  unfolding hash1_of
+  hash1_is = ap hash_named read.hash_spec ∙ hash_by_name p.hash
+
+  -- ---- the segment
+
+  -- the payload begins where it was put
+  pub payload_starts : 512 * header.payload_offset ≡ p.payload_sectors * 512
+  payload_starts = omega (arith, read.payload_offset)
+
+  outside : overlaps_header1 header ≡ false
+  unfolding overlaps_header1
+  outside =
+      rw (read.attached, le-ltb (512 * header.payload_offset) 592 (omega (arith, payload_starts, fits.counts.3))) refl
+
+  no_fault : fault1_of header ≡ None
+  unfolding fault1_of
+  no_fault =
+      let key : is_mode_key_length p.mode header.key_bytes ≡ true =
+      ap (is_mode_key_length p.mode) read.key_bytes ∙ fits.key in
+      rw (mode1_is, hash1_is, key, outside) refl
+
+  made : segment_from (segment_parts1_of header)
+      ≡ Some (segment_by (512 * header.payload_offset) None 0 B512 p.mode refl)
+  unfolding segment_from
+  made = rw mode1_is refl
+
+  pub segment1_is : segment1_of header ≡ Ok (segment_by (512 * header.payload_offset) None 0 B512 p.mode refl)
+  segment1_is = segment1-none header _ no_fault made
+
+  -- ---- the digest
+
+  length-digest : length header.digest ≡ 20
+  length-digest =
+      ap length read.digest ∙ length-derived_key p.hash p.key.now p.digest_salt p.digest_iterations 20
+
+  pub digest_usable : is_usable (digest_parts1_of header) ≡ true
+  unfolding digest_parts1_of is_digest iterations_out_of_range
+  digest_usable =
+      let long = length-digest in
+      let turns = read.digest_iterations in
+      let some = fits.counts.2 in
+      let few = typed.iterations in
+      grind (arith, nat_tests)
+
+  pub digest1_is : digest1_of header ≡ Some (digest_of (digest_parts1_of header) digest_usable)
+  unfolding digest1_of
+  digest1_is = digest_from-yes (digest_parts1_of header) digest_usable
+
+  pub digest1_of_key : IsDigestOf (digest_of (digest_parts1_of header) digest_usable) p.key.now
+  unfolding digest_of digest_parts1_of
+  digest1_of_key = record {
+    hash = p.hash;
+    is_hash = hash1_is;
+    value = read.digest ∙ rw (read.digest_salt, read.digest_iterations, length-digest) refl;
+  }
+
+  -- ---- a key slot
+
+  module _ (slot : Slot1) (number : ℕ) (stored : KeySlot)
+      (is : IsKeySlot slot (8 + number * area_sectors_of p) p.stripes stored) (low : number < 8)
+      (some : 1 ≤ slot.iterations) (few : slot.iterations < 2 ^ 32) where
+    striped : stripes_out_of_range stored.stripes ≡ false
+    unfolding stripes_out_of_range
+    striped =
+        let same = is.stripes in
+        let least = fits.counts.0 in
+        let most = fits.counts.1 in
+        grind (arith, nat_tests)
+
+    few_turns : iterations_out_of_range None stored.iterations ≡ false
+    unfolding iterations_out_of_range
+    few_turns =
+        let same = is.iterations in
+        grind (arith, nat_tests)
+
+    -- the key material ends before the payload
+    before_payload : 512 * stored.offset + need_of header.key_bytes stored.stripes ≤ 512 * header.payload_offset
+    unfolding need_of
+    before_payload =
+        let size = length p.key.now * p.stripes in
+        let product : header.key_bytes * stored.stripes ≡ size =
+        ap (λ n. n * stored.stripes) read.key_bytes ∙ ap (λ n. length p.key.now * n) is.stripes in
+        let below : (number + 1) * area_sectors_of p ≤ 8 * area_sectors_of p =
+        mul-le-mul_right {m = number + 1} {n = 8} (area_sectors_of p) (omega arith) in
+        omega (arith, product, below, payload_starts, is.offset, fits.counts.3)
+
+    placed : area1_out_of_range header stored ≡ false
+    unfolding area1_out_of_range area_out_of_range payload1_start
+    placed =
+        let need = need_of header.key_bytes stored.stripes in
+        let room = before_payload in
+        let starts = le-ltb (512 * stored.offset) 592 (omega (arith, is.offset)) in
+        let whole = le-ltb need need (omega arith) in
+        let before = le-ltb (512 * header.payload_offset) (512 * stored.offset + need) (omega (arith, room)) in
+        let held = le-ltb 33554432 (512 * stored.offset + need)
+        (omega (arith, room, payload_starts, fits.counts.4)) in
+        rw (read.attached, starts, whole, before, held) refl
+
+    digested : has_no_usable_digest None (digest1_of header) ≡ false
+    unfolding digest1_of digest_parts1_of iterations_out_of_range
+    digested =
+        no_usable_digest-yes None (digest_parts1_of header) digest_usable
+        ∙ (let turns = read.digest_iterations in
+        let least = fits.counts.2 in
+        let most = typed.iterations in
+        grind (arith, nat_tests))
+
+    no_reason : reason1_of header None stored ≡ None
+    unfolding reason1_of
+    no_reason =
+        let undamaged = ap is_damaged is.state in
+        rw (undamaged, striped, few_turns, placed, digested) refl
+
+    pub ranged : are_in_range (slot_parts1_of header stored) ≡ true
+    ranged = (slot_there header None stored no_reason).0
+
+    pub verdict1_is : verdict1_of header None stored ≡ Usable (slot_of (slot_parts1_of header stored) ranged)
+    unfolding verdict1_of ranged
+    verdict1_is =
+        let enabled = ap is_disabled is.state in
+        rw (enabled, no_reason, (slot_there header None stored no_reason).1) refl

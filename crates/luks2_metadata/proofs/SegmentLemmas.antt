@@ -1,0 +1,184 @@
+-- The segment of a header.
+use Rattle.std.proofs.Common.{◌≡◌, ◌∙◌, ◌≢◌, ◌≤◌, ℕ, true, false, List, [], ◌∷◌, Option, Some, None, Result, Ok, Err}
+use Rattle.std.proofs.Common.{Ordering, Less, Equal, Greater, String, Global, nat_cmp, is_eq, ap, subst, sym, refl}
+use Rattle.std.proofs.Common.{arith, length}
+use Rattle.std.specs.Prelude.{◌==◌, ◌%◌, ◌||◌, not, nat_lt, codes, is_none, option_map, if◌then◌else◌, string_bytes}
+use Rattle.std.specs.Cmp.Lexicographic.{slice_cmp}
+use Rattle.std.specs.Ordering.{match_ordering}
+use Rattle.std.specs.Result.{result_ok}
+use Rattle.std.proofs.lemmas.Map.Text.{is_eq-slice_cmp}
+use Rattle.std.proofs.lemmas.Bool.{ne_eqb}
+use Rattle.luks2_metadata.specs.Segment2.{are_none, fault2_of, has_requirement, is_empty_list, made2, offset_of}
+use Rattle.luks2_metadata.specs.Segment2.{only_member}
+use Rattle.luks2_metadata.specs.Segment2.{payload2_of, payload_mode2_of, segment2_of, segment_faults, segment_parts2_of}
+use Rattle.luks2_metadata.specs.Segment2.{segment_said, overlaps_headers2, starts_wrong, the_segment}
+use Rattle.luks2_metadata.specs.declared.bounds.Bounds.{Bounds}
+use Rattle.luks_cipher.specs.declared.mode.Mode.{Mode}
+use Rattle.luks_verdict.proofs.MadeLemmas.{refused_or-fault, refused_or-none, refused_or-ok}
+use Rattle.luks_verdict.proofs.TableLemmas.{none_holds}
+use Rattle.luks_verdict.specs.Evidence.{evidence_if}
+use Rattle.luks_verdict.specs.SectorSize.{are_sectors}
+use Rattle.luks_verdict.specs.Segment.{segment_by, segment_from, segment_of_all}
+use Rattle.luks_verdict.specs.Table.{first_match}
+use Rattle.luks_verdict.specs.declared.refusal.SegmentFault.{SegmentFault}
+use Rattle.luks_verdict.specs.declared.refusal.SegmentFault.TheVariants.{Requirement, Segments}
+use Rattle.luks_verdict.specs.declared.sector_size.SectorSize.{SectorSize as Sector}
+use Rattle.luks_verdict.specs.declared.segment.Segment.{Segment}
+use Rattle.std.proofs.lemmas.Bool.Decides.{nat_tests}
+use Rattle.std.proofs.lemmas.Option.{same_Some}
+use Rattle.serde_json.specs.Data.{Data, object}
+use Rattle.serde_json.specs.Data as json
+use Rattle.serde_json.specs.Find.{as_array, as_object, get, get_member}
+use Rattle.serde_json.specs.View.{items_view, members_view, view}
+use Rattle.serde_json.specs.declared.value.Value.{Value}
+
+-- ---- lists without items
+
+none_viewed : (values : List Value) → (length values == 0) ≡ are_none (items_view values)
+none_viewed [] = refl
+none_viewed (value ∷ rest) = ne_eqb (length (value ∷ rest)) 0 (λ e. omega (arith, e))
+
+pub empty_viewed : (value : Data) (values : List Value) (len : ℕ) → Some (items_view values) ≡ as_array value
+    → len ≡ length values → (len == 0) ≡ is_empty_list value
+empty_viewed value values len is same = rw (← is, same) (none_viewed values)
+
+-- ---- the only member
+
+at_ordering : (order : Ordering) (value : Data)
+    → match_ordering order None (Some value) None ≡ (if is_eq order then Some value else None)
+at_ordering Less value = refl
+at_ordering Equal value = refl
+at_ordering Greater value = refl
+
+get_only : (name : List ℕ) (entries : List (String Global × Value)) → length entries ≡ 1
+    → get_member name (members_view entries) ≡ only_member name (members_view entries)
+get_only name [] one = absurd (omega arith)
+get_only name (entry ∷ []) one =
+    at_ordering (slice_cmp nat_cmp name (string_bytes entry.0)) (view entry.1)
+    ∙ ap (λ same. if same then Some (view entry.1) else None) (is_eq-slice_cmp name (string_bytes entry.0))
+get_only name (entry ∷ next ∷ rest) one = absurd (omega arith)
+
+none_only : (name : List ℕ) (entries : List (String Global × Value)) → length entries ≢ 1
+    → only_member name (members_view entries) ≡ None
+none_only name [] more = refl
+none_only name (entry ∷ []) more = absurd (more refl)
+none_only name (entry ∷ next ∷ rest) more = refl
+
+-- what an object has is what its members have
+get_object : (name : List ℕ) (value : Data) (all : json.Members) → as_object value ≡ Some all
+    → get name value ≡ get_member name all
+get_object name (object found) all is = let same : found ≡ all = cc in ap (get_member name) same
+get_object name json.null all is = absurd cc
+get_object name (json.boolean b) all is = absurd cc
+get_object name (json.number n) all is = absurd cc
+get_object name (json.string s) all is = absurd cc
+get_object name (json.array values) all is = absurd cc
+
+-- the segment, where the object of segments has one member, and where it has another number of them
+pub segment_only : (tree segments : Data) (entries : List (String Global × Value)) (found : Option Data)
+    → Some segments ≡ get (codes "segments") tree → Some (members_view entries) ≡ as_object segments
+    → length entries ≡ 1 → found ≡ get (codes "0") segments → found ≡ the_segment tree
+unfolding the_segment
+segment_only tree segments entries found there all one is =
+    let got = get_object (codes "0") segments (members_view entries) (sym all) in
+    rw (← there, ← all) (is ∙ (got ∙ get_only (codes "0") entries one))
+
+pub segment_none : (tree segments : Data) (entries : List (String Global × Value))
+    → Some segments ≡ get (codes "segments") tree → Some (members_view entries) ≡ as_object segments
+    → length entries ≢ 1 → None ≡ the_segment tree
+unfolding the_segment
+segment_none tree segments entries there all more = rw (← there, ← all) (sym (none_only (codes "0") entries more))
+
+-- ---- the fault of a segment
+
+pub fault2-requirement : (tree : Data) (bounds : Bounds) → has_requirement tree ≡ true
+    → fault2_of tree bounds ≡ Some Requirement
+unfolding fault2_of
+fault2-requirement tree bounds requires = rw requires refl
+
+pub fault2-segments : (tree : Data) (bounds : Bounds) → has_requirement tree ≡ false → the_segment tree ≡ None
+    → fault2_of tree bounds ≡ Some Segments
+unfolding fault2_of
+fault2-segments tree bounds requires none = rw (requires, none) refl
+
+-- where nothing is required and there is one, it is that of its members
+pub fault2-there : (tree : Data) (bounds : Bounds) (segment : Data) → has_requirement tree ≡ false
+    → the_segment tree ≡ Some segment → fault2_of tree bounds ≡ first_match (segment_faults bounds segment)
+unfolding fault2_of
+fault2-there tree bounds segment requires there = rw (requires, there) refl
+
+-- the segment, by its fault
+pub segment2-fault : (tree : Data) (bounds : Bounds) (fault : SegmentFault) → fault2_of tree bounds ≡ Some fault
+    → segment2_of tree bounds ≡ Err fault
+unfolding segment2_of
+segment2-fault tree bounds fault is =
+    refused_or-fault (fault2_of tree bounds) (segment_from (segment_parts2_of (segment_said tree)))
+    (made2 tree bounds) fault is
+
+pub segment2-none : (tree : Data) (bounds : Bounds) (segment : Segment) → fault2_of tree bounds ≡ None
+    → segment_from (segment_parts2_of (segment_said tree)) ≡ Some segment → segment2_of tree bounds ≡ Ok segment
+unfolding segment2_of
+segment2-none tree bounds segment none made =
+    refused_or-none (fault2_of tree bounds) (segment_from (segment_parts2_of (segment_said tree)))
+    (made2 tree bounds) segment none made
+
+-- what is said of the segment that is there
+pub said-there : (tree segment : Data) → the_segment tree ≡ Some segment → segment_said tree ≡ segment
+said-there tree segment there = rw there refl
+
+-- ---- a segment that is not refused
+
+mapped : {A B : Type 0} (f : A → B) (o : Option A) (y : B) → option_map f o ≡ Some y → (x : A) × (f x ≡ y)
+mapped f (Some x) y is = (x, same_Some _ _ is)
+mapped f None y is = absurd cc
+
+-- starts where the header says that it does
+offset_made : (offset : Option ℕ) (size : Option (Option ℕ)) (iv_tweak : Option ℕ) (sector_size : Option Sector)
+    (mode : Option Mode) (segment : Segment) → segment_of_all offset size iv_tweak sector_size mode ≡ Some segment
+    → offset ≡ Some segment.offset
+unfolding segment_by
+offset_made (Some offset) (Some size) (Some iv_tweak) (Some sector_size) (Some mode) segment is =
+    let made = mapped (segment_by offset size iv_tweak sector_size mode) (evidence_if (are_sectors size sector_size))
+    segment is in
+    ap (λ (s : Segment). Some s.offset) made.1
+offset_made _ _ _ _ _ segment is = absurd cc
+
+-- a payload in the header's image that does not start wrong starts behind the header
+starts_right : (bounds : Bounds) (offset : ℕ) → starts_wrong bounds (Some offset) ≡ false → bounds.detached ≡ false
+    → bounds.end ≤ offset
+unfolding starts_wrong overlaps_headers2
+starts_right bounds offset is attached =
+    let right : (nat_lt offset bounds.end || not (offset % 512 == 0)) ≡ false = rw attached at is in
+    grind (arith, nat_tests)
+
+-- key material ends where it starts at the latest
+payload_starts : (tree : Data) (bounds : Bounds) (segment : Segment) → segment2_of tree bounds ≡ Ok segment
+    → bounds.detached ≡ false → payload2_of tree bounds ≡ Some segment.offset
+unfolding payload2_of
+payload_starts tree bounds segment is attached =
+    let offset_in : Result Segment SegmentFault → Option ℕ =
+    λ read. option_map (λ (s : Segment). s.offset) (result_ok read) in
+    subst (λ detached. (if detached then None else offset_in (segment2_of tree bounds)) ≡ Some segment.offset)
+    (sym attached) (ap offset_in is)
+
+-- a segment that is not refused is what key slots are judged by, and in the header's image it starts behind the header
+pub record IsSegment2 (tree : Data) (bounds : Bounds) (segment : Segment) : Type 0 where
+  pub start : bounds.detached ≡ false → payload2_of tree bounds ≡ Some segment.offset
+  pub mode : payload_mode2_of tree bounds ≡ Some segment.mode
+  pub behind_header : bounds.detached ≡ false → bounds.end ≤ segment.offset
+
+pub segment2-ok : (tree : Data) (bounds : Bounds) (segment : Segment) → segment2_of tree bounds ≡ Ok segment
+    → IsSegment2 tree bounds segment
+unfolding segment2_of payload2_of payload_mode2_of fault2_of segment_from segment_parts2_of
+segment2-ok tree bounds segment is =
+    let made = refused_or-ok (fault2_of tree bounds) (segment_from (segment_parts2_of (segment_said tree)))
+    (made2 tree bounds) segment is in
+    let all = none_holds ((has_requirement tree, Requirement) ∷ (is_none (the_segment tree), Segments)
+    ∷ segment_faults bounds (segment_said tree)) made.0 in
+    let offset : offset_of (segment_said tree) ≡ Some segment.offset = offset_made _ _ _ _ _ segment made.1 in
+    let wrong : starts_wrong bounds (offset_of (segment_said tree)) ≡ false = all.1.1.1.1.1.1.1.0 in
+    record {
+      start = payload_starts tree bounds segment is;
+      mode = rw is refl;
+      behind_header = starts_right bounds segment.offset (subst (λ o. starts_wrong bounds o ≡ false) offset wrong);
+    }

@@ -1,0 +1,216 @@
+-- Where the payload of LUKS2 lies, or why it cannot be read (LUKS2 On-Disk Format Specification 1.1, section 3, the
+-- segments object and the config object).
+use Rattle.std.specs.Prelude.{◌≡◌, ◌≢◌, ℕ, ◌%◌, ◌==◌, ◌&&◌, ◌||◌, not, nat_lt, Bool, true, false, List, [], ◌∷◌}
+use Rattle.std.specs.Prelude.{Option, Some, None, Result, bytes_eq, codes, is_none, is_some, if◌then◌else◌}
+use Rattle.std.specs.Prelude.{option_and_then, option_map, unwrap_or}
+use Rattle.std.specs.Result.{result_ok}
+use Rattle.std.proofs.lemmas.Bool.{and_parts}
+use Rattle.luks_cipher.specs.declared.mode.Mode.{Mode}
+use Rattle.luks_verdict.specs.Evidence.{evidence_if}
+use Rattle.luks_verdict.specs.SectorSize.{are_sectors}
+use Rattle.luks_verdict.specs.Segment.{refused_or, segment_by, segment_from, segment_of_all}
+use Rattle.luks_verdict.specs.Table.{first_match}
+use Rattle.luks_verdict.proofs.TableLemmas.{none_holds}
+use Rattle.luks_verdict.specs.declared.refusal.SegmentFault.{SegmentFault}
+use Rattle.luks_verdict.specs.declared.refusal.SegmentFault.TheVariants.{Requirement, Segments, Member, Kind, Integrity}
+use Rattle.luks_verdict.specs.declared.refusal.SegmentFault.TheVariants.{Encryption, SectorSize, Offset, Size}
+use Rattle.luks_verdict.specs.declared.sector_size.SectorSize.{SectorSize as Sector}
+use Rattle.luks_verdict.specs.declared.sector_size.SectorSize.TheVariants.{B512, B1024, B2048, B4096}
+use Rattle.luks_verdict.specs.declared.segment.Segment.{Segment}
+use Rattle.luks_verdict.specs.declared.segment.SegmentParts.{SegmentParts}
+use Rattle.luks2_metadata.specs.declared.bounds.Bounds.{Bounds}
+use Rattle.luks2_json.specs.Member.{decimal_member, has, is_named, is_type, string_member, integer_member, in_member}
+use Rattle.luks2_json.specs.Encryption.{encryption_mode}
+use Rattle.serde_json.specs.Data.{Data, null, Items, no_items, item, Members, no_members, member}
+use Rattle.serde_json.specs.Find.{as_array, as_object, get}
+
+-- ---- requirements
+
+-- the value is a list without items
+abbrev pub are_none : Items → Bool
+are_none no_items = true
+are_none (item value rest) = false
+
+abbrev pub is_empty_list : Data → Bool
+is_empty_list value = unwrap_or (option_map are_none (as_array value)) false
+
+-- there is nothing under this name, or an empty list
+unfoldable pub has_none_of : List ℕ → Data → Bool
+has_none_of name value = unwrap_or (option_map is_empty_list (get name value)) true
+
+-- what `requirements` may be without anything being required: an empty list, or an object without mandatory ones
+unfoldable pub requires_nothing : Data → Bool
+requires_nothing requirements =
+    is_empty_list requirements
+    || (is_some (as_object requirements) && has_none_of (codes "mandatory") requirements)
+
+-- the configuration requires something of whoever reads the volume
+unfoldable pub has_requirement : Data → Bool
+has_requirement tree =
+    unwrap_or (option_map (λ requirements. not (requires_nothing requirements))
+    (in_member (codes "config") (get (codes "requirements")) tree)) false
+
+-- ---- the segment and its members
+
+-- the only member, if it is named so
+abbrev pub only_member : List ℕ → Members → Option Data
+only_member name no_members = None
+only_member name (member found value no_members) = if bytes_eq name found then Some value else None
+only_member name (member _ _ (member _ _ _)) = None
+
+-- the segment, if there is exactly one and it is named 0
+unfoldable pub the_segment : Data → Option Data
+the_segment tree = option_and_then (only_member (codes "0")) (in_member (codes "segments") as_object tree)
+
+-- what is said of it (nothing if it is not there)
+abbrev pub segment_said : Data → Data
+segment_said tree = unwrap_or (the_segment tree) null
+
+-- its first byte
+abbrev pub offset_of : Data → Option ℕ
+offset_of segment = decimal_member (codes "offset") segment
+
+-- its length in bytes, or None inside if it goes to the image's end
+unfoldable pub size_member : Data → Option (Option ℕ)
+size_member segment = if is_named (codes "size") (codes "dynamic") segment then Some None
+    else option_map (λ bytes. Some bytes) (decimal_member (codes "size") segment)
+
+-- the unit number of its first sector
+abbrev pub iv_tweak_of : Data → Option ℕ
+iv_tweak_of segment = decimal_member (codes "iv_tweak") segment
+
+-- the length of a sector of so many bytes, if there is one
+abbrev pub sector_size_with : ℕ → Option Sector
+sector_size_with bytes =
+    if bytes == 512 then Some B512
+    else if bytes == 1024 then Some B1024
+    else if bytes == 2048 then Some B2048
+    else if bytes == 4096 then Some B4096
+    else None
+
+unfoldable pub sector_size_of : Data → Option Sector
+sector_size_of segment = option_and_then sector_size_with (integer_member (codes "sector_size") segment)
+
+-- the mode in which its sectors are encrypted by AES
+unfoldable pub mode2_of : Data → Option Mode
+mode2_of segment = option_and_then encryption_mode (string_member (codes "encryption") segment)
+
+-- each member of a segment of type crypt is there, in its kind
+unfoldable pub has_segment_members : Data → Bool
+has_segment_members segment =
+    is_some (offset_of segment)
+    && is_some (size_member segment)
+    && is_some (iv_tweak_of segment)
+    && is_some (string_member (codes "encryption") segment)
+    && is_some (integer_member (codes "sector_size") segment)
+
+-- its type is a string_member, and a segment of type crypt has its members
+unfoldable pub is_segment : Data → Bool
+is_segment segment =
+    is_some (string_member (codes "type") segment)
+    && (not (is_type (codes "crypt") segment) || has_segment_members segment)
+
+-- ---- the table of faults
+
+-- it starts inside an attached header
+unfoldable pub overlaps_headers2 : Bounds → ℕ → Bool
+overlaps_headers2 bounds offset = not bounds.detached && nat_lt offset bounds.end
+
+-- it starts inside the header, or in_member a sector of 512 bytes
+unfoldable pub starts_wrong : Bounds → Option ℕ → Bool
+starts_wrong bounds None = true
+starts_wrong bounds (Some offset) = overlaps_headers2 bounds offset || not (offset % 512 == 0)
+
+-- its length is fixed and is no multiple of its sectors' length
+unfoldable pub is_torn : Option (Option ℕ) → Option Sector → Bool
+is_torn (Some size) (Some sector_size) = not (are_sectors size sector_size)
+is_torn _ _ = true
+
+-- the faults of a segment that is there, in a header with these bounds
+abbrev pub segment_faults : Bounds → Data → List (Bool × SegmentFault)
+segment_faults bounds segment =
+    (not (is_segment segment), Member)
+    ∷ (not (is_type (codes "crypt") segment), Kind)
+    ∷ (has (codes "integrity") segment, Integrity)
+    ∷ (is_none (mode2_of segment), Encryption)
+    ∷ (is_none (sector_size_of segment), SectorSize)
+    ∷ (starts_wrong bounds (offset_of segment), Offset)
+    ∷ (is_torn (size_member segment) (sector_size_of segment), Size)
+    ∷ []
+
+-- the first fault of the header's segment
+unfoldable pub fault2_of : Data → Bounds → Option SegmentFault
+fault2_of tree bounds = first_match (
+    (has_requirement tree, Requirement)
+    ∷ (is_none (the_segment tree), Segments)
+    ∷ segment_faults bounds (segment_said tree))
+
+-- what is said of a segment
+unfoldable pub segment_parts2_of : Data → SegmentParts
+segment_parts2_of segment = record {
+  offset = offset_of segment;
+  size = size_member segment;
+  iv_tweak = iv_tweak_of segment;
+  sector_size = sector_size_of segment;
+  mode = mode2_of segment;
+}
+
+-- ---- a segment without a fault is made
+
+-- what a test lets through is made if it holds
+made_of_test : (test : Bool) (make : test ≡ true → Segment) → not test ≡ false
+    → option_map make (evidence_if test) ≢ None
+made_of_test true make holds none = cc
+made_of_test false make holds none = cc
+
+-- parts that are there make a segment, if its length is one of whole sectors
+made_of_parts : (offset : Option ℕ) (size : Option (Option ℕ)) (iv_tweak : Option ℕ) (sector_size : Option Sector)
+    (mode : Option Mode) → is_some offset ≡ true → is_some size ≡ true → is_some iv_tweak ≡ true
+    → is_none sector_size ≡ false → is_none mode ≡ false → is_torn size sector_size ≡ false
+    → segment_of_all offset size iv_tweak sector_size mode ≢ None
+unfolding is_torn
+made_of_parts (Some offset) (Some size) (Some iv_tweak) (Some sector_size) (Some mode) o s i z m whole =
+    made_of_test (are_sectors size sector_size) (segment_by offset size iv_tweak sector_size mode) whole
+made_of_parts _ _ _ _ _ o s i z m whole = absurd cc
+
+-- the members of a segment of type crypt are there
+members_there : (typed crypt members : Bool) → not (typed && (not crypt || members)) ≡ false → not crypt ≡ false
+    → members ≡ true
+members_there true true true is kind = cc
+members_there _ _ _ is kind = absurd cc
+
+-- what is said of a segment without a fault makes one
+pub made2 : (tree : Data) (bounds : Bounds) → fault2_of tree bounds ≡ None
+    → segment_from (segment_parts2_of (segment_said tree)) ≢ None
+unfolding fault2_of segment_from segment_parts2_of is_segment has_segment_members
+made2 tree bounds no_fault =
+    let segment = segment_said tree in
+    let all = none_holds ((has_requirement tree, Requirement) ∷ (is_none (the_segment tree), Segments)
+    ∷ segment_faults bounds segment) no_fault in
+    let lines = all.1.1 in
+    let members = members_there _ _ _ lines.0 lines.1.0 in
+    let whole = and_parts _ _ members in
+    let encryption = and_parts _ _ whole.0 in
+    let iv_tweak = and_parts _ _ encryption.0 in
+    let size = and_parts _ _ iv_tweak.0 in
+    made_of_parts (offset_of segment) (size_member segment) (iv_tweak_of segment) (sector_size_of segment)
+    (mode2_of segment) size.0 size.1 iv_tweak.1 lines.1.1.1.1.0 lines.1.1.1.0 lines.1.1.1.1.1.1.0
+
+-- ---- the segment
+
+-- the segment, or its first fault
+unfoldable pub segment2_of : Data → Bounds → Result Segment SegmentFault
+segment2_of tree bounds =
+    refused_or (fault2_of tree bounds) (segment_from (segment_parts2_of (segment_said tree))) (made2 tree bounds)
+
+-- ---- what key slots are judged by
+
+-- where the payload starts, if the header is attached and the segment is not refused. Key material ends there at the
+-- latest
+unfoldable pub payload2_of : Data → Bounds → Option ℕ
+payload2_of tree bounds =
+    if bounds.detached then None else option_map (λ segment. segment.offset) (result_ok (segment2_of tree bounds))
+
+-- the mode of the payload, if the segment is not refused
+unfoldable pub payload_mode2_of : Data → Bounds → Option Mode
+payload_mode2_of tree bounds = option_map (λ segment. segment.mode) (result_ok (segment2_of tree bounds))

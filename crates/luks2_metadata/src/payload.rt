@@ -1,0 +1,259 @@
+//! Where the payload lies, or why it cannot be read.
+
+ghost use Rattle.std.specs.Prelude.{◌≡◌, option_map};
+ghost use Rattle.luks_verdict.specs.Table.{first_match};
+ghost use Rattle.luks2_metadata.specs.Segment2.{has_none_of, has_requirement, has_segment_members};
+ghost use Rattle.luks2_metadata.specs.Segment2.{is_empty_list, is_segment, is_torn, mode2_of};
+ghost use Rattle.luks2_metadata.specs.Segment2.{payload2_of, payload_mode2_of, requires_nothing};
+ghost use Rattle.luks2_metadata.specs.Segment2.{sector_size_of, sector_size_with, segment2_of};
+ghost use Rattle.luks2_metadata.specs.Segment2.{segment_faults, segment_parts2_of, size_member};
+ghost use Rattle.luks2_metadata.specs.Segment2.{overlaps_headers2, starts_wrong, the_segment};
+ghost use Rattle.serde_json.specs.View.{view as data_of};
+
+use crate::bounds::Bounds;
+use luks_cipher::Mode;
+use luks_verdict::refusal::SegmentFault;
+use luks_verdict::sector_size::SectorSize;
+use luks_verdict::segment::{Segment, SegmentParts};
+use luks2_json::encryption::encryption_mode;
+use luks2_json::member::{decimal_member, integer_member, is_named, is_type, string_member};
+use luks2_json::tree::Metadata;
+use serde_json::Value;
+
+// The value is a list without items.
+fn is_empty_list(value: &Value) -> bool
+    ensures { result ≡ is_empty_list (data_of value.now) }
+{
+    match value.as_array() {
+        Some(values) => values.is_empty(),
+        None => false,
+    }
+}
+
+// There is nothing under this name, or an empty list.
+#[tactic(auto, unfolding(crate::specs::Segment2::has_none_of))]
+fn has_none_of(name: &str, value: &Value) -> bool
+    ensures { result ≡ has_none_of name.now (data_of value.now) }
+{
+    match value.get(name) {
+        Some(values) => is_empty_list(values),
+        None => true,
+    }
+}
+
+// These requirements are none.
+#[tactic(auto, unfolding(crate::specs::Segment2::requires_nothing))]
+fn requires_nothing(requirements: &Value) -> bool
+    ensures { result ≡ requires_nothing (data_of requirements.now) }
+{
+    is_empty_list(requirements)
+        || requirements.is_object() && has_none_of("mandatory", requirements)
+}
+
+// The configuration requires something of whoever reads the volume.
+#[tactic(auto, unfolding(crate::specs::Segment2::has_requirement))]
+fn has_requirement(tree: &Value) -> bool
+    ensures { result ≡ has_requirement (data_of tree.now) }
+{
+    let Some(config) = tree.get("config") else {
+        return false;
+    };
+    match config.get("requirements") {
+        Some(requirements) => !requires_nothing(requirements),
+        None => false,
+    }
+}
+
+// The segment, if there is exactly one and it is named 0.
+#[tactic(auto, unfolding(crate::specs::Segment2::the_segment))]
+fn the_segment(tree: &Value) -> Option<&Value>
+    ensures { option_map (λ value. data_of value.now) result ≡ the_segment (data_of tree.now) }
+{
+    let segments = tree.get("segments")?;
+    if segments.as_object()?.len() == 1 {
+        segments.get("0")
+    } else {
+        None
+    }
+}
+
+// Its length in bytes, or `Some(None)` if it goes to the image's end.
+#[tactic(auto, unfolding(crate::specs::Segment2::size_member))]
+fn size(segment: &Value) -> Option<Option<u64>>
+    ensures { result ≡ size_member (data_of segment.now) }
+{
+    if is_named(segment, "size", "dynamic") {
+        return Some(None);
+    }
+    Some(Some(decimal_member(segment, "size")?))
+}
+
+// The length of a sector of so many bytes, if there is one.
+fn sector_size_with(bytes: u64) -> Option<SectorSize>
+    ensures { result ≡ sector_size_with bytes }
+{
+    match bytes {
+        512 => Some(SectorSize::B512),
+        1024 => Some(SectorSize::B1024),
+        2048 => Some(SectorSize::B2048),
+        4096 => Some(SectorSize::B4096),
+        _ => None,
+    }
+}
+
+// The length of its sectors.
+#[tactic(auto, unfolding(crate::specs::Segment2::sector_size_of))]
+fn sector_size(segment: &Value) -> Option<SectorSize>
+    ensures { result ≡ sector_size_of (data_of segment.now) }
+{
+    sector_size_with(integer_member(segment, "sector_size")?)
+}
+
+// The mode in which its sectors are encrypted.
+#[tactic(auto, unfolding(crate::specs::Segment2::mode2_of))]
+fn mode(segment: &Value) -> Option<Mode>
+    ensures { result ≡ mode2_of (data_of segment.now) }
+{
+    encryption_mode(string_member(segment, "encryption")?)
+}
+
+// Each member of a segment of type crypt is there, in its kind.
+#[tactic(auto, unfolding(crate::specs::Segment2::has_segment_members))]
+fn has_members(segment: &Value) -> bool
+    ensures { result ≡ has_segment_members (data_of segment.now) }
+{
+    decimal_member(segment, "offset").is_some()
+        && size(segment).is_some()
+        && decimal_member(segment, "iv_tweak").is_some()
+        && string_member(segment, "encryption").is_some()
+        && integer_member(segment, "sector_size").is_some()
+}
+
+// Its type is a text, and a segment of type crypt has its members.
+#[tactic(auto, unfolding(crate::specs::Segment2::is_segment))]
+fn is_segment(segment: &Value) -> bool
+    ensures { result ≡ is_segment (data_of segment.now) }
+{
+    string_member(segment, "type").is_some() && (!is_type(segment, "crypt") || has_members(segment))
+}
+
+// It starts inside an attached header.
+#[tactic(auto, unfolding(crate::specs::Segment2::overlaps_headers2))]
+fn overlaps_headers2(bounds: Bounds, offset: u64) -> bool
+    ensures { result ≡ overlaps_headers2 bounds offset }
+{
+    !bounds.detached && offset < bounds.end
+}
+
+// It starts inside the header, or within a sector of 512 bytes.
+#[tactic(auto, unfolding(crate::specs::Segment2::starts_wrong))]
+fn starts_wrong(bounds: Bounds, offset: Option<u64>) -> bool
+    ensures { result ≡ starts_wrong bounds offset }
+{
+    match offset {
+        Some(offset) => overlaps_headers2(bounds, offset) || offset % 512 != 0,
+        None => true,
+    }
+}
+
+// Its length is fixed and is no multiple of its sectors' length.
+#[tactic(auto, unfolding(crate::specs::Segment2::is_torn))]
+fn is_torn(size: Option<Option<u64>>, sector_size: Option<SectorSize>) -> bool
+    ensures { result ≡ is_torn size sector_size }
+{
+    let (Some(size), Some(sector_size)) = (size, sector_size) else {
+        return true;
+    };
+    match size {
+        Some(bytes) => bytes % sector_size.bytes() as u64 != 0,
+        None => false,
+    }
+}
+
+// The first fault of a segment that is there.
+fn fault(segment: &Value, bounds: Bounds) -> Option<SegmentFault>
+    ensures { result ≡ first_match (segment_faults bounds (data_of segment.now)) }
+{
+    if !is_segment(segment) {
+        Some(SegmentFault::Member)
+    } else if !is_type(segment, "crypt") {
+        Some(SegmentFault::Kind)
+    } else if segment.get("integrity").is_some() {
+        Some(SegmentFault::Integrity)
+    } else if mode(segment).is_none() {
+        Some(SegmentFault::Encryption)
+    } else if sector_size(segment).is_none() {
+        Some(SegmentFault::SectorSize)
+    } else if starts_wrong(bounds, decimal_member(segment, "offset")) {
+        Some(SegmentFault::Offset)
+    } else if is_torn(size(segment), sector_size(segment)) {
+        Some(SegmentFault::Size)
+    } else {
+        None
+    }
+}
+
+// What is said of a segment.
+#[tactic(auto, unfolding(crate::specs::Segment2::segment_parts2_of))]
+fn parts(segment: &Value) -> SegmentParts
+    ensures { result ≡ segment_parts2_of (data_of segment.now) }
+{
+    SegmentParts {
+        offset: decimal_member(segment, "offset"),
+        size: size(segment),
+        iv_tweak: decimal_member(segment, "iv_tweak"),
+        sector_size: sector_size(segment),
+        mode: mode(segment),
+    }
+}
+
+// The segment of a tree, or its first fault.
+fn segment_in(tree: &Value, bounds: Bounds) -> Result<Segment, SegmentFault>
+    ensures { result ≡ segment2_of (data_of tree.now) bounds }
+{
+    if has_requirement(tree) {
+        return Err(SegmentFault::Requirement);
+    }
+    let Some(segment) = the_segment(tree) else {
+        return Err(SegmentFault::Segments);
+    };
+    if let Some(fault) = fault(segment, bounds) {
+        return Err(fault);
+    }
+    match Segment::from_parts(parts(segment)) {
+        Some(segment) => Ok(segment),
+        None => unreachable!(),
+    }
+}
+
+/// The segment of a header with these bounds, or its first fault. This allocates nothing.
+pub fn segment(metadata: &Metadata, bounds: Bounds) -> Result<Segment, SegmentFault>
+    ensures { result ≡ segment2_of metadata.now bounds }
+{
+    segment_in(metadata.tree(), bounds)
+}
+
+/// Where the payload starts, if the header is attached and the segment is not refused.
+#[tactic(auto, unfolding(crate::specs::Segment2::payload2_of))]
+pub fn payload(tree: &Value, bounds: Bounds) -> Option<u64>
+    ensures { result ≡ payload2_of (data_of tree.now) bounds }
+{
+    if bounds.detached {
+        return None;
+    }
+    match segment_in(tree, bounds) {
+        Ok(segment) => Some(segment.offset),
+        Err(_) => None,
+    }
+}
+
+/// The mode of the payload, if the segment is not refused.
+#[tactic(auto, unfolding(crate::specs::Segment2::payload_mode2_of))]
+pub fn payload_mode(tree: &Value, bounds: Bounds) -> Option<Mode>
+    ensures { result ≡ payload_mode2_of (data_of tree.now) bounds }
+{
+    match segment_in(tree, bounds) {
+        Ok(segment) => Some(segment.mode),
+        Err(_) => None,
+    }
+}

@@ -1,0 +1,97 @@
+-- What is wrong with a header: a finding a line, in a fixed order.
+use Rattle.std.specs.Prelude.{ℕ, ◌∷◌, ◌++◌, [], Bool, false, true, List, None, Result, Ok, Err, codes, flat_map}
+use Rattle.std.specs.Prelude.{if◌then◌else◌, max, min, nat_lt}
+use Rattle.std.specs.Fmt.{decimal}
+use Rattle.luks_header.specs.HeaderSegment.{segment_of}
+use Rattle.luks_header.specs.SegmentFault.{fault_text}
+use Rattle.luks_header.specs.SkipReason.{reason_text}
+use Rattle.luks_header.specs.SlotVerdicts.{has_name_out_of_range, verdicts_of}
+use Rattle.luks_header.specs.declared.header.Header.{Header}
+use Rattle.luks_header.specs.declared.header.Header.TheVariants.{V1, V2}
+use Rattle.luks_verdict.specs.Slot.{material_end}
+use Rattle.luks_verdict.specs.declared.refusal.SegmentFault.{SegmentFault}
+use Rattle.luks_verdict.specs.declared.refusal.SkipReason.{SkipReason}
+use Rattle.luks_verdict.specs.declared.refusal.SkipReason.TheVariants.{State, Kind, Member, Argon2i, Argon2id, Kdf}
+use Rattle.luks_verdict.specs.declared.refusal.SkipReason.TheVariants.{Hash, Encryption, KeySize, Stripes, Iterations}
+use Rattle.luks_verdict.specs.declared.refusal.SkipReason.TheVariants.{Area, Digest}
+use Rattle.luks_verdict.specs.declared.segment.Segment.{Segment}
+use Rattle.luks_verdict.specs.declared.slot.Slot.{Slot}
+use Rattle.luks_verdict.specs.declared.slot.Verdict.{Verdict}
+use Rattle.luks_verdict.specs.declared.slot.Verdict.TheVariants.{Usable, Disabled, Skipped}
+use Rattle.luks_check.specs.Findings2.{header_finding}
+use Rattle.luks_dump.specs.DumpLine.{field}
+
+-- the findings about the two headers of LUKS2 together. LUKS1 has one header
+abbrev pub place_finding : Header → List ℕ
+place_finding (V1 header) = []
+place_finding (V2 header tree) = header_finding header.finding
+
+-- what is found in the names of key slots: one is out of range
+abbrev pub name_finding : Header → List ℕ
+name_finding header =
+    if has_name_out_of_range header then field (codes "keyslots") (codes "name out of range") else []
+
+-- what is found in the header itself
+unfoldable pub header_findings : Header → List ℕ
+header_findings header = place_finding header ++ name_finding header
+
+-- what is found in the segment: its fault
+abbrev pub segment_finding : Result Segment SegmentFault → List ℕ
+segment_finding (Ok segment) = []
+segment_finding (Err fault) = field (codes "segment") (fault_text fault)
+
+-- a skipped key slot is a finding. One whose key is derived by Argon2 is in order: it is only not opened here
+abbrev pub is_finding : SkipReason → Bool
+is_finding State = true
+is_finding Kind = true
+is_finding Member = true
+is_finding Argon2i = false
+is_finding Argon2id = false
+is_finding Kdf = true
+is_finding Hash = true
+is_finding Encryption = true
+is_finding KeySize = true
+is_finding Stripes = true
+is_finding Iterations = true
+is_finding Area = true
+is_finding Digest = true
+
+-- what is found in the key slot of a number
+abbrev pub skip_finding : ℕ → SkipReason → List ℕ
+skip_finding number reason =
+    if is_finding reason then field (codes "slot " ++ decimal number) (reason_text reason) else []
+
+abbrev pub slot_finding : ℕ × Verdict → List ℕ
+slot_finding (number, Usable slot) = []
+slot_finding (number, Disabled) = []
+slot_finding (number, Skipped reason) = skip_finding number reason
+
+-- what is found in key slots
+abbrev pub slot_findings : List (ℕ × Verdict) → List ℕ
+slot_findings verdicts = flat_map slot_finding verdicts
+
+-- two areas of key material share a byte: the later of their starts is below the earlier of their ends
+unfoldable pub do_overlap : Slot → Slot → Bool
+do_overlap a b = nat_lt (max a.parts.area_offset b.parts.area_offset) (min (material_end a) (material_end b))
+
+-- what is found in two key slots
+abbrev pub overlap : ℕ × Verdict → ℕ × Verdict → List ℕ
+overlap (i, Usable a) (j, Usable b) =
+    if do_overlap a b then field (codes "slots " ++ decimal i ++ codes " and " ++ decimal j) (codes "areas overlap")
+    else []
+overlap _ _ = []
+
+-- what is found in a key slot beside each of others
+abbrev pub overlaps_with : ℕ × Verdict → List (ℕ × Verdict) → List ℕ
+overlaps_with first rest = flat_map (overlap first) rest
+
+-- what is found in each two of these key slots, by the first and then by the second
+unfoldable pub overlaps : List (ℕ × Verdict) → List ℕ
+overlaps [] = []
+overlaps (first ∷ rest) = overlaps_with first rest ++ overlaps rest
+
+-- what is found in a header. Iterations have no limit here
+unfoldable pub findings_of : Header → List ℕ
+findings_of header = header_findings header ++ segment_finding (segment_of header)
+    ++ slot_findings (verdicts_of header None)
+    ++ overlaps (verdicts_of header None)

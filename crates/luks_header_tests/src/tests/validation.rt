@@ -1,0 +1,313 @@
+//! Which slots can be tried and where the payload is, each bound from both sides.
+
+use super::fixture::{changed, parse, volume_header};
+use luks_cipher::Mode;
+use luks_header::digest::{KeyDigest, digest_for};
+use luks_header::header::Header;
+use luks_header::payload::segment;
+use luks_header::refusal::{SegmentFault, SkipReason};
+use luks_header::sector_size::SectorSize;
+use luks_header::slot::{Slot, Verdict, VerdictKind, slot, slots, verdict_kind};
+use luks_kdf::Hash;
+use std::process::Abort;
+
+pub(super) const STATE: usize = 208;
+
+pub(super) const ITERATIONS: usize = 212;
+
+pub(super) const SLOT_OFFSET: usize = 248;
+
+pub(super) const STRIPES: usize = 252;
+
+pub(super) const PAYLOAD_OFFSET: usize = 104;
+
+pub(super) const KEY_BYTES: usize = 108;
+
+pub(super) const DIGEST_ITERATIONS: usize = 164;
+
+// Whether there is something of a slot to open.
+pub(super) fn is_there(rt: &(impl Abort + AllocGlobal), header: &Header, number: u8) -> bool {
+    slot(rt.alloc(), header, number)
+        .expect(rt, "memory")
+        .is_some()
+}
+
+// Whether a slot has a digest.
+pub(super) fn has_digest(rt: &(impl Abort + AllocGlobal), header: &Header, number: u8) -> bool {
+    digest_for(rt.alloc(), header, number)
+        .expect(rt, "memory")
+        .is_some()
+}
+
+fn word(verdict: &Verdict) -> &'static str {
+    match verdict {
+        Verdict::Usable(_) => "usable",
+        Verdict::Disabled => "disabled",
+        Verdict::Skipped(reason) => reason.text(),
+    }
+}
+
+/// Numbers at places of the header.
+pub(super) type Numbers = &'static [(usize, u32)];
+
+const FAR: (usize, u32) = (PAYLOAD_OFFSET, 100_000);
+
+// Of several reasons the first in the format's table counts.
+const NO_DIGEST: (usize, u32) = (DIGEST_ITERATIONS, 0);
+
+const NO_AREA: (usize, u32) = (SLOT_OFFSET, 1);
+
+const NO_ITERATIONS: (usize, u32) = (ITERATIONS, 0);
+
+const NO_STRIPES: (usize, u32) = (STRIPES, 0);
+
+// Numbers, the limit of iterations, and what becomes of slot 0.
+static SLOTS: [(Numbers, Option<u32>, &str); 36] = [
+    (&[], None, "usable"),
+    (&[(STATE, 1)], None, "state"),
+    (&[(STATE, 0xdead)], None, "disabled"),
+    (&[(STRIPES, 0)], None, "stripes"),
+    (&[(STRIPES, 1)], None, "usable"),
+    (&[(STRIPES, 4000)], None, "usable"),
+    (&[(STRIPES, 4001)], None, "stripes"),
+    (&[(STRIPES, 0xffff_ffff)], None, "stripes"),
+    (&[(ITERATIONS, 0)], None, "iterations"),
+    (&[(ITERATIONS, 1)], None, "usable"),
+    (&[(ITERATIONS, 0xffff_ffff)], None, "usable"),
+    (&[(DIGEST_ITERATIONS, 0)], None, "digest"),
+    (&[(DIGEST_ITERATIONS, 1)], None, "usable"),
+    // A limit bounds the slot and the digest.
+    (&[], Some(1000), "usable"),
+    (&[], Some(999), "iterations"),
+    (&[(ITERATIONS, 1001)], Some(1000), "iterations"),
+    (&[(ITERATIONS, 999)], Some(999), "digest"),
+    (&[(DIGEST_ITERATIONS, 1001)], Some(1000), "digest"),
+    (&[(DIGEST_ITERATIONS, 0)], Some(1000), "digest"),
+    (&[(SLOT_OFFSET, 1)], None, "area"),
+    (&[(SLOT_OFFSET, 2)], None, "usable"),
+    (&[(SLOT_OFFSET, 3596)], None, "usable"),
+    (&[(SLOT_OFFSET, 3597)], None, "area"),
+    (&[(SLOT_OFFSET, 0xffff_ffff)], None, "area"),
+    (&[(PAYLOAD_OFFSET, 1)], None, "area"),
+    (&[(PAYLOAD_OFFSET, 2)], None, "area"),
+    (&[(PAYLOAD_OFFSET, 507)], None, "area"),
+    (&[(PAYLOAD_OFFSET, 508)], None, "usable"),
+    (&[(KEY_BYTES, 0xffff_ffff)], None, "area"),
+    (&[FAR, (SLOT_OFFSET, 65_036)], None, "usable"),
+    (&[FAR, (SLOT_OFFSET, 65_037)], None, "area"),
+    (&[NO_DIGEST, NO_AREA], None, "area"),
+    (&[NO_DIGEST, NO_AREA, NO_ITERATIONS], None, "iterations"),
+    (
+        &[NO_DIGEST, NO_AREA, NO_ITERATIONS, NO_STRIPES],
+        None,
+        "stripes",
+    ),
+    (
+        &[NO_DIGEST, NO_AREA, NO_ITERATIONS, NO_STRIPES, (STATE, 2)],
+        None,
+        "state",
+    ),
+    (
+        &[
+            NO_DIGEST,
+            NO_AREA,
+            NO_ITERATIONS,
+            NO_STRIPES,
+            (STATE, 0xdead),
+        ],
+        None,
+        "disabled",
+    ),
+];
+
+// Each slot has its verdict: the others are disabled.
+fn check_slots(
+    rt: &(impl Abort + AllocGlobal),
+    header: &Header,
+    limit: Option<u32>,
+    (row, want): (usize, &str),
+) {
+    let verdicts = slots(rt.alloc(), header, limit).expect(rt, "verdicts");
+    assert!(rt; verdicts.len() == 8, "row {row}");
+    for (i, (number, verdict)) in verdicts.iter().enumerate() {
+        let found = word(verdict);
+        let stated = if i == 0 { want } else { "disabled" };
+        let is_so = usize::from(*number) == i && found == stated;
+        assert!(rt; is_so, "row {row}, slot {i}: {found}");
+    }
+}
+
+#[test]
+fn each_bound_of_a_slot(rt: HostRuntime) {
+    for (row, (numbers, limit, want)) in SLOTS.iter().enumerate() {
+        let header = parse(&rt, &changed(numbers, &[]));
+        check_slots(&rt, &header, *limit, (row, want));
+    }
+}
+
+// All parts of a usable slot 0, with so many stripes and this hash function. 3999 stripes of
+// 64 bytes are 499 sectors and seven eighths of one, and areas are whole sectors.
+fn check_parts(rt: &impl Abort, slot: &Slot, stripes: u32, hash: Option<Hash>) {
+    let parts = &slot.parts;
+    let numbers = [
+        parts.iterations,
+        parts.stripes,
+        parts.key_bytes,
+        parts.area_key_bytes,
+    ];
+    assert!(rt; numbers == [1000, stripes, 64, 64], "{stripes}");
+    assert!(rt; parts.priority == 1, "{stripes}");
+    assert!(rt;
+        [parts.kdf_hash, parts.af_hash] == [hash, hash],
+        "{stripes}"
+    );
+    assert!(rt;
+        [slot.need(), parts.area_size] == [256_000, 256_000],
+        "{stripes}"
+    );
+    assert!(rt; parts.area_offset == 4096, "{stripes}");
+    assert!(rt; parts.area_mode == Some(Mode::XtsPlain64), "{stripes}");
+    let salt = parts.salt.as_slice();
+    assert!(rt;
+        salt.len() == 32 && salt.first() == Some(&0x40),
+        "{stripes}"
+    );
+}
+
+static USABLE: [(Numbers, &[u8], u32, Option<Hash>); 3] = [
+    (&[], b"sha256\0", 4000, Some(Hash::Sha256)),
+    (&[(STRIPES, 3999)], b"sha256\0", 3999, Some(Hash::Sha256)),
+    (&[], b"whirlpool\0", 4000, None),
+];
+
+// A slot without a known hash is judged all the same.
+#[test]
+fn a_usable_slot_has_its_numbers(rt: HostRuntime) {
+    for (numbers, name, stripes, hash) in &USABLE {
+        let header = parse(&rt, &changed(numbers, &[(HASH, *name)]));
+        let verdicts = slots(rt.alloc(), &header, None).expect(&rt, "verdicts");
+        let Some((0, Verdict::Usable(slot))) = verdicts.first() else {
+            panic!(rt; "slot 0 is not usable");
+        };
+        check_parts(&rt, slot, *stripes, *hash);
+    }
+}
+
+const NAME: usize = 8;
+
+const MODE: usize = 40;
+
+const HASH: usize = 72;
+
+/// Texts at places of the header.
+type Texts = &'static [(usize, &'static [u8])];
+
+// Numbers and texts, and the fault of the segment.
+static SEGMENTS: [(Numbers, Texts, &str); 20] = [
+    (&[], &[(HASH, b"SHA512\0")], "none"),
+    (&[], &[(NAME, b"AES\0")], "encryption"),
+    (&[], &[(MODE, b"xts-plain\0")], "none"),
+    (&[], &[(MODE, b"cbc-plain64\0")], "key bytes"),
+    (&[], &[(MODE, b"cbc-plain\0")], "encryption"),
+    (&[], &[(MODE, b"xts-plain64\xff\0")], "encryption"),
+    (&[], &[(MODE, b"xts-plain64x\0")], "encryption"),
+    (&[], &[(HASH, b"ripemd160\0")], "hash"),
+    (&[], &[(HASH, b"sha256\xff\0")], "hash"),
+    (&[], &[(HASH, b"\0")], "hash"),
+    (
+        &[],
+        &[(NAME, b"serpent\0"), (HASH, b"ripemd160\0")],
+        "encryption",
+    ),
+    (&[(KEY_BYTES, 32)], &[], "none"),
+    (&[(KEY_BYTES, 48)], &[], "key bytes"),
+    (&[(KEY_BYTES, 0)], &[], "key bytes"),
+    (&[(KEY_BYTES, 0x4000_0000)], &[], "key bytes"),
+    (&[(PAYLOAD_OFFSET, 0)], &[], "offset"),
+    (&[(PAYLOAD_OFFSET, 1)], &[], "offset"),
+    (&[(PAYLOAD_OFFSET, 2)], &[], "none"),
+    (&[(KEY_BYTES, 48), (PAYLOAD_OFFSET, 1)], &[], "key bytes"),
+    (
+        &[(KEY_BYTES, 48), (PAYLOAD_OFFSET, 1)],
+        &[(HASH, b"md5\0")],
+        "hash",
+    ),
+];
+
+// The fault of a header's segment.
+pub(super) fn fault_of(header: &Header) -> &'static str {
+    match segment(header) {
+        Ok(_) => "none",
+        Err(fault) => fault.text(),
+    }
+}
+
+#[test]
+fn each_bound_of_a_segment(rt: HostRuntime) {
+    for (row, (numbers, texts, want)) in SEGMENTS.iter().enumerate() {
+        let fault = fault_of(&parse(&rt, &changed(numbers, texts)));
+        assert!(rt; fault == *want, "row {row}: {fault}");
+    }
+}
+
+// The payload's sector, and its byte.
+static OFFSETS: [(u32, u64); 2] = [(4096, 2_097_152), (0xffff_ffff, 2_199_023_255_040)];
+
+#[test]
+fn a_segment_goes_to_the_images_end(rt: HostRuntime) {
+    for (sector, offset) in &OFFSETS {
+        let header = parse(&rt, &changed(&[(PAYLOAD_OFFSET, *sector)], &[]));
+        let segment = segment(&header).expect(&rt, "a segment");
+        assert!(rt; [segment.offset, segment.iv_tweak] == [*offset, 0]);
+        assert!(rt; segment.size.is_none() && segment.mode == Mode::XtsPlain64);
+        assert!(rt; segment.sector_size == SectorSize::B512);
+    }
+}
+
+#[test]
+fn refusals_have_their_texts(rt: HostRuntime) {
+    assert!(rt; SkipReason::Kind.text() == "type");
+    assert!(rt; SkipReason::KeySize.text() == "key size");
+    assert!(rt; SegmentFault::Kind.text() == "type");
+    assert!(rt; SegmentFault::SectorSize.text() == "sector size");
+}
+
+const SKIPPED: VerdictKind = VerdictKind::Skipped(SkipReason::Iterations);
+
+// The limit of iterations, a slot's number, and the verdict on it without its contents. What is no
+// slot of the format has nothing to open.
+static JUDGED: [(Option<u32>, u8, Option<VerdictKind>); 7] = [
+    (None, 0, Some(VerdictKind::Usable(1))),
+    (Some(999), 0, Some(SKIPPED)),
+    (None, 7, Some(VerdictKind::Disabled)),
+    (None, 8, None),
+    (None, 31, None),
+    (None, 32, None),
+    (None, 255, None),
+];
+
+#[test]
+fn a_slot_is_judged_by_its_number(rt: HostRuntime) {
+    let header = parse(&rt, &volume_header());
+    for (limit, number, want) in &JUDGED {
+        assert!(rt; verdict_kind(&header, *limit, *number) == *want, "{number}");
+        let there = is_there(&rt, &header, *number);
+        assert!(rt; *number < 8 || !there, "{number}");
+    }
+}
+
+fn check_digest(rt: &impl Abort, digest: &KeyDigest) {
+    assert!(rt; digest.hash == Some(Hash::Sha256) && digest.iterations == 1000);
+    let (salt, value) = (digest.salt.as_slice(), digest.value.as_slice());
+    assert!(rt; [salt.len(), value.len()] == [32, 20]);
+    assert!(rt; salt.first() == Some(&0x20) && value.last() == Some(&0x13));
+}
+
+#[test]
+fn a_digest_has_its_numbers(rt: HostRuntime) {
+    let header = parse(&rt, &volume_header());
+    let digest = digest_for(rt.alloc(), &header, 0).expect(&rt, "memory");
+    check_digest(&rt, &digest.expect(&rt, "a digest"));
+    let none = parse(&rt, &changed(&[(DIGEST_ITERATIONS, 0)], &[]));
+    assert!(rt; !has_digest(&rt, &none, 0));
+}

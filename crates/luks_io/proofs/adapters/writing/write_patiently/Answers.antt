@@ -1,0 +1,60 @@
+use Rattle.std.proofs.Common.{◌≡◌, Ok, Err, rules, arith, refl}
+use Rattle.std.proofs.lemmas.Bool.{ne_eqb}
+use Rattle.luks_io.specs.CallOutcomes.{write_result}
+use Rattle.luks_io.proofs.Reporting.{reports_again, reports_failed, reports_last, reports_moved}
+use Rattle.luks_io.proofs.adapters.writing.write_patiently.Goals as goal
+
+pub tries-preserved : goal.tries-preserved
+tries-preserved g c = record {
+  told = λ told after rest. c.tries.invariant.told told after
+      (reports_again write_result _ _ told after c.tries.tries (omega arith) c.in-Interrupted.ensures.next rest);
+  kept = search rules;
+}
+
+pub returns-in-Interrupted-2-clause-told : goal.returns-in-Interrupted-2-clause-told
+returns-in-Interrupted-2-clause-told g c some =
+    c.tries.invariant.told _ _ (reports_last write_result _ _ c.tries.tries (omega arith) c.in-Interrupted.ensures.next)
+
+pub returns-in-Failed-clause-told : goal.returns-in-Failed-clause-told
+returns-in-Failed-clause-told g c some =
+    c.tries.invariant.told _ _ (reports_failed write_result _ _ c.tries.tries c.in-Failed.ensures.next)
+
+pub returns-in-Moved-eq0-clause-told : goal.returns-in-Moved-eq0-clause-told
+returns-in-Moved-eq0-clause-told g c some =
+    let none : write_result c.in-Moved-eq0.field-0 ≡ Err record {} = rw c.in-Moved-eq0.field-0-test refl in
+    c.tries.invariant.told _ _
+    (reports_moved write_result _ _ c.tries.tries c.in-Moved-eq0.field-0 _ none c.in-Moved-eq0.ensures.next)
+
+pub returns-in-Moved-clause-told : goal.returns-in-Moved-clause-told
+returns-in-Moved-clause-told g c some =
+    let moved : write_result c.in-Moved.count
+    ≡ Ok c.in-Moved.count = rw (ne_eqb c.in-Moved.count 0 c.in-Moved.count-test.1) refl in
+    c.tries.invariant.told _ _
+    (reports_moved write_result _ _ c.tries.tries c.in-Moved.count _ moved c.in-Moved.ensures.next)
+
+pub tries-init : goal.tries-init
+tries-init g c = search rules
+
+pub returns-then-is_empty-clause-told : goal.returns-then-is_empty-clause-told
+returns-then-is_empty-clause-told g c = search rules
+
+pub returns-then-is_empty-clause-empty : goal.returns-then-is_empty-clause-empty
+returns-then-is_empty-clause-empty g c = search rules
+
+pub returns-then-is_empty-clause-bound : goal.returns-then-is_empty-clause-bound
+returns-then-is_empty-clause-bound g c = search rules
+
+pub returns-then-is_empty-clause-bytes : goal.returns-then-is_empty-clause-bytes
+returns-then-is_empty-clause-bytes g c = search rules
+
+pub returns-in-Moved-clause-bound : goal.returns-in-Moved-clause-bound
+returns-in-Moved-clause-bound g c = search rules
+
+pub returns-in-Moved-clause-bytes : goal.returns-in-Moved-clause-bytes
+returns-in-Moved-clause-bytes g c = search rules
+
+pub returns-in-Moved-eq0-clause-bound : goal.returns-in-Moved-eq0-clause-bound
+returns-in-Moved-eq0-clause-bound g c = search rules
+
+pub returns-in-Moved-eq0-clause-bytes : goal.returns-in-Moved-eq0-clause-bytes
+returns-in-Moved-eq0-clause-bytes g c = search rules

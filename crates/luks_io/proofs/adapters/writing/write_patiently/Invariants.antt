@@ -1,0 +1,20 @@
+use Rattle.std.proofs.Common.{ℕ, List, Option, Result}
+use Rattle.std.specs.Io.KnownBytes.{Keeps}
+use Rattle.luks_io.specs.CallOutcomes.{ReportsFirst, write_result}
+use Rattle.luks_io.specs.declared.DeviceFault.{DeviceFault}
+use Rattle.luks_io.specs.declared.adapters.CallOutcome.{CallOutcome}
+use Rattle.luks_io.proofs.adapters.writing.write_patiently.Given as goal
+
+-- the calls so far were interrupted: they took nothing, and what is told from here on is told of
+-- the whole
+abbrev pub invariant-tries : goal.invariant-tries
+invariant-tries g l = record {
+  told : (told : Result ℕ DeviceFault) (after : Option (List CallOutcome)) →
+      ReportsFirst write_result (g.D.RawWriter.answers l.device) l.tries told after
+      → ReportsFirst write_result (g.D.RawWriter.answers l.initial.device) l.initial.tries told after;
+  kept : Keeps (g.D.RawWriter.bytes l.initial.device) (g.D.RawWriter.bytes l.device);
+}
+
+-- the tries that are left
+abbrev pub decreases-tries : goal.decreases-tries
+decreases-tries g l = l.tries

@@ -1,0 +1,58 @@
+-- The result of a device's answers: an interrupted call is made again, a few times at most.
+use Rattle.std.specs.Prelude.{◌≡◌, ◌==◌, ℕ, zero, suc, ◌≤◌, List, [], ◌∷◌, length, take, Option, Some, Result, Ok, Err}
+use Rattle.std.specs.Prelude.{if◌then◌else◌, ◌<◌}
+use Rattle.std.specs.Io.KnownBytes.{Appends, Consumes, IsAtEnd, Keeps}
+use Rattle.luks_io.specs.declared.DeviceFault.{DeviceFault}
+use Rattle.luks_io.specs.declared.adapters.CallOutcome.{CallOutcome}
+use Rattle.luks_io.specs.declared.adapters.CallOutcome.TheVariants.{Moved, Interrupted, Failed}
+
+-- a device whose answers are these gave its next one
+abbrev pub IsNextOf : List CallOutcome → CallOutcome → Option (List CallOutcome) → Type 0
+IsNextOf [] answer after = Unit {0}
+IsNextOf (first ∷ rest) answer after = (answer ≡ first) × (after ≡ Some rest)
+
+-- one call: the device gave its next answer, if its answers are known
+abbrev pub GivesNext : Option (List CallOutcome) → CallOutcome → Option (List CallOutcome) → Type 0
+GivesNext before answer after = (known : List CallOutcome) → before ≡ Some known → IsNextOf known answer after
+
+-- an interrupted call is repeated at most this many times, then it counts as a failure
+abbrev pub max_retries : ℕ
+max_retries = 100
+
+-- the result of a call that moved so many bytes: of a read
+abbrev pub read_result : ℕ → Result ℕ DeviceFault
+read_result count = Ok count
+
+-- and of a write of a buffer that is not empty
+abbrev pub write_result : ℕ → Result ℕ DeviceFault
+write_result count = if count == 0 then Err record {} else Ok count
+
+-- the first answer that is no interruption is the result, with so many retries, and no further call is made
+abbrev pub ReportsFirstOf : (ℕ → Result ℕ DeviceFault) → ℕ → List CallOutcome → Result ℕ DeviceFault
+    → Option (List CallOutcome)
+    → Type 0
+ReportsFirstOf result_for tries [] told after = Unit {0}
+ReportsFirstOf result_for tries (Moved count ∷ rest) told after = (told ≡ result_for count) × (after ≡ Some rest)
+ReportsFirstOf result_for tries (Failed ∷ rest) told after = (told ≡ Err record {}) × (after ≡ Some rest)
+ReportsFirstOf result_for zero (Interrupted ∷ rest) told after = (told ≡ Err record {}) × (after ≡ Some rest)
+ReportsFirstOf result_for (suc tries) (Interrupted ∷ rest) told after = ReportsFirstOf result_for tries rest told after
+
+-- that, if the answers are known
+abbrev pub ReportsFirst : (ℕ → Result ℕ DeviceFault) → Option (List CallOutcome) → ℕ → Result ℕ DeviceFault
+    → Option (List CallOutcome)
+    → Type 0
+ReportsFirst result_for before tries told after = (known : List CallOutcome) → before ≡ Some known
+    → ReportsFirstOf result_for tries known told after
+
+-- `read(buf)`: std's word for what its answer says of the bytes
+abbrev pub OutcomeConsumes : Option (List ℕ) → Option (List ℕ) → CallOutcome → List ℕ → Type 0
+OutcomeConsumes before after (Moved n) buf = (n ≤ length buf) × Consumes before after (take n buf)
+    × (n ≡ 0 → 0 < length buf → IsAtEnd after)
+OutcomeConsumes before after Interrupted buf = Keeps before after
+OutcomeConsumes before after Failed buf = Keeps before after
+
+-- `write(buf)`: the same
+abbrev pub OutcomeAppends : Option (List ℕ) → Option (List ℕ) → CallOutcome → List ℕ → Type 0
+OutcomeAppends before after (Moved n) buf = (n ≤ length buf) × Appends before after (take n buf)
+OutcomeAppends before after Interrupted buf = Keeps before after
+OutcomeAppends before after Failed buf = Keeps before after

@@ -1,0 +1,41 @@
+-- What devices count of their calls, and what the calls of a part of a run add to it.
+use Rattle.std.specs.Prelude.{◌≡◌, ℕ, ◌==◌, ◌||◌, nat_lt, is_err, Bool, Result}
+use Rattle.luks_io.specs.Devices.{counted, is_end}
+use Rattle.luks_io.specs.declared.counts.ReadCounts.{ReadCounts}
+use Rattle.luks_io.specs.declared.counts.WriteCounts.{WriteCounts}
+
+-- no caller needs this read: the buffer has no capacity, or a read before it failed or hit the end
+abbrev pub is_needless_read : ReadCounts → ℕ → Bool
+is_needless_read counts room = room == 0 || (nat_lt 0 counts.failures || nat_lt 0 counts.ends)
+
+-- what is counted after one more read into a buffer with capacity for so many bytes
+abbrev pub after_read : {E : Type 0} → Result ℕ E → ℕ → ReadCounts → ReadCounts
+after_read answer room counts = record {
+  failures = counted (is_err answer) counts.failures;
+  ends = counted (is_end answer room) counts.ends;
+  needless = counted (is_needless_read counts room) counts.needless;
+}
+
+-- no read has failed or hit the end so far
+pub record IsLive (counts : ReadCounts) : Type 0 where
+  pub failed : counts.failures ≡ 0
+  pub ended : counts.ends ≡ 0
+
+-- a live source was read only as needed
+abbrev pub ReadsAsNeeded : ReadCounts → ReadCounts → Type 0
+ReadsAsNeeded before after = IsLive before → after.needless ≡ before.needless
+
+-- no caller needs this write: there are no bytes, or a write before it failed
+abbrev pub is_needless_write : WriteCounts → ℕ → Bool
+is_needless_write counts len = len == 0 || nat_lt 0 counts.failures
+
+-- what is counted after one more write of so many bytes
+abbrev pub after_write : {E : Type 0} → Result ℕ E → ℕ → WriteCounts → WriteCounts
+after_write answer len counts = record {
+  failures = counted (is_err answer) counts.failures;
+  needless = counted (is_needless_write counts len) counts.needless;
+}
+
+-- a sink of which no write failed before was written to only as needed
+abbrev pub WritesAsNeeded : WriteCounts → WriteCounts → Type 0
+WritesAsNeeded before after = before.failures ≡ 0 → after.needless ≡ before.needless

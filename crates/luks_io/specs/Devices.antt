@@ -1,0 +1,61 @@
+-- The effects of calls on one device: which bytes a source gave, which bytes a sink accepted, and what is counted. A
+-- device may know its bytes: `Some` of a list, or `None` if it does not. std's words `Consumes`, `Appends` and
+-- `IsAtEnd` say what one call does to them, and claim nothing at `None`.
+use Rattle.std.specs.Prelude.{◌≡◌, ℕ, ◌+◌, ◌-◌, ◌^◌, ◌<◌, ◌≤◌, ◌++◌, ◌==◌, ◌&&◌, min, nat_lt, Bool, true, false, List}
+use Rattle.std.specs.Prelude.{drop, length, take, MatchResult, Result, Ok, Err, Option, Some}
+
+-- if a device knows its bytes, this holds of them
+abbrev pub IfKnown : Option (List ℕ) → (List ℕ → Type 0) → Type 0
+IfKnown device Holds = (known : List ℕ) → device ≡ Some known → Holds known
+
+-- the first `count` of a source's remaining bytes were consumed, and those behind them remain
+pub record ConsumedExactly (known : List ℕ) (left' : Option (List ℕ)) (count : ℕ) : Type 0 where
+  pub within : count ≤ length known
+  pub left : left' ≡ Some (drop count known)
+
+-- some first ones of those bytes were consumed: at most so many
+abbrev pub ConsumedAtMost : List ℕ → Option (List ℕ) → ℕ → Type 0
+ConsumedAtMost known left most = (count : ℕ) × (count ≤ most) × ConsumedExactly known left count
+
+-- some first ones of those bytes were consumed: fewer than so many
+abbrev pub ConsumedFewer : List ℕ → Option (List ℕ) → ℕ → Type 0
+ConsumedFewer known left all = (count : ℕ) × (count < all) × ConsumedExactly known left count
+
+-- some first ones of those bytes were consumed: at least `least`, and fewer than `all`
+abbrev pub ConsumedBetween : List ℕ → Option (List ℕ) → ℕ → ℕ → Type 0
+ConsumedBetween known left least all = (count : ℕ) × (least ≤ count) × (count < all) × ConsumedExactly known left count
+
+-- the first `count` bytes of a buffer are those that were consumed
+abbrev pub ConsumedInto : List ℕ → Option (List ℕ) → List ℕ → ℕ → Type 0
+ConsumedInto known left buf count = ConsumedExactly known left count × (take count buf ≡ take count known)
+
+-- the bytes are behind those that a sink had accepted, as far as it knows them
+abbrev pub Appended : Option (List ℕ) → Option (List ℕ) → List ℕ → Type 0
+Appended before after bytes = (known : List ℕ) → before ≡ Some known → after ≡ Some (known ++ bytes)
+
+-- the greatest count, at which a count stays
+abbrev pub max_count : ℕ
+max_count = 2 ^ 64 - 1
+
+-- a count after one more
+abbrev pub saturating_inc : ℕ → ℕ
+saturating_inc count = min (count + 1) max_count
+
+-- a count after a call: one more exactly if the call is one of those counted
+abbrev pub counted : Bool → ℕ → ℕ
+counted true count = saturating_inc count
+counted false count = count
+
+-- a read hit the end: it gave nothing to a buffer with capacity for so many bytes
+abbrev pub is_end : {E : Type 0} → Result ℕ E → ℕ → Bool
+is_end (Ok count) room = count == 0 && nat_lt 0 room
+is_end (Err _) room = false
+
+-- fewer bytes came than were requested, and no read failed: the end came first
+abbrev pub is_short_read : {E : Type 0} → Result ℕ E → ℕ → Bool
+is_short_read (Ok count) asked = nat_lt count asked
+is_short_read (Err _) asked = false
+
+-- a sink accepted between one byte and all of a buffer that has any, and none of an empty one
+abbrev pub AcceptsSome : {E : Type 0} → Result ℕ E → List ℕ → Type 0
+AcceptsSome r buf = MatchResult r (λ n. (n ≤ length buf) × (0 < length buf → 0 < n)) (λ _. Unit {0})

@@ -1,0 +1,104 @@
+//! What devices count of their calls. Each count stays at its greatest value.
+
+ghost use Rattle.std.specs.Prelude.{◌≡◌, ◌==◌, ◌&&◌, nat_lt, Bool};
+ghost use Rattle.luks_io.specs.Devices.{counted, is_end};
+ghost use Rattle.luks_io.specs.Counts.{after_read, after_write, is_needless_read, is_needless_write};
+
+use crate::DeviceFault;
+
+/// What a source counts of its reads.
+#[derive(Clone, Copy, Debug, PartialEq, Eq)]
+pub struct ReadCounts {
+    /// Reads that failed.
+    pub failures: u64,
+    /// Reads that hit the end: they gave nothing to a buffer with capacity.
+    pub ends: u64,
+    /// Reads that no caller needs: into a buffer without capacity, or after a read that failed or
+    /// hit the end.
+    pub needless: u64,
+}
+
+impl ReadCounts {
+    /// The counts of a source that was not read yet.
+    pub fn new() -> ReadCounts
+        ensures { result ≡ record { failures = 0; ends = 0; needless = 0 } }
+    {
+        ReadCounts {
+            failures: 0,
+            ends: 0,
+            needless: 0,
+        }
+    }
+
+    /// Counts a read into a buffer with capacity for `room` bytes, and gives its answer back. For a
+    /// source's own `read`.
+    pub fn count(
+        &mut self,
+        answer: Result<usize, DeviceFault>,
+        room: usize,
+    ) -> Result<usize, DeviceFault>
+        ensures value { result ≡ answer }
+        ensures counts { self.new ≡ after_read answer room self.old }
+    {
+        let needless = room == 0 || self.failures > 0 || self.ends > 0;
+        count_if(&mut self.needless, needless);
+        count_if(&mut self.failures, answer.is_err());
+        count_if(&mut self.ends, hits_end(&answer, room));
+        answer
+    }
+}
+
+/// What a sink counts of its writes.
+#[derive(Clone, Copy, Debug, PartialEq, Eq)]
+pub struct WriteCounts {
+    /// Writes that failed.
+    pub failures: u64,
+    /// Writes that no caller needs: of no bytes, or after a write that failed.
+    pub needless: u64,
+}
+
+impl WriteCounts {
+    /// The counts of a sink that was not written to yet.
+    pub fn new() -> WriteCounts
+        ensures { result ≡ record { failures = 0; needless = 0 } }
+    {
+        WriteCounts {
+            failures: 0,
+            needless: 0,
+        }
+    }
+
+    /// Counts a write of `len` bytes, and gives its answer back. For a sink's own `write`.
+    pub fn count(
+        &mut self,
+        answer: Result<usize, DeviceFault>,
+        len: usize,
+    ) -> Result<usize, DeviceFault>
+        ensures value { result ≡ answer }
+        ensures counts { self.new ≡ after_write answer len self.old }
+    {
+        let needless = len == 0 || self.failures > 0;
+        count_if(&mut self.needless, needless);
+        count_if(&mut self.failures, answer.is_err());
+        answer
+    }
+}
+
+/// Counts one more, if it is one to count.
+fn count_if(count: &mut u64, is: bool)
+    ensures { count.new ≡ counted is count.old }
+{
+    if is {
+        *count = count.saturating_add(1);
+    }
+}
+
+/// Whether a read into a buffer with capacity for `room` bytes hit the end.
+fn hits_end(answer: &Result<usize, DeviceFault>, room: usize) -> bool
+    ensures { result ≡ is_end answer.now room }
+{
+    match answer {
+        Ok(count) => *count == 0 && room > 0,
+        Err(_) => false,
+    }
+}

@@ -1,0 +1,144 @@
+-- The sector that fills a buffer.
+use Rattle.std.proofs.Common.{◌≡◌, ℕ, ◌+◌, ◌-◌, ◌<◌, ◌≤◌, inl, inr, List, [], ◌∷◌, ◌++◌, Option, Some, ◌∙◌, ap, sym}
+use Rattle.std.proofs.Common.{drop, length, length-append, length-drop, length-take-le, append-nil, min, take_all}
+use Rattle.std.proofs.Common.{arith, subst, take}
+use Rattle.std.proofs.lemmas.Bool.{cases_lt}
+use Rattle.std.proofs.lemmas.List.{drop_all, take-append-le}
+use Rattle.std.proofs.Math.Seq.{take-append-add, take-append_seam}
+use Rattle.luks_cipher.specs.Sector.{Cipher, sector_decrypted}
+use Rattle.std.specs.Io.KnownBytes.{Consumes}
+use Rattle.luks_io.specs.Devices.{ConsumedExactly}
+use Rattle.luks_io.specs.Forwarding.{Forwarded}
+use Rattle.luks_io.proofs.Moves.{took-front}
+use Rattle.luks_payload.specs.SectorEffects.{BeginsWith, FilledSector, AbortsInSector}
+use Rattle.luks_payload.specs.Plain.{unit_plain}
+use Rattle.luks_payload.specs.declared.fault.VolumeFault.TheVariants.{Write}
+use borrow.Rule.Slice.PartMut.{put_mid}
+
+-- what a buffer decrypts to, in the payload's words
+pub unit_is : (cipher : Cipher) (number : ℕ) (buf unit : List ℕ) → unit ≡ sector_decrypted cipher.0 cipher.1 number buf
+    → unit ≡ unit_plain cipher number buf
+unfolding unit_plain
+unit_is cipher number buf unit is = is
+
+-- what a buffer of len bytes decrypts to that was filled with the next ones
+pub unit_filled : (cipher : Cipher) (number len got : ℕ) (bytes buf unit : List ℕ) → length buf ≡ len → got ≡ len
+    → take got buf ≡ take got bytes
+    → unit ≡ sector_decrypted cipher.0 cipher.1 number buf → unit ≡ unit_plain cipher number (take len bytes)
+unfolding unit_plain
+unit_filled cipher number len got bytes buf unit long whole same is =
+    let filled : buf ≡ take len bytes = sym (take_all len buf (omega arith)) ∙ (rw whole at same) in
+    is ∙ ap (sector_decrypted cipher.0 cipher.1 number) filled
+
+-- a beginning of a sector was written, and then a piece behind it
+module _ (held len : ℕ) (front new old piece : List ℕ) (is : held ≡ min (length front) len) (sized : length old ≡ len)
+    (written : new ≡ take held front) where
+  long : length new ≡ held
+  long = ap length written ∙ length-take-le held front (omega arith)
+
+  whole : length (new ++ drop held old) ≡ len
+  whole = length-append new (drop held old) ∙ (omega (arith, length-drop held old, long))
+
+  pub rest_len
+      : length piece ≡ length (take (length (new ++ drop held old) - held) (drop held (new ++ drop held old)))
+      → length piece ≡ len - min (length front) len
+  rest_len rest =
+      let behind = length-drop held (new ++ drop held old) in
+      rest ∙ length-take-le (length (new ++ drop held old) - held) (drop held (new ++ drop held old)) (omega arith)
+      ∙ (omega (arith, whole))
+
+  pub sector_is : put_mid held (length (new ++ drop held old) - held) (new ++ drop held old) piece
+      ≡ take (min (length front) len) front ++ piece
+  sector_is =
+      let none : drop (length (new ++ drop held old) - held) (drop held (new ++ drop held old)) ≡ [] =
+      drop_all (length (new ++ drop held old) - held) (drop held (new ++ drop held old))
+      (omega (arith, length-drop held (new ++ drop held old))) in
+      let first : take held (new ++ drop held old) ≡ new =
+      take-append-le held new (drop held old) (omega (arith, long)) ∙ take_all held new (omega (arith, long)) in
+      ap (λ l. take held (new ++ drop held old) ++ (piece ++ l)) none
+      ∙ ap (λ l. take held (new ++ drop held old) ++ l) (append-nil piece)
+      ∙ ap (λ l. l ++ piece) (first ∙ written ∙ ap (λ n. take n front) is)
+
+-- a sector that is filled with the bytes in front, and then with those of a piece
+module _ (len : ℕ) (front piece sector : List ℕ) (is : sector ≡ take (min (length front) len) front ++ piece)
+    (rest : length piece ≡ len - min (length front) len) where
+  first_len : length (take (min (length front) len) front) ≡ min (length front) len
+  first_len = length-take-le (min (length front) len) front (omega arith)
+
+  begins_few : length front ≤ len → BeginsWith front sector
+  begins_few few =
+      let all : min (length front) len ≡ length front = omega arith in
+      let whole : sector ≡ front ++ piece = is ∙ ap (λ l. l ++ piece)
+      (ap (λ n. take n front) all ∙ take_all (length front) front (omega arith)) in
+      let size : length front ≤ length sector = omega (arith, ap length whole, length-append front piece) in
+      rw whole (take-append_seam front piece) ∙ sym (take_all (length sector) front size)
+
+  begins_many : len < length front → BeginsWith front sector
+  begins_many many =
+      let size : length sector ≡ len = ap length is
+      ∙ length-append (take (min (length front) len) front) piece ∙ (omega (arith, first_len)) in
+      let part : sector ≡ take len front = sym (take_all len sector (omega arith))
+      ∙ ap (take len) is
+      ∙ take-append-le len (take (min (length front) len) front) piece (omega (arith, first_len))
+      ∙ take_all len (take (min (length front) len) front) (omega (arith, first_len))
+      ∙ ap (λ n. take n front) (omega arith) in
+      take_all (length front) sector (omega arith) ∙ part ∙ ap (λ n. take n front) (sym size)
+
+  -- it begins with them
+  pub begins : BeginsWith front sector
+  begins = elim (cases_lt len (length front)) [ inl many ↦ begins_many many | inr few ↦ begins_few few ]
+
+  module _ (known : List ℕ) (left' : Option (List ℕ)) (n : ℕ) (all : n ≡ min (length piece) (length known))
+      (same : take n piece ≡ take n known) (took : ConsumedExactly known left' n) where
+    filled_few : length front ≤ len → FilledSector len front known left' sector (min (length front) len + n)
+    filled_few few =
+        let held : min (length front) len ≡ length front = omega arith in
+        let whole : sector ≡ front ++ piece = is ∙ ap (λ l. l ++ piece)
+        (ap (λ n. take n front) held ∙ take_all (length front) front (omega arith)) in
+        let count : n ≡ length front + n - length front = omega arith in
+        rw held (record {
+          all = omega (arith, length-append front known);
+          bytes = ap (take (length front + n)) whole ∙ take-append-add front piece n
+              ∙ ap (λ l. front ++ l) same ∙ sym (take-append-add front known n);
+          took = subst (ConsumedExactly known left') count took;
+        })
+
+    filled_many : len < length front → FilledSector len front known left' sector (min (length front) len + n)
+    filled_many many =
+        let got : min (length front) len + n ≡ len = omega arith in
+        let none : n ≡ len - length front = omega arith in
+        rw got (record {
+          all = omega (arith, length-append front known);
+          bytes = ap (take len) is
+              ∙ take-append-le len (take (min (length front) len) front) piece (omega (arith, first_len))
+              ∙ take_all len (take (min (length front) len) front) (omega (arith, first_len))
+              ∙ ap (λ n. take n front) (omega arith) ∙ sym (take-append-le len front known (omega arith));
+          took = subst (ConsumedExactly known left') none took;
+        })
+
+    -- and what is gathered goes on with the bytes of the source
+    pub filled_sector : (held : ℕ) → held ≡ min (length front) len
+        → FilledSector len front known left' sector (held + n)
+    filled_sector held first =
+        subst (λ m. FilledSector len front known left' sector (m + n)) (sym first)
+        (elim (cases_lt len (length front)) [ inl many ↦ filled_many many | inr few ↦ filled_few few ])
+
+-- the next bytes of a source, where it knew them, are those that were passed on
+passed_bytes : (known bytes : List ℕ) (left left' : Option (List ℕ)) (len : ℕ) → length bytes ≡ len
+    → Consumes left left' bytes → left ≡ Some known → ConsumedExactly known left' len × (take len known ≡ bytes)
+passed_bytes known bytes left left' len sized taken is =
+    let whole : take len bytes ≡ bytes = take_all len bytes (omega arith) in
+    let took = took-front left left' bytes len (omega arith) (rw whole taken) known is in
+    (took.0, sym took.1 ∙ whole)
+
+-- a sector that was passed on, with none of its bytes in front
+module _ (cipher : Cipher) (number len : ℕ) (known : List ℕ) (left left' before after : Option (List ℕ)) where
+  -- the write was broken off
+  pub stops_passed : (front : List ℕ) (written : ℕ) → length front ≡ 0 → written < len
+      → Forwarded len (λ bytes. take written (unit_plain cipher number bytes)) left left' before after
+      → left ≡ Some known → AbortsInSector cipher number len front known left' before after Write
+  stops_passed [] written none few passed is =
+      let p = passed_bytes known passed.0 left left' len passed.1 passed.2 is in
+      let all : len - 0 ≡ len = omega arith in
+      (rw all p.0, (written, few, rw p.1 passed.3))
+  stops_passed (x ∷ front) written none few passed is = absurd (omega arith)

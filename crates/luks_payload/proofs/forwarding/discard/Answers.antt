@@ -1,0 +1,68 @@
+use Rattle.std.proofs.Common.{rules, ◌≡◌, ◌+◌, ◌-◌, ◌<◌, ◌∙◌, length, length-take-le, arith}
+use Rattle.std.proofs.lemmas.Result.{err_from_is_err_and}
+use Rattle.luks_io.proofs.CountsLemmas.{reads_then}
+use Rattle.luks_io.proofs.Consuming.{counted-whole, consumed_all, consumed_more, consumed_sum}
+use Rattle.luks_payload.proofs.forwarding.discard.Goals as goal
+
+pub returns-in_err-fill-clause-err : goal.returns-in_err-fill-clause-err
+returns-in_err-fill-clause-err g c =
+    let p = err_from_is_err_and c.from_residual.result c.from_residual.ensures.1 in
+    let few = c.pieces.invariant.few in
+    let sized : length c.fill.new.buf ≡ c.min-size.result = c.fill.auto.buf
+    ∙ length-take-le c.min-size.result c.pieces.piece (omega arith) in
+    let below : c.args.count - c.pieces.left + c.in_err-fill.field-0.0.got
+    < c.args.count = omega (arith, c.in_err-fill.ensures.bound) in
+    rw (p.1, p.2) (λ known is. (
+      c.args.count - c.pieces.left + c.in_err-fill.field-0.0.got,
+      below,
+      consumed_more known _ _ _ _ (c.pieces.invariant.taken known is)
+          (λ rest left. (c.in_err-fill.ensures.bytes rest left).0),
+    ))
+
+pub returns-then-branch-size-clause-err : goal.returns-then-branch-size-clause-err
+returns-then-branch-size-clause-err g c known is =
+    let few = c.pieces.invariant.few in
+    let sized : length c.fill.new.buf ≡ c.min-size.result = c.fill.auto.buf
+    ∙ length-take-le c.min-size.result c.pieces.piece (omega arith) in
+    let short : c.in_ok-fill.field-0 < length c.fill.new.buf = omega arith in
+    let next = consumed_all known _ _ _ _ _ (c.pieces.invariant.taken known is)
+    (λ rest left. (c.in_ok-fill.ensures.bytes rest left).0) c.in_ok-fill.ensures.end short in
+    (omega (arith, next.0), next.1)
+
+pub pieces-preserved : goal.pieces-preserved
+pieces-preserved g c =
+    let few = c.pieces.invariant.few in
+    let sized : length c.fill.new.buf ≡ c.min-size.result = c.fill.auto.buf
+    ∙ length-take-le c.min-size.result c.pieces.piece (omega arith) in
+    let full : c.in_ok-fill.field-0 ≡ c.min-size.result = omega (arith, c.in_ok-fill.ensures.bound) in
+    let more : c.args.count - c.pieces.left + c.in_ok-fill.field-0
+    ≡ c.args.count - (c.pieces.left - c.min-size.result) = omega arith in
+    record {
+      reads = c.in_ok-fill.ensures.counts ∙ c.pieces.invariant.reads;
+      ends = c.in_ok-fill.ensures.ends ∙ counted-whole _ _ _ (omega arith) ∙ c.pieces.invariant.ends;
+      needed = reads_then _ _ (g.S.Source.counts c.fill.new.source) c.pieces.invariant.reads c.pieces.invariant.ends
+          c.pieces.invariant.needed c.fill.ensures.needed;
+      few = omega arith;
+      taken = λ known is.
+          consumed_sum known _ _ _ _ _ more (c.pieces.invariant.taken known is)
+          (λ rest left. (c.in_ok-fill.ensures.bytes rest left).0);
+    }
+
+pub returns-then-branch-size-clause-reads : goal.returns-then-branch-size-clause-reads
+returns-then-branch-size-clause-reads g c = search rules
+
+pub returns-then-branch-size-clause-ends : goal.returns-then-branch-size-clause-ends
+returns-then-branch-size-clause-ends g c = search rules
+
+pub returns-then-branch-size-clause-only : goal.returns-then-branch-size-clause-only
+returns-then-branch-size-clause-only g c = search rules
+
+pub returns-in_err-fill-clause-needed : goal.returns-in_err-fill-clause-needed
+returns-in_err-fill-clause-needed g c =
+    reads_then _ _ (g.S.Source.counts c.fill.new.source) c.pieces.invariant.reads c.pieces.invariant.ends
+    c.pieces.invariant.needed c.fill.ensures.needed
+
+pub returns-then-branch-size-clause-needed : goal.returns-then-branch-size-clause-needed
+returns-then-branch-size-clause-needed g c =
+    reads_then _ _ (g.S.Source.counts c.fill.new.source) c.pieces.invariant.reads c.pieces.invariant.ends
+    c.pieces.invariant.needed c.fill.ensures.needed

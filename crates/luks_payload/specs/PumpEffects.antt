@@ -1,0 +1,160 @@
+-- What a pump is to its caller, and what its calls do.
+use Rattle.std.specs.Prelude.{◌≡◌, ℕ, ◌+◌, ◌*◌, ◌<◌, ◌⊎◌, max, min, nat_lt, List, drop, length, take, Option, Result}
+use Rattle.std.specs.Prelude.{Ok, Err, Bool, true, false, IsTrue}
+use Rattle.luks_cipher.specs.Sector.{Cipher}
+use Rattle.luks_io.specs.Devices.{Appended, ConsumedExactly, ConsumedBetween}
+use Rattle.luks_verdict.specs.declared.segment.Segment.{Segment}
+use Rattle.luks_payload.specs.SectorEffects.{PositionedAt, max_sectors}
+use Rattle.luks_payload.specs.Plain.{ending_of, ending_within, payload_end_of, sector_len, sector_plaintext, sector_start}
+use Rattle.luks_payload.specs.Plain.{sectors_of}
+use Rattle.luks_payload.specs.declared.fault.VolumeFault.{VolumeFault}
+use Rattle.luks_payload.specs.declared.fault.VolumeFault.TheVariants.{CutBeforePayload, Tail, Short, Read, Write}
+use Rattle.luks_payload.specs.declared.state.State.{State}
+use Rattle.luks_payload.specs.declared.state.State.TheVariants.{BeforePayload, InPayload, Ended, Faulted}
+use Rattle.luks_payload.specs.declared.state.Step.{Step}
+use Rattle.luks_payload.specs.declared.state.Step.TheVariants.{Sector, End}
+
+-- a pump: the payload and its cipher, how many bytes of the image before the payload were consumed when it was made,
+-- how many sectors it has forwarded, its state, and which of the payload's next bytes were consumed before it was made
+pub record PumpModel : Type 0 where
+  pub segment : Segment
+  pub cipher : Cipher
+  pub consumed : ℕ
+  pub count : ℕ
+  pub state : State
+  pub front : List ℕ
+
+-- it has neither ended nor failed
+abbrev pub is_running : State → Bool
+is_running BeforePayload = true
+is_running InPayload = true
+is_running Ended = false
+is_running (Faulted _) = false
+
+-- the place in the image of the next byte
+abbrev pub next_offset : State → ℕ → ℕ → ℕ
+next_offset BeforePayload consumed next = consumed
+next_offset InPayload consumed next = next
+next_offset Ended consumed next = next
+next_offset (Faulted _) consumed next = next
+
+abbrev pub position : PumpModel → ℕ
+position p = next_offset p.state p.consumed (sector_start p.segment p.count)
+
+-- how many bytes of the image were consumed
+abbrev pub consumed_by : PumpModel → ℕ
+consumed_by p = position p + length p.front
+
+-- a running pump is in an image whose other bytes remain in the source
+pub record PositionedIn (image : List ℕ) (pump : PumpModel) (left' : Option (List ℕ)) : Type 0 where
+  pub running : IsTrue (is_running pump.state)
+  pub stands : PositionedAt image pump.front (position pump) left'
+
+-- the state of a pump after a skip
+abbrev pub state_after_skip : {T : Type 0} → State → Result T VolumeFault → State
+state_after_skip BeforePayload (Ok _) = InPayload
+state_after_skip BeforePayload (Err fault) = Faulted fault
+state_after_skip InPayload _ = InPayload
+state_after_skip Ended _ = Ended
+state_after_skip (Faulted fault) _ = Faulted fault
+
+-- a skip of a pump that is not before its payload touches nothing, and answers as before
+abbrev pub SkipsAgain : State → Result (Unit {0}) VolumeFault → Type 0 → Type 0
+SkipsAgain BeforePayload answer untouched = Unit {0}
+SkipsAgain InPayload answer untouched = (answer ≡ Ok tt) × untouched
+SkipsAgain Ended answer untouched = (answer ≡ Ok tt) × untouched
+SkipsAgain (Faulted fault) answer untouched = (answer ≡ Err fault) × untouched
+
+-- a skip consumed the image up to the payload's start, or was aborted
+abbrev pub SkipEffect : PumpModel → List ℕ → Result (Unit {0}) VolumeFault → Option (List ℕ) → Type 0
+SkipEffect p image (Ok _) left = ConsumedExactly image left p.segment.offset
+SkipEffect p image (Err CutBeforePayload) left = (length image < p.segment.offset)
+    × ConsumedExactly image left (length image)
+SkipEffect p image (Err Read) left = ConsumedBetween image left p.consumed p.segment.offset
+SkipEffect p image (Err (Tail _)) left = ⊥
+SkipEffect p image (Err (Short _)) left = ⊥
+SkipEffect p image (Err Write) left = ⊥
+
+-- a pump after a step
+abbrev pub after_step : PumpModel → Result Step VolumeFault → PumpModel
+after_step p (Ok Sector) =
+    record p { count = p.count + 1; state = InPayload; front = drop (sector_len p.segment) p.front }
+after_step p (Ok End) = record p { state = Ended }
+after_step p (Err fault) = record p { state = Faulted fault }
+
+-- a step of a pump that has ended or failed touches nothing, and answers as before
+abbrev pub StepsAgain : State → Result Step VolumeFault → Type 0 → Type 0
+StepsAgain BeforePayload answer untouched = Unit {0}
+StepsAgain InPayload answer untouched = Unit {0}
+StepsAgain Ended answer untouched = (answer ≡ Ok End) × untouched
+StepsAgain (Faulted fault) answer untouched = (answer ≡ Err fault) × untouched
+
+-- a step writes only if it forwards a sector
+abbrev pub WritesSectors : Result Step VolumeFault → Type 0 → Type 0
+WritesSectors (Ok Sector) unwritten = Unit {0}
+WritesSectors (Ok End) unwritten = unwritten
+WritesSectors (Err CutBeforePayload) unwritten = unwritten
+WritesSectors (Err (Tail _)) unwritten = unwritten
+WritesSectors (Err (Short _)) unwritten = unwritten
+WritesSectors (Err Read) unwritten = unwritten
+WritesSectors (Err Write) unwritten = Unit {0}
+
+-- how the payload ends if so many sectors were forwarded: at its limit, or if less than one sector remains in the
+-- source
+abbrev pub EndsAt : Segment → ℕ → Result Step VolumeFault → Type 0
+EndsAt s count answer = ((count ≡ max_sectors s) × (answer ≡ Ok End))
+    ⊎ ((count < max_sectors s)
+    × ((more : ℕ) × (more < sector_len s)
+    × (answer ≡ ending_within s.size (sector_len s) (count * sector_len s + more))))
+
+-- the answers that a step may give, whatever its devices do
+abbrev pub MayAnswer : State → Segment → ℕ → Result Step VolumeFault → Type 0
+MayAnswer state s count (Ok Sector) = count < max_sectors s
+MayAnswer state s count (Ok End) = EndsAt s count (Ok End)
+MayAnswer state s count (Err CutBeforePayload) = state ≡ BeforePayload
+MayAnswer state s count (Err (Tail bytes)) = EndsAt s count (Err (Tail bytes))
+MayAnswer state s count (Err (Short bytes)) = EndsAt s count (Err (Short bytes))
+MayAnswer state s count (Err Read) = Unit {0}
+MayAnswer state s count (Err Write) = Unit {0}
+
+-- whether a step with so many sectors forwarded before hit the end of its source: not if a limit ends the payload
+abbrev pub hits_eof_at : Segment → ℕ → Result Step VolumeFault → Bool
+hits_eof_at s count (Ok Sector) = false
+hits_eof_at s count (Ok End) = nat_lt count (max_sectors s)
+hits_eof_at s count (Err CutBeforePayload) = true
+hits_eof_at s count (Err (Tail _)) = true
+hits_eof_at s count (Err (Short _)) = true
+hits_eof_at s count (Err Read) = false
+hits_eof_at s count (Err Write) = false
+
+-- sector `count` was consumed from the image, of which `reach` bytes had been, and nothing past it
+pub record ConsumesSector (image : List ℕ) (segment : Segment) (count reach : ℕ) (left : Option (List ℕ)) : Type 0 where
+  pub is_one : count < sectors_of segment image
+  pub took : ConsumedExactly image left (max reach (sector_start segment (count + 1)))
+
+-- the payload came to its specified end after `count` sectors, and all of it was consumed from an image of which
+-- `reach` bytes had been
+pub record EndEffect (image : List ℕ) (segment : Segment) (count reach : ℕ) (answer : Result Step VolumeFault)
+    (left : Option (List ℕ)) : Type 0 where
+  pub all : count ≡ sectors_of segment image
+  pub as_stated : answer ≡ ending_of segment image
+  pub took : ConsumedExactly image left (max reach (payload_end_of segment image))
+
+-- the effect of a step in an image of which so many bytes had been consumed, with so many sectors forwarded before
+abbrev pub StepEffect : Segment → Cipher → ℕ → ℕ → List ℕ → Result Step VolumeFault → Option (List ℕ) → Option (List ℕ)
+    → Option (List ℕ) → Type 0
+StepEffect s cipher count reach image (Ok Sector) left before after =
+    ConsumesSector image s count reach left × Appended before after (sector_plaintext s cipher image count)
+StepEffect s cipher count reach image (Ok End) left before after = EndEffect image s count reach (Ok End) left
+StepEffect s cipher count reach image (Err CutBeforePayload) left before after =
+    EndEffect image s count reach (Err CutBeforePayload) left
+StepEffect s cipher count reach image (Err (Tail bytes)) left before after = EndEffect image s count reach (Err
+    (Tail bytes)) left
+StepEffect s cipher count reach image (Err (Short bytes)) left before after =
+    EndEffect image s count reach (Err (Short bytes)) left
+StepEffect s cipher count reach image (Err Read) left before after =
+    ConsumedBetween image left reach (min (sector_start s (count + 1)) (payload_end_of s image + 1))
+StepEffect s cipher count reach image (Err Write) left before after =
+    ConsumesSector image s count reach left
+    × ((written : ℕ) × (written < sector_len s) × Appended before after (take written
+    (sector_plaintext s cipher image count)))

@@ -1,0 +1,89 @@
+-- What the parts of a pump leave in its source and its sink.
+use Rattle.std.specs.Prelude.{◌≡◌, ℕ, ◌+◌, ◌-◌, ◌/◌, ◌^◌, ◌<◌, ◌≤◌, ◌⊎◌, ◌++◌, min, Bool, true, false}
+use Rattle.std.specs.Prelude.{List, drop, length, take, Option, None, Some, Result, Err, IfOk, IfErr}
+use Rattle.luks_cipher.specs.Sector.{Cipher}
+use Rattle.luks_io.specs.Devices.{Appended, ConsumedExactly, ConsumedFewer, IfKnown}
+use Rattle.luks_verdict.specs.declared.segment.Segment.{Segment}
+use Rattle.luks_payload.specs.Plain.{unit_plain, sector_len}
+use Rattle.luks_payload.specs.declared.fault.VolumeFault.{VolumeFault}
+use Rattle.luks_payload.specs.declared.fault.VolumeFault.TheVariants.{CutBeforePayload, Tail, Short, Read, Write}
+
+-- whether a call with this answer met a read that failed
+abbrev pub is_pump_read_failure : {T : Type 0} → Result T VolumeFault → Bool
+is_pump_read_failure (Err Read) = true
+is_pump_read_failure _ = false
+
+-- whether it met a write that failed
+abbrev pub is_pump_write_failure : {T : Type 0} → Result T VolumeFault → Bool
+is_pump_write_failure (Err Write) = true
+is_pump_write_failure _ = false
+
+-- whether it found the end of the image before the payload
+abbrev pub is_cut : {T : Type 0} → Result T VolumeFault → Bool
+is_cut (Err CutBeforePayload) = true
+is_cut _ = false
+
+-- discarding the next `count` bytes of a source was aborted
+abbrev pub AbortsDiscarding : ℕ → List ℕ → Option (List ℕ) → VolumeFault → Type 0
+AbortsDiscarding count known left CutBeforePayload = (length known < count) × ConsumedExactly known left (length known)
+AbortsDiscarding count known left Read = ConsumedFewer known left count
+AbortsDiscarding count known left (Tail _) = ⊥
+AbortsDiscarding count known left (Short _) = ⊥
+AbortsDiscarding count known left Write = ⊥
+
+-- at an offset of an image the next bytes are `front`, and what is behind them remains in the source
+pub record PositionedAt (image front : List ℕ) (place : ℕ) (left' : Option (List ℕ)) : Type 0 where
+  pub next : front ≡ take (length front) (drop place image)
+  pub took : ConsumedExactly image left' (place + length front)
+
+-- the bytes of a unit start with those of `front`
+abbrev pub BeginsWith : List ℕ → List ℕ → Type 0
+BeginsWith front unit = take (length front) unit ≡ take (length unit) front
+
+-- the plaintext of some unit of `len` bytes was written that starts with the bytes of `front`
+abbrev pub AppendsUnit : Cipher → ℕ → ℕ → List ℕ → Option (List ℕ) → Option (List ℕ) → Type 0
+AppendsUnit cipher number len front before after = (unit : List ℕ) × (length unit ≡ len) × BeginsWith front unit
+    × Appended before after (unit_plain cipher number unit)
+
+-- a sector was filled with `got` bytes: those of `front`, and then the next ones of the source
+pub record FilledSector (len : ℕ) (front known : List ℕ) (left' : Option (List ℕ)) (sector : List ℕ) (got : ℕ)
+    : Type 0 where
+  pub all : got ≡ min len (length (front ++ known))
+  pub bytes : take got sector ≡ take got (front ++ known)
+  pub took : ConsumedExactly known left' (got - length front)
+
+-- forwarding a sector of `len` bytes was aborted
+abbrev pub AbortsInSector : Cipher → ℕ → ℕ → List ℕ → List ℕ → Option (List ℕ) → Option (List ℕ) → Option (List ℕ)
+    → VolumeFault → Type 0
+AbortsInSector cipher number len front known left before after Read = ConsumedFewer known left (len - length front)
+AbortsInSector cipher number len front known left before after Write =
+    ConsumedExactly known left (len - length front)
+    × ((count : ℕ) × (count < len)
+    × Appended before after (take count (unit_plain cipher number (take len (front ++ known)))))
+AbortsInSector cipher number len front known left before after CutBeforePayload = ⊥
+AbortsInSector cipher number len front known left before after (Tail _) = ⊥
+AbortsInSector cipher number len front known left before after (Short _) = ⊥
+
+-- the effect of forwarding the sector of a unit number, which starts with the bytes of `front`: it is whole, incomplete
+-- or aborted
+pub record SectorEffect (cipher : Cipher) (number len : ℕ) (front : List ℕ) (answer : Result ℕ VolumeFault)
+    (left left' before after : Option (List ℕ)) (unwritten : Type 0) : Type 0 where
+  pub most : IfOk answer (λ got. got ≤ len)
+  pub taken : IfOk answer (λ got. IfKnown left
+      (λ known. (got ≡ min len (length (front ++ known))) × ConsumedExactly known left' (got - length front)))
+  pub written : IfOk answer (λ got. got ≡ len → IfKnown left
+      (λ known. Appended before after (unit_plain cipher number (take got (front ++ known)))))
+  pub whole : IfOk answer (λ got. got ≡ len → AppendsUnit cipher number len front before after)
+  pub torn : IfOk answer (λ got. got < len → unwritten)
+  pub err : IfErr answer
+      (λ fault. IfKnown left (λ known. AbortsInSector cipher number len front known left' before after fault))
+  pub unread : IfErr answer (λ fault. fault ≡ Read → unwritten)
+  pub only : IfErr answer (λ fault. (fault ≡ Read) ⊎ (fault ≡ Write))
+
+-- the most sectors that are forwarded: those of a fixed size, and otherwise the greatest count of 64 bits
+abbrev pub limit_within : Option ℕ → ℕ → ℕ
+limit_within None sector = 2 ^ 64 - 1
+limit_within (Some size) sector = size / sector
+
+abbrev pub max_sectors : Segment → ℕ
+max_sectors s = limit_within s.size (sector_len s)

@@ -1,0 +1,22 @@
+-- What `luksCheck` prints of the findings of a header, and how it ends.
+use Rattle.std.specs.Prelude.{ℕ, ◌==◌, ◌∷◌, ◌++◌, [], List, codes, if◌then◌else◌, length}
+use Rattle.luks_header.specs.declared.header.Header.{Header}
+pub use Rattle.luks_check.specs.Findings.{findings_of}
+use Rattle.luks_report.specs.declared.message.Message.{Message}
+use Rattle.luks_report.specs.declared.message.Message.TheVariants.{Done, Findings}
+
+-- what `luksCheck` prints of these findings
+abbrev pub findings_text : List ℕ → List ℕ
+findings_text findings = if length findings == 0 then codes "clean" ++ 10 ∷ [] else findings
+
+-- and how it ends
+abbrev pub check_message : List ℕ → Message
+check_message findings = if length findings == 0 then Done else Findings
+
+-- what `luksCheck` prints of a header
+unfoldable pub check_of : Header → List ℕ
+check_of header = findings_text (findings_of header)
+
+-- how `luksCheck` of a header ends
+unfoldable pub message_for_check : Header → Message
+message_for_check header = check_message (findings_of header)

@@ -1,0 +1,21 @@
+use Rattle.std.proofs.Common.{◌≡◌, ◌+◌, ◌≤◌, ◌-◌, take, vec_len}
+use Rattle.luks_io.specs.Devices.{ConsumedExactly, IfKnown}
+use Rattle.luks_io.specs.Counts.{ReadsAsNeeded}
+use Rattle.luks_runs.specs.KeyFile.{max_key_file_len}
+use Rattle.luks_runs.proofs.key_file.read_key_file.Given as goal
+
+-- the bytes so far are the first ones of the key file, and no read was needless
+abbrev pub invariant-pieces : goal.invariant-pieces
+invariant-pieces g l = record {
+  within : vec_len l.secret ≤ max_key_file_len + 1;
+  reads : (g.S.Source.counts l.source).failures ≡ (g.S.Source.counts l.initial.source).failures;
+  ends : (g.S.Source.counts l.source).ends ≡ (g.S.Source.counts l.initial.source).ends;
+  needed : ReadsAsNeeded (g.S.Source.counts l.initial.source) (g.S.Source.counts l.source);
+  taken : IfKnown (g.S.Source.to_come l.initial.source)
+      (λ known. (l.secret.items ≡ take (vec_len l.secret) known)
+      × ConsumedExactly known (g.S.Source.to_come l.source) (vec_len l.secret));
+}
+
+-- the bytes that there is room for
+abbrev pub decreases-pieces : goal.decreases-pieces
+decreases-pieces g l = max_key_file_len + 1 - vec_len l.secret

@@ -1,0 +1,61 @@
+use Rattle.std.proofs.Common.{◌≡◌, ◌∙◌, sym, arith, refl}
+use Rattle.std.proofs.lemmas.Result.{err_from_is_err_and}
+use Rattle.luks_io.proofs.CountsLemmas.{reads_then, writes_then}
+use Rattle.luks_kdf.proofs.StripesLemmas.{chain_more, chain_start}
+use Rattle.luks_runs.proofs.StripeLemmas.{is_stripe, passed_more, passed_none, stops_at}
+use Rattle.luks_runs.proofs.stripes.forward_stripes.Goals as goal
+
+pub stripes-init : goal.stripes-init
+stripes-init g c = record {
+  reads = refl;
+  ends = refl;
+  writes = refl;
+  needed_reads = λ live. refl;
+  needed_writes = λ live. refl;
+  len = c.new-splitter.ensures.len;
+  passed = λ bytes is. (chain_start _ _ bytes _ c.new-splitter.ensures.start, passed_none bytes _ _ _ is);
+}
+
+pub returns-in_err-forward_stripe-clause-err : goal.returns-in_err-forward_stripe-clause-err
+returns-in_err-forward_stripe-clause-err g c =
+    let p = err_from_is_err_and c.from_residual.result c.from_residual.ensures.1 in
+    rw (p.1, p.2) (λ bytes is. rw c.forward_stripe.auto.stripe
+    (stops_at bytes _ _ _ _ _ (c.stripes.invariant.passed bytes is).1 _ _ _ _ c.stripes-test.true
+    (rw c.forward_stripe.auto.stripe at c.in_err-forward_stripe.ensures.err)))
+
+pub stripes-preserved : goal.stripes-preserved
+stripes-preserved g c =
+    let next = rw c.forward_stripe.auto.stripe at c.in_ok-forward_stripe.ensures.ok in
+    record {
+      reads = c.in_ok-forward_stripe.ensures.reads ∙ c.stripes.invariant.reads;
+      ends = c.in_ok-forward_stripe.ensures.ends ∙ c.stripes.invariant.ends;
+      writes = c.in_ok-forward_stripe.ensures.writes ∙ c.stripes.invariant.writes;
+      needed_reads = reads_then _ _ (g.R.Source.counts c.forward_stripe.new.random) c.stripes.invariant.reads
+          c.stripes.invariant.ends c.stripes.invariant.needed_reads c.forward_stripe.ensures.needed_reads;
+      needed_writes = writes_then _ _ (g.O.Sink.counts c.forward_stripe.new.out) c.stripes.invariant.writes
+          c.stripes.invariant.needed_writes c.forward_stripe.ensures.needed_writes;
+      len = c.stripe.ensures.len ∙ c.stripes.invariant.len ∙ sym c.forward_stripe.auto.stripe;
+      passed = λ bytes is.
+          let passed = c.stripes.invariant.passed bytes is in
+          let here = next _ passed.1.took.left in
+          rw c.forward_stripe.auto.stripe (
+            c.stripe.ensures.next
+                ∙ chain_more _ _ bytes _ _ c.forward_stripe.new.stripe passed.0 (is_stripe bytes _ _ _ here.0),
+            passed_more bytes _ _ _ _ _ passed.1 _ _ here.1,
+          );
+    }
+
+pub returns-clause-ok : goal.returns-clause-ok
+returns-clause-ok g c bytes is =
+    let all : c.stripes.counter ≡ c.args.count = omega arith in rw all at (c.stripes.invariant.passed bytes is)
+
+pub returns-in_err-forward_stripe-clause-needed_reads : goal.returns-in_err-forward_stripe-clause-needed_reads
+returns-in_err-forward_stripe-clause-needed_reads g c =
+    reads_then _ _ (g.R.Source.counts c.forward_stripe.new.random) c.stripes.invariant.reads c.stripes.invariant.ends
+    c.stripes.invariant.needed_reads c.forward_stripe.ensures.needed_reads
+
+pub returns-in_err-forward_stripe-clause-needed_writes : goal.returns-in_err-forward_stripe-clause-needed_writes
+returns-in_err-forward_stripe-clause-needed_writes g c =
+    writes_then _ _ (g.O.Sink.counts c.forward_stripe.new.out) c.stripes.invariant.writes
+    c.stripes.invariant.needed_writes
+    c.forward_stripe.ensures.needed_writes

@@ -1,0 +1,58 @@
+use Rattle.std.proofs.Common.{◌≡◌, ◌≤◌, ◌+◌, ◌-◌, ◌∙◌, length, length-take-le, arith}
+use Rattle.std.proofs.Math.Nat.{mul-le-mul_right}
+use Rattle.std.proofs.lemmas.Result.{err_from_is_err_and}
+use Rattle.luks_io.proofs.CountsLemmas.{reads_then}
+use Rattle.luks_runs.proofs.MergeLemmas.{key_merged, stops_at, stops_before, stripe_more}
+use Rattle.luks_runs.proofs.stripes.read_merged_key.Goals as goal
+
+pub returns-in_err-splitter-clause-err : goal.returns-in_err-splitter-clause-err
+returns-in_err-splitter-clause-err g c =
+    let p = err_from_is_err_and c.from_residual.result c.from_residual.ensures.1 in
+    let m = c.args.merging.now in
+    let size = m.key_bytes.in_range in
+    let stripe : length c.read_stripes.new.stripe ≡ m.key_bytes.bytes =
+    c.read_stripes.auto.stripe ∙ length-take-le _ _ (omega arith) ∙ c.requires in
+    rw (p.1, p.2) (λ bytes is.
+    stops_before _ _ bytes _ _ (rw (stripe, c.get.ensures) at (c.in_err-splitter.ensures.err bytes is)))
+
+pub returns-in_err-read_stripe-clause-err : goal.returns-in_err-read_stripe-clause-err
+returns-in_err-read_stripe-clause-err g c =
+    let p = err_from_is_err_and c.from_residual-in_err-read_stripe.result
+    c.from_residual-in_err-read_stripe.ensures.1 in
+    let m = c.args.merging.now in
+    let size = m.key_bytes.in_range in
+    let count = m.stripes.in_range in
+    let stripe : length c.read_stripes.new.stripe ≡ m.key_bytes.bytes =
+    c.read_stripes.auto.stripe ∙ length-take-le _ _ (omega arith) ∙ c.requires in
+    let next = rw (c.read_stripe.auto.stripe ∙ stripe) at c.in_err-read_stripe.ensures.err in
+    let below : m.stripes.count - 1 + 1 ≤ m.stripes.count = omega arith in
+    rw (p.1, p.2) (λ bytes is.
+    let taken = rw (stripe, c.get.ensures) at (c.in_ok-splitter.ensures.ok bytes is) in
+    stops_at bytes _ _ _ taken.1 _ _ _ (mul-le-mul_right _ below) next)
+
+pub returns-clause-ok : goal.returns-clause-ok
+returns-clause-ok g c bytes is =
+    let m = c.args.merging.now in
+    let size = m.key_bytes.in_range in
+    let count = m.stripes.in_range in
+    let stripe : length c.read_stripes.new.stripe ≡ m.key_bytes.bytes =
+    c.read_stripes.auto.stripe ∙ length-take-le _ _ (omega arith) ∙ c.requires in
+    let next = rw (c.read_stripe.auto.stripe ∙ stripe) at c.in_ok-read_stripe.ensures.ok in
+    let taken = rw (stripe, c.get.ensures) at (c.in_ok-splitter.ensures.ok bytes is) in
+    let more = stripe_more bytes _ _ _ taken.1 _ c.read_stripe.new.stripe next in
+    let whole : m.stripes.count - 1 + 1 ≡ m.stripes.count = omega arith in
+    let all = rw whole at more.0 in (
+      key_merged m.hash m.stripes.count m.key_bytes.bytes bytes _ c.read_stripe.new.stripe c.last.new.out
+          (omega arith) (omega arith) all.within taken.0 more.1 c.last.ensures,
+      all,
+    )
+
+pub returns-in_err-read_stripe-clause-needed : goal.returns-in_err-read_stripe-clause-needed
+returns-in_err-read_stripe-clause-needed g c =
+    reads_then _ _ (g.S.Source.counts c.read_stripe.new.stripes) c.in_ok-splitter.ensures.reads
+    c.in_ok-splitter.ensures.ends c.read_stripes.ensures.needed c.read_stripe.ensures.needed
+
+pub returns-clause-needed : goal.returns-clause-needed
+returns-clause-needed g c =
+    reads_then _ _ (g.S.Source.counts c.read_stripe.new.stripes) c.in_ok-splitter.ensures.reads
+    c.in_ok-splitter.ensures.ends c.read_stripes.ensures.needed c.read_stripe.ensures.needed

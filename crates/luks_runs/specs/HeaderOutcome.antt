@@ -1,0 +1,65 @@
+-- The outcomes of the commands on headers.
+use Rattle.std.specs.Prelude.{ℕ, List, [], Result, Ok, Err}
+use Rattle.luks_header.specs.Header.{header_read_len, header_of}
+use Rattle.luks_header.specs.declared.header.Header.{Header}
+use Rattle.luks_area.specs.declared.fault.HeaderFault.{HeaderFault}
+use Rattle.luks_area.specs.declared.fault.HeaderFault.TheVariants.{NotLuks}
+use Rattle.luks_report.specs.CheckOutput.{check_of, message_for_check}
+use Rattle.luks_report.specs.Dump.{dump_of, uuid_of}
+use Rattle.luks_report.specs.Faults.{message_for_header}
+use Rattle.luks_report.specs.declared.message.Message.{Message}
+use Rattle.luks_report.specs.declared.message.Message.TheVariants.{Done, No}
+use Rattle.luks_runs.specs.Ending.{Outcome, no_output}
+use Rattle.luks_runs.specs.HeaderReading.{HeaderReader}
+use Rattle.luks_runs.specs.declared.headers.Printout.{Printout}
+use Rattle.luks_runs.specs.declared.headers.Printout.TheVariants.{Uuid, Dump, Check}
+
+-- the message of `isLuks`
+abbrev pub answer_to_is_luks : Result Header HeaderFault → Message
+answer_to_is_luks (Ok _) = Done
+answer_to_is_luks (Err NotLuks) = No
+answer_to_is_luks (Err fault) = message_for_header fault
+
+-- the text of a printout
+abbrev pub printout_text : Printout → Header → List ℕ
+printout_text Uuid = uuid_of
+printout_text Dump = dump_of
+printout_text Check = check_of
+
+-- the message is only that it was printed
+abbrev pub always_done : Header → Message
+always_done header = Done
+
+-- the message once a text is printed
+abbrev pub printout_message : Printout → Header → Message
+printout_message Uuid = always_done
+printout_message Dump = always_done
+printout_message Check = message_for_check
+
+-- what is printed of the header, if there is one
+abbrev pub printed : (Header → List ℕ) → Result Header HeaderFault → List ℕ
+printed text (Ok header) = text header
+printed text (Err _) = []
+
+-- the message of a command that prints a text of the header, which has this message for it
+abbrev pub message_printing : (Header → Message) → Result Header HeaderFault → Message
+message_printing told (Ok header) = told header
+message_printing told (Err fault) = message_for_header fault
+
+-- `isLuks`: nothing is written
+unfoldable pub is_luks_outcome : List ℕ → Outcome
+is_luks_outcome image = no_output (answer_to_is_luks (header_of image)) (header_read_len image) 0
+
+-- a command that prints a text of a header that is read so
+unfoldable pub print_outcome_by : HeaderReader → (Header → List ℕ) → (Header → Message) → List ℕ → Outcome
+print_outcome_by read text told image = record {
+  output = printed text (read image);
+  message = message_printing told (read image);
+  image_consumed = header_read_len image;
+  secret_consumed = 0;
+  payload_consumed = 0;
+}
+
+-- a command that prints a text of the header
+abbrev pub print_outcome : (Header → List ℕ) → (Header → Message) → List ℕ → Outcome
+print_outcome = print_outcome_by header_of

@@ -1,0 +1,20 @@
+-- How a header is read, by its location, and the source that it was read from.
+use Rattle.std.specs.Prelude.{◌≡◌, ℕ, true, List, [], Option, Some}
+use Rattle.luks_io.specs.Devices.{IfKnown, counted}
+use Rattle.luks_io.specs.declared.counts.ReadCounts.{ReadCounts}
+use Rattle.luks_area.specs.Area.{HeaderAreaModel}
+use Rattle.luks_header.specs.Header.{header_of}
+use Rattle.luks_runs.specs.HeaderReading.{HeaderReader, detached_header_of}
+use Rattle.luks_runs.specs.declared.location.HeaderLocation.{HeaderLocation}
+use Rattle.luks_runs.specs.declared.location.HeaderLocation.TheVariants.{Attached, Detached}
+
+abbrev pub reader_for : HeaderLocation → HeaderReader
+reader_for Attached = header_of
+reader_for Detached = detached_header_of
+
+-- the start of an image was loaded from this source, which hit the image's end exactly if the area says so. Then no
+-- bytes remain
+pub record LoadedFrom (area : HeaderAreaModel) (left left' : Option (List ℕ)) (counts counts' : ReadCounts) : Type 0
+  where
+    pub ends : counts'.ends ≡ counted area.ended counts.ends
+    pub emptied : area.ended ≡ true → IfKnown left (λ _. left' ≡ Some [])

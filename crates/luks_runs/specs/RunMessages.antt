@@ -1,0 +1,67 @@
+-- With which messages the parts of runs may end, whatever their devices do.
+use Rattle.luks_runs.specs.declared.headers.Printout.{Printout}
+use Rattle.luks_runs.specs.declared.headers.Printout.TheVariants.{Uuid, Dump, Check}
+use Rattle.luks_report.specs.declared.message.Message.{Message}
+use Rattle.luks_report.specs.declared.message.Message.TheVariants.{Done, No, Findings, NotLuks, Cut, Json, OutOfMemory}
+use Rattle.luks_report.specs.declared.message.Message.TheVariants.{ReadFailed, WriteFailed}
+use Rattle.luks_report.specs.declared.message.Message.TheVariants.{CutBeforePayload, Tail, Short}
+use Rattle.luks_report.specs.declared.message.Message.TheVariants.{KeyLength, FewRandomBytes, FewStripes}
+
+-- which messages `isLuks` may end with
+abbrev pub IsLuksMessage : Message → Type 0
+IsLuksMessage Done = Unit {0}
+IsLuksMessage No = Unit {0}
+IsLuksMessage Cut = Unit {0}
+IsLuksMessage Json = Unit {0}
+IsLuksMessage OutOfMemory = Unit {0}
+IsLuksMessage ReadFailed = Unit {0}
+IsLuksMessage _ = ⊥
+
+-- a command that prints a text of the header
+abbrev pub PrintMessage : Message → Type 0
+PrintMessage Done = Unit {0}
+PrintMessage NotLuks = Unit {0}
+PrintMessage Cut = Unit {0}
+PrintMessage Json = Unit {0}
+PrintMessage OutOfMemory = Unit {0}
+PrintMessage ReadFailed = Unit {0}
+PrintMessage WriteFailed = Unit {0}
+PrintMessage _ = ⊥
+
+-- a check, which may have findings
+abbrev pub CheckMessage : Message → Type 0
+CheckMessage Findings = Unit {0}
+CheckMessage message = PrintMessage message
+
+-- printing a text
+abbrev pub PrintoutMessage : Printout → Message → Type 0
+PrintoutMessage Uuid = PrintMessage
+PrintoutMessage Dump = PrintMessage
+PrintoutMessage Check = CheckMessage
+
+-- forwarding a payload
+abbrev pub PayloadMessage : Message → Type 0
+PayloadMessage Done = Unit {0}
+PayloadMessage CutBeforePayload = Unit {0}
+PayloadMessage (Tail _) = Unit {0}
+PayloadMessage (Short _) = Unit {0}
+PayloadMessage ReadFailed = Unit {0}
+PayloadMessage WriteFailed = Unit {0}
+PayloadMessage _ = ⊥
+
+-- `afSplit`
+abbrev pub SplitMessage : Message → Type 0
+SplitMessage Done = Unit {0}
+SplitMessage KeyLength = Unit {0}
+SplitMessage FewRandomBytes = Unit {0}
+SplitMessage ReadFailed = Unit {0}
+SplitMessage WriteFailed = Unit {0}
+SplitMessage _ = ⊥
+
+-- `afMerge`
+abbrev pub MergeMessage : Message → Type 0
+MergeMessage Done = Unit {0}
+MergeMessage FewStripes = Unit {0}
+MergeMessage ReadFailed = Unit {0}
+MergeMessage WriteFailed = Unit {0}
+MergeMessage _ = ⊥

@@ -1,0 +1,82 @@
+//! The key file, whose bytes are the passphrase.
+
+ghost use Rattle.std.specs.Prelude.{◌≡◌, ◌+◌, ◌<◌, ◌≤◌, ◌⊎◌, ◌++◌, List, ℕ, IfOk, IfErr, length};
+ghost use Rattle.std.specs.Prelude.{min, nat_lt, take, vec_len};
+ghost use Rattle.luks_io.specs.Devices.{ConsumedExactly, ConsumedAtMost, IfKnown, counted};
+ghost use Rattle.luks_io.specs.Counts.{ReadsAsNeeded};
+ghost use Rattle.luks_runs.specs.Run.{is_run_read_failure, result_message};
+ghost use Rattle.luks_runs.specs.KeyFile.{HitsKeyFileEof, NoKeyFileRead, max_key_file_len};
+
+use luks_io::source::{Source, fill};
+use luks_report::message::Message;
+use std::alloc::Global;
+
+/// The length of the longest key file.
+const MAX_KEY_FILE_LEN: usize = 8_388_608;
+
+/// How many bytes are read at once.
+const PIECE: usize = 4096;
+
+/// Reads the key file, which is all that the source gives, including a newline at its end. If it is
+/// too long, one byte more is consumed than the longest one has.
+///
+/// # Errors
+///
+/// `Message::KeyFileLength` for more than 8,388,608 bytes, `Message::OutOfMemory`,
+/// `Message::ReadFailed`.
+pub fn read_key_file<S: Source>(alloc: Global, source: &mut S) -> Result<Vec<u8>, Message>
+    ensures few { IfOk result (λ secret. vec_len secret ≤ max_key_file_len) }
+    ensures ok { IfOk result (λ secret. IfKnown (S.to_come source.old)
+        (λ known. (secret.items ≡ known) × ConsumedExactly known (S.to_come source.new)
+        (length known))) }
+    ensures err { IfErr result (λ message. IfKnown (S.to_come source.old)
+        (λ known. NoKeyFileRead known (S.to_come source.new) message)) }
+    ensures only { IfErr result (λ message. (message ≡ Message.KeyFileLength)
+        ⊎ ((message ≡ Message.OutOfMemory) ⊎ (message ≡ Message.ReadFailed))) }
+    ensures reads { (S.counts source.new).failures
+        ≡ counted (is_run_read_failure (result_message result)) (S.counts source.old).failures }
+    ensures ends { HitsKeyFileEof (result_message result) (S.counts source.old).ends
+        (S.counts source.new).ends }
+    ensures needed { ReadsAsNeeded (S.counts source.old) (S.counts source.new) }
+{
+    let mut buffer = [0; PIECE];
+    let mut secret = Vec::new(alloc);
+    'pieces: while secret.len() <= MAX_KEY_FILE_LEN {
+        let size = PIECE.min(MAX_KEY_FILE_LEN + 1 - secret.len());
+        if read_piece(&mut buffer[..size], &mut secret, source)? < size {
+            return Ok(secret);
+        }
+    }
+    Err(Message::KeyFileLength)
+}
+
+/// Puts the next piece of the key file behind the bytes so far. Answers its length, which is less
+/// than that of the buffer only at the end.
+fn read_piece<S: Source>(
+    piece: &mut [u8],
+    secret: &mut Vec<u8>,
+    source: &mut S,
+) -> Result<usize, Message>
+    requires { vec_len secret.old + length piece.old ≤ max_key_file_len + 1 }
+    ensures size { IfOk result (λ got. got ≤ length piece.old) }
+    ensures len { IfOk result (λ got. vec_len secret.new ≡ vec_len secret.old + got) }
+    ensures ok { IfOk result (λ got. IfKnown (S.to_come source.old)
+        (λ known. (got ≡ min (length piece.old) (length known))
+        × ConsumedExactly known (S.to_come source.new) got
+        × (secret.new.items ≡ secret.old.items ++ take got known))) }
+    ensures err { IfErr result (λ message. IfKnown (S.to_come source.old)
+        (λ known. ConsumedAtMost known (S.to_come source.new) (length piece.old))) }
+    ensures only { IfErr result
+        (λ message. (message ≡ Message.OutOfMemory) ⊎ (message ≡ Message.ReadFailed)) }
+    ensures reads { (S.counts source.new).failures
+        ≡ counted (is_run_read_failure (result_message result)) (S.counts source.old).failures }
+    ensures ends { IfOk result (λ got. (S.counts source.new).ends
+        ≡ counted (nat_lt got (length piece.old)) (S.counts source.old).ends) }
+    ensures ends_lost { IfErr result
+        (λ message. HitsKeyFileEof message (S.counts source.old).ends (S.counts source.new).ends) }
+    ensures needed { ReadsAsNeeded (S.counts source.old) (S.counts source.new) }
+{
+    let got = fill(source, piece)?;
+    secret.extend_from_slice(&piece[..got])?;
+    Ok(got)
+}

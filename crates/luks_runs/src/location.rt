@@ -1,0 +1,54 @@
+//! Where a header is, and reading it there.
+
+ghost use Rattle.std.specs.Prelude.{◌≡◌, Ok, IfOk, IfErr, length, take};
+ghost use Rattle.luks_io.specs.Counts.{ReadsAsNeeded};
+ghost use Rattle.luks_io.specs.Devices.{ConsumedExactly, IfKnown, counted};
+ghost use Rattle.luks_area.specs.Area.{is_read};
+ghost use Rattle.luks_header.specs.Header.{AbortsReading, header_read_len};
+ghost use Rattle.luks_runs.specs.Run.{HitsEofOnce};
+ghost use Rattle.luks_runs.specs.Location.{LoadedFrom, reader_for};
+
+use luks_header::area::HeaderArea;
+use luks_header::fault::HeaderFault;
+use luks_header::header::{Header, read_header};
+use luks_io::source::Source;
+use std::alloc::Global;
+
+/// Where a header is.
+#[derive(Clone, Copy)]
+pub enum HeaderLocation {
+    /// At the front of the payload's image.
+    Attached,
+    /// In a file of its own.
+    Detached,
+}
+
+/// Reads the header at the front of an image, or of a file of its own, with the bytes that were
+/// read.
+pub fn read_header_at<S: Source>(
+    alloc: Global,
+    location: HeaderLocation,
+    source: &mut S,
+) -> Result<(Header, HeaderArea), HeaderFault>
+    ensures taken { IfOk result (λ read. IfKnown (S.to_come source.old) (λ known.
+        (reader_for location known ≡ Ok read.0)
+        × (read.1.bytes ≡ take (header_read_len known) known)
+        × ConsumedExactly known (S.to_come source.new) (header_read_len known))) }
+    ensures broken { IfErr result (λ fault. IfKnown (S.to_come source.old) (λ known.
+        AbortsReading known (S.to_come source.new) (S.counts source.old).ends
+        (S.counts source.new).ends fault)) }
+    ensures held { IfOk result (λ read. reader_for location read.1.bytes ≡ Ok read.0) }
+    ensures only { IfOk result (λ read. length read.1.bytes ≡ header_read_len read.1.bytes) }
+    ensures reads { (S.counts source.new).failures
+        ≡ counted (is_read result) (S.counts source.old).failures }
+    ensures ends { HitsEofOnce (S.counts source.old).ends (S.counts source.new).ends }
+    ensures needed { ReadsAsNeeded (S.counts source.old) (S.counts source.new) }
+    ensures loaded { IfOk result (λ read. LoadedFrom read.1 (S.to_come source.old)
+        (S.to_come source.new) (S.counts source.old) (S.counts source.new)) }
+{
+    let (header, area) = read_header(alloc, source)?;
+    match location {
+        HeaderLocation::Attached => Ok((header, area)),
+        HeaderLocation::Detached => Ok((header.detach(), area)),
+    }
+}

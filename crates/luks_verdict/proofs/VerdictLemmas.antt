@@ -1,0 +1,40 @@
+-- What becomes of a key slot, with and without what it takes to open it.
+use Rattle.std.proofs.Common.{◌≡◌, ℕ, Option, Some, None, refl}
+use Rattle.std.specs.Prelude.{option_map}
+use Rattle.luks_verdict.specs.Slot.{verdict_kind_of}
+use Rattle.luks_verdict.specs.declared.slot.Slot.{Slot}
+use Rattle.luks_verdict.specs.declared.slot.Verdict.{Verdict}
+use Rattle.luks_verdict.specs.declared.slot.Verdict.TheVariants.{Usable, Disabled, Skipped}
+use Rattle.luks_verdict.specs.declared.slot.VerdictKind.TheVariants.{Usable as Open, Disabled as Unused}
+use Rattle.luks_verdict.specs.declared.slot.VerdictKind.TheVariants.{Skipped as Shut}
+use Rattle.luks_verdict.specs.declared.refusal.SkipReason.{SkipReason}
+
+-- of a slot that is judged one that can be tried, there is what it takes to open it
+pub usable_from_open : (verdict : Option Verdict) (priority : ℕ)
+    → option_map verdict_kind_of verdict ≡ Some (Open priority)
+    → (slot : Slot) × (verdict ≡ Some (Usable slot)) × (slot.parts.priority ≡ priority)
+usable_from_open (Some (Usable slot)) priority is = (slot, refl, cc)
+usable_from_open (Some Disabled) priority is = absurd cc
+usable_from_open (Some (Skipped reason)) priority is = absurd cc
+usable_from_open None priority is = absurd cc
+
+-- of one that is not in use
+pub unused_from_unused : (verdict : Option Verdict) → option_map verdict_kind_of verdict ≡ Some Unused
+    → verdict ≡ Some Disabled
+unused_from_unused (Some (Usable slot)) is = absurd cc
+unused_from_unused (Some Disabled) is = refl
+unused_from_unused (Some (Skipped reason)) is = absurd cc
+unused_from_unused None is = absurd cc
+
+-- of one that is skipped
+pub skipped_from_shut : (verdict : Option Verdict) (reason : SkipReason)
+    → option_map verdict_kind_of verdict ≡ Some (Shut reason) → verdict ≡ Some (Skipped reason)
+skipped_from_shut (Some (Usable slot)) reason is = absurd cc
+skipped_from_shut (Some Disabled) reason is = absurd cc
+skipped_from_shut (Some (Skipped other)) reason is = cc
+skipped_from_shut None reason is = absurd cc
+
+-- and of one that is not there
+pub none_from_none : (verdict : Option Verdict) → option_map verdict_kind_of verdict ≡ None → verdict ≡ None
+none_from_none (Some verdict) is = absurd cc
+none_from_none None is = refl
