@@ -3,8 +3,8 @@
 ghost use Rattle.std.specs.Prelude.{◌≡◌, ◌-◌, ◌<◌, ◌≤◌, ◌↔◌, ◌++◌, ◌⊎◌, if◌then◌else◌, true, false};
 ghost use Rattle.std.specs.Prelude.{[], IsTrue, IfOk, IfErr, OnOk, OnErr, Ok, Err, length, max, min};
 ghost use Rattle.std.specs.Prelude.{replicate, take, vec_capacity, vec_len};
-ghost use Rattle.luks_io.specs.Devices.{IfKnown, counted};
-ghost use Rattle.luks_io.specs.Counts.{ReadsAsNeeded};
+ghost use Rattle.luks_io.specs.Devices.{IfKnown};
+ghost use Rattle.luks_io.specs.Counts.{Reads};
 ghost use Rattle.luks_area.specs.Area.{AbortsConsuming, ConsumedOnto, is_read, is_truncated, max_area_len};
 
 use crate::fault::HeaderFault;
@@ -88,11 +88,8 @@ impl HeaderArea {
             → (self.new ≡ self.old) × (source.new ≡ source.old) }
         ensures refusals { IfErr result (λ fault.
             (fault ≡ HeaderFault.Read) ⊎ (fault ≡ HeaderFault.Memory)) }
-        ensures reads { (S.counts source.new).failures
-            ≡ counted (is_read result) (S.counts source.old).failures }
-        ensures ends { (S.counts source.new).ends
-            ≡ counted (is_truncated result) (S.counts source.old).ends }
-        ensures needed { ReadsAsNeeded (S.counts source.old) (S.counts source.new) }
+        ensures reads { Reads (is_read result) (is_truncated result)
+            (S.counts source.old) (S.counts source.new) }
         ensures ended { self.new.ended ≡ (if is_truncated result then true else self.old.ended) }
     {
         if end <= self.bytes.len() || extend(&mut self.bytes, source, end)? {
@@ -140,11 +137,8 @@ fn extend<S: Source>(bytes: &mut Vec<u8>, source: &mut S, end: usize) -> Result<
         → (bytes.new.items ≡ bytes.old.items) × (source.new ≡ source.old) }
     ensures refusals { IfErr result (λ fault.
         (fault ≡ HeaderFault.Read) ⊎ (fault ≡ HeaderFault.Memory)) }
-    ensures reads { (S.counts source.new).failures
-        ≡ counted (is_read result) (S.counts source.old).failures }
-    ensures ends { (S.counts source.new).ends
-        ≡ counted (is_truncated result) (S.counts source.old).ends }
-    ensures needed { ReadsAsNeeded (S.counts source.old) (S.counts source.new) }
+    ensures reads { Reads (is_read result) (is_truncated result)
+        (S.counts source.old) (S.counts source.new) }
 {
     let held = bytes.len();
     make_room(bytes, end)?;

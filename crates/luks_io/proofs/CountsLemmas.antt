@@ -1,6 +1,7 @@
 -- What parts of a run add to the counts of a device, one after the other.
-use Rattle.std.proofs.Common.{◌≡◌, ◌∙◌}
-use Rattle.luks_io.specs.Counts.{IsLive, ReadsAsNeeded, WritesAsNeeded}
+use Rattle.luks_io.specs.Devices.{counted}
+use Rattle.std.proofs.Common.{◌≡◌, ◌∙◌, Bool, ap, false, refl}
+use Rattle.luks_io.specs.Counts.{IsLive, Reads, ReadsAsNeeded, Writes, WritesAsNeeded}
 use Rattle.luks_io.specs.declared.counts.ReadCounts.{ReadCounts}
 use Rattle.luks_io.specs.declared.counts.WriteCounts.{WriteCounts}
 
@@ -17,3 +18,27 @@ reads_then a b c failures ends first then live = then (stays_live a b failures e
 pub writes_then : (a b c : WriteCounts) → b.failures ≡ a.failures → WritesAsNeeded a b → WritesAsNeeded b c
     → WritesAsNeeded a c
 writes_then a b c failures first then live = then (failures ∙ live) ∙ first live
+
+-- without a read, nothing is counted
+pub no_reads : (a : ReadCounts) → Reads false false a a
+no_reads a = record { failures = refl; ends = refl; needed = λ live. refl }
+
+-- reads of which none failed or hit the end, and then further ones
+pub reads_more : (failed ended : Bool) (a b c : ReadCounts) → Reads false false a b → Reads failed ended b c
+    → Reads failed ended a c
+reads_more failed ended a b c first then = record {
+  failures = then.failures ∙ ap (counted failed) first.failures;
+  ends = then.ends ∙ ap (counted ended) first.ends;
+  needed = reads_then a b c first.failures first.ends first.needed then.needed;
+}
+
+-- without a write, nothing is counted
+pub no_writes : (a : WriteCounts) → Writes false a a
+no_writes a = record { failures = refl; needed = λ live. refl }
+
+-- writes of which none failed, and then further ones
+pub writes_more : (failed : Bool) (a b c : WriteCounts) → Writes false a b → Writes failed b c → Writes failed a c
+writes_more failed a b c first then = record {
+  failures = then.failures ∙ ap (counted failed) first.failures;
+  needed = writes_then a b c first.failures first.needed then.needed;
+}

@@ -39,3 +39,15 @@ after_write answer len counts = record {
 -- a sink of which no write failed before was written to only as needed
 abbrev pub WritesAsNeeded : WriteCounts → WriteCounts → Type 0
 WritesAsNeeded before after = before.failures ≡ 0 → after.needless ≡ before.needless
+
+-- what the reads of a part of a run add to the counts of a source: a failure if one failed, an end if one hit the end,
+-- and nothing needless
+pub record Reads (failed ended : Bool) (before after : ReadCounts) : Type 0 where
+  pub failures : after.failures ≡ counted failed before.failures
+  pub ends : after.ends ≡ counted ended before.ends
+  pub needed : ReadsAsNeeded before after
+
+-- what the writes of a part of a run add to the counts of a sink: a failure if one failed, and nothing needless
+pub record Writes (failed : Bool) (before after : WriteCounts) : Type 0 where
+  pub failures : after.failures ≡ counted failed before.failures
+  pub needed : WritesAsNeeded before after

@@ -6,8 +6,8 @@ ghost use Rattle.std.specs.Prelude.{IsErr, MatchResult, is_err, is_some, length,
 ghost use Rattle.std.specs.Io.{ReadsAtMost};
 ghost use Rattle.std.specs.Io.KnownBytes.{Consumes, IsAtEnd, Keeps, ReadConsumes, prepend_known};
 ghost use Rattle.luks_io.specs.Ahead.{max_read};
-ghost use Rattle.luks_io.specs.Devices.{ConsumedAtMost, IfKnown, counted, is_end};
-ghost use Rattle.luks_io.specs.Counts.{ReadsAsNeeded, WritesAsNeeded, after_read};
+ghost use Rattle.luks_io.specs.Devices.{ConsumedAtMost, IfKnown, is_end};
+ghost use Rattle.luks_io.specs.Counts.{Reads, Writes, after_read};
 ghost use Rattle.luks_io.specs.Forwarding.{ForwardEffect, held_after, is_aborted};
 
 use crate::DeviceFault;
@@ -198,11 +198,8 @@ impl<S: Source> Source for AheadSource<S> {
         ensures bytes { ReadConsumes (prepend_known self.old.held (S.to_come self.old.source))
             (prepend_known self.new.held (S.to_come self.new.source)) result buf.new }
         ensures counts { self.new.counts ≡ after_read result (length buf.new) self.old.counts }
-        ensures failures { (S.counts self.new.source).failures
-            ≡ counted (is_err result) (S.counts self.old.source).failures }
-        ensures ends { (S.counts self.new.source).ends
-            ≡ counted (is_end result (length buf.new)) (S.counts self.old.source).ends }
-        ensures needed { ReadsAsNeeded (S.counts self.old.source) (S.counts self.new.source) }
+        ensures reads { Reads (is_err result) (is_end result (length buf.new))
+            (S.counts self.old.source) (S.counts self.new.source) }
         ensures alone { (self.old.held ≢ []) ⊎ (length buf.old ≡ 0)
             → self.new.source ≡ self.old.source }
         ensures within { IfKnown (S.to_come self.old.source)
@@ -253,9 +250,7 @@ impl<S: Source> Source for AheadSource<S> {
             (prepend_known self.new.held (S.to_come self.new.source))
             (O.written sink.old) (O.written sink.new) }
         ensures counts { self.new.counts ≡ self.old.counts }
-        ensures writes { (O.counts sink.new).failures
-            ≡ counted (is_aborted result) (O.counts sink.old).failures }
-        ensures needed { WritesAsNeeded (O.counts sink.old) (O.counts sink.new) }
+        ensures writes { Writes (is_aborted result) (O.counts sink.old) (O.counts sink.new) }
         ensures enough { is_some result ≡ nat_le count (length self.old.held) }
         ensures held { self.new.held ≡ held_after result count self.old.held }
         ensures source { self.new.source ≡ self.old.source }

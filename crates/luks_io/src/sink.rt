@@ -3,8 +3,8 @@
 ghost use Rattle.std.specs.Prelude.{◌≡◌, ◌<◌, ◌≤◌, ℕ, List, Option, length, take, is_err, OnOk};
 ghost use Rattle.std.specs.Prelude.{IfErr};
 ghost use Rattle.std.specs.Io.KnownBytes.{WriteAppends};
-ghost use Rattle.luks_io.specs.Devices.{Appended, AcceptsSome, counted};
-ghost use Rattle.luks_io.specs.Counts.{WritesAsNeeded, after_write};
+ghost use Rattle.luks_io.specs.Devices.{Appended, AcceptsSome};
+ghost use Rattle.luks_io.specs.Counts.{Writes, after_write};
 ghost use Rattle.luks_io.specs.declared.counts.WriteCounts.{WriteCounts};
 
 use crate::DeviceFault;
@@ -40,9 +40,7 @@ pub fn put_all<S: Sink>(sink: &mut S, bytes: &[u8]) -> Result<(), WriteFault>
     ensures ok { OnOk result (Appended (S.written sink.old) (S.written sink.new) bytes.now) }
     ensures err { IfErr result (λ fault. (fault.written < length bytes.now)
         × Appended (S.written sink.old) (S.written sink.new) (take fault.written bytes.now)) }
-    ensures counts { (S.counts sink.new).failures
-        ≡ counted (is_err result) (S.counts sink.old).failures }
-    ensures needed { WritesAsNeeded (S.counts sink.old) (S.counts sink.new) }
+    ensures writes { Writes (is_err result) (S.counts sink.old) (S.counts sink.new) }
 {
     let mut at = 0;
     while at < bytes.len() {

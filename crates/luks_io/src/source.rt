@@ -4,8 +4,8 @@ ghost use Rattle.std.specs.Prelude.{◌≡◌, ◌<◌, ◌≤◌, ℕ, List, Op
 ghost use Rattle.std.specs.Prelude.{is_err, IfOk, MatchResult};
 ghost use Rattle.std.specs.Io.{ReadsAtMost};
 ghost use Rattle.std.specs.Io.KnownBytes.{ReadConsumes};
-ghost use Rattle.luks_io.specs.Devices.{ConsumedInto, IfKnown, counted, is_short_read};
-ghost use Rattle.luks_io.specs.Counts.{ReadsAsNeeded, WritesAsNeeded, after_read};
+ghost use Rattle.luks_io.specs.Devices.{ConsumedInto, IfKnown, is_short_read};
+ghost use Rattle.luks_io.specs.Counts.{Reads, Writes, after_read};
 ghost use Rattle.luks_io.specs.declared.counts.ReadCounts.{ReadCounts};
 ghost use Rattle.luks_io.specs.Forwarding.{ForwardEffect, is_aborted};
 ghost use Rattle.luks_io.specs.Reads.{got_in};
@@ -53,9 +53,7 @@ pub trait Source {
             (C.transformed transform.now) (to_come self.old) (to_come self.new)
             (O.written sink.old) (O.written sink.new) }
         ensures counts { counts self.new ≡ counts self.old }
-        ensures writes { (O.counts sink.new).failures
-            ≡ counted (is_aborted result) (O.counts sink.old).failures }
-        ensures needed { WritesAsNeeded (O.counts sink.old) (O.counts sink.new) }
+        ensures writes { Writes (is_aborted result) (O.counts sink.old) (O.counts sink.new) }
     {
         None
     }
@@ -81,11 +79,8 @@ pub fn fill<S: Source>(source: &mut S, buf: &mut [u8]) -> Result<usize, ReadFaul
         (λ known. ConsumedInto known (S.to_come source.new) buf.new (got_in result)) }
     ensures end { IfOk result (λ count. IfKnown (S.to_come source.old)
         (λ known. count ≡ min (length buf.new) (length known))) }
-    ensures counts { (S.counts source.new).failures
-        ≡ counted (is_err result) (S.counts source.old).failures }
-    ensures ends { (S.counts source.new).ends
-        ≡ counted (is_short_read result (length buf.new)) (S.counts source.old).ends }
-    ensures needed { ReadsAsNeeded (S.counts source.old) (S.counts source.new) }
+    ensures reads { Reads (is_err result) (is_short_read result (length buf.new))
+        (S.counts source.old) (S.counts source.new) }
 {
     let mut at = 0;
     while at < buf.len() {

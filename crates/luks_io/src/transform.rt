@@ -1,8 +1,8 @@
 //! What bytes become on their way from a source to a sink.
 
 ghost use Rattle.std.specs.Prelude.{◌≡◌, ◌<◌, ◌≤◌, ◌+◌, ℕ, List, length, take, drop, is_err, OnOk, IfErr};
-ghost use Rattle.luks_io.specs.Devices.{Appended, counted};
-ghost use Rattle.luks_io.specs.Counts.{WritesAsNeeded};
+ghost use Rattle.luks_io.specs.Devices.{Appended};
+ghost use Rattle.luks_io.specs.Counts.{Writes};
 
 use crate::sink::{Sink, WriteFault, put_all};
 
@@ -37,9 +37,7 @@ pub(crate) fn put_transformed<C: Transform, O: Sink>(
     ensures err { IfErr result (λ fault. (fault.written < count)
         × Appended (O.written sink.old) (O.written sink.new)
         (take fault.written (C.transformed transform.now (take count (drop start buffer.old))))) }
-    ensures counts { (O.counts sink.new).failures
-        ≡ counted (is_err result) (O.counts sink.old).failures }
-    ensures needed { WritesAsNeeded (O.counts sink.old) (O.counts sink.new) }
+    ensures writes { Writes (is_err result) (O.counts sink.old) (O.counts sink.new) }
 {
     let piece = &mut buffer[start..start + count];
     transform.apply(piece);

@@ -45,9 +45,6 @@ returns-in-Err-clause-broken g c =
 pub returns-in-Ok-clause-whole : goal.returns-in-Ok-clause-whole
 returns-in-Ok-clause-whole g c = grind (arith, common_steps)
 
-pub returns-in-Ok-clause-ends : goal.returns-in-Ok-clause-ends
-returns-in-Ok-clause-ends g c = grind (arith, common_steps)
-
 pub returns-in-Ok-clause-within : goal.returns-in-Ok-clause-within
 returns-in-Ok-clause-within g c = grind (arith, common_steps)
 
@@ -56,9 +53,6 @@ returns-in-Ok-clause-held g c = grind (arith, common_steps)
 
 pub returns-in-Err-clause-memory : goal.returns-in-Err-clause-memory
 returns-in-Err-clause-memory g c = search rules
-
-pub returns-in-Err-clause-reads : goal.returns-in-Err-clause-reads
-returns-in-Err-clause-reads g c = search rules
 
 pub returns-in-Err-clause-held : goal.returns-in-Err-clause-held
 returns-in-Err-clause-held g c = grind (arith, common_steps)
@@ -69,17 +63,8 @@ returns-in-Err-clause-within g c = grind (arith, common_steps)
 pub returns-in-Err-clause-refusals : goal.returns-in-Err-clause-refusals
 returns-in-Err-clause-refusals g c = search rules
 
-pub returns-in-Err-clause-ends : goal.returns-in-Err-clause-ends
-returns-in-Err-clause-ends g c = search rules
-
 pub returns-in_err-make_room-clause-memory : goal.returns-in_err-make_room-clause-memory
 returns-in_err-make_room-clause-memory g c = search rules
-
-pub returns-in_err-make_room-clause-reads : goal.returns-in_err-make_room-clause-reads
-returns-in_err-make_room-clause-reads g c = search rules
-
-pub returns-in_err-make_room-clause-ends : goal.returns-in_err-make_room-clause-ends
-returns-in_err-make_room-clause-ends g c = search rules
 
 pub returns-in_err-make_room-clause-refusals : goal.returns-in_err-make_room-clause-refusals
 returns-in_err-make_room-clause-refusals g c = search rules

@@ -12,8 +12,7 @@ loop-at-preserved g c = record {
   );
   written = Appends-next _ _ _ c.args.bytes.now c.loop-at.at c.in-Ok.n c.loop-at.invariant.written
       c.in-Ok.ensures.bytes;
-  failures = search rules;
-  needed = search rules;
+  writes = search rules;
 }
 
 pub returns-in-Err-clause-ok : goal.returns-in-Err-clause-ok
@@ -22,15 +21,9 @@ returns-in-Err-clause-ok g c = search rules
 pub returns-in-Err-clause-err : goal.returns-in-Err-clause-err
 returns-in-Err-clause-err g c = search rules
 
-pub returns-in-Err-clause-counts : goal.returns-in-Err-clause-counts
-returns-in-Err-clause-counts g c = search rules
-
 pub returns-clause-ok : goal.returns-clause-ok
 returns-clause-ok g c =
     adds-all _ _ c.args.bytes.now c.loop-at.at c.loop-at-test.false c.loop-at.invariant.written
 
 pub returns-clause-err : goal.returns-clause-err
 returns-clause-err g c = search rules
-
-pub returns-clause-counts : goal.returns-clause-counts
-returns-clause-counts g c = search rules

@@ -8,9 +8,7 @@ loop-at-preserved g c = record {
   within = search rules;
   taken = Consumes-next _ _ _ c.loop-at.buf c.read.new.buf c.loop-at.at c.in-Ok.n c.loop-at.invariant.within
       c.in-Ok.ensures.bound.0 c.loop-at.invariant.taken c.in-Ok.ensures.bytes.0;
-  failures = search rules;
-  ends = search rules;
-  needed = search rules;
+  reads = search rules;
 }
 
 pub returns-in-Ok-eq0-clause-bound : goal.returns-in-Ok-eq0-clause-bound
@@ -24,12 +22,6 @@ returns-in-Ok-eq0-clause-bytes g c =
 pub returns-in-Ok-eq0-clause-end : goal.returns-in-Ok-eq0-clause-end
 returns-in-Ok-eq0-clause-end g c = search rules
 
-pub returns-in-Ok-eq0-clause-counts : goal.returns-in-Ok-eq0-clause-counts
-returns-in-Ok-eq0-clause-counts g c = search rules
-
-pub returns-in-Ok-eq0-clause-ends : goal.returns-in-Ok-eq0-clause-ends
-returns-in-Ok-eq0-clause-ends g c = search rules
-
 pub returns-in-Err-clause-bound : goal.returns-in-Err-clause-bound
 returns-in-Err-clause-bound g c = search rules
 
@@ -41,12 +33,6 @@ returns-in-Err-clause-bytes g c =
 pub returns-in-Err-clause-end : goal.returns-in-Err-clause-end
 returns-in-Err-clause-end g c = search rules
 
-pub returns-in-Err-clause-counts : goal.returns-in-Err-clause-counts
-returns-in-Err-clause-counts g c = search rules
-
-pub returns-in-Err-clause-ends : goal.returns-in-Err-clause-ends
-returns-in-Err-clause-ends g c = search rules
-
 pub returns-clause-bound : goal.returns-clause-bound
 returns-clause-bound g c = search rules
 
@@ -57,9 +43,3 @@ returns-clause-bytes g c =
 pub returns-clause-end : goal.returns-clause-end
 returns-clause-end g c =
     took-whole _ _ c.loop-at.buf c.loop-at.at c.loop-at.invariant.within c.loop-at-test.false c.loop-at.invariant.taken
-
-pub returns-clause-counts : goal.returns-clause-counts
-returns-clause-counts g c = search rules
-
-pub returns-clause-ends : goal.returns-clause-ends
-returns-clause-ends g c = search rules

@@ -1,6 +1,6 @@
-use Rattle.std.proofs.Common.{length, take, ◌-◌, ◌≡◌, ◌≤◌}
+use Rattle.std.proofs.Common.{length, take, ◌-◌, ◌≤◌, false}
 use Rattle.std.specs.Io.KnownBytes.{Consumes}
-use Rattle.luks_io.specs.Counts.{ReadsAsNeeded}
+use Rattle.luks_io.specs.Counts.{Reads}
 use Rattle.luks_io.proofs.source.fill.Given as goal
 
 -- the bytes so far are at the start, no read has failed or hit the end, and none was needless
@@ -8,9 +8,7 @@ abbrev pub invariant-loop-at : goal.invariant-loop-at
 invariant-loop-at g l = record {
   within : l.at ≤ length l.buf;
   taken : Consumes (g.S.Source.to_come l.initial.source) (g.S.Source.to_come l.source) (take l.at l.buf);
-  failures : (g.S.Source.counts l.source).failures ≡ (g.S.Source.counts l.initial.source).failures;
-  ends : (g.S.Source.counts l.source).ends ≡ (g.S.Source.counts l.initial.source).ends;
-  needed : ReadsAsNeeded (g.S.Source.counts l.initial.source) (g.S.Source.counts l.source);
+  reads : Reads false false (g.S.Source.counts l.initial.source) (g.S.Source.counts l.source);
 }
 
 abbrev pub decreases-loop-at : goal.decreases-loop-at
