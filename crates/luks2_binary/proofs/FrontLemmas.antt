@@ -7,7 +7,8 @@ use Rattle.std.proofs.lemmas.Bool.{cases_lt}
 use Rattle.std.proofs.Math.Seq.{take-add}
 use Rattle.std.proofs.lemmas.List.{drop-drop, length-take, take-take}
 use Rattle.luks_io.specs.Devices.{counted}
-use Rattle.luks_io.specs.Counts.{IsLive, ReadsAsNeeded}
+use Rattle.luks_io.specs.Counts.{Reads}
+use Rattle.luks_io.proofs.CountsLemmas.{no_reads, reads_more}
 use Rattle.luks_io.specs.declared.counts.ReadCounts.{ReadCounts}
 use Rattle.luks_area.specs.Area.{AbortsConsuming, ConsumedOnto, is_truncated}
 use Rattle.luks_area.specs.declared.fault.HeaderFault.{HeaderFault}
@@ -67,18 +68,16 @@ pub grew_by : (old new : List ℕ) (ended' : Bool) (left left' : Option (List �
     (counts counts' : ReadCounts) → take (length old) new ≡ old
     → ((known : List ℕ) → left ≡ Some known
     → (count : ℕ) × ConsumedOnto old new known left' count × (ended' ≡ true → length known ≤ count))
-    → counts'.ends ≡ counted ended' counts.ends → counts'.failures ≡ counted failed' counts.failures
-    → ReadsAsNeeded counts counts' → Extended old new false ended' left left' failed' counts counts'
-grew_by old new ended' left left' failed' counts counts' kept gave found failed needed = record {
+    → Reads failed' ended' counts counts' → Extended old new false ended' left left' failed' counts counts'
+grew_by old new ended' left left' failed' counts counts' kept gave reads = record {
   fronts = λ image front. front_of old new image ended' kept front;
   longer = longer_than old new kept;
   holds = λ image holds.
       let taken = gave (drop (length old) image) holds.behind in
       holds_more image old new (drop (length old) image) ended' left left' taken.0 holds holds.behind taken.1 taken.2;
   stays = λ wrong. absurd (cc);
-  found = found;
-  failed = failed;
-  needed = λ live. needed (live refl);
+  reads = reads;
+  rests = λ wrong. absurd (cc);
 }
 
 -- where nothing is done nothing changes
@@ -89,13 +88,12 @@ grew_none held ended left counts = record {
   longer = omega arith;
   holds = λ image holds. holds;
   stays = λ is. is;
-  found = found_none ended;
-  failed = refl;
-  needed = λ live. refl;
+  reads = by ended;
+  rests = λ is. (refl, refl, refl);
 } where
-  found_none : (b : Bool) → counts.ends ≡ counted (not b && b) counts.ends
-  found_none true = refl
-  found_none false = refl
+  by : (b : Bool) → Reads false (not b && b) counts counts
+  by true = no_reads counts
+  by false = no_reads counts
 
 -- an area remembers whether the image's end was hit
 pub ended_is : (r : Result Bool HeaderFault) (whole old new : Bool) → r ≡ Ok whole → old ≡ false
@@ -134,23 +132,19 @@ gave_broken most old new known left' NotLuks h = absurd h
 gave_broken most old new known left' Cut h = absurd h
 gave_broken most old new known left' Json h = absurd h
 
--- the end is found once at most
-found_join : (e e1 e2 : Bool) (n n1 n2 : ℕ) → (e ≡ true → e1 ≡ true) → (e1 ≡ true → e2 ≡ true)
-    → n1 ≡ counted (not e && e1) n → n2 ≡ counted (not e1 && e2) n1 → n2 ≡ counted (not e && e2) n
-found_join true true true n n1 n2 s s1 h h1 = h1 ∙ h
-found_join true true false n n1 n2 s s1 h h1 = absurd (let wrong = s1 refl in cc)
-found_join true false e2 n n1 n2 s s1 h h1 = absurd (let wrong = s refl in cc)
-found_join false true true n n1 n2 s s1 h h1 = h1 ∙ h
-found_join false true false n n1 n2 s s1 h h1 = absurd (let wrong = s1 refl in cc)
-found_join false false e2 n n1 n2 s s1 h h1 = h1 ∙ ap (counted e2) h
-
--- unless its end was hit, a source that no read failed of stays live
-stays_live : (e e1 : Bool) (n n1 : ReadCounts) → (e ≡ true → e1 ≡ true) → n1.ends ≡ counted (not e && e1) n.ends
-    → n1.failures ≡ n.failures → (e ≡ false → IsLive n) → e1 ≡ false → IsLive n1
-stays_live true e1 n n1 stays found same live goes = absurd (let wrong = stays refl in cc)
-stays_live false true n n1 stays found same live goes = absurd (cc)
-stays_live false false n n1 stays found same live goes =
-    record { failed = same ∙ (live refl).failed; ended = found ∙ (live refl).ended }
+-- reads of which none failed, and then further ones, unless the image's end was hit by then
+reads_join : (failed' e e1 e2 : Bool) (n n1 n2 : ReadCounts) → (e ≡ true → e1 ≡ true) → (e1 ≡ true → e2 ≡ true)
+    → Reads false (not e && e1) n n1 → (e1 ≡ true → n2 ≡ n1) → Reads failed' (not e1 && e2) n1 n2
+    → Reads failed' (not e && e2) n n2
+reads_join failed' true true e2 n n1 n2 s s1 first rests then = reads_more failed' false n n1 n2 first then
+reads_join failed' true false e2 n n1 n2 s s1 first rests then = absurd (let wrong = s refl in cc)
+reads_join failed' false true true n n1 n2 s s1 first rests then = record {
+  failures = then.failures ∙ ap (counted failed') first.failures;
+  ends = then.ends ∙ first.ends;
+  needed = λ live. ap (λ (n : ReadCounts). n.needless) (rests refl) ∙ first.needed live;
+}
+reads_join failed' false true false n n1 n2 s s1 first rests then = absurd (let wrong = s1 refl in cc)
+reads_join failed' false false e2 n n1 n2 s s1 first rests then = reads_more failed' e2 n n1 n2 first then
 
 -- more came to be held, and then more again
 pub grew_more : (a b c : List ℕ) (e e1 e2 : Bool) (l l1 l2 : Option (List ℕ)) (failed' : Bool) (n n1 n2 : ReadCounts)
@@ -161,9 +155,12 @@ grew_more a b c e e1 e2 l l1 l2 failed' n n1 n2 first then = record {
   longer = omega (arith, first.longer, then.longer);
   holds = λ image holds. then.holds image (first.holds image holds);
   stays = λ is. then.stays (first.stays is);
-  found = found_join e e1 e2 n.ends n1.ends n2.ends first.stays then.stays first.found then.found;
-  failed = then.failed ∙ ap (counted failed') first.failed;
-  needed = λ live. then.needed (stays_live e e1 n n1 first.stays first.found first.failed live) ∙ first.needed live;
+  reads = reads_join failed' e e1 e2 n n1 n2 first.stays then.stays first.reads
+      (λ is. (then.rests is).2) then.reads;
+  rests = λ is.
+      let before = first.rests is in
+      let after = then.rests (first.stays is) in
+      (after.0 ∙ before.0, after.1 ∙ before.1, after.2 ∙ before.2);
 }
 
 -- what is held is its own front

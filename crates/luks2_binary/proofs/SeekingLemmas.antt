@@ -1,16 +1,20 @@
 -- What is held and taken once the header of an image is found, or is not.
-use Rattle.std.proofs.Common.{◌≡◌, ◌∙◌, ℕ, ◌+◌, ◌-◌, ◌<◌, ◌≤◌, ◌⊎◌, inl, inr, List, ◌++◌, Option, Some, None, Ok, Err}
-use Rattle.std.proofs.Common.{Bool, true, false, ap, sym, subst, refl, take, drop, length, length-append, max, arith}
-use Rattle.std.specs.Prelude.{[], IfErr, IfOk, Result, ok_or}
+use Rattle.std.proofs.Common.{◌≡◌, ◌∙◌, ℕ, ◌+◌, ◌-◌, ◌<◌, ◌≤◌, ◌⊎◌, inl, inr, List, ◌++◌, Option, Some, None, Err}
+use Rattle.std.proofs.Common.{Bool, true, false, ap, sym, subst, refl, take, drop, take_all, length, length-append, append-nil, max, arith}
+use Rattle.std.specs.Prelude.{[], Result, ok_or}
 use Rattle.std.proofs.Math.Seq.{drop-append_seam, take-append-add, take-append_seam}
 use Rattle.std.proofs.lemmas.List.{drop-drop, drop_all}
-use Rattle.luks_io.specs.Devices.{IfKnown}
-use Rattle.luks_area.specs.Area.{ConsumedOnto}
+use Rattle.luks_io.specs.declared.counts.ReadCounts.{ReadCounts}
+use Rattle.luks_area.specs.Area.{ConsumedOnto, HeaderAreaModel}
 use Rattle.luks_area.specs.declared.fault.HeaderFault.{HeaderFault}
 use Rattle.luks_area.specs.declared.fault.HeaderFault.TheVariants.{NotLuks, Cut, Json, Read, Memory}
 use Rattle.luks2_binary.specs.Choice2.{chosen2_of, header2_of}
 use Rattle.luks2_binary.specs.ReadLen2.{header2_read_len, reach2_of}
-use Rattle.luks2_binary.specs.Front2.{AbortsSeeking, HoldsFront, IsPrefixOf, ConsumedReadLen}
+use Rattle.luks2_binary.specs.Front2.{AbortsSeeking, AnsweredFrom, ConsumedReadLen, Extended, HoldsFront, IsPrefixOf}
+use Rattle.luks2_binary.specs.Front2.{FallsShort, Reaches, RemembersEnd, SeeksHeader2, StaysBelow, hits_eof, unloaded}
+use Rattle.luks2_binary.proofs.FrontLemmas.{front_self}
+use Rattle.std.proofs.lemmas.Bool.{le-ltb, lt-ltb}
+use Rattle.std.specs.Prelude.{nat_lt}
 use Rattle.luks2_binary.specs.declared.header.Header2.{Header2}
 use Rattle.luks2_binary.proofs.ChoiceLemmas.{reach_some}
 
@@ -34,16 +38,6 @@ pub answer_is : (image : List ℕ) (chosen : Option Header2) (answer : Result He
     → answer ≡ ok_or chosen NotLuks → chosen ≡ chosen2_of image → header2_of image ≡ answer
 unfolding header2_of
 answer_is image chosen answer is choice = sym (is ∙ ap (λ o. ok_or o NotLuks) choice)
-
--- a fact of what is answered where it is a header
-pub if_header : (P : Type 0) (answer : Result Header2 HeaderFault) → P → IfOk answer (λ header. P)
-if_header P (Ok header) p = p
-if_header P (Err fault) p = tt
-
-pub if_answered : (image : List ℕ) (answer : Result Header2 HeaderFault) → header2_of image ≡ answer
-    → IfOk answer (λ header. header2_of image ≡ Ok header)
-if_answered image (Ok header) is = is
-if_answered image (Err fault) is = tt
 
 -- before anything is taken
 pub holds_start : (old rest : List ℕ) (ended : Bool) (left : Option (List ℕ)) → ended ≡ false → left ≡ Some rest
@@ -102,25 +96,71 @@ module _ (old new rest : List ℕ) (ended : Bool) (left' : Option (List ℕ)) wh
   aborts_seeking Json which holds longer within early = absurd (elim which [ inl e ↦ cc | inr e ↦ cc ])
 
 -- the image has the header that was answered, or none
-module _ (old new : List ℕ) (left left' : Option (List ℕ)) (chosen : Option Header2)
-    (answer : Result Header2 HeaderFault)
-    (is : answer ≡ ok_or chosen NotLuks)
-    (known : (rest : List ℕ) → left ≡ Some rest
-    → (header2_of (old ++ rest) ≡ answer) × ConsumedReadLen (old ++ rest) old new rest left') where
-  pub header_consumed : IfOk answer (λ header. IfKnown left (λ rest. (header2_of (old ++ rest) ≡ Ok header)
-      × ConsumedReadLen (old ++ rest) old new rest left'))
-  header_consumed = by answer known where
-    by : (r : Result Header2 HeaderFault) → ((rest : List ℕ) → left ≡ Some rest
-        → (header2_of (old ++ rest) ≡ r) × ConsumedReadLen (old ++ rest) old new rest left')
-        → IfOk r (λ header. IfKnown left (λ rest. (header2_of (old ++ rest) ≡ Ok header)
-        × ConsumedReadLen (old ++ rest) old new rest left'))
-    by (Ok header) facts = facts
-    by (Err fault) facts = tt
+pub seeks_answer : (old new rest : List ℕ) (left' : Option (List ℕ)) (chosen : Option Header2)
+    (answer : Result Header2 HeaderFault) → answer ≡ ok_or chosen NotLuks → header2_of (old ++ rest) ≡ answer
+    → ConsumedReadLen (old ++ rest) old new rest left' → SeeksHeader2 (old ++ rest) old new rest left' answer
+seeks_answer old new rest left' (Some header) answer is known taken = rw is (known ∙ is, taken)
+seeks_answer old new rest left' None answer is known taken = rw is (known ∙ is, taken)
 
-  pub none_taken : IfErr answer (λ fault. IfKnown left (λ rest.
-      AbortsSeeking (old ++ rest) old new rest left' fault))
-  none_taken = by chosen is where
-    by : (o : Option Header2) → answer ≡ ok_or o NotLuks → IfErr answer (λ fault. IfKnown left (λ rest.
-        AbortsSeeking (old ++ rest) old new rest left' fault))
-    by (Some header) e = rw e tt
-    by None e = rw e (λ rest knows. (let facts = known rest knows in (facts.0 ∙ e, facts.1)))
+-- so have the loaded bytes
+pub answered_from : (held : List ℕ) (chosen : Option Header2) (answer : Result Header2 HeaderFault)
+    → answer ≡ ok_or chosen NotLuks → header2_of held ≡ answer → length held ≡ header2_read_len held
+    → AnsweredFrom held answer
+answered_from held (Some header) answer is known long = rw is (known ∙ is, long)
+answered_from held None answer is known long = rw is (known ∙ is, long)
+
+-- a failure answers nothing of the image
+pub fault_answered : (held : List ℕ) (fault : HeaderFault) → (fault ≡ Read) ⊎ (fault ≡ Memory)
+    → (fault ≡ Memory → StaysBelow held false reach2_of) → AnsweredFrom held (Err fault)
+fault_answered held Read which early = tt
+fault_answered held Memory which early = early refl
+fault_answered held NotLuks which early = absurd (elim which [ inl e ↦ cc | inr e ↦ cc ])
+fault_answered held Cut which early = absurd (elim which [ inl e ↦ cc | inr e ↦ cc ])
+fault_answered held Json which early = absurd (elim which [ inl e ↦ cc | inr e ↦ cc ])
+
+-- what is behind the loaded bytes, whether the image's end was hit before or not
+pub holds_unloaded : (old new rest : List ℕ) (ended ended' : Bool) (left left' : Option (List ℕ)) (failed' : Bool)
+    (counts counts' : ReadCounts) → Extended old new ended ended' left left' failed' counts counts'
+    → unloaded ended left ≡ Some rest → HoldsFront (old ++ rest) new ended' (unloaded ended left')
+holds_unloaded old new rest false ended' left left' failed' counts counts' grew is =
+    grew.holds (old ++ rest) (holds_start old rest false left refl is)
+holds_unloaded old new rest true ended' left left' failed' counts counts' grew is =
+    let nothing : rest ≡ [] = cc in
+    rw (nothing, (grew.rests refl).0, append-nil old) (record {
+      front = record {
+        begins = take_all (length old) old (omega arith);
+        within = omega arith;
+        ends = λ _. refl;
+      };
+      behind = ap Some (sym (drop_all (length old) old (omega arith)));
+    })
+
+-- the image's end was hit exactly if less is loaded than is to be read
+pub hits_end : (new : List ℕ) (ended ended' : Bool) (chosen : Option Header2) (answer : Result Header2 HeaderFault)
+    → answer ≡ ok_or chosen NotLuks → FallsShort new ended ended' reach2_of → Reaches new ended' reach2_of
+    → ended ≡ false → ended' ≡ hits_eof answer new
+hits_end new ended ended' chosen answer is over settled goes = by_answer chosen is where
+  by_end : (b : Bool) → ended' ≡ b → b ≡ nat_lt (length new) (reach2_of new)
+  by_end true e = sym (lt-ltb (length new) (reach2_of new) (over new (front_self new ended') goes e))
+  by_end false e = sym (le-ltb (length new) (reach2_of new) (settled new (front_self new ended') e))
+
+  by_answer : (o : Option Header2) → answer ≡ ok_or o NotLuks → ended' ≡ hits_eof answer new
+  by_answer (Some header) e = rw e (by_end ended' refl)
+  by_answer None e = rw e (by_end ended' refl)
+
+-- an area remembers the end of its image
+pub remembers_end : (hit : Bool) (area area' : HeaderAreaModel) (left left' : Option (List ℕ)) (failed' : Bool)
+    (counts counts' : ReadCounts)
+    → Extended area.bytes area'.bytes area.ended area'.ended left left' failed' counts counts'
+    → (area.ended ≡ false → area'.ended ≡ hit) → RemembersEnd hit area area' left left'
+remembers_end hit area area' left left' failed' counts counts' grew is = (
+  λ goes. (
+    is goes,
+    λ found rest knows. nothing_behind (area.bytes ++ rest) area'.bytes area'.ended left'
+        (grew.holds (area.bytes ++ rest) (holds_start area.bytes rest area.ended left goes knows)) (is goes ∙ found),
+  ),
+  λ ended. (same ended, (grew.rests ended).1),
+) where
+  same : area.ended ≡ true → area' ≡ area
+  same ended = ap (λ bytes. record { bytes = bytes; ended = area'.ended }) (grew.rests ended).0
+      ∙ ap (λ is. record { bytes = area.bytes; ended = is }) (grew.stays ended ∙ sym ended)

@@ -1,12 +1,14 @@
 -- What is loaded of an image while its header is sought.
 use Rattle.std.specs.Prelude.{◌≡◌, ◌+◌, ◌-◌, ◌<◌, ◌≤◌, ◌&&◌, ℕ, Bool, true, false, not, if◌then◌else◌, List, Option}
-use Rattle.std.specs.Prelude.{Some, None, Result, Ok, Err, drop, length, max, nat_lt, take}
-use Rattle.luks_io.specs.Devices.{counted}
-use Rattle.luks_io.specs.Counts.{IsLive}
+use Rattle.std.specs.Prelude.{[], Some, None, Result, Ok, Err, drop, length, max, nat_lt, take}
+use Rattle.luks_io.specs.Counts.{Reads}
 use Rattle.luks_io.specs.declared.counts.ReadCounts.{ReadCounts}
 use Rattle.luks_area.specs.Area.{ConsumedOnto}
 use Rattle.luks_area.specs.declared.fault.HeaderFault.{HeaderFault}
 use Rattle.luks_area.specs.declared.fault.HeaderFault.TheVariants.{NotLuks, Cut, Json, Read, Memory}
+use Rattle.luks_area.specs.Area.{HeaderAreaModel}
+use Rattle.luks_io.specs.Devices.{IfKnown}
+use Rattle.luks2_binary.specs.declared.header.Header2.{Header2}
 use Rattle.luks2_binary.specs.Choice2.{header2_of, is_valid, size_at}
 use Rattle.luks2_binary.specs.ReadLen2.{header2_read_len, reach2_of}
 
@@ -21,17 +23,16 @@ pub record HoldsFront (image held : List ℕ) (ended : Bool) (left : Option (Lis
   pub front : IsPrefixOf held ended image
   pub behind : left ≡ Some (drop (length held) image)
 
--- more of an image was loaded, unless a read failed, from a source that counts its reads. It is read only as needed,
--- and so not after its end was hit
+-- more of an image was loaded, unless a read failed, from a source that counts its reads. Once the image's end was hit,
+-- the source rests
 pub record Extended (held held' : List ℕ) (ended ended' : Bool) (left left' : Option (List ℕ)) (failed' : Bool)
     (counts counts' : ReadCounts) : Type 0 where
   pub fronts : (image : List ℕ) → IsPrefixOf held' ended' image → IsPrefixOf held ended image
   pub longer : length held ≤ length held'
   pub holds : (image : List ℕ) → HoldsFront image held ended left → HoldsFront image held' ended' left'
   pub stays : ended ≡ true → ended' ≡ true
-  pub found : counts'.ends ≡ counted (not ended && ended') counts.ends
-  pub failed : counts'.failures ≡ counted failed' counts.failures
-  pub needed : (ended ≡ false → IsLive counts) → counts'.needless ≡ counts.needless
+  pub reads : Reads failed' (not ended && ended') counts counts'
+  pub rests : ended ≡ true → (held' ≡ held) × (left' ≡ left) × (counts' ≡ counts)
 
 -- the length of the header at an offset, if a valid one is there
 abbrev pub valid_size : List ℕ → ℕ → Option ℕ
@@ -91,3 +92,31 @@ hits_eof (Err NotLuks) held = nat_lt (length held) (reach2_of held)
 hits_eof (Err Cut) held = false
 hits_eof (Err Json) held = false
 hits_eof (Ok _) held = nat_lt (length held) (reach2_of held)
+
+-- the bytes of an image that were not loaded yet: none behind its end
+abbrev pub unloaded : Bool → Option (List ℕ) → Option (List ℕ)
+unloaded true left = Some []
+unloaded false left = left
+
+-- the header was sought in an image, of which some bytes were loaded before, and more went behind them
+abbrev pub SeeksHeader2 : List ℕ → List ℕ → List ℕ → List ℕ → Option (List ℕ) → Result Header2 HeaderFault → Type 0
+SeeksHeader2 image held held' rest left (Ok header) = (header2_of image ≡ Ok header)
+    × ConsumedReadLen image held held' rest left
+SeeksHeader2 image held held' rest left (Err fault) = AbortsSeeking image held held' rest left fault
+
+-- what is answered of an image whose end was hit, or of which as much is loaded as must be read, is a fact of the
+-- loaded bytes alone. Memory ran out while more was yet to be read
+abbrev pub AnsweredFrom : List ℕ → Result Header2 HeaderFault → Type 0
+AnsweredFrom held (Ok header) = (header2_of held ≡ Ok header) × (length held ≡ header2_read_len held)
+AnsweredFrom held (Err NotLuks) = (header2_of held ≡ Err NotLuks) × (length held ≡ header2_read_len held)
+AnsweredFrom held (Err Cut) = ⊥
+AnsweredFrom held (Err Json) = ⊥
+AnsweredFrom held (Err Read) = Unit {0}
+AnsweredFrom held (Err Memory) = StaysBelow held false reach2_of
+
+-- how an area remembers the end of its image: it was hit in this call, and nothing remains; or it was hit before, and
+-- nothing happened
+abbrev pub RemembersEnd : Bool → HeaderAreaModel → HeaderAreaModel → Option (List ℕ) → Option (List ℕ) → Type 0
+RemembersEnd hit area area' left left' =
+    (area.ended ≡ false → (area'.ended ≡ hit) × (hit ≡ true → IfKnown left (λ _. left' ≡ Some [])))
+    × (area.ended ≡ true → (area' ≡ area) × (left' ≡ left))

@@ -1,16 +1,16 @@
 //! Finding the header of an image.
 
-ghost use Rattle.std.specs.Prelude.{◌≡◌, ◌+◌, ◌≤◌, ◌↔◌, ◌⊎◌, ◌++◌, ◌<◌, true, false, length, max};
+ghost use Rattle.std.specs.Prelude.{◌≡◌, ◌+◌, ◌≤◌, ◌↔◌, ◌⊎◌, ◌++◌, ◌<◌, ◌&&◌, not, true, false, length, max};
 ghost use Rattle.std.specs.Prelude.{take, IsTrue, Ok, Err, IfOk, IfErr, IfSome, OnErr, OnOk, List};
 ghost use Rattle.std.specs.Prelude.{ℕ, [], Some, option_and_then};
-ghost use Rattle.luks_io.specs.Devices.{IfKnown, counted};
-ghost use Rattle.luks_io.specs.Counts.{ReadsAsNeeded};
+ghost use Rattle.luks_io.specs.Devices.{IfKnown};
+ghost use Rattle.luks_io.specs.Counts.{Reads};
 ghost use Rattle.luks_area.specs.Area.{is_read, max_area_len};
 ghost use Rattle.luks2_binary.specs.Choice2.{chosen2_of, found_at, header2_of, least_valid};
 ghost use Rattle.luks2_binary.specs.ReadLen2.{header2_read_len, reach2_of, probe_end, search_reach};
-ghost use Rattle.luks2_binary.specs.Front2.{AbortsSeeking, FallsShort, Extended, hits_eof, OfEach};
-ghost use Rattle.luks2_binary.specs.Front2.{Reaches, StaysBelow, ConsumedReadLen, WithinReach};
-ghost use Rattle.luks2_binary.specs.Front2.{valid_size};
+ghost use Rattle.luks2_binary.specs.Front2.{AnsweredFrom, Extended, FallsShort, OfEach, Reaches};
+ghost use Rattle.luks2_binary.specs.Front2.{RemembersEnd, SeeksHeader2, StaysBelow, WithinReach, hits_eof};
+ghost use Rattle.luks2_binary.specs.Front2.{unloaded, valid_size};
 
 use crate::choice::{valid_header, with_valid_primary};
 use crate::header::{BINARY_LEN, Finding, Header2, Place};
@@ -136,7 +136,8 @@ fn choose<S: Source>(area: &mut HeaderArea, source: &mut S) -> Result<Option<Hea
 /// Finds the header of LUKS2 of an image whose first bytes are loaded, and loads as much of the
 /// image as that requires (LUKS2 On-Disk Format Specification 1.1, section 2).
 ///
-/// The image is one that does not start as LUKS1 does, and whose end was not hit yet.
+/// The image is one that does not start as LUKS1 does. If its end was hit before, the source is not
+/// touched.
 ///
 /// # Errors
 ///
@@ -148,34 +149,18 @@ pub fn read_header2<S: Source>(
     source: &mut S,
 ) -> Result<Header2, HeaderFault>
     requires few { length area.old.bytes ≤ 4096 }
-    requires going { area.old.ended ≡ false }
-    ensures taken { IfOk result (λ header. IfKnown (S.to_come source.old) (λ rest.
-        (header2_of (area.old.bytes ++ rest) ≡ Ok header)
-        × ConsumedReadLen (area.old.bytes ++ rest) area.old.bytes area.new.bytes rest
-        (S.to_come source.new))) }
-    ensures broken { IfErr result (λ fault. IfKnown (S.to_come source.old) (λ rest.
-        AbortsSeeking (area.old.bytes ++ rest) area.old.bytes area.new.bytes rest
-        (S.to_come source.new) fault)) }
+    ensures seeks { IfKnown (unloaded area.old.ended (S.to_come source.old)) (λ rest.
+        SeeksHeader2 (area.old.bytes ++ rest) area.old.bytes area.new.bytes rest
+        (unloaded area.old.ended (S.to_come source.new)) result) }
 
     // Whether or not the source knows its bytes:
-    ensures held { IfOk result (λ header. header2_of area.new.bytes ≡ Ok header) }
-    ensures only { IfOk result (λ header. length area.new.bytes ≡ header2_read_len area.new.bytes) }
-    ensures none { result ≡ Err HeaderFault.NotLuks
-        → (header2_of area.new.bytes ≡ Err HeaderFault.NotLuks)
-        × (length area.new.bytes ≡ header2_read_len area.new.bytes) }
-    ensures early { IfErr result (λ fault. fault ≡ HeaderFault.Memory
-        → StaysBelow area.new.bytes false reach2_of) }
+    ensures answered { AnsweredFrom area.new.bytes result }
     ensures kept { take (length area.old.bytes) area.new.bytes ≡ area.old.bytes }
-    ensures refusals { IfErr result (λ fault. (fault ≡ HeaderFault.NotLuks)
-        ⊎ (fault ≡ HeaderFault.Read) ⊎ (fault ≡ HeaderFault.Memory)) }
-    ensures reads { (S.counts source.new).failures
-        ≡ counted (is_read result) (S.counts source.old).failures }
-    ensures ends { (S.counts source.new).ends
-        ≡ counted (hits_eof result area.new.bytes) (S.counts source.old).ends }
-    ensures needed { ReadsAsNeeded (S.counts source.old) (S.counts source.new) }
-    ensures ended { area.new.ended ≡ hits_eof result area.new.bytes }
-    ensures emptied { area.new.ended ≡ true
-        → IfKnown (S.to_come source.old) (λ _. S.to_come source.new ≡ Some []) }
+    ensures reads { Reads (is_read result)
+        (not area.old.ended && hits_eof result area.new.bytes)
+        (S.counts source.old) (S.counts source.new) }
+    ensures ended { RemembersEnd (hits_eof result area.new.bytes) area.old area.new
+        (S.to_come source.old) (S.to_come source.new) }
 {
     let header = choose(area, source)?;
     header.ok_or(HeaderFault::NotLuks)

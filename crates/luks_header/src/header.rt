@@ -3,7 +3,7 @@
 ghost use Rattle.std.specs.Prelude.{◌≡◌, ◌++◌, Bool, List, ℕ, Some, Ok, Err, IfOk, IfErr, drop};
 ghost use Rattle.std.specs.Prelude.{[], length, take, true, false};
 ghost use Rattle.luks_io.specs.Devices.{ConsumedExactly, IfKnown, counted};
-ghost use Rattle.luks_io.specs.Counts.{ReadsAsNeeded};
+ghost use Rattle.luks_io.specs.Counts.{Reads};
 ghost use Rattle.luks_area.specs.Area.{is_read};
 ghost use Rattle.luks1_header.specs.Header1.{is_luks1};
 ghost use Rattle.luks2_binary.specs.Front2.{ConsumedReadLen};
@@ -85,16 +85,12 @@ pub fn read_header<S: Source>(
     // Whether or not the source knows its bytes:
     ensures held { IfOk result (λ read. header_of read.1.bytes ≡ Ok read.0) }
     ensures only { IfOk result (λ read. length read.1.bytes ≡ header_read_len read.1.bytes) }
-    ensures reads { (S.counts source.new).failures
-        ≡ counted (is_read result) (S.counts source.old).failures }
-    ensures ends { IfOk result (λ read. (S.counts source.new).ends
-        ≡ counted (falls_short read.1.bytes) (S.counts source.old).ends) }
-    ensures once { (short : Bool)
-        × ((S.counts source.new).ends ≡ counted short (S.counts source.old).ends) }
-    ensures needed { ReadsAsNeeded (S.counts source.old) (S.counts source.new) }
-    ensures ended { IfOk result (λ read. read.1.ended ≡ falls_short read.1.bytes) }
-    ensures emptied { IfOk result (λ read. read.1.ended ≡ true
-        → IfKnown (S.to_come source.old) (λ _. S.to_come source.new ≡ Some [])) }
+    ensures reads { (ended : Bool)
+        × Reads (is_read result) ended (S.counts source.old) (S.counts source.new)
+        × IfOk result (λ read. read.1.ended ≡ ended) }
+    ensures ended { IfOk result (λ read. (read.1.ended ≡ falls_short read.1.bytes)
+        × (read.1.ended ≡ true
+        → IfKnown (S.to_come source.old) (λ _. S.to_come source.new ≡ Some []))) }
 {
     let mut area = HeaderArea::new(alloc);
     let whole = area.extend_to(source, HEADER1_LEN)?;
@@ -119,9 +115,8 @@ fn read2<S: Source>(
     area: &mut HeaderArea,
     source: &mut S,
 ) -> Result<Header, HeaderFault>
-    requires held { length area.old.bytes ≡ 592 }
-    requires going { area.old.ended ≡ false }
-    requires other { is_luks1 area.old.bytes ≡ false }
+    requires first { (length area.old.bytes ≡ 592) × (area.old.ended ≡ false)
+        × (is_luks1 area.old.bytes ≡ false) }
     ensures taken { IfOk result (λ header. IfKnown (S.to_come source.old) (λ rest.
         (header_of (area.old.bytes ++ rest) ≡ Ok header)
         × ConsumedReadLen (area.old.bytes ++ rest) area.old.bytes area.new.bytes rest
@@ -130,16 +125,10 @@ fn read2<S: Source>(
         AbortsHeld (area.old.bytes ++ rest) area.old.bytes area.new.bytes rest
         (S.to_come source.new)
         (S.counts source.old).ends (S.counts source.new).ends fault)) }
-    ensures held { IfOk result (λ header. header_of area.new.bytes ≡ Ok header) }
-    ensures only { IfOk result (λ header. length area.new.bytes ≡ header_read_len area.new.bytes) }
-    ensures kept { take (length area.old.bytes) area.new.bytes ≡ area.old.bytes }
-    ensures reads { (S.counts source.new).failures
-        ≡ counted (is_read result) (S.counts source.old).failures }
-    ensures ends { IfOk result (λ header. (S.counts source.new).ends
-        ≡ counted (falls_short area.new.bytes) (S.counts source.old).ends) }
-    ensures once { (short : Bool)
-        × ((S.counts source.new).ends ≡ counted short (S.counts source.old).ends) }
-    ensures needed { ReadsAsNeeded (S.counts source.old) (S.counts source.new) }
+    ensures held { IfOk result (λ header. (header_of area.new.bytes ≡ Ok header)
+        × (length area.new.bytes ≡ header_read_len area.new.bytes)) }
+    ensures reads { Reads (is_read result) area.new.ended
+        (S.counts source.old) (S.counts source.new) }
     ensures ended { IfOk result (λ header. area.new.ended ≡ falls_short area.new.bytes) }
     ensures emptied { area.new.ended ≡ true
         → IfKnown (S.to_come source.old) (λ _. S.to_come source.new ≡ Some []) }

@@ -29,4 +29,4 @@ returns-clause-grew g c =
       ended_short old new known c.in_ok-extend_to.field-0 _ c.args.end (c.in_ok-extend_to.ensures.taken known knows)
           c.in_ok-extend_to.ensures.whole,
     ))
-    c.in_ok-extend_to.ensures.ends c.in_ok-extend_to.ensures.reads c.extend_to.ensures.needed)
+    c.in_ok-extend_to.ensures.reads)

@@ -1,39 +1,66 @@
-use Rattle.std.proofs.Common.{◌∙◌, ◌≤◌, ◌++◌, Err, ap, sym, length, arith}
+use Rattle.std.proofs.Common.{◌∙◌, ◌≤◌, ◌++◌, Err, ap, inl, inr, refl, sym, length, arith}
 use Rattle.std.proofs.lemmas.Result.{err_from_is_err_and}
 use Rattle.std.specs.Prelude.{nat_lt}
-use Rattle.luks_io.specs.Devices.{counted}
 use Rattle.luks2_binary.specs.Text2.{json_text_of}
 use Rattle.luks2_json.specs.Tree.{tree_of}
 use Rattle.luks_header.proofs.HeldLemmas.{begins_behind, begins_longer, cost_other, header_read, reach_other}
 use Rattle.luks_header.proofs.HeldLemmas.{reading_broken, seeking_broken, text_held}
 use Rattle.luks_header.proofs.header.read2.Goals as goal
 
+-- no header of LUKS2 was found
 pub returns-in_err-header-clause-broken : goal.returns-in_err-header-clause-broken
 returns-in_err-header-clause-broken g c =
     let p = err_from_is_err_and c.from_residual.result c.from_residual.ensures.1 in
     rw (p.1, p.2) (λ rest is.
-    let long : 8 ≤ length c.args.area.now.bytes = omega (arith, c.requires.held) in
-    let other = begins_behind c.args.area.now.bytes rest long ∙ c.requires.other in
-    seeking_broken _ _ _ rest _ _ _ other c.in_err-header.field-0.0 (c.in_err-header.ensures.broken rest is)
-    c.in_err-header.ensures.ends)
+    let long : 8 ≤ length c.args.area.now.bytes = omega (arith, c.requires.first.0) in
+    let other = begins_behind c.args.area.now.bytes rest long ∙ c.requires.first.2 in
+    let sought = rw c.requires.first.1 at c.in_err-header.ensures in
+    seeking_broken _ _ _ rest _ _ _ other c.in_err-header.field-0.0 (sought.seeks rest is) sought.reads.ends)
 
+pub returns-in_err-header-clause-reads : goal.returns-in_err-header-clause-reads
+returns-in_err-header-clause-reads g c =
+    let p = err_from_is_err_and c.from_residual.result c.from_residual.ensures.1 in
+    let sought = rw c.requires.first.1 at c.in_err-header.ensures in
+    rw (p.1, p.2, (sought.ended.0 refl).0) sought.reads
+
+pub returns-in_err-header-clause-emptied : goal.returns-in_err-header-clause-emptied
+returns-in_err-header-clause-emptied g c ended =
+    let end = c.read_header2.ensures.ended.0 c.requires.first.1 in end.1 (sym end.0 ∙ ended)
+
+-- its JSON text cannot be read
 pub returns-in_err-metadata-clause-broken : goal.returns-in_err-metadata-clause-broken
 returns-in_err-metadata-clause-broken g c =
     let p = err_from_is_err_and c.from_residual-in_err-metadata.result c.from_residual-in_err-metadata.ensures.1 in
     rw (p.1, p.2) (λ rest is.
-    let long : 8 ≤ length c.args.area.now.bytes = omega (arith, c.requires.held) in
-    let other = begins_behind c.args.area.now.bytes rest long ∙ c.requires.other in
-    let found = c.in_ok-header.ensures.taken rest is in
+    let long : 8 ≤ length c.args.area.now.bytes = omega (arith, c.requires.first.0) in
+    let other = begins_behind c.args.area.now.bytes rest long ∙ c.requires.first.2 in
+    let sought = rw c.requires.first.1 at c.in_ok-header.ensures in
+    let found = sought.seeks rest is in
     let text = c.json_text.ensures ∙ ap (λ bytes. json_text_of bytes c.in_ok-header.header) c.as_slice.ensures.value in
     reading_broken _ _ _ rest _ _ _ other c.in_ok-header.header c.in_err-metadata.field-0.0 found.0 found.1
-    c.in_ok-header.ensures.ends (λ json. ap tree_of (sym text) ∙ c.in_err-metadata.ensures.json (ap Err json))
+    sought.reads.ends (λ json. ap tree_of (sym text) ∙ c.in_err-metadata.ensures.json (ap Err json))
     c.in_err-metadata.ensures.refusals)
 
+pub returns-in_err-metadata-clause-reads : goal.returns-in_err-metadata-clause-reads
+returns-in_err-metadata-clause-reads g c =
+    let p = err_from_is_err_and c.from_residual-in_err-metadata.result c.from_residual-in_err-metadata.ensures.1 in
+    let sought = rw c.requires.first.1 at c.in_ok-header.ensures in
+    rw (p.1, p.2, (sought.ended.0 refl).0) (elim c.in_err-metadata.ensures.refusals [
+      | inl json ↦ rw json sought.reads
+      | inr memory ↦ rw memory sought.reads
+    ])
+
+pub returns-in_err-metadata-clause-emptied : goal.returns-in_err-metadata-clause-emptied
+returns-in_err-metadata-clause-emptied g c ended =
+    let end = c.read_header2.ensures.ended.0 c.requires.first.1 in end.1 (sym end.0 ∙ ended)
+
+-- the header was read
 pub returns-clause-taken : goal.returns-clause-taken
 returns-clause-taken g c rest is =
-    let long : 8 ≤ length c.args.area.now.bytes = omega (arith, c.requires.held) in
-    let other = begins_behind c.args.area.now.bytes rest long ∙ c.requires.other in
-    let found = c.in_ok-header.ensures.taken rest is in
+    let long : 8 ≤ length c.args.area.now.bytes = omega (arith, c.requires.first.0) in
+    let other = begins_behind c.args.area.now.bytes rest long ∙ c.requires.first.2 in
+    let sought = rw c.requires.first.1 at c.in_ok-header.ensures in
+    let found = sought.seeks rest is in
     let text = c.json_text.ensures ∙ ap (λ bytes. json_text_of bytes c.in_ok-header.header) c.as_slice.ensures.value in
     let same = text_held _ _ c.in_ok-header.header found.0 found.1.0 in (
       header_read (c.args.area.now.bytes ++ rest) other c.in_ok-header.header c.in_ok-metadata.metadata found.0
@@ -43,34 +70,27 @@ returns-clause-taken g c rest is =
 
 pub returns-clause-held : goal.returns-clause-held
 returns-clause-held g c =
-    let long : 8 ≤ length c.args.area.now.bytes = omega (arith, c.requires.held) in
+    let long : 8 ≤ length c.args.area.now.bytes = omega (arith, c.requires.first.0) in
     let read = c.in_ok-header.ensures in
-    let other = begins_longer c.args.area.now.bytes c.read_header2.new.area.bytes long read.kept ∙ c.requires.other in
-    let text = c.json_text.ensures ∙ ap (λ bytes. json_text_of bytes c.in_ok-header.header) c.as_slice.ensures.value in
-    header_read c.read_header2.new.area.bytes other c.in_ok-header.header c.in_ok-metadata.metadata read.held
-    (ap tree_of (sym text) ∙ c.in_ok-metadata.ensures.ok)
+    let other = begins_longer c.args.area.now.bytes c.read_header2.new.area.bytes long read.kept ∙ c.requires.first.2 in
+    let text = c.json_text.ensures ∙ ap (λ bytes. json_text_of bytes c.in_ok-header.header) c.as_slice.ensures.value in (
+      header_read c.read_header2.new.area.bytes other c.in_ok-header.header c.in_ok-metadata.metadata read.answered.0
+          (ap tree_of (sym text) ∙ c.in_ok-metadata.ensures.ok),
+      read.answered.1 ∙ sym (cost_other c.read_header2.new.area.bytes other),
+    )
 
-pub returns-clause-only : goal.returns-clause-only
-returns-clause-only g c =
-    let long : 8 ≤ length c.args.area.now.bytes = omega (arith, c.requires.held) in
-    let read = c.in_ok-header.ensures in
-    let other = begins_longer c.args.area.now.bytes c.read_header2.new.area.bytes long read.kept ∙ c.requires.other in
-    read.only ∙ sym (cost_other c.read_header2.new.area.bytes other)
-
-pub returns-clause-ends : goal.returns-clause-ends
-returns-clause-ends g c =
-    let long : 8 ≤ length c.args.area.now.bytes = omega (arith, c.requires.held) in
-    let read = c.in_ok-header.ensures in
-    let other = begins_longer c.args.area.now.bytes c.read_header2.new.area.bytes long read.kept ∙ c.requires.other in
-    read.ends
-    ∙ ap (λ reach. counted (nat_lt (length c.read_header2.new.area.bytes) reach)
-    (g.S.Source.counts c.args.source.now).ends)
-    (sym (reach_other c.read_header2.new.area.bytes other))
+pub returns-clause-reads : goal.returns-clause-reads
+returns-clause-reads g c =
+    let sought = rw c.requires.first.1 at c.in_ok-header.ensures in rw (sought.ended.0 refl).0 sought.reads
 
 pub returns-clause-ended : goal.returns-clause-ended
 returns-clause-ended g c =
-    let long : 8 ≤ length c.args.area.now.bytes = omega (arith, c.requires.held) in
+    let long : 8 ≤ length c.args.area.now.bytes = omega (arith, c.requires.first.0) in
     let read = c.in_ok-header.ensures in
-    let other = begins_longer c.args.area.now.bytes c.read_header2.new.area.bytes long read.kept ∙ c.requires.other in
-    read.ended
+    let other = begins_longer c.args.area.now.bytes c.read_header2.new.area.bytes long read.kept ∙ c.requires.first.2 in
+    (read.ended.0 c.requires.first.1).0
     ∙ ap (nat_lt (length c.read_header2.new.area.bytes)) (sym (reach_other c.read_header2.new.area.bytes other))
+
+pub returns-clause-emptied : goal.returns-clause-emptied
+returns-clause-emptied g c ended =
+    let end = c.read_header2.ensures.ended.0 c.requires.first.1 in end.1 (sym end.0 ∙ ended)

@@ -1,9 +1,7 @@
 use Rattle.std.proofs.Common.{◌≡◌, ◌≤◌, ◌∙◌, ap, sym, drop, length, true, false, not, arith}
 use Rattle.std.proofs.lemmas.Result.{err_from_is_err_and}
 use Rattle.luks_io.specs.Devices.{counted}
-use Rattle.luks_io.proofs.CountsLemmas.{reads_then}
 use Rattle.luks_area.specs.Area.{HeaderAreaModel}
-use Rattle.luks_header.specs.Header.{falls_short}
 use Rattle.luks1_header.specs.Header1.{header1_of, is_luks1}
 use Rattle.luks_header.specs.declared.header.Header.TheVariants.{V1}
 use Rattle.luks_area.specs.declared.fault.HeaderFault.TheVariants.{Cut}
@@ -18,7 +16,7 @@ returns-in_err-whole-clause-broken g c =
     rw (p.1, p.2) (λ image knows.
     aborts_reading _ _ image _ _ _ _
     (ap (λ (area : HeaderAreaModel). area.bytes) c.new-area.ensures) (let h = c.in_err-whole.ensures.broken in h image knows)
-    c.in_err-whole.ensures.ends)
+    c.in_err-whole.ensures.reads.ends)
 
 pub returns-then-not-whole-clause-broken : goal.returns-then-not-whole-clause-broken
 returns-then-not-whole-clause-broken g c image knows =
@@ -31,7 +29,7 @@ returns-then-not-whole-clause-broken g c image knows =
     (area_is c.new-area.result.bytes c.extend_to.new.self.bytes image _
     (ap (λ (area : HeaderAreaModel). area.bytes) c.new-area.ensures)
     (c.in_ok-whole.ensures.taken image knows)) is Cut (header_of-cut c.extend_to.new.self.bytes is short) short _ _
-    (c.in_ok-whole.ensures.ends
+    (c.in_ok-whole.ensures.reads.ends
     ∙ ap (λ whole. counted (not whole) (g.S.Source.counts c.args.source.now).ends) c.if-not-whole.true)
 
 pub returns-then-is_header1-clause-held : goal.returns-then-is_header1-clause-held
@@ -55,14 +53,6 @@ returns-then-is_header1-clause-taken g c image knows =
     (c.in_ok-whole.ensures.taken image knows)) is (V1 c.from_bytes-header.result)
     (returns-then-is_header1-clause-held g c)
 
-pub returns-then-is_header1-clause-ends : goal.returns-then-is_header1-clause-ends
-returns-then-is_header1-clause-ends g c =
-    let is : is_luks1 c.extend_to.new.self.bytes ≡ true = ap is_luks1 (sym c.as_slice.ensures.value)
-    ∙ sym c.is_header1.ensures ∙ c.if-is_header1.true in
-    let enough = whole_falls c.extend_to.new.self.bytes is (c.in_ok-whole.ensures.whole.0 c.if-not-whole.false) in
-    c.in_ok-whole.ensures.ends
-    ∙ ap (λ short. counted short (g.S.Source.counts c.args.source.now).ends) (ap not c.if-not-whole.false ∙ sym enough)
-
 pub returns-then-is_header1-clause-only : goal.returns-then-is_header1-clause-only
 returns-then-is_header1-clause-only g c =
     let is : is_luks1 c.extend_to.new.self.bytes ≡ true = ap is_luks1 (sym c.as_slice.ensures.value)
@@ -84,7 +74,7 @@ returns-then-not-whole-2-clause-broken g c image knows =
     (area_is c.new-area.result.bytes c.extend_to.new.self.bytes image _
     (ap (λ (area : HeaderAreaModel). area.bytes) c.new-area.ensures)
     (c.in_ok-whole.ensures.taken image knows)) other short _ _
-    (c.in_ok-whole.ensures.ends
+    (c.in_ok-whole.ensures.reads.ends
     ∙ ap (λ whole. counted (not whole) (g.S.Source.counts c.args.source.now).ends) c.if-not-whole-2.true)
 
 pub returns-in_err-header-clause-broken : goal.returns-in_err-header-clause-broken
@@ -100,7 +90,7 @@ returns-in_err-header-clause-broken g c =
     let taken = area_is c.new-area.result.bytes c.extend_to.new.self.bytes image _
     (ap (λ (area : HeaderAreaModel). area.bytes) c.new-area.ensures)
     (c.in_ok-whole.ensures.taken image knows) in
-    let same = c.in_ok-whole.ensures.ends
+    let same = c.in_ok-whole.ensures.reads.ends
     ∙ ap (λ whole. counted (not whole) (g.S.Source.counts c.args.source.now).ends) c.if-not-whole-2.false in
     rest_broken c.extend_to.new.self.bytes image _ taken other all _ c.read2.new.area.bytes _ _ _
     c.in_err-header.field-0.0 same
@@ -129,51 +119,40 @@ returns-clause-taken g c image knows =
     rest_read c.extend_to.new.self.bytes image _ taken other all _ c.read2.new.area.bytes c.in_ok-header.header
     (c.in_ok-header.ensures.taken _ (left_is c.extend_to.new.self.bytes image _ taken other all))
 
-pub returns-clause-ends : goal.returns-clause-ends
-returns-clause-ends g c =
-    let same = c.in_ok-whole.ensures.ends
-    ∙ ap (λ whole. counted (not whole) (g.S.Source.counts c.args.source.now).ends) c.if-not-whole-2.false in
-    c.in_ok-header.ensures.ends ∙ ap (counted (falls_short c.read2.new.area.bytes)) same
-
 -- the area has not ended, since all its first bytes were there
-pub read2-requires-clause-going : goal.read2-requires-clause-going
-read2-requires-clause-going g c =
-    rw (c.in_ok-whole.was, c.if-not-whole-2.false, c.new-area.ensures) at c.extend_to.ensures.ended
+pub read2-requires : goal.read2-requires
+read2-requires g c =
+    let none : length c.new-area.result.bytes ≡ 0 =
+    ap (λ (area : HeaderAreaModel). length area.bytes) c.new-area.ensures in
+    let long : 592 ≤ length c.extend_to.new.self.bytes = c.in_ok-whole.ensures.whole.0 c.if-not-whole-2.false in
+    record {
+      first = (
+        omega (arith, c.in_ok-whole.ensures.within),
+        rw (c.in_ok-whole.was, c.if-not-whole-2.false, c.new-area.ensures) at c.extend_to.ensures.ended,
+        ap is_luks1 (sym c.as_slice.ensures.value) ∙ sym c.is_header1.ensures ∙ c.if-is_header1.false,
+      );
+    }
 
 pub returns-then-is_header1-clause-ended : goal.returns-then-is_header1-clause-ended
 returns-then-is_header1-clause-ended g c =
     let is : is_luks1 c.extend_to.new.self.bytes ≡ true = ap is_luks1 (sym c.as_slice.ensures.value)
     ∙ sym c.is_header1.ensures ∙ c.if-is_header1.true in
     let enough = whole_falls c.extend_to.new.self.bytes is (c.in_ok-whole.ensures.whole.0 c.if-not-whole.false) in
-    (rw (c.in_ok-whole.was, c.if-not-whole.false, c.new-area.ensures) at c.extend_to.ensures.ended) ∙ sym enough
-
-pub returns-then-is_header1-clause-emptied : goal.returns-then-is_header1-clause-emptied
-returns-then-is_header1-clause-emptied g c ended =
     let goes = rw (c.in_ok-whole.was, c.if-not-whole.false, c.new-area.ensures) at c.extend_to.ensures.ended in
-    absurd (cc)
+    (goes ∙ sym enough, λ ended. absurd (cc))
 
-pub returns-clause-needed : goal.returns-clause-needed
-returns-clause-needed g c =
-    let same = c.in_ok-whole.ensures.ends
-    ∙ ap (λ whole. counted (not whole) (g.S.Source.counts c.args.source.now).ends) c.if-not-whole-2.false in
-    reads_then (g.S.Source.counts c.args.source.now) (g.S.Source.counts c.extend_to.new.source)
-    (g.S.Source.counts c.read2.new.source) c.in_ok-whole.ensures.reads same c.in_ok-whole.ensures.needed c.in_ok-header.ensures.needed
-
-pub returns-in_err-header-clause-needed : goal.returns-in_err-header-clause-needed
-returns-in_err-header-clause-needed g c =
-    let same = c.in_ok-whole.ensures.ends
-    ∙ ap (λ whole. counted (not whole) (g.S.Source.counts c.args.source.now).ends) c.if-not-whole-2.false in
-    reads_then (g.S.Source.counts c.args.source.now) (g.S.Source.counts c.extend_to.new.source)
-    (g.S.Source.counts c.read2.new.source) c.in_ok-whole.ensures.reads same c.in_ok-whole.ensures.needed c.in_err-header.ensures.needed
-
-pub returns-clause-emptied : goal.returns-clause-emptied
-returns-clause-emptied g c ended image knows =
+pub returns-clause-ended : goal.returns-clause-ended
+returns-clause-ended g c =
     let other : is_luks1 c.extend_to.new.self.bytes ≡ false = ap is_luks1 (sym c.as_slice.ensures.value)
     ∙ sym c.is_header1.ensures ∙ c.if-is_header1.false in
-    let none : length c.new-area.result.bytes ≡ 0 = ap (λ (area : HeaderAreaModel). length area.bytes) c.new-area.ensures
-    in
+    let none : length c.new-area.result.bytes ≡ 0 =
+    ap (λ (area : HeaderAreaModel). length area.bytes) c.new-area.ensures in
     let long : 592 ≤ length c.extend_to.new.self.bytes = c.in_ok-whole.ensures.whole.0 c.if-not-whole-2.false in
-    let all : length c.extend_to.new.self.bytes ≡ 592 = omega (arith, c.in_ok-whole.ensures.within) in
-    let taken = area_is c.new-area.result.bytes c.extend_to.new.self.bytes image _
-    (ap (λ (area : HeaderAreaModel). area.bytes) c.new-area.ensures) (c.in_ok-whole.ensures.taken image knows) in
-    c.in_ok-header.ensures.emptied ended (drop 592 image) (left_is c.extend_to.new.self.bytes image _ taken other all)
+    let all : length c.extend_to.new.self.bytes ≡ 592 = omega (arith, c.in_ok-whole.ensures.within) in (
+      c.in_ok-header.ensures.ended,
+      λ ended image knows.
+          let taken = area_is c.new-area.result.bytes c.extend_to.new.self.bytes image _
+          (ap (λ (area : HeaderAreaModel). area.bytes) c.new-area.ensures) (c.in_ok-whole.ensures.taken image knows) in
+          c.in_ok-header.ensures.emptied ended (drop 592 image)
+          (left_is c.extend_to.new.self.bytes image _ taken other all),
+    )
