@@ -5,7 +5,7 @@ ghost use Rattle.std.specs.Prelude.{◌≡◌, ◌≢◌, ◌+◌, ◌-◌, ◌<
 ghost use Rattle.std.specs.Prelude.{IsErr, MatchResult, is_err, is_some, length, min, nat_le, take};
 ghost use Rattle.std.specs.Io.{ReadsAtMost};
 ghost use Rattle.std.specs.Io.KnownBytes.{Consumes, IsAtEnd, Keeps, ReadConsumes, prepend_known};
-ghost use Rattle.luks_io.specs.Ahead.{max_read};
+ghost use Rattle.luks_io.specs.Ahead.{ReadsAhead, announced_after, max_read};
 ghost use Rattle.luks_io.specs.Devices.{ConsumedAtMost, IfKnown, is_end};
 ghost use Rattle.luks_io.specs.Counts.{Reads, Writes, after_read};
 ghost use Rattle.luks_io.specs.Forwarding.{ForwardEffect, held_after, is_aborted};
@@ -113,11 +113,10 @@ impl<S: Source> AheadSource<S> {
             result buf.new }
         ensures below { S.counts self.new.source
             ≡ after_read result (length buf.new) (S.counts self.old.source) }
-        ensures counts { self.new.counts ≡ self.old.counts }
-        ensures held { self.new.held ≡ self.old.held }
-        ensures announced { IfOk result (λ n. self.new.announced ≡ self.old.announced - n) }
-        ensures kept { IsErr result → self.new.announced ≡ self.old.announced }
-        ensures room { self.new.room ≡ self.old.room }
+        ensures leaves { self.new ≡ record self.old {
+          source = self.new.source;
+          announced = announced_after result self.old.announced;
+        } }
     {
         let count = self.source.read(buf)?;
         self.announced = self.announced.saturating_sub(count as u64);
@@ -128,19 +127,19 @@ impl<S: Source> AheadSource<S> {
     fn refill(&mut self, count: usize) -> Result<usize, DeviceFault>
         requires room { count ≤ self.old.room }
         requires empty { self.old.held ≡ [] }
-        ensures bound { IfOk result (λ n. n ≤ count) }
-        ensures held { IfOk result (λ n. length self.new.held ≡ n) }
+        ensures held { MatchResult result (λ n. (n ≤ count) × (length self.new.held ≡ n))
+            (λ _. self.new.held ≡ self.old.held) }
         ensures bytes { MatchResult result
             (λ n. Consumes (S.to_come self.old.source) (S.to_come self.new.source) self.new.held
             × (n ≡ 0 → 0 < count → IsAtEnd (S.to_come self.new.source)))
             (λ _. Keeps (S.to_come self.old.source) (S.to_come self.new.source)) }
         ensures below { S.counts self.new.source
             ≡ after_read result count (S.counts self.old.source) }
-        ensures counts { self.new.counts ≡ self.old.counts }
-        ensures announced { IfOk result (λ n. self.new.announced ≡ self.old.announced - n) }
-        ensures kept { IsErr result → (self.new.held ≡ self.old.held)
-            × (self.new.announced ≡ self.old.announced) }
-        ensures room { self.new.room ≡ self.old.room }
+        ensures leaves { self.new ≡ record self.old {
+          source = self.new.source;
+          held = self.new.held;
+          announced = announced_after result self.old.announced;
+        } }
     {
         self.start = 0;
         self.end = 0;
@@ -155,10 +154,7 @@ impl<S: Source> AheadSource<S> {
         ensures count { result ≡ min (length buf.old) (length self.old.held) }
         ensures len { length buf.new ≡ length buf.old }
         ensures bytes { self.old.held ≡ take result buf.new ++ self.new.held }
-        ensures source { self.new.source ≡ self.old.source }
-        ensures announced { self.new.announced ≡ self.old.announced }
-        ensures room { self.new.room ≡ self.old.room }
-        ensures counts { self.new.counts ≡ self.old.counts }
+        ensures leaves { self.new ≡ record self.old { held = self.new.held } }
     {
         let (start, end) = (self.start, self.end);
         let count = buf.len().min(end - start);
@@ -200,20 +196,10 @@ impl<S: Source> Source for AheadSource<S> {
         ensures counts { self.new.counts ≡ after_read result (length buf.new) self.old.counts }
         ensures reads { Reads (is_err result) (is_end result (length buf.new))
             (S.counts self.old.source) (S.counts self.new.source) }
-        ensures alone { (self.old.held ≢ []) ⊎ (length buf.old ≡ 0)
-            → self.new.source ≡ self.old.source }
         ensures within { IfKnown (S.to_come self.old.source)
             (λ known. ConsumedAtMost known (S.to_come self.new.source)
             (max_read (length buf.old) self.old.announced self.old.room)) }
-        ensures most { IfOk result (λ n. n + length self.new.held ≤ length self.old.held
-            + max_read (length buf.old) self.old.announced self.old.room) }
-        ensures announced { IfOk result (λ n. self.new.announced
-            ≡ self.old.announced - (n + length self.new.held - length self.old.held)) }
-        ensures kept { IsErr result → (self.new.held ≡ self.old.held)
-            × (self.new.announced ≡ self.old.announced) }
-        ensures room { self.new.room ≡ self.old.room }
-        ensures held { self.old.held ≢ []
-            → IfOk result (λ n. n ≡ min (length buf.old) (length self.old.held)) }
+        ensures leaves { ReadsAhead (length buf.old) result self.old self.new }
     {
         if self.start == self.end && !buf.is_empty() {
             let ahead = self.announced.min(self.buffer.len() as u64) as usize;
@@ -252,10 +238,8 @@ impl<S: Source> Source for AheadSource<S> {
         ensures counts { self.new.counts ≡ self.old.counts }
         ensures writes { Writes (is_aborted result) (O.counts sink.old) (O.counts sink.new) }
         ensures enough { is_some result ≡ nat_le count (length self.old.held) }
-        ensures held { self.new.held ≡ held_after result count self.old.held }
-        ensures source { self.new.source ≡ self.old.source }
-        ensures announced { self.new.announced ≡ self.old.announced }
-        ensures room { self.new.room ≡ self.old.room }
+        ensures leaves { self.new
+            ≡ record self.old { held = held_after result count self.old.held } }
     {
         let start = self.start;
         if self.end - start < count {

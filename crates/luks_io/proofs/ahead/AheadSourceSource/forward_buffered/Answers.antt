@@ -12,8 +12,9 @@ returns-clause-forwards g c =
     (search rules)
     (search rules) (search rules) (search rules))
 
-pub returns-clause-held : goal.returns-clause-held
-returns-clause-held g c =
+pub returns-clause-leaves : goal.returns-clause-leaves
+returns-clause-leaves g c =
     let at = c.self.inside in
-    rw (← c.self.view_is) (stays_held at.buffer.items c.put_transformed-answer.new.buffer at.buffer.len at.start at.end
-    c.args.count (omega arith) (omega arith) (search rules) (search rules) (search rules))
+    let held = stays_held at.buffer.items c.put_transformed-answer.new.buffer at.buffer.len at.start at.end
+    c.args.count (omega arith) (omega arith) (search rules) (search rules) (search rules) in
+    rw (← c.self.view_is, held) (search rules)
