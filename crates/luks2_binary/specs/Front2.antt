@@ -1,4 +1,5 @@
 -- What is loaded of an image while its header is sought.
+use Rattle.std.specs.Prelude.{IfErr, OnErr, OnOk, ◌⊎◌}
 use Rattle.std.specs.Prelude.{◌≡◌, ◌+◌, ◌-◌, ◌<◌, ◌≤◌, ◌&&◌, ℕ, Bool, true, false, not, if◌then◌else◌, List, Option}
 use Rattle.std.specs.Prelude.{[], Some, None, Result, Ok, Err, drop, length, max, nat_lt, take}
 use Rattle.luks_io.specs.Counts.{Reads}
@@ -58,6 +59,17 @@ FallsShort held' ended ended' reach = OfEach held' ended' (λ image. ended ≡ f
 -- less of an image is loaded than is to be read
 abbrev pub StaysBelow : List ℕ → Bool → (List ℕ → ℕ) → Type 0
 StaysBelow held ended reach = OfEach held ended (λ image. length held < reach image)
+
+-- an image was loaded as far as it is to be read: no further, and no less unless its end was hit. A failed read or a
+-- want of memory aborts this before its end is hit, and memory runs out only while more is yet to be read
+pub record LoadedFor {T : Type 0} (reach : List ℕ → ℕ) (answer : Result T HeaderFault) (held held' : List ℕ)
+    (ended ended' : Bool) : Type 0 where
+  pub within : WithinReach held held' ended' reach
+  pub settled : OnOk answer (Reaches held' ended' reach)
+  pub over : OnOk answer (FallsShort held' ended ended' reach)
+  pub going : OnErr answer (ended' ≡ false)
+  pub early : IfErr answer (λ fault. fault ≡ Memory → StaysBelow held' ended' reach)
+  pub refusals : IfErr answer (λ fault. (fault ≡ Read) ⊎ (fault ≡ Memory))
 
 -- the rest of an image, as much of it as is read for the header, went behind what was loaded
 abbrev pub ConsumedReadLen : List ℕ → List ℕ → List ℕ → List ℕ → Option (List ℕ) → Type 0

@@ -8,8 +8,8 @@ ghost use Rattle.luks_io.specs.Counts.{Reads};
 ghost use Rattle.luks_area.specs.Area.{is_read, max_area_len};
 ghost use Rattle.luks2_binary.specs.Choice2.{chosen2_of, found_at, header2_of, least_valid};
 ghost use Rattle.luks2_binary.specs.ReadLen2.{header2_read_len, reach2_of, probe_end, search_reach};
-ghost use Rattle.luks2_binary.specs.Front2.{AnsweredFrom, Extended, FallsShort, OfEach, Reaches};
-ghost use Rattle.luks2_binary.specs.Front2.{RemembersEnd, SeeksHeader2, StaysBelow, WithinReach, hits_eof};
+ghost use Rattle.luks2_binary.specs.Front2.{AnsweredFrom, Extended, LoadedFor, OfEach};
+ghost use Rattle.luks2_binary.specs.Front2.{RemembersEnd, SeeksHeader2, hits_eof};
 ghost use Rattle.luks2_binary.specs.Front2.{unloaded, valid_size};
 
 use crate::choice::{valid_header, with_valid_primary};
@@ -55,20 +55,11 @@ fn header_at<S: Source>(
         OfEach area.new.bytes area.new.ended (λ image. size ≡ valid_size image place)) }
     ensures range { IfOk result (λ found. IfSome found (λ size.
         (16384 ≤ size) × (size ≤ 4194304))) }
-    ensures within { WithinReach area.old.bytes area.new.bytes area.new.ended
-        (λ image. probe_end image place) }
-    ensures settled { OnOk result (Reaches area.new.bytes area.new.ended
-        (λ image. probe_end image place)) }
-    ensures over { OnOk result (FallsShort area.new.bytes area.old.ended area.new.ended
-        (λ image. probe_end image place)) }
-    ensures going { OnErr result (area.new.ended ≡ false) }
-    ensures early { IfErr result (λ fault. fault ≡ HeaderFault.Memory
-        → StaysBelow area.new.bytes area.new.ended (λ image. probe_end image place)) }
+    ensures loads { LoadedFor (λ image. probe_end image place) result area.old.bytes area.new.bytes
+        area.old.ended area.new.ended }
     ensures grew { Extended area.old.bytes area.new.bytes area.old.ended area.new.ended
         (S.to_come source.old) (S.to_come source.new) (is_read result)
         (S.counts source.old) (S.counts source.new) }
-    ensures refusals { IfErr result (λ fault.
-        (fault ≡ HeaderFault.Read) ⊎ (fault ≡ HeaderFault.Memory)) }
 {
     if !grow(area, source, place + BINARY_LEN)? {
         return Ok(None);
@@ -86,18 +77,11 @@ fn header_at<S: Source>(
 fn search<S: Source>(area: &mut HeaderArea, source: &mut S) -> Result<Option<Header2>, HeaderFault>
     ensures found { IfOk result (λ header. OfEach area.new.bytes area.new.ended
         (λ image. header ≡ option_and_then (found_at image) (least_valid image))) }
-    ensures within { WithinReach area.old.bytes area.new.bytes area.new.ended search_reach }
-    ensures settled { OnOk result (Reaches area.new.bytes area.new.ended search_reach) }
-    ensures over { OnOk result
-        (FallsShort area.new.bytes area.old.ended area.new.ended search_reach) }
-    ensures going { OnErr result (area.new.ended ≡ false) }
-    ensures early { IfErr result (λ fault. fault ≡ HeaderFault.Memory
-        → StaysBelow area.new.bytes area.new.ended search_reach) }
+    ensures loads { LoadedFor search_reach result area.old.bytes area.new.bytes
+        area.old.ended area.new.ended }
     ensures grew { Extended area.old.bytes area.new.bytes area.old.ended area.new.ended
         (S.to_come source.old) (S.to_come source.new) (is_read result)
         (S.counts source.old) (S.counts source.new) }
-    ensures refusals { IfErr result (λ fault.
-        (fault ≡ HeaderFault.Read) ⊎ (fault ≡ HeaderFault.Memory)) }
 {
     for place in places() {
         let place = *place as usize;
@@ -114,17 +98,11 @@ fn search<S: Source>(area: &mut HeaderArea, source: &mut S) -> Result<Option<Hea
 fn choose<S: Source>(area: &mut HeaderArea, source: &mut S) -> Result<Option<Header2>, HeaderFault>
     ensures chosen { IfOk result (λ header. OfEach area.new.bytes area.new.ended
         (λ image. header ≡ chosen2_of image)) }
-    ensures within { WithinReach area.old.bytes area.new.bytes area.new.ended reach2_of }
-    ensures settled { OnOk result (Reaches area.new.bytes area.new.ended reach2_of) }
-    ensures over { OnOk result (FallsShort area.new.bytes area.old.ended area.new.ended reach2_of) }
-    ensures going { OnErr result (area.new.ended ≡ false) }
-    ensures early { IfErr result (λ fault. fault ≡ HeaderFault.Memory
-        → StaysBelow area.new.bytes area.new.ended reach2_of) }
+    ensures loads { LoadedFor reach2_of result area.old.bytes area.new.bytes
+        area.old.ended area.new.ended }
     ensures grew { Extended area.old.bytes area.new.bytes area.old.ended area.new.ended
         (S.to_come source.old) (S.to_come source.new) (is_read result)
         (S.counts source.old) (S.counts source.new) }
-    ensures refusals { IfErr result (λ fault.
-        (fault ≡ HeaderFault.Read) ⊎ (fault ≡ HeaderFault.Memory)) }
 {
     let Some(size) = header_at(area, source, 0)? else {
         return search(area, source);

@@ -1,4 +1,4 @@
-use Rattle.std.proofs.Common.{◌∙◌, ◌*◌, ap, sym, arith}
+use Rattle.std.proofs.Common.{rules, ◌∙◌, ◌*◌, ap, sym, arith}
 use Rattle.std.proofs.lemmas.Result.{err_from_is_err_and}
 use Rattle.luks2_binary.specs.Choice2.{with_valid_primary}
 use Rattle.luks2_binary.specs.ReadLen2.{reach2_of, probe_end}
@@ -8,15 +8,18 @@ use Rattle.luks2_binary.proofs.ChoiceLemmas.{reach_primary, size_valid}
 use Rattle.luks2_binary.proofs.FrontLemmas.{not_ended, over_joined}
 use Rattle.luks2_binary.proofs.reading.choose.Goals as goal
 
-pub returns-in_err-size-clause-within : goal.returns-in_err-size-clause-within
-returns-in_err-size-clause-within g c = λ image front.
-    omega (arith, c.header_at.ensures.within image front, reach_first image)
-
-pub returns-in_err-size-clause-early : goal.returns-in_err-size-clause-early
-returns-in_err-size-clause-early g c =
-    let p = err_from_is_err_and c.from_residual.result c.from_residual.ensures.1 in
-    rw (p.1, p.2) (λ stops image front.
-    omega (arith, c.in_err-size.ensures.early stops image front, reach_first image))
+pub returns-in_err-size-clause-loads : goal.returns-in_err-size-clause-loads
+returns-in_err-size-clause-loads g c = record {
+  within = λ image front.
+      omega (arith, c.header_at.ensures.loads.within image front, reach_first image);
+  settled = search rules;
+  over = search rules;
+  going = search rules;
+  early = let p = err_from_is_err_and c.from_residual.result c.from_residual.ensures.1 in
+      rw (p.1, p.2) (λ stops image front.
+      omega (arith, c.in_err-size.ensures.loads.early stops image front, reach_first image));
+  refusals = search rules;
+}
 
 -- the primary header is not valid
 pub returns-in_default-clause-chosen : goal.returns-in_default-clause-chosen
@@ -26,58 +29,56 @@ returns-in_default-clause-chosen g c =
     (sym c.in_default.is ∙ c.in_ok-size.ensures.valid image (c.search.ensures.grew.fronts image front)))
     c.search.ensures.found
 
-pub returns-in_default-clause-within : goal.returns-in_default-clause-within
-returns-in_default-clause-within g c = λ image front.
-    let first = c.search.ensures.grew.fronts image front in
-    let none = no_size_valid image 0 (sym c.in_default.is ∙ c.in_ok-size.ensures.valid image first) in
-    omega (arith, c.header_at.ensures.within image first, c.search.ensures.within image front, reach_other image none)
-
-pub returns-in_default-clause-settled : goal.returns-in_default-clause-settled
-returns-in_default-clause-settled g c =
-    let grew = c.search.ensures.grew in
-    found_settled c.search.new.area.bytes c.search.new.area.ended c.search.result
-    (λ image front. no_size_valid image 0
-    (sym c.in_default.is ∙ c.in_ok-size.ensures.valid image (grew.fronts image front)))
-    (λ image front goes.
-    omega (
-      arith,
-      c.in_ok-size.ensures.settled image (grew.fronts image front)
-          (not_ended c.header_at.new.area.ended c.search.new.area.ended grew.stays goes),
-      grew.longer,
-    ))
-    c.search.ensures.settled
-
-pub returns-in_default-clause-over : goal.returns-in_default-clause-over
-returns-in_default-clause-over g c =
-    found_over c.header_at.new.area.bytes c.search.new.area.bytes c.args.area.now.ended c.header_at.new.area.ended
-    c.search.new.area.ended
-    c.search.result c.search.ensures.grew.fronts
-    (λ image front. no_size_valid image 0
-    (sym c.in_default.is ∙ c.in_ok-size.ensures.valid image (c.search.ensures.grew.fronts image front)))
-    c.in_ok-size.ensures.over c.search.ensures.over
-
-pub returns-in_default-clause-early : goal.returns-in_default-clause-early
-returns-in_default-clause-early g c =
-    found_early c.search.new.area.bytes c.search.new.area.ended c.search.result
-    (λ image front. no_size_valid image 0
-    (sym c.in_default.is ∙ c.in_ok-size.ensures.valid image (c.search.ensures.grew.fronts image front)))
-    c.search.ensures.early
+pub returns-in_default-clause-loads : goal.returns-in_default-clause-loads
+returns-in_default-clause-loads g c = record {
+  within = λ image front.
+      let first = c.search.ensures.grew.fronts image front in
+      let none = no_size_valid image 0 (sym c.in_default.is ∙ c.in_ok-size.ensures.valid image first) in
+      omega (arith, c.header_at.ensures.loads.within image first, c.search.ensures.loads.within image front, reach_other image none);
+  settled = let grew = c.search.ensures.grew in
+      found_settled c.search.new.area.bytes c.search.new.area.ended c.search.result
+      (λ image front. no_size_valid image 0
+      (sym c.in_default.is ∙ c.in_ok-size.ensures.valid image (grew.fronts image front)))
+      (λ image front goes.
+      omega (
+        arith,
+        c.in_ok-size.ensures.loads.settled image (grew.fronts image front)
+            (not_ended c.header_at.new.area.ended c.search.new.area.ended grew.stays goes),
+        grew.longer,
+      ))
+      c.search.ensures.loads.settled;
+  over = found_over c.header_at.new.area.bytes c.search.new.area.bytes c.args.area.now.ended c.header_at.new.area.ended
+      c.search.new.area.ended
+      c.search.result c.search.ensures.grew.fronts
+      (λ image front. no_size_valid image 0
+      (sym c.in_default.is ∙ c.in_ok-size.ensures.valid image (c.search.ensures.grew.fronts image front)))
+      c.in_ok-size.ensures.loads.over c.search.ensures.loads.over;
+  going = search rules;
+  early = found_early c.search.new.area.bytes c.search.new.area.ended c.search.result
+      (λ image front. no_size_valid image 0
+      (sym c.in_default.is ∙ c.in_ok-size.ensures.valid image (c.search.ensures.grew.fronts image front)))
+      c.search.ensures.loads.early;
+  refusals = search rules;
+}
 
 -- the primary header is valid
-pub returns-in_err-grow-clause-within : goal.returns-in_err-grow-clause-within
-returns-in_err-grow-clause-within g c = λ image front.
-    let first = c.grow.ensures.grew.fronts image front in
-    primary_within image c.args.area.now.bytes c.header_at.new.area.bytes c.grow.new.area.bytes c.in-Some.size
-    (sym c.in-Some.is ∙ c.in_ok-size.ensures.valid image first) (c.header_at.ensures.within image first)
-    c.grow.ensures.within
-
-pub returns-in_err-grow-clause-early : goal.returns-in_err-grow-clause-early
-returns-in_err-grow-clause-early g c =
-    let p = err_from_is_err_and c.from_residual-in_err-grow.result c.from_residual-in_err-grow.ensures.1 in
-    rw (p.1, p.2) (λ stops image front.
-    let first = c.grow.ensures.grew.fronts image front in
-    let is = size_valid image 0 c.in-Some.size (sym c.in-Some.is ∙ c.in_ok-size.ensures.valid image first) in
-    omega (arith, c.in_err-grow.ensures.early stops, reach_primary image is.0, is.1))
+pub returns-in_err-grow-clause-loads : goal.returns-in_err-grow-clause-loads
+returns-in_err-grow-clause-loads g c = record {
+  within = λ image front.
+      let first = c.grow.ensures.grew.fronts image front in
+      primary_within image c.args.area.now.bytes c.header_at.new.area.bytes c.grow.new.area.bytes c.in-Some.size
+      (sym c.in-Some.is ∙ c.in_ok-size.ensures.valid image first) (c.header_at.ensures.loads.within image first)
+      c.grow.ensures.within;
+  settled = search rules;
+  over = search rules;
+  going = search rules;
+  early = let p = err_from_is_err_and c.from_residual-in_err-grow.result c.from_residual-in_err-grow.ensures.1 in
+      rw (p.1, p.2) (λ stops image front.
+      let first = c.grow.ensures.grew.fronts image front in
+      let is = size_valid image 0 c.in-Some.size (sym c.in-Some.is ∙ c.in_ok-size.ensures.valid image first) in
+      omega (arith, c.in_err-grow.ensures.early stops, reach_primary image is.0, is.1));
+  refusals = search rules;
+}
 
 pub returns-clause-chosen : goal.returns-clause-chosen
 returns-clause-chosen g c = λ image front.
@@ -89,25 +90,26 @@ returns-clause-chosen g c = λ image front.
     (λ goes. omega (arith, c.in_ok-grow.ensures.settled goes, is.1))
     ∙ sym (chosen_primary image is.0)
 
-pub returns-clause-within : goal.returns-clause-within
-returns-clause-within g c = λ image front.
-    let first = c.grow.ensures.grew.fronts image front in
-    primary_within image c.args.area.now.bytes c.header_at.new.area.bytes c.grow.new.area.bytes c.in-Some.size
-    (sym c.in-Some.is ∙ c.in_ok-size.ensures.valid image first) (c.header_at.ensures.within image first)
-    c.grow.ensures.within
-
-pub returns-clause-settled : goal.returns-clause-settled
-returns-clause-settled g c = λ image front goes.
-    let first = c.grow.ensures.grew.fronts image front in
-    let is = size_valid image 0 c.in-Some.size (sym c.in-Some.is ∙ c.in_ok-size.ensures.valid image first) in
-    omega (arith, c.in_ok-grow.ensures.settled goes, reach_primary image is.0, is.1)
-
-pub returns-clause-over : goal.returns-clause-over
-returns-clause-over g c = λ image front.
-    let first = c.grow.ensures.grew.fronts image front in
-    let is = size_valid image 0 c.in-Some.size (sym c.in-Some.is ∙ c.in_ok-size.ensures.valid image first) in
-    over_joined image c.header_at.new.area.bytes c.grow.new.area.bytes c.args.area.now.ended c.header_at.new.area.ended
-    c.grow.new.area.ended
-    (probe_end image 0) (2 * c.in-Some.size) (reach2_of image) first front
-    (c.in_ok-size.ensures.over image first) c.in_ok-grow.ensures.over (reach_first image)
-    (omega (arith, reach_primary image is.0, is.1))
+pub returns-clause-loads : goal.returns-clause-loads
+returns-clause-loads g c = record {
+  within = λ image front.
+      let first = c.grow.ensures.grew.fronts image front in
+      primary_within image c.args.area.now.bytes c.header_at.new.area.bytes c.grow.new.area.bytes c.in-Some.size
+      (sym c.in-Some.is ∙ c.in_ok-size.ensures.valid image first) (c.header_at.ensures.loads.within image first)
+      c.grow.ensures.within;
+  settled = λ image front goes.
+      let first = c.grow.ensures.grew.fronts image front in
+      let is = size_valid image 0 c.in-Some.size (sym c.in-Some.is ∙ c.in_ok-size.ensures.valid image first) in
+      omega (arith, c.in_ok-grow.ensures.settled goes, reach_primary image is.0, is.1);
+  over = λ image front.
+      let first = c.grow.ensures.grew.fronts image front in
+      let is = size_valid image 0 c.in-Some.size (sym c.in-Some.is ∙ c.in_ok-size.ensures.valid image first) in
+      over_joined image c.header_at.new.area.bytes c.grow.new.area.bytes c.args.area.now.ended c.header_at.new.area.ended
+      c.grow.new.area.ended
+      (probe_end image 0) (2 * c.in-Some.size) (reach2_of image) first front
+      (c.in_ok-size.ensures.loads.over image first) c.in_ok-grow.ensures.over (reach_first image)
+      (omega (arith, reach_primary image is.0, is.1));
+  going = search rules;
+  early = search rules;
+  refusals = search rules;
+}

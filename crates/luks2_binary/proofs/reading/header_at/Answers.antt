@@ -1,4 +1,4 @@
-use Rattle.std.proofs.Common.{◌∙◌, ◌+◌, ◌≤◌, ap, length, arith}
+use Rattle.std.proofs.Common.{rules, ◌∙◌, ◌+◌, ◌≤◌, ap, length, arith}
 use Rattle.std.specs.Bool.{then_some}
 use Rattle.std.proofs.lemmas.Result.{err_from_is_err_and}
 use Rattle.luks2_binary.specs.ReadLen2.{probe_end}
@@ -8,15 +8,17 @@ use Rattle.luks2_binary.proofs.FrontLemmas.{over_joined}
 use Rattle.luks2_binary.proofs.ValidLemmas.{short-fits, unfit-is_valid}
 use Rattle.luks2_binary.proofs.reading.header_at.Goals as goal
 
-pub returns-in_err-grow-clause-within : goal.returns-in_err-grow-clause-within
-returns-in_err-grow-clause-within g c =
-    λ image front. omega (arith, c.grow.ensures.within, reach_least image c.args.place)
-
-pub returns-in_err-grow-clause-early : goal.returns-in_err-grow-clause-early
-returns-in_err-grow-clause-early g c =
-    let p = err_from_is_err_and c.from_residual.result c.from_residual.ensures.1 in
-    rw (p.1, p.2) (λ stops image front.
-    omega (arith, c.in_err-grow.ensures.early stops, reach_least image c.args.place))
+pub returns-in_err-grow-clause-loads : goal.returns-in_err-grow-clause-loads
+returns-in_err-grow-clause-loads g c = record {
+  within = λ image front. omega (arith, c.grow.ensures.within, reach_least image c.args.place);
+  settled = search rules;
+  over = search rules;
+  going = search rules;
+  early = let p = err_from_is_err_and c.from_residual.result c.from_residual.ensures.1 in
+      rw (p.1, p.2) (λ stops image front.
+      omega (arith, c.in_err-grow.ensures.early stops, reach_least image c.args.place));
+  refusals = search rules;
+}
 
 -- the image ends before a binary header does
 pub returns-then-not-branch-clause-valid : goal.returns-then-not-branch-clause-valid
@@ -28,13 +30,15 @@ returns-then-not-branch-clause-valid g c =
     let short = short-fits image c.args.place (omega (arith, all.1, ap length all.0)) in
     no_size image c.args.place (unfit-is_valid image c.args.place short)
 
-pub returns-then-not-branch-clause-within : goal.returns-then-not-branch-clause-within
-returns-then-not-branch-clause-within g c =
-    λ image front. omega (arith, c.grow.ensures.within, reach_least image c.args.place)
-
-pub returns-then-not-branch-clause-over : goal.returns-then-not-branch-clause-over
-returns-then-not-branch-clause-over g c =
-    λ image front goes found. omega (arith, c.in_ok-grow.ensures.over goes found, reach_least image c.args.place)
+pub returns-then-not-branch-clause-loads : goal.returns-then-not-branch-clause-loads
+returns-then-not-branch-clause-loads g c = record {
+  within = λ image front. omega (arith, c.grow.ensures.within, reach_least image c.args.place);
+  settled = search rules;
+  over = λ image front goes found. omega (arith, c.in_ok-grow.ensures.over goes found, reach_least image c.args.place);
+  going = search rules;
+  early = search rules;
+  refusals = search rules;
+}
 
 -- no header fits
 pub returns-in_default-clause-valid : goal.returns-in_default-clause-valid
@@ -44,35 +48,39 @@ returns-in_default-clause-valid g c =
     c.as_slice.ensures.value (c.in_ok-grow.ensures.whole.0 c.if-not-branch.false) c.in_default.ensures.value in
     no_size image c.args.place (unfit-is_valid image c.args.place unfit)
 
-pub returns-in_default-clause-within : goal.returns-in_default-clause-within
-returns-in_default-clause-within g c =
-    λ image front. omega (arith, c.grow.ensures.within, reach_least image c.args.place)
+pub returns-in_default-clause-loads : goal.returns-in_default-clause-loads
+returns-in_default-clause-loads g c = record {
+  within = λ image front. omega (arith, c.grow.ensures.within, reach_least image c.args.place);
+  settled = λ image front goes.
+      let there : c.args.place + 4096 ≤ length c.grow.new.area.bytes = c.in_ok-grow.ensures.whole.0 c.if-not-branch.false
+      in
+      let unfit = unfit_here c.grow.new.area.bytes c.grow.new.area.ended image c.as_slice.result.now c.args.place front
+      c.as_slice.ensures.value there c.in_default.ensures.value in
+      omega (arith, there, reach_unfit image c.args.place unfit);
+  over = search rules;
+  going = search rules;
+  early = search rules;
+  refusals = search rules;
+}
 
-pub returns-in_default-clause-settled : goal.returns-in_default-clause-settled
-returns-in_default-clause-settled g c =
-    λ image front goes.
-    let there : c.args.place + 4096 ≤ length c.grow.new.area.bytes = c.in_ok-grow.ensures.whole.0 c.if-not-branch.false
-    in
-    let unfit = unfit_here c.grow.new.area.bytes c.grow.new.area.ended image c.as_slice.result.now c.args.place front
-    c.as_slice.ensures.value there c.in_default.ensures.value in
-    omega (arith, there, reach_unfit image c.args.place unfit)
-
-pub returns-in_err-grow-2-clause-within : goal.returns-in_err-grow-2-clause-within
-returns-in_err-grow-2-clause-within g c =
-    λ image front.
-    let fit = fit_here c.grow.new.area.bytes c.grow.new.area.ended image c.as_slice.result.now c.args.place
-    (c.grow-2.ensures.grew.fronts image front) c.as_slice.ensures.value
-    (c.in_ok-grow.ensures.whole.0 c.if-not-branch.false) c.in-Some.size c.in-Some.ensures.value in
-    omega (arith, c.grow.ensures.within, c.grow-2.ensures.within, reach_fit image c.args.place fit.0, fit.1)
-
-pub returns-in_err-grow-2-clause-early : goal.returns-in_err-grow-2-clause-early
-returns-in_err-grow-2-clause-early g c =
-    let p = err_from_is_err_and c.from_residual-in_err-grow-2.result c.from_residual-in_err-grow-2.ensures.1 in
-    rw (p.1, p.2) (λ stops image front.
-    let fit = fit_here c.grow.new.area.bytes c.grow.new.area.ended image c.as_slice.result.now c.args.place
-    (c.grow-2.ensures.grew.fronts image front) c.as_slice.ensures.value
-    (c.in_ok-grow.ensures.whole.0 c.if-not-branch.false) c.in-Some.size c.in-Some.ensures.value in
-    omega (arith, c.in_err-grow-2.ensures.early stops, reach_fit image c.args.place fit.0, fit.1))
+pub returns-in_err-grow-2-clause-loads : goal.returns-in_err-grow-2-clause-loads
+returns-in_err-grow-2-clause-loads g c = record {
+  within = λ image front.
+      let fit = fit_here c.grow.new.area.bytes c.grow.new.area.ended image c.as_slice.result.now c.args.place
+      (c.grow-2.ensures.grew.fronts image front) c.as_slice.ensures.value
+      (c.in_ok-grow.ensures.whole.0 c.if-not-branch.false) c.in-Some.size c.in-Some.ensures.value in
+      omega (arith, c.grow.ensures.within, c.grow-2.ensures.within, reach_fit image c.args.place fit.0, fit.1);
+  settled = search rules;
+  over = search rules;
+  going = search rules;
+  early = let p = err_from_is_err_and c.from_residual-in_err-grow-2.result c.from_residual-in_err-grow-2.ensures.1 in
+      rw (p.1, p.2) (λ stops image front.
+      let fit = fit_here c.grow.new.area.bytes c.grow.new.area.ended image c.as_slice.result.now c.args.place
+      (c.grow-2.ensures.grew.fronts image front) c.as_slice.ensures.value
+      (c.in_ok-grow.ensures.whole.0 c.if-not-branch.false) c.in-Some.size c.in-Some.ensures.value in
+      omega (arith, c.in_err-grow-2.ensures.early stops, reach_fit image c.args.place fit.0, fit.1));
+  refusals = search rules;
+}
 
 -- the image ends before the header does
 pub returns-then-not-branch-2-clause-valid : goal.returns-then-not-branch-2-clause-valid
@@ -86,26 +94,28 @@ returns-then-not-branch-2-clause-valid g c =
     c.in_ok-grow-2.ensures.whole c.in_ok-grow-2.ensures.settled c.if-not-branch-2.true in
     no_size image c.args.place (short-valid image c.args.place fit.0 (omega (arith, all.1, ap length all.0, fit.1)))
 
-pub returns-then-not-branch-2-clause-within : goal.returns-then-not-branch-2-clause-within
-returns-then-not-branch-2-clause-within g c =
-    λ image front.
-    let fit = fit_here c.grow.new.area.bytes c.grow.new.area.ended image c.as_slice.result.now c.args.place
-    (c.grow-2.ensures.grew.fronts image front) c.as_slice.ensures.value
-    (c.in_ok-grow.ensures.whole.0 c.if-not-branch.false) c.in-Some.size c.in-Some.ensures.value in
-    omega (arith, c.grow.ensures.within, c.grow-2.ensures.within, reach_fit image c.args.place fit.0, fit.1)
-
-pub returns-then-not-branch-2-clause-over : goal.returns-then-not-branch-2-clause-over
-returns-then-not-branch-2-clause-over g c =
-    λ image front.
-    let first = c.grow-2.ensures.grew.fronts image front in
-    let fit = fit_here c.grow.new.area.bytes c.grow.new.area.ended image c.as_slice.result.now c.args.place
-    first c.as_slice.ensures.value
-    (c.in_ok-grow.ensures.whole.0 c.if-not-branch.false) c.in-Some.size c.in-Some.ensures.value in
-    over_joined image c.grow.new.area.bytes c.grow-2.new.area.bytes c.args.area.now.ended c.grow.new.area.ended
-    c.grow-2.new.area.ended
-    (c.args.place + 4096) (c.args.place + c.in-Some.size) (probe_end image c.args.place) first front
-    c.in_ok-grow.ensures.over c.in_ok-grow-2.ensures.over (reach_least image c.args.place)
-    (omega (arith, reach_fit image c.args.place fit.0, fit.1))
+pub returns-then-not-branch-2-clause-loads : goal.returns-then-not-branch-2-clause-loads
+returns-then-not-branch-2-clause-loads g c = record {
+  within = λ image front.
+      let fit = fit_here c.grow.new.area.bytes c.grow.new.area.ended image c.as_slice.result.now c.args.place
+      (c.grow-2.ensures.grew.fronts image front) c.as_slice.ensures.value
+      (c.in_ok-grow.ensures.whole.0 c.if-not-branch.false) c.in-Some.size c.in-Some.ensures.value in
+      omega (arith, c.grow.ensures.within, c.grow-2.ensures.within, reach_fit image c.args.place fit.0, fit.1);
+  settled = search rules;
+  over = λ image front.
+      let first = c.grow-2.ensures.grew.fronts image front in
+      let fit = fit_here c.grow.new.area.bytes c.grow.new.area.ended image c.as_slice.result.now c.args.place
+      first c.as_slice.ensures.value
+      (c.in_ok-grow.ensures.whole.0 c.if-not-branch.false) c.in-Some.size c.in-Some.ensures.value in
+      over_joined image c.grow.new.area.bytes c.grow-2.new.area.bytes c.args.area.now.ended c.grow.new.area.ended
+      c.grow-2.new.area.ended
+      (c.args.place + 4096) (c.args.place + c.in-Some.size) (probe_end image c.args.place) first front
+      c.in_ok-grow.ensures.over c.in_ok-grow-2.ensures.over (reach_least image c.args.place)
+      (omega (arith, reach_fit image c.args.place fit.0, fit.1));
+  going = search rules;
+  early = search rules;
+  refusals = search rules;
+}
 
 pub returns-clause-valid : goal.returns-clause-valid
 returns-clause-valid g c =
@@ -121,20 +131,22 @@ returns-clause-valid g c =
     c.as_slice-2.ensures.value (omega (arith, there, c.grow-2.ensures.grew.longer)) fit.1
     (c.in_ok-grow-2.ensures.whole.0 c.if-not-branch-2.false)
 
-pub returns-clause-within : goal.returns-clause-within
-returns-clause-within g c =
-    λ image front.
-    let fit = fit_here c.grow.new.area.bytes c.grow.new.area.ended image c.as_slice.result.now c.args.place
-    (c.grow-2.ensures.grew.fronts image front) c.as_slice.ensures.value
-    (c.in_ok-grow.ensures.whole.0 c.if-not-branch.false) c.in-Some.size c.in-Some.ensures.value in
-    omega (arith, c.grow.ensures.within, c.grow-2.ensures.within, reach_fit image c.args.place fit.0, fit.1)
-
-pub returns-clause-settled : goal.returns-clause-settled
-returns-clause-settled g c =
-    λ image front goes.
-    let there : c.args.place + 4096 ≤ length c.grow.new.area.bytes = c.in_ok-grow.ensures.whole.0 c.if-not-branch.false
-    in
-    let fit = fit_here c.grow.new.area.bytes c.grow.new.area.ended image c.as_slice.result.now c.args.place
-    (c.grow-2.ensures.grew.fronts image front) c.as_slice.ensures.value there c.in-Some.size c.in-Some.ensures.value in
-    let whole = c.in_ok-grow-2.ensures.whole.0 c.if-not-branch-2.false in
-    omega (arith, there, whole, c.grow-2.ensures.grew.longer, reach_fit image c.args.place fit.0, fit.1)
+pub returns-clause-loads : goal.returns-clause-loads
+returns-clause-loads g c = record {
+  within = λ image front.
+      let fit = fit_here c.grow.new.area.bytes c.grow.new.area.ended image c.as_slice.result.now c.args.place
+      (c.grow-2.ensures.grew.fronts image front) c.as_slice.ensures.value
+      (c.in_ok-grow.ensures.whole.0 c.if-not-branch.false) c.in-Some.size c.in-Some.ensures.value in
+      omega (arith, c.grow.ensures.within, c.grow-2.ensures.within, reach_fit image c.args.place fit.0, fit.1);
+  settled = λ image front goes.
+      let there : c.args.place + 4096 ≤ length c.grow.new.area.bytes = c.in_ok-grow.ensures.whole.0 c.if-not-branch.false
+      in
+      let fit = fit_here c.grow.new.area.bytes c.grow.new.area.ended image c.as_slice.result.now c.args.place
+      (c.grow-2.ensures.grew.fronts image front) c.as_slice.ensures.value there c.in-Some.size c.in-Some.ensures.value in
+      let whole = c.in_ok-grow-2.ensures.whole.0 c.if-not-branch-2.false in
+      omega (arith, there, whole, c.grow-2.ensures.grew.longer, reach_fit image c.args.place fit.0, fit.1);
+  over = search rules;
+  going = search rules;
+  early = search rules;
+  refusals = search rules;
+}

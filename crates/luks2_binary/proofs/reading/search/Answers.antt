@@ -1,4 +1,4 @@
-use Rattle.std.proofs.Common.{◌∙◌, ◌<◌, ap, sym, length, get_or, arith}
+use Rattle.std.proofs.Common.{rules, ◌∙◌, ◌<◌, ap, sym, length, get_or, arith}
 use Rattle.std.specs.Prelude.{option_and_then}
 use Rattle.std.proofs.lemmas.Result.{err_from_is_err_and}
 use Rattle.luks2_binary.specs.Choice2.{found_at}
@@ -23,26 +23,29 @@ header_at-requires g c =
     rw c.places-place-items.ensures (place_range c.loop-place.place-index inside)
 
 -- reading is broken off at a place
-pub returns-in_err-header_at-clause-within : goal.returns-in_err-header_at-clause-within
-returns-in_err-header_at-clause-within g c = λ image front.
-    let grew = c.header_at.ensures.grew in
-    searched_within image c.args.area.now.bytes c.loop-place.area.bytes _ c.loop-place.area.ended _
-    c.loop-place.place-index _
-    c.places-place-items.ensures c.loop-place-test.true
-    (c.loop-place.invariant.searched image (grew.fronts image front)) grew.longer grew.stays
-    (c.header_at.ensures.within image front)
-
-pub returns-in_err-header_at-clause-early : goal.returns-in_err-header_at-clause-early
-returns-in_err-header_at-clause-early g c =
-    let p = err_from_is_err_and c.from_residual.result c.from_residual.ensures.1 in
-    let grew = c.header_at.ensures.grew in
-    rw (p.1, p.2) (λ is image front.
-    let below = reach_below image c.args.area.now.bytes c.loop-place.area.bytes _ c.loop-place.area.ended _
-    c.loop-place.place-index _
-    c.places-place-items.ensures c.loop-place-test.true
-    (c.loop-place.invariant.searched image (grew.fronts image front)) grew.longer grew.stays
-    (c.header_at.ensures.within image front) in
-    omega (arith, below, c.in_err-header_at.ensures.early is image front))
+pub returns-in_err-header_at-clause-loads : goal.returns-in_err-header_at-clause-loads
+returns-in_err-header_at-clause-loads g c = record {
+  within = λ image front.
+      let grew = c.header_at.ensures.grew in
+      searched_within image c.args.area.now.bytes c.loop-place.area.bytes _ c.loop-place.area.ended _
+      c.loop-place.place-index _
+      c.places-place-items.ensures c.loop-place-test.true
+      (c.loop-place.invariant.searched image (grew.fronts image front)) grew.longer grew.stays
+      (c.header_at.ensures.loads.within image front);
+  settled = search rules;
+  over = search rules;
+  going = search rules;
+  early = let p = err_from_is_err_and c.from_residual.result c.from_residual.ensures.1 in
+      let grew = c.header_at.ensures.grew in
+      rw (p.1, p.2) (λ is image front.
+      let below = reach_below image c.args.area.now.bytes c.loop-place.area.bytes _ c.loop-place.area.ended _
+      c.loop-place.place-index _
+      c.places-place-items.ensures c.loop-place-test.true
+      (c.loop-place.invariant.searched image (grew.fronts image front)) grew.longer grew.stays
+      (c.header_at.ensures.loads.within image front) in
+      omega (arith, below, c.in_err-header_at.ensures.loads.early is image front));
+  refusals = search rules;
+}
 
 -- a valid header is at a place
 pub valid_header-requires-clause-valid : goal.valid_header-requires-clause-valid
@@ -66,7 +69,7 @@ returns-then-is_some-clause-found g c = λ image front.
     let first = searched_place image c.args.area.now.bytes c.loop-place.area.bytes _ c.loop-place.area.ended _
     c.loop-place.place-index _ c.places-place-items.ensures c.loop-place-test.true
     (c.loop-place.invariant.searched image (grew.fronts image front)) grew.longer grew.stays
-    (c.header_at.ensures.within image front)
+    (c.header_at.ensures.loads.within image front)
     (some_valid image place c.in_ok-header_at.field-0 (c.in_ok-header_at.ensures.valid image front) some) in
     let valid = some_valid c.header_at.new.area.bytes place c.in_ok-header_at.field-0
     (c.in_ok-header_at.ensures.valid c.header_at.new.area.bytes
@@ -75,37 +78,38 @@ returns-then-is_some-clause-found g c = λ image front.
     found_least c.header_at.new.area.bytes c.header_at.new.area.ended image c.as_slice-bytes.result.now place
     c.valid_header.result front c.as_slice-bytes.ensures.value valid c.valid_header.ensures first
 
-pub returns-then-is_some-clause-within : goal.returns-then-is_some-clause-within
-returns-then-is_some-clause-within g c = λ image front.
-    let grew = c.header_at.ensures.grew in
-    searched_within image c.args.area.now.bytes c.loop-place.area.bytes _ c.loop-place.area.ended _
-    c.loop-place.place-index _
-    c.places-place-items.ensures c.loop-place-test.true
-    (c.loop-place.invariant.searched image (grew.fronts image front)) grew.longer grew.stays
-    (c.header_at.ensures.within image front)
-
-pub returns-then-is_some-clause-settled : goal.returns-then-is_some-clause-settled
-returns-then-is_some-clause-settled g c = λ image front goes.
-    let place = get_or c.places-place-items.result.now c.loop-place.place-index 0 in
-    let grew = c.header_at.ensures.grew in
-    searched_settled image c.args.area.now.bytes c.loop-place.area.bytes _ c.loop-place.area.ended _
-    c.loop-place.place-index _
-    c.places-place-items.ensures c.loop-place-test.true
-    (c.loop-place.invariant.searched image (grew.fronts image front)) grew.longer grew.stays
-    (c.header_at.ensures.within image front)
-    (some_valid image place c.in_ok-header_at.field-0 (c.in_ok-header_at.ensures.valid image front)
-    (sym c.is_some.ensures ∙ c.if-is_some.true))
-    (c.in_ok-header_at.ensures.settled image front) goes
-
-pub returns-then-is_some-clause-over : goal.returns-then-is_some-clause-over
-returns-then-is_some-clause-over g c = λ image front.
-    let grew = c.header_at.ensures.grew in
-    let first = grew.fronts image front in
-    over_here image c.args.area.now.bytes c.loop-place.area.bytes _ c.loop-place.area.ended _ c.loop-place.place-index _
-    c.places-place-items.ensures c.loop-place-test.true
-    (c.loop-place.invariant.searched image first) grew.longer grew.stays (c.header_at.ensures.within image front)
-    c.args.area.now.ended first front (c.loop-place.invariant.over image first)
-    (c.in_ok-header_at.ensures.over image front)
+pub returns-then-is_some-clause-loads : goal.returns-then-is_some-clause-loads
+returns-then-is_some-clause-loads g c = record {
+  within = λ image front.
+      let grew = c.header_at.ensures.grew in
+      searched_within image c.args.area.now.bytes c.loop-place.area.bytes _ c.loop-place.area.ended _
+      c.loop-place.place-index _
+      c.places-place-items.ensures c.loop-place-test.true
+      (c.loop-place.invariant.searched image (grew.fronts image front)) grew.longer grew.stays
+      (c.header_at.ensures.loads.within image front);
+  settled = λ image front goes.
+      let place = get_or c.places-place-items.result.now c.loop-place.place-index 0 in
+      let grew = c.header_at.ensures.grew in
+      searched_settled image c.args.area.now.bytes c.loop-place.area.bytes _ c.loop-place.area.ended _
+      c.loop-place.place-index _
+      c.places-place-items.ensures c.loop-place-test.true
+      (c.loop-place.invariant.searched image (grew.fronts image front)) grew.longer grew.stays
+      (c.header_at.ensures.loads.within image front)
+      (some_valid image place c.in_ok-header_at.field-0 (c.in_ok-header_at.ensures.valid image front)
+      (sym c.is_some.ensures ∙ c.if-is_some.true))
+      (c.in_ok-header_at.ensures.loads.settled image front) goes;
+  over = λ image front.
+      let grew = c.header_at.ensures.grew in
+      let first = grew.fronts image front in
+      over_here image c.args.area.now.bytes c.loop-place.area.bytes _ c.loop-place.area.ended _ c.loop-place.place-index _
+      c.places-place-items.ensures c.loop-place-test.true
+      (c.loop-place.invariant.searched image first) grew.longer grew.stays (c.header_at.ensures.loads.within image front)
+      c.args.area.now.ended first front (c.loop-place.invariant.over image first)
+      (c.in_ok-header_at.ensures.loads.over image front);
+  going = search rules;
+  early = search rules;
+  refusals = search rules;
+}
 
 -- none is: the search goes on
 pub loop-place-preserved : goal.loop-place-preserved
@@ -117,19 +121,19 @@ loop-place-preserved g c = record {
       c.loop-place.place-index _
       c.places-place-items.ensures c.loop-place-test.true
       (c.loop-place.invariant.searched image (grew.fronts image front)) grew.longer grew.stays
-      (c.header_at.ensures.within image front)
+      (c.header_at.ensures.loads.within image front)
       (none_valid image place c.in_ok-header_at.field-0 (c.in_ok-header_at.ensures.valid image front)
       (sym c.is_some.ensures ∙ c.if-is_some.false))
-      (c.in_ok-header_at.ensures.settled image front);
+      (c.in_ok-header_at.ensures.loads.settled image front);
   over = λ image front.
       let grew = c.header_at.ensures.grew in
       let first = grew.fronts image front in
       over_here image c.args.area.now.bytes c.loop-place.area.bytes _ c.loop-place.area.ended _ c.loop-place.place-index
       _
       c.places-place-items.ensures c.loop-place-test.true
-      (c.loop-place.invariant.searched image first) grew.longer grew.stays (c.header_at.ensures.within image front)
+      (c.loop-place.invariant.searched image first) grew.longer grew.stays (c.header_at.ensures.loads.within image front)
       c.args.area.now.ended first front (c.loop-place.invariant.over image first)
-      (c.in_ok-header_at.ensures.over image front);
+      (c.in_ok-header_at.ensures.loads.over image front);
   grew = grew_more _ _ _ _ _ _ _ _ _ _ _ _ _ c.loop-place.invariant.grew c.in_ok-header_at.ensures.grew;
 }
 
@@ -142,18 +146,19 @@ returns-clause-found g c = λ image front.
     (omega (arith, c.loop-place-test.false, ap length c.places-place-items.ensures)) in
     sym (ap (option_and_then (found_at image)) (least_is image ∙ none.0))
 
-pub returns-clause-within : goal.returns-clause-within
-returns-clause-within g c = λ image front.
-    (let so_far = c.loop-place.invariant.searched image front in
-    omega (arith, so_far.within, search_reach_is image))
-
-pub returns-clause-settled : goal.returns-clause-settled
-returns-clause-settled g c = λ image front goes.
-    let so_far = c.loop-place.invariant.searched image front in
-    let none = searched_all image c.args.area.now.bytes c.loop-place.area.bytes c.loop-place.area.ended
-    c.loop-place.place-index so_far
-    (omega (arith, c.loop-place-test.false, ap length c.places-place-items.ensures)) in
-    omega (arith, so_far.settled goes, none.1, search_reach_is image)
-
-pub returns-clause-over : goal.returns-clause-over
-returns-clause-over g c = λ image front goes found. c.loop-place.invariant.over image front goes found
+pub returns-clause-loads : goal.returns-clause-loads
+returns-clause-loads g c = record {
+  within = λ image front.
+      (let so_far = c.loop-place.invariant.searched image front in
+      omega (arith, so_far.within, search_reach_is image));
+  settled = λ image front goes.
+      let so_far = c.loop-place.invariant.searched image front in
+      let none = searched_all image c.args.area.now.bytes c.loop-place.area.bytes c.loop-place.area.ended
+      c.loop-place.place-index so_far
+      (omega (arith, c.loop-place-test.false, ap length c.places-place-items.ensures)) in
+      omega (arith, so_far.settled goes, none.1, search_reach_is image);
+  over = λ image front goes found. c.loop-place.invariant.over image front goes found;
+  going = search rules;
+  early = search rules;
+  refusals = search rules;
+}
