@@ -1,5 +1,6 @@
 -- The start of an image: how an area with it loads further bytes.
-use Rattle.std.specs.Prelude.{◌≡◌, ℕ, ◌<◌, ◌++◌, not, Bool, true, false, List, Option, Result, Ok, Err, take}
+use Rattle.std.specs.Prelude.{◌≡◌, ℕ, ◌<◌, ◌≤◌, ◌↔◌, ◌⊎◌, ◌++◌, not, Bool, true, false, List, Option, Result, Ok, Err}
+use Rattle.std.specs.Prelude.{IfErr, IfOk, IsTrue, length, max, min, take}
 use Rattle.luks_io.specs.Devices.{ConsumedExactly}
 use Rattle.luks_area.specs.declared.fault.HeaderFault.{HeaderFault}
 use Rattle.luks_area.specs.declared.fault.HeaderFault.TheVariants.{Read, Memory}
@@ -24,6 +25,18 @@ AbortsConsuming most held held' known left Read = (count : ℕ) × (count < most
     × ConsumedOnto held held' known left count
 AbortsConsuming most held held' known left Memory = ConsumedOnto held held' known left 0
 AbortsConsuming most held held' known left _ = ⊥
+
+-- up to `most` bytes of a source were consumed, or its end was hit before, or this was aborted
+abbrev pub ConsumesUpTo : ℕ → List ℕ → List ℕ → List ℕ → Option (List ℕ) → Result Bool HeaderFault → Type 0
+ConsumesUpTo most held held' known left (Ok whole) = ConsumedOnto held held' known left (min most (length known))
+ConsumesUpTo most held held' known left (Err fault) = AbortsConsuming most held held' known left fault
+
+-- bytes were loaded behind those that were there, up to `end` in all, and it is answered whether there are so many
+pub record Loads (end : ℕ) (held held' : List ℕ) (answer : Result Bool HeaderFault) : Type 0 where
+  pub whole : IfOk answer (λ whole. IsTrue whole ↔ (end ≤ length held'))
+  pub within : length held' ≤ max (length held) end
+  pub kept : take (length held) held' ≡ held
+  pub refusals : IfErr answer (λ fault. (fault ≡ Read) ⊎ (fault ≡ Memory))
 
 -- a failed read is reported
 abbrev pub is_read : {T : Type 0} → Result T HeaderFault → Bool

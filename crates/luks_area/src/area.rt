@@ -5,7 +5,7 @@ ghost use Rattle.std.specs.Prelude.{[], IsTrue, IfOk, IfErr, OnOk, OnErr, Ok, Er
 ghost use Rattle.std.specs.Prelude.{replicate, take, vec_capacity, vec_len};
 ghost use Rattle.luks_io.specs.Devices.{IfKnown};
 ghost use Rattle.luks_io.specs.Counts.{Reads};
-ghost use Rattle.luks_area.specs.Area.{AbortsConsuming, ConsumedOnto, is_read, is_truncated, max_area_len};
+ghost use Rattle.luks_area.specs.Area.{ConsumesUpTo, Loads, is_read, is_truncated, max_area_len};
 
 use crate::fault::HeaderFault;
 use luks_io::source::{ReadFault, Source, fill};
@@ -71,23 +71,16 @@ impl HeaderArea {
     /// [`HeaderFault::Memory`] nothing was consumed. There are no other faults.
     pub fn extend_to<S: Source>(&mut self, source: &mut S, end: usize) -> Result<bool, HeaderFault>
         requires { end ≤ max_area_len }
-        ensures taken { IfOk result (λ whole. IfKnown (S.to_come source.old) (λ known.
-            ConsumedOnto self.old.bytes self.new.bytes known (S.to_come source.new)
-            (min (end - length self.old.bytes) (length known)))) }
-        ensures broken { IfErr result (λ fault. IfKnown (S.to_come source.old) (λ known.
-            AbortsConsuming (end - length self.old.bytes) self.old.bytes self.new.bytes known
-            (S.to_come source.new) fault)) }
+        ensures taken { IfKnown (S.to_come source.old) (λ known.
+            ConsumesUpTo (end - length self.old.bytes) self.old.bytes self.new.bytes known
+            (S.to_come source.new) result) }
 
         // Whether or not the source knows its bytes:
-        ensures whole { IfOk result (λ whole. IsTrue whole ↔ (end ≤ length self.new.bytes)) }
-        ensures within { length self.new.bytes ≤ max (length self.old.bytes) end }
-        ensures held { take (length self.old.bytes) self.new.bytes ≡ self.old.bytes }
+        ensures loads { Loads end self.old.bytes self.new.bytes result }
         ensures already { end ≤ length self.old.bytes
             → (result ≡ Ok true) × (self.new ≡ self.old) × (source.new ≡ source.old) }
         ensures memory { result ≡ Err HeaderFault.Memory
             → (self.new ≡ self.old) × (source.new ≡ source.old) }
-        ensures refusals { IfErr result (λ fault.
-            (fault ≡ HeaderFault.Read) ⊎ (fault ≡ HeaderFault.Memory)) }
         ensures reads { Reads (is_read result) (is_truncated result)
             (S.counts source.old) (S.counts source.new) }
         ensures ended { self.new.ended ≡ (if is_truncated result then true else self.old.ended) }
@@ -124,19 +117,12 @@ fn make_room(bytes: &mut Vec<u8>, end: usize) -> Result<(), AllocError>
 // Puts the next bytes of the source behind these, up to `end` in all.
 fn extend<S: Source>(bytes: &mut Vec<u8>, source: &mut S, end: usize) -> Result<bool, HeaderFault>
     requires { vec_len bytes.old < end }
-    ensures taken { IfOk result (λ whole. IfKnown (S.to_come source.old) (λ known.
-        ConsumedOnto bytes.old.items bytes.new.items known (S.to_come source.new)
-        (min (end - vec_len bytes.old) (length known)))) }
-    ensures broken { IfErr result (λ fault. IfKnown (S.to_come source.old) (λ known.
-        AbortsConsuming (end - vec_len bytes.old) bytes.old.items bytes.new.items known
-        (S.to_come source.new) fault)) }
-    ensures whole { IfOk result (λ whole. IsTrue whole ↔ (end ≤ vec_len bytes.new)) }
-    ensures within { vec_len bytes.new ≤ end }
-    ensures held { take (vec_len bytes.old) bytes.new.items ≡ bytes.old.items }
+    ensures taken { IfKnown (S.to_come source.old) (λ known.
+        ConsumesUpTo (end - vec_len bytes.old) bytes.old.items bytes.new.items known
+        (S.to_come source.new) result) }
+    ensures loads { Loads end bytes.old.items bytes.new.items result }
     ensures memory { result ≡ Err HeaderFault.Memory
         → (bytes.new.items ≡ bytes.old.items) × (source.new ≡ source.old) }
-    ensures refusals { IfErr result (λ fault.
-        (fault ≡ HeaderFault.Read) ⊎ (fault ≡ HeaderFault.Memory)) }
     ensures reads { Reads (is_read result) (is_truncated result)
         (S.counts source.old) (S.counts source.new) }
 {

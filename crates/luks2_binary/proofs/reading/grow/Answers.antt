@@ -22,11 +22,11 @@ returns-clause-grew g c =
     let goes = sym c.has_ended.ensures ∙ c.if-has_ended.false in
     let ended =
     ended_is c.extend_to.result c.in_ok-extend_to.field-0 _ _ c.in_ok-extend_to.was goes c.extend_to.ensures.ended in
-    rw (goes, ended) (grew_by old new (not c.in_ok-extend_to.field-0) _ _ _ _ _ c.in_ok-extend_to.ensures.held
+    rw (goes, ended) (grew_by old new (not c.in_ok-extend_to.field-0) _ _ _ _ _ c.in_ok-extend_to.ensures.loads.kept
     (λ known knows. (
       min (c.args.end - length old) (length known),
       c.in_ok-extend_to.ensures.taken known knows,
       ended_short old new known c.in_ok-extend_to.field-0 _ c.args.end (c.in_ok-extend_to.ensures.taken known knows)
-          c.in_ok-extend_to.ensures.whole,
+          c.in_ok-extend_to.ensures.loads.whole,
     ))
     c.in_ok-extend_to.ensures.reads)

@@ -19,8 +19,8 @@ returns-in-Ok-clause-taken g c =
     (c.in-Ok.ensures.bytes told tells) (c.in-Ok.ensures.end told tells)
     (length-room old c.deref_mut.result.now c.fill.new.buf c.len-held.result n is-whole is-held c.fill.auto.buf)
 
-pub returns-in-Err-clause-broken : goal.returns-in-Err-clause-broken
-returns-in-Err-clause-broken g c =
+pub returns-in-Err-clause-taken : goal.returns-in-Err-clause-taken
+returns-in-Err-clause-taken g c =
     λ told tells.
     let old = c.args.bytes.now.items in
     let n = c.args.end - vec_len c.args.bytes.now in
@@ -42,32 +42,27 @@ returns-in-Err-clause-broken g c =
           (c.in-Err.ensures.bytes told tells),
     )
 
-pub returns-in-Ok-clause-whole : goal.returns-in-Ok-clause-whole
-returns-in-Ok-clause-whole g c = grind (arith, common_steps)
-
-pub returns-in-Ok-clause-within : goal.returns-in-Ok-clause-within
-returns-in-Ok-clause-within g c = grind (arith, common_steps)
-
-pub returns-in-Ok-clause-held : goal.returns-in-Ok-clause-held
-returns-in-Ok-clause-held g c = grind (arith, common_steps)
-
 pub returns-in-Err-clause-memory : goal.returns-in-Err-clause-memory
 returns-in-Err-clause-memory g c = search rules
-
-pub returns-in-Err-clause-held : goal.returns-in-Err-clause-held
-returns-in-Err-clause-held g c = grind (arith, common_steps)
-
-pub returns-in-Err-clause-within : goal.returns-in-Err-clause-within
-returns-in-Err-clause-within g c = grind (arith, common_steps)
-
-pub returns-in-Err-clause-refusals : goal.returns-in-Err-clause-refusals
-returns-in-Err-clause-refusals g c = search rules
 
 pub returns-in_err-make_room-clause-memory : goal.returns-in_err-make_room-clause-memory
 returns-in_err-make_room-clause-memory g c = search rules
 
-pub returns-in_err-make_room-clause-refusals : goal.returns-in_err-make_room-clause-refusals
-returns-in_err-make_room-clause-refusals g c = search rules
+pub returns-in_err-make_room-clause-taken : goal.returns-in_err-make_room-clause-taken
+returns-in_err-make_room-clause-taken g c = search rules
 
-pub returns-in_err-make_room-clause-broken : goal.returns-in_err-make_room-clause-broken
-returns-in_err-make_room-clause-broken g c = search rules
+pub returns-in-Ok-clause-loads : goal.returns-in-Ok-clause-loads
+returns-in-Ok-clause-loads g c = record {
+  whole = grind (arith, common_steps);
+  within = grind (arith, common_steps);
+  kept = grind (arith, common_steps);
+  refusals = search rules;
+}
+
+pub returns-in-Err-clause-loads : goal.returns-in-Err-clause-loads
+returns-in-Err-clause-loads g c = record {
+  whole = search rules;
+  within = grind (arith, common_steps);
+  kept = grind (arith, common_steps);
+  refusals = search rules;
+}

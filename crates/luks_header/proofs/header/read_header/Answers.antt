@@ -15,7 +15,7 @@ returns-in_err-whole-clause-broken g c =
     let p = err_from_is_err_and c.from_residual.result c.from_residual.ensures.1 in
     rw (p.1, p.2) (λ image knows.
     aborts_reading _ _ image _ _ _ _
-    (ap (λ (area : HeaderAreaModel). area.bytes) c.new-area.ensures) (let h = c.in_err-whole.ensures.broken in h image knows)
+    (ap (λ (area : HeaderAreaModel). area.bytes) c.new-area.ensures) (let h = c.in_err-whole.ensures.taken in h image knows)
     c.in_err-whole.ensures.reads.ends)
 
 pub returns-then-not-whole-clause-broken : goal.returns-then-not-whole-clause-broken
@@ -23,7 +23,7 @@ returns-then-not-whole-clause-broken g c image knows =
     let is : is_luks1 c.extend_to.new.self.bytes ≡ true = ap is_luks1 (sym c.as_slice.ensures.value)
     ∙ sym c.is_header1.ensures ∙ c.if-is_header1.true in
     let short = short_from_not_whole c.in_ok-whole.whole 592 (length c.extend_to.new.self.bytes)
-    c.in_ok-whole.ensures.whole
+    c.in_ok-whole.ensures.loads.whole
     c.if-not-whole.true in
     none_read c.extend_to.new.self.bytes image _
     (area_is c.new-area.result.bytes c.extend_to.new.self.bytes image _
@@ -38,9 +38,9 @@ returns-then-is_header1-clause-held g c =
     ∙ sym c.is_header1.ensures ∙ c.if-is_header1.true in
     let none : length c.new-area.result.bytes ≡ 0 =
     ap (λ (area : HeaderAreaModel). length area.bytes) c.new-area.ensures in
-    let long : 592 ≤ length c.extend_to.new.self.bytes = c.in_ok-whole.ensures.whole.0 c.if-not-whole.false in
+    let long : 592 ≤ length c.extend_to.new.self.bytes = c.in_ok-whole.ensures.loads.whole.0 c.if-not-whole.false in
     header_of-whole c.extend_to.new.self.bytes c.from_bytes-header.result is
-    (omega (arith, c.in_ok-whole.ensures.within))
+    (omega (arith, c.in_ok-whole.ensures.loads.within))
     (c.from_bytes-header.ensures ∙ ap header1_of c.as_slice-then-is_header1.ensures.value)
 
 pub returns-then-is_header1-clause-taken : goal.returns-then-is_header1-clause-taken
@@ -59,7 +59,7 @@ returns-then-is_header1-clause-only g c =
     ∙ sym c.is_header1.ensures ∙ c.if-is_header1.true in
     let none : length c.new-area.result.bytes ≡ 0 =
     ap (λ (area : HeaderAreaModel). length area.bytes) c.new-area.ensures in
-    all_cost c.extend_to.new.self.bytes is (omega (arith, c.in_ok-whole.ensures.within))
+    all_cost c.extend_to.new.self.bytes is (omega (arith, c.in_ok-whole.ensures.loads.within))
 
 -- ---- the image does not begin as LUKS1
 
@@ -68,7 +68,7 @@ returns-then-not-whole-2-clause-broken g c image knows =
     let other : is_luks1 c.extend_to.new.self.bytes ≡ false = ap is_luks1 (sym c.as_slice.ensures.value)
     ∙ sym c.is_header1.ensures ∙ c.if-is_header1.false in
     let short = short_from_not_whole c.in_ok-whole.whole 592 (length c.extend_to.new.self.bytes)
-    c.in_ok-whole.ensures.whole
+    c.in_ok-whole.ensures.loads.whole
     c.if-not-whole-2.true in
     short_read c.extend_to.new.self.bytes image _
     (area_is c.new-area.result.bytes c.extend_to.new.self.bytes image _
@@ -85,8 +85,8 @@ returns-in_err-header-clause-broken g c =
     ∙ sym c.is_header1.ensures ∙ c.if-is_header1.false in
     let none : length c.new-area.result.bytes ≡ 0 =
     ap (λ (area : HeaderAreaModel). length area.bytes) c.new-area.ensures in
-    let long : 592 ≤ length c.extend_to.new.self.bytes = c.in_ok-whole.ensures.whole.0 c.if-not-whole-2.false in
-    let all : length c.extend_to.new.self.bytes ≡ 592 = omega (arith, c.in_ok-whole.ensures.within) in
+    let long : 592 ≤ length c.extend_to.new.self.bytes = c.in_ok-whole.ensures.loads.whole.0 c.if-not-whole-2.false in
+    let all : length c.extend_to.new.self.bytes ≡ 592 = omega (arith, c.in_ok-whole.ensures.loads.within) in
     let taken = area_is c.new-area.result.bytes c.extend_to.new.self.bytes image _
     (ap (λ (area : HeaderAreaModel). area.bytes) c.new-area.ensures)
     (c.in_ok-whole.ensures.taken image knows) in
@@ -111,8 +111,8 @@ returns-clause-taken g c image knows =
     ∙ sym c.is_header1.ensures ∙ c.if-is_header1.false in
     let none : length c.new-area.result.bytes ≡ 0 =
     ap (λ (area : HeaderAreaModel). length area.bytes) c.new-area.ensures in
-    let long : 592 ≤ length c.extend_to.new.self.bytes = c.in_ok-whole.ensures.whole.0 c.if-not-whole-2.false in
-    let all : length c.extend_to.new.self.bytes ≡ 592 = omega (arith, c.in_ok-whole.ensures.within) in
+    let long : 592 ≤ length c.extend_to.new.self.bytes = c.in_ok-whole.ensures.loads.whole.0 c.if-not-whole-2.false in
+    let all : length c.extend_to.new.self.bytes ≡ 592 = omega (arith, c.in_ok-whole.ensures.loads.within) in
     let taken = area_is c.new-area.result.bytes c.extend_to.new.self.bytes image _
     (ap (λ (area : HeaderAreaModel). area.bytes) c.new-area.ensures)
     (c.in_ok-whole.ensures.taken image knows) in
@@ -124,10 +124,10 @@ pub read2-requires : goal.read2-requires
 read2-requires g c =
     let none : length c.new-area.result.bytes ≡ 0 =
     ap (λ (area : HeaderAreaModel). length area.bytes) c.new-area.ensures in
-    let long : 592 ≤ length c.extend_to.new.self.bytes = c.in_ok-whole.ensures.whole.0 c.if-not-whole-2.false in
+    let long : 592 ≤ length c.extend_to.new.self.bytes = c.in_ok-whole.ensures.loads.whole.0 c.if-not-whole-2.false in
     record {
       first = (
-        omega (arith, c.in_ok-whole.ensures.within),
+        omega (arith, c.in_ok-whole.ensures.loads.within),
         rw (c.in_ok-whole.was, c.if-not-whole-2.false, c.new-area.ensures) at c.extend_to.ensures.ended,
         ap is_luks1 (sym c.as_slice.ensures.value) ∙ sym c.is_header1.ensures ∙ c.if-is_header1.false,
       );
@@ -137,7 +137,7 @@ pub returns-then-is_header1-clause-ended : goal.returns-then-is_header1-clause-e
 returns-then-is_header1-clause-ended g c =
     let is : is_luks1 c.extend_to.new.self.bytes ≡ true = ap is_luks1 (sym c.as_slice.ensures.value)
     ∙ sym c.is_header1.ensures ∙ c.if-is_header1.true in
-    let enough = whole_falls c.extend_to.new.self.bytes is (c.in_ok-whole.ensures.whole.0 c.if-not-whole.false) in
+    let enough = whole_falls c.extend_to.new.self.bytes is (c.in_ok-whole.ensures.loads.whole.0 c.if-not-whole.false) in
     let goes = rw (c.in_ok-whole.was, c.if-not-whole.false, c.new-area.ensures) at c.extend_to.ensures.ended in
     (goes ∙ sym enough, λ ended. absurd (cc))
 
@@ -147,8 +147,8 @@ returns-clause-ended g c =
     ∙ sym c.is_header1.ensures ∙ c.if-is_header1.false in
     let none : length c.new-area.result.bytes ≡ 0 =
     ap (λ (area : HeaderAreaModel). length area.bytes) c.new-area.ensures in
-    let long : 592 ≤ length c.extend_to.new.self.bytes = c.in_ok-whole.ensures.whole.0 c.if-not-whole-2.false in
-    let all : length c.extend_to.new.self.bytes ≡ 592 = omega (arith, c.in_ok-whole.ensures.within) in (
+    let long : 592 ≤ length c.extend_to.new.self.bytes = c.in_ok-whole.ensures.loads.whole.0 c.if-not-whole-2.false in
+    let all : length c.extend_to.new.self.bytes ≡ 592 = omega (arith, c.in_ok-whole.ensures.loads.within) in (
       c.in_ok-header.ensures.ended,
       λ ended image knows.
           let taken = area_is c.new-area.result.bytes c.extend_to.new.self.bytes image _
