@@ -1,19 +1,31 @@
 -- The sector that fills a buffer.
 use Rattle.std.proofs.Common.{◌≡◌, ℕ, ◌+◌, ◌-◌, ◌<◌, ◌≤◌, inl, inr, List, [], ◌∷◌, ◌++◌, Option, Some, ◌∙◌, ap, sym}
 use Rattle.std.proofs.Common.{drop, length, length-append, length-drop, length-take-le, append-nil, min, take_all}
-use Rattle.std.proofs.Common.{arith, subst, take}
-use Rattle.std.proofs.lemmas.Bool.{cases_lt}
+use Rattle.std.proofs.Common.{arith, subst, take, nat_lt, true, false}
+use Rattle.std.proofs.lemmas.Bool.{cases_lt, le-ltb, lt-ltb}
 use Rattle.std.proofs.lemmas.List.{drop_all, take-append-le}
 use Rattle.std.proofs.Math.Seq.{take-append-add, take-append_seam}
 use Rattle.luks_cipher.specs.Sector.{Cipher, sector_decrypted}
 use Rattle.std.specs.Io.KnownBytes.{Consumes}
 use Rattle.luks_io.specs.Devices.{ConsumedExactly}
+use Rattle.luks_io.specs.Counts.{Reads}
+use Rattle.luks_io.specs.declared.counts.ReadCounts.{ReadCounts}
 use Rattle.luks_io.specs.Forwarding.{Forwarded}
 use Rattle.luks_io.proofs.Moves.{took-front}
 use Rattle.luks_payload.specs.SectorEffects.{BeginsWith, FilledSector, AbortsInSector}
 use Rattle.luks_payload.specs.Plain.{unit_plain}
 use Rattle.luks_payload.specs.declared.fault.VolumeFault.TheVariants.{Write}
 use borrow.Rule.Slice.PartMut.{put_mid}
+
+-- if all came that was asked for, no end was hit
+pub whole_reads : (got asked : ℕ) (a b : ReadCounts) → asked ≤ got → Reads false (nat_lt got asked) a b
+    → Reads false false a b
+whole_reads got asked a b all reads = rw (le-ltb got asked all) at reads
+
+-- if less came, it was
+pub short_reads : (got asked : ℕ) (a b : ReadCounts) → got < asked → Reads false (nat_lt got asked) a b
+    → Reads false true a b
+short_reads got asked a b few reads = rw (lt-ltb got asked few) at reads
 
 -- what a buffer decrypts to, in the payload's words
 pub unit_is : (cipher : Cipher) (number : ℕ) (buf unit : List ℕ) → unit ≡ sector_decrypted cipher.0 cipher.1 number buf

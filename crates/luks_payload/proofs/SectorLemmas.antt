@@ -13,9 +13,9 @@ use Rattle.luks_verdict.specs.declared.sector_size.SectorSize.TheVariants.{B512,
 use Rattle.luks_payload.specs.SectorEffects.{limit_within}
 use Rattle.luks_payload.specs.Plain.{end_within, ending_within, within_size}
 use Rattle.luks_payload.specs.declared.fault.VolumeFault.{VolumeFault}
-use Rattle.luks_payload.specs.declared.fault.VolumeFault.TheVariants.{CutBeforePayload, Tail, Short, Read, Write}
+use Rattle.luks_payload.specs.declared.fault.VolumeFault.TheVariants.{Tail, Short}
 use Rattle.luks_payload.specs.declared.state.Step.{Step}
-use Rattle.luks_payload.specs.declared.state.Step.TheVariants.{Sector, End}
+use Rattle.luks_payload.specs.declared.state.Step.TheVariants.{End}
 
 pub at_least_512 : (size : SectorSize) → 512 ≤ bytes_of size
 at_least_512 B512 = omega arith
@@ -121,24 +121,19 @@ pub before_end : (size : Option ℕ) (offset len place : ℕ) → place ≤ offs
 before_end None offset len place first there = there
 before_end (Some size) offset len place first there = omega arith
 
--- how a payload may end whose image reaches it
-abbrev pub is_ending : Result Step VolumeFault → Bool
-is_ending (Ok Sector) = false
-is_ending (Ok End) = true
-is_ending (Err CutBeforePayload) = false
-is_ending (Err (Tail _)) = true
-is_ending (Err (Short _)) = true
-is_ending (Err Read) = false
-is_ending (Err Write) = false
+-- what holds of both outcomes of a test
+by_test : (P : Result Step VolumeFault → Type 0) (b : Bool) (x y : Result Step VolumeFault) → P x → P y
+    → P (if b then x else y)
+by_test P true x y p q = p
+by_test P false x y p q = q
 
-either : (b : Bool) (x y : Result Step VolumeFault) → is_ending x ≡ true → is_ending y ≡ true
-    → is_ending (if b then x else y) ≡ true
-either true x y p q = p
-either false x y p q = q
-
-pub ending_is_ending : (size : Option ℕ) (z len : ℕ) → is_ending (ending_within size z len) ≡ true
-ending_is_ending None z len = either (len % z == 0) (Ok End) (Err (Tail (len % z))) refl refl
-ending_is_ending (Some size) z len = either (nat_lt len size) (Err (Short (size - len))) (Ok End) refl refl
+-- what holds of each ending of a payload whose image reaches it
+pub by_ending : (P : Result Step VolumeFault → Type 0) → P (Ok End) → ((n : ℕ) → P (Err (Tail n)))
+    → ((n : ℕ) → P (Err (Short n))) → (size : Option ℕ) (z len : ℕ) → P (ending_within size z len)
+by_ending P end tail short None z len =
+    by_test P (len % z == 0) (Ok End) (Err (Tail (len % z))) end (tail (len % z))
+by_ending P end tail short (Some size) z len =
+    by_test P (nat_lt len size) (Err (Short (size - len))) (Ok End) (short (size - len)) end
 
 -- a payload ends where its image does or before
 pub end_there : (size : Option ℕ) (offset len : ℕ) → end_within size offset len ≤ len

@@ -7,19 +7,20 @@ use Rattle.std.proofs.lemmas.Bool.{le-ltb, lt-ltb}
 use Rattle.std.proofs.lemmas.List.{drop-drop, take-append-drop}
 use Rattle.luks_verdict.specs.declared.segment.Segment.{Segment}
 use Rattle.luks_cipher.specs.Sector.{Cipher}
-use Rattle.luks_io.specs.Devices.{Appended, ConsumedExactly, IfKnown, counted, saturating_inc}
-use Rattle.luks_io.specs.Counts.{ReadsAsNeeded}
+use Rattle.luks_io.specs.Devices.{Appended, ConsumedExactly, IfKnown}
+use Rattle.luks_io.specs.Counts.{Reads, Writes}
 use Rattle.luks_io.specs.declared.counts.ReadCounts.{ReadCounts}
-use Rattle.luks_io.proofs.CountsLemmas.{reads_then}
+use Rattle.luks_io.specs.declared.counts.WriteCounts.{WriteCounts}
+use Rattle.luks_io.proofs.CountsLemmas.{no_writes}
 use Rattle.luks_io.proofs.Consuming.{consumed_behind, consumed_sum}
 use Rattle.luks_payload.specs.SectorEffects.{PositionedAt, AbortsDiscarding, AbortsInSector, is_pump_read_failure}
-use Rattle.luks_payload.specs.SectorEffects.{is_pump_write_failure}
+use Rattle.luks_payload.specs.SectorEffects.{is_cut, is_pump_write_failure}
 use Rattle.luks_payload.specs.SectorEffects.{max_sectors}
 use Rattle.luks_payload.specs.Plain.{end_within, ending_within, payload_end_of, payload_len, sector_len, sector_plaintext}
 use Rattle.luks_payload.specs.Plain.{sector_start, unit_number, unit_plain}
 use Rattle.luks_payload.specs.PumpEffects.{EndEffect, EndsAt, MayAnswer, PumpModel, SkipEffect, SkipsAgain}
 use Rattle.luks_payload.specs.PumpEffects.{PositionedIn, StepEffect, ConsumesSector}
-use Rattle.luks_payload.specs.PumpEffects.{StepsAgain, hits_eof_at, is_running, consumed_by, state_after_skip}
+use Rattle.luks_payload.specs.PumpEffects.{WritesSectors, hits_eof_at, is_running, consumed_by, state_after_skip}
 use Rattle.luks_payload.specs.declared.state.State.{State}
 use Rattle.luks_payload.specs.declared.state.State.TheVariants.{BeforePayload, InPayload, Ended, Faulted}
 use Rattle.luks_payload.specs.declared.fault.VolumeFault.{VolumeFault}
@@ -27,21 +28,17 @@ use Rattle.luks_payload.specs.declared.fault.VolumeFault.TheVariants.{CutBeforeP
 use Rattle.luks_payload.specs.declared.state.Step.{Step}
 use Rattle.luks_payload.specs.declared.state.Step.TheVariants.{Sector, End}
 use Rattle.luks_payload.proofs.SectorLemmas.{all_whole, at_least_512, at_limit, at_limit_end, before_end}
-use Rattle.luks_payload.proofs.SectorLemmas.{ending_is_ending, ends_at_end, ends_before, is_ending, is_whole, is_within}
+use Rattle.luks_payload.proofs.SectorLemmas.{by_ending, ends_at_end, ends_before, is_whole, is_within}
 use Rattle.luks_payload.proofs.SectorLemmas.{none_whole}
 
 module _ (s : Segment) (image : List ℕ) (count : ℕ) where
   -- a stated end is what a step did
-  pub steps_from_end : (cipher : Cipher) (reach : ℕ) (left' before after : Option (List ℕ))
-      (answer : Result Step VolumeFault) → is_ending answer ≡ true
+  steps_from_end : (cipher : Cipher) (reach : ℕ) (left' before after : Option (List ℕ))
+      (answer : Result Step VolumeFault) (len : ℕ) → answer ≡ ending_within s.size (sector_len s) len
       → EndEffect image s count reach answer left' → StepEffect s cipher count reach image answer left' before after
-  steps_from_end cipher reach l b a (Ok Sector) not e = cc
-  steps_from_end cipher reach l b a (Ok End) is e = e
-  steps_from_end cipher reach l b a (Err CutBeforePayload) not e = cc
-  steps_from_end cipher reach l b a (Err (Tail _)) is e = e
-  steps_from_end cipher reach l b a (Err (Short _)) is e = e
-  steps_from_end cipher reach l b a (Err Read) not e = cc
-  steps_from_end cipher reach l b a (Err Write) not e = cc
+  steps_from_end cipher reach l b a answer len is =
+      rw is (by_ending (λ x. EndEffect image s count reach x l → StepEffect s cipher count reach image x l b a)
+      (λ e. e) (λ n e. e) (λ n e. e) s.size (sector_len s) len)
 
   module _ (front : List ℕ) (left : Option (List ℕ)) (stands : PositionedAt image front
       (sector_start s count) left) where
@@ -132,8 +129,8 @@ module _ (s : Segment) (image : List ℕ) (count : ℕ) where
         let all : max (sector_start s count + length front) (length image) ≡ length image = omega (arith, there) in
         let more : sector_start s count + length front + (got - length front) ≡ length image =
         omega (arith, there) in
-        steps_from_end cipher (sector_start s count + length front) left' b a answer
-        (rw is (ending_is_ending s.size (sector_len s) (count * sector_len s + got))) (record {
+        steps_from_end cipher (sector_start s count + length front) left' b a answer (count * sector_len s + got) is
+        (record {
           all = rw len (all_whole (sector_len s) some s.size count got below torn);
           as_stated = rw (behind, len) is;
           took = rw (end, all) (consumed_sum image left left' (sector_start s count + length front) (got - length front)
@@ -161,58 +158,49 @@ module _ (s : Segment) (image : List ℕ) (count : ℕ) where
           took = rw (end, same) stands.took;
         }
 
--- an ending is one of the answers that a step may give, and with it the end was found
-module _ (s : Segment) (count : ℕ) where
-  pub may_end : (state : State) (answer : Result Step VolumeFault) → is_ending answer ≡ true → EndsAt s count answer
-      → MayAnswer state s count answer
-  may_end state (Ok Sector) not ends = cc
-  may_end state (Ok End) is ends = ends
-  may_end state (Err CutBeforePayload) not ends = cc
-  may_end state (Err (Tail _)) is ends = ends
-  may_end state (Err (Short _)) is ends = ends
-  may_end state (Err Read) not ends = cc
-  may_end state (Err Write) not ends = cc
+-- the image ends in a sector: this is one of the answers that a step may give, and with it the end was hit
+module _ (s : Segment) (count more : ℕ) (answer : Result Step VolumeFault) (below : count < max_sectors s)
+    (is : answer ≡ ending_within s.size (sector_len s) (count * sector_len s + more)) where
+  pub may_be_torn : more < sector_len s → MayAnswer InPayload s count answer
+  may_be_torn torn =
+      let may : EndsAt s count answer → MayAnswer InPayload s count answer =
+      rw is (by_ending (λ x. EndsAt s count x → MayAnswer InPayload s count x) (λ e. e) (λ n e. e) (λ n e. e)
+      s.size (sector_len s) (count * sector_len s + more)) in
+      may (inr (below, (more, torn, is)))
 
-  found_end : (answer : Result Step VolumeFault) → is_ending answer ≡ true → count < max_sectors s
-      → hits_eof_at s count answer ≡ true
-  found_end (Ok Sector) not below = cc
-  found_end (Ok End) is below = lt-ltb count (max_sectors s) below
-  found_end (Err CutBeforePayload) not below = cc
-  found_end (Err (Tail _)) is below = refl
-  found_end (Err (Short _)) is below = refl
-  found_end (Err Read) not below = cc
-  found_end (Err Write) not below = cc
+  pub torn_reads : (a b : ReadCounts) → Reads false true a b
+      → Reads (is_pump_read_failure answer) (hits_eof_at s count answer) a b
+  torn_reads a b reads =
+      rw is (by_ending (λ x. Reads (is_pump_read_failure x) (hits_eof_at s count x) a b)
+      (rw (lt-ltb count (max_sectors s) below) reads) (λ n. reads) (λ n. reads)
+      s.size (sector_len s) (count * sector_len s + more))
 
-  -- with it no read and no write has failed
-  no_failure : (answer : Result Step VolumeFault) → is_ending answer ≡ true
-      → (is_pump_read_failure answer ≡ false) × (is_pump_write_failure answer ≡ false)
-  no_failure (Ok Sector) not = cc
-  no_failure (Ok End) is = (refl, refl)
-  no_failure (Err CutBeforePayload) not = cc
-  no_failure (Err (Tail _)) is = (refl, refl)
-  no_failure (Err (Short _)) is = (refl, refl)
-  no_failure (Err Read) not = cc
-  no_failure (Err Write) not = cc
+  pub torn_writes : (a b : WriteCounts) → Writes false a b → Writes (is_pump_write_failure answer) a b
+  torn_writes a b writes =
+      rw is (by_ending (λ x. Writes (is_pump_write_failure x) a b) writes (λ n. writes) (λ n. writes)
+      s.size (sector_len s) (count * sector_len s + more))
 
-  module _ (more : ℕ) (answer : Result Step VolumeFault) (below : count < max_sectors s)
-      (is : answer ≡ ending_within s.size (sector_len s) (count * sector_len s + more)) where
-    ending : is_ending answer ≡ true
-    ending = rw is (ending_is_ending s.size (sector_len s) (count * sector_len s + more))
+  pub torn_writes_nothing : (written unwritten : Type 0) → unwritten → WritesSectors answer written unwritten
+  torn_writes_nothing written unwritten same =
+      rw is (by_ending (λ x. WritesSectors x written unwritten) same (λ n. same) (λ n. same)
+      s.size (sector_len s) (count * sector_len s + more))
 
-    pub may_be_torn : (state : State) → more < sector_len s → MayAnswer state s count answer
-    may_be_torn state torn = may_end state answer ending (inr (below, (more, torn, is)))
+-- a read or a write failed in a sector
+module _ (s : Segment) (count : ℕ) (fault : VolumeFault) (only : (fault ≡ Read) ⊎ (fault ≡ Write)) where
+  pub may_break : MayAnswer InPayload s count (Err fault)
+  may_break = elim only [ inl is ↦ rw is tt | inr is ↦ rw is tt ]
 
-    pub torn_fails_nothing : (n : ℕ)
-        → (n ≡ counted (is_pump_read_failure answer) n) × (n ≡ counted (is_pump_write_failure answer) n)
-    torn_fails_nothing n =
-        let none = no_failure answer ending in
-        (rw none.0 refl, rw none.1 refl)
+  pub broken_reads : (a b : ReadCounts) → Reads (is_pump_read_failure {T = ℕ} (Err fault)) false a b
+      → Reads (is_pump_read_failure {T = Step} (Err fault)) (hits_eof_at s count (Err fault)) a b
+  broken_reads a b reads = elim only [ inl is ↦ rw is (rw is at reads) | inr is ↦ rw is (rw is at reads) ]
 
-    pub torn_is_no_sector : answer ≡ Ok Sector → ⊥
-    torn_is_no_sector is = let no : is_ending (Ok Sector) ≡ true = rw is at ending in cc
+  pub broken_writes : (a b : WriteCounts) → Writes (is_pump_write_failure {T = ℕ} (Err fault)) a b
+      → Writes (is_pump_write_failure {T = Step} (Err fault)) a b
+  broken_writes a b writes = elim only [ inl is ↦ rw is (rw is at writes) | inr is ↦ rw is (rw is at writes) ]
 
-    pub found_torn : (ends : ℕ) → saturating_inc ends ≡ counted (hits_eof_at s count answer) ends
-    found_torn ends = rw (found_end answer ending below) refl
+  pub writes_no_sector : (written unwritten : Type 0) → (fault ≡ Read → unwritten)
+      → WritesSectors (Err fault) written unwritten
+  writes_no_sector written unwritten unread = elim only [ inl is ↦ rw is (unread is) | inr is ↦ rw is tt ]
 
 -- what a skip did, from how its bytes were let go
 module _ (p : PumpModel) (image : List ℕ) (r r' : Option (List ℕ)) (early : p.consumed ≤ p.segment.offset)
@@ -297,17 +285,25 @@ module _ (s : Segment) (cipher : Cipher) (consumed count : ℕ) (front image : L
       let not = stands.running in
       cc
 
--- and no write was tried then
-pub unwritten : (state : State) (fault : VolumeFault) (T : Type 0) (n : ℕ) → SkipsAgain state (Err fault) T
-    → (state ≡ BeforePayload → (fault ≡ CutBeforePayload) ⊎ (fault ≡ Read)) → is_running state ≡ true
-    → n ≡ counted (is_pump_write_failure {T = Step} (Err fault)) n
-unwritten BeforePayload fault T n again only running =
-    elim (only refl) [ inl is ↦ rw is refl | inr is ↦ rw is refl ]
-unwritten InPayload fault T n again only running =
-    let same = again.0 in
+-- then a running pump was before its payload
+pub was_before : (state : State) (fault : VolumeFault) (T : Type 0) → SkipsAgain state (Err fault) T
+    → is_running state ≡ true → state ≡ BeforePayload
+was_before BeforePayload fault T again running = refl
+was_before InPayload fault T again running =
+    let not = again.0 in
     cc
-unwritten Ended fault T n again only running = cc
-unwritten (Faulted _) fault T n again only running = cc
+was_before Ended fault T again running = cc
+was_before (Faulted _) fault T again running = cc
+
+-- and the skip's reads are the step's, which came to no write
+module _ (s : Segment) (count : ℕ) (fault : VolumeFault) (only : (fault ≡ CutBeforePayload) ⊎ (fault ≡ Read)) where
+  pub unskipped_reads : (a b : ReadCounts)
+      → Reads (is_pump_read_failure {T = Unit {0}} (Err fault)) (is_cut {T = Unit {0}} (Err fault)) a b
+      → Reads (is_pump_read_failure {T = Step} (Err fault)) (hits_eof_at s count (Err fault)) a b
+  unskipped_reads a b reads = elim only [ inl is ↦ rw is (rw is at reads) | inr is ↦ rw is (rw is at reads) ]
+
+  pub unskipped_writes : (a : WriteCounts) → Writes (is_pump_write_failure {T = Step} (Err fault)) a a
+  unskipped_writes a = elim only [ inl is ↦ rw is (no_writes a) | inr is ↦ rw is (no_writes a) ]
 
 -- an image that reaches a payload's start reaches its end
 start_in_end : (size : Option ℕ) (offset len : ℕ) → offset ≤ len → offset ≤ end_within size offset len
@@ -370,53 +366,11 @@ module _ (s : Segment) (cipher : Cipher) (consumed count : ℕ) (front image : L
       let not = stands.running in
       absurd (cc)
 
-  -- the same, where the pump that it goes on with is told by its parts
-  pub steps_resumed : (now skipped : PumpModel) (state state' : State) (T : Type 0) → now ≡ skipped
-      → skipped ≡ pumped s cipher consumed count state' front
-      → PositionedIn image (pumped s cipher consumed count state front) r → now.consumed ≤ now.segment.offset
-      → SkipsAgain state (Ok tt) T → (T → r' ≡ r)
-      → (state ≡ BeforePayload → (count ≡ 0) × (front ≡ []))
-      → (state ≡ BeforePayload → SkipEffect (pumped s cipher consumed count state front) image (Ok tt) r')
-      → (PositionedAt image now.front (sector_start now.segment now.count) r'
-      → StepEffect now.segment now.cipher now.count (sector_start now.segment now.count + length now.front) image answer
-      r''
-      before after)
-      → StepEffect s cipher count (consumed_by (pumped s cipher consumed count state front)) image answer r'' before
-      after
-  steps_resumed now skipped state state' T closed moved stands early again same none skips steps =
-      let is : now ≡ pumped s cipher consumed count state' front = closed ∙ moved in
-      steps_skipped state T stands (subst (λ (p : PumpModel). p.consumed ≤ p.segment.offset) is early) again same none
-      skips
-      (subst (λ (p : PumpModel). PositionedAt image p.front (sector_start p.segment p.count) r'
-      → StepEffect p.segment p.cipher p.count (sector_start p.segment p.count + length p.front) image answer r'' before
-      after) is steps)
-
--- where a skip let a pump go on that has not ended, it is in its payload
+-- where a skip let a pump go on that has not ended, it is in its payload, and was before it or there already
 pub resumed : (state now : State) (T : Type 0) → SkipsAgain state (Ok tt) T
     → now ≡ state_after_skip {T = Unit {0}} state (Ok tt) → (now ≡ Ended → ⊥)
-    → now ≡ InPayload
-resumed BeforePayload now T again is going = is
-resumed InPayload now T again is going = is
+    → (now ≡ InPayload) × ((state ≡ BeforePayload) ⊎ ((state ≡ InPayload) × T))
+resumed BeforePayload now T again is going = (is, inl refl)
+resumed InPayload now T again is going = (is, inr (refl, again.1))
 resumed Ended now T again is going = absurd (going is)
 resumed (Faulted fault) now T again is going = absurd cc
-
--- and it had neither ended nor failed before
-pub first_answer : (state now : State) (T untouched : Type 0) (answer : Result Step VolumeFault)
-    → SkipsAgain state (Ok tt) T → now ≡ state_after_skip {T = Unit {0}} state (Ok tt) → (now ≡ Ended → ⊥)
-    → StepsAgain state answer untouched
-first_answer BeforePayload now T untouched answer again is going = tt
-first_answer InPayload now T untouched answer again is going = tt
-first_answer Ended now T untouched answer again is going = absurd (going is)
-first_answer (Faulted fault) now T untouched answer again is going = absurd cc
-
--- a source was read as needed in a skip that let a pump go on, and then in the rest of the step
-pub needed_skipped : (state : State) (T : Type 0) (a b c : ReadCounts) → SkipsAgain state (Ok tt) T → (T → b ≡ a)
-    → (is_running state ≡ true → b.failures ≡ a.failures) → (is_running state ≡ true → b.ends ≡ a.ends)
-    → ReadsAsNeeded a b → ReadsAsNeeded b c → ReadsAsNeeded a c
-needed_skipped BeforePayload T a b c again same failures ends first then =
-    reads_then a b c (failures refl) (ends refl) first then
-needed_skipped InPayload T a b c again same failures ends first then =
-    reads_then a b c (failures refl) (ends refl) first then
-needed_skipped Ended T a b c again same failures ends first then =
-    subst (λ counts. ReadsAsNeeded counts c) (same again.1) then
-needed_skipped (Faulted fault) T a b c again same failures ends first then = absurd cc

@@ -82,22 +82,22 @@ after_step p (Ok Sector) =
 after_step p (Ok End) = record p { state = Ended }
 after_step p (Err fault) = record p { state = Faulted fault }
 
--- a step of a pump that has ended or failed touches nothing, and answers as before
-abbrev pub StepsAgain : State → Result Step VolumeFault → Type 0 → Type 0
-StepsAgain BeforePayload answer untouched = Unit {0}
-StepsAgain InPayload answer untouched = Unit {0}
-StepsAgain Ended answer untouched = (answer ≡ Ok End) × untouched
-StepsAgain (Faulted fault) answer untouched = (answer ≡ Err fault) × untouched
+-- a step touches nothing if the pump has ended or failed, or is full: as many sectors are forwarded as its limit allows
+abbrev pub StepsIdle : State → Type 0 → Result Step VolumeFault → Type 0 → Type 0
+StepsIdle BeforePayload full answer untouched = Unit {0}
+StepsIdle InPayload full answer untouched = full → (answer ≡ Ok End) × untouched
+StepsIdle Ended full answer untouched = (answer ≡ Ok End) × untouched
+StepsIdle (Faulted fault) full answer untouched = (answer ≡ Err fault) × untouched
 
--- a step writes only if it forwards a sector
-abbrev pub WritesSectors : Result Step VolumeFault → Type 0 → Type 0
-WritesSectors (Ok Sector) unwritten = Unit {0}
-WritesSectors (Ok End) unwritten = unwritten
-WritesSectors (Err CutBeforePayload) unwritten = unwritten
-WritesSectors (Err (Tail _)) unwritten = unwritten
-WritesSectors (Err (Short _)) unwritten = unwritten
-WritesSectors (Err Read) unwritten = unwritten
-WritesSectors (Err Write) unwritten = Unit {0}
+-- a step that forwards a sector has written it, and one that ends or fails before a write has written nothing
+abbrev pub WritesSectors : Result Step VolumeFault → Type 0 → Type 0 → Type 0
+WritesSectors (Ok Sector) written unwritten = written
+WritesSectors (Ok End) written unwritten = unwritten
+WritesSectors (Err CutBeforePayload) written unwritten = unwritten
+WritesSectors (Err (Tail _)) written unwritten = unwritten
+WritesSectors (Err (Short _)) written unwritten = unwritten
+WritesSectors (Err Read) written unwritten = unwritten
+WritesSectors (Err Write) written unwritten = Unit {0}
 
 -- how the payload ends if so many sectors were forwarded: at its limit, or if less than one sector remains in the
 -- source

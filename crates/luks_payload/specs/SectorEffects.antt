@@ -1,6 +1,6 @@
 -- What the parts of a pump leave in its source and its sink.
 use Rattle.std.specs.Prelude.{◌≡◌, ℕ, ◌+◌, ◌-◌, ◌/◌, ◌^◌, ◌<◌, ◌≤◌, ◌⊎◌, ◌++◌, min, Bool, true, false}
-use Rattle.std.specs.Prelude.{List, drop, length, take, Option, None, Some, Result, Err, IfOk, IfErr}
+use Rattle.std.specs.Prelude.{List, drop, length, take, Option, None, Some, Result, Err, MatchResult}
 use Rattle.luks_cipher.specs.Sector.{Cipher}
 use Rattle.luks_io.specs.Devices.{Appended, ConsumedExactly, ConsumedFewer, IfKnown}
 use Rattle.luks_verdict.specs.declared.segment.Segment.{Segment}
@@ -64,21 +64,31 @@ AbortsInSector cipher number len front known left before after CutBeforePayload 
 AbortsInSector cipher number len front known left before after (Tail _) = ⊥
 AbortsInSector cipher number len front known left before after (Short _) = ⊥
 
--- the effect of forwarding the sector of a unit number, which starts with the bytes of `front`: it is whole, incomplete
--- or aborted
-pub record SectorEffect (cipher : Cipher) (number len : ℕ) (front : List ℕ) (answer : Result ℕ VolumeFault)
+-- the sector of a unit number, which starts with the bytes of `front`, was consumed, and was written if it is whole:
+-- there were `got` bytes of it
+pub record SectorForwarded (cipher : Cipher) (number len : ℕ) (front : List ℕ) (got : ℕ)
     (left left' before after : Option (List ℕ)) (unwritten : Type 0) : Type 0 where
-  pub most : IfOk answer (λ got. got ≤ len)
-  pub taken : IfOk answer (λ got. IfKnown left
-      (λ known. (got ≡ min len (length (front ++ known))) × ConsumedExactly known left' (got - length front)))
-  pub written : IfOk answer (λ got. got ≡ len → IfKnown left
-      (λ known. Appended before after (unit_plain cipher number (take got (front ++ known)))))
-  pub whole : IfOk answer (λ got. got ≡ len → AppendsUnit cipher number len front before after)
-  pub torn : IfOk answer (λ got. got < len → unwritten)
-  pub err : IfErr answer
-      (λ fault. IfKnown left (λ known. AbortsInSector cipher number len front known left' before after fault))
-  pub unread : IfErr answer (λ fault. fault ≡ Read → unwritten)
-  pub only : IfErr answer (λ fault. (fault ≡ Read) ⊎ (fault ≡ Write))
+  pub most : got ≤ len
+  pub taken : IfKnown left
+      (λ known. (got ≡ min len (length (front ++ known))) × ConsumedExactly known left' (got - length front))
+  pub written : got ≡ len
+      → IfKnown left (λ known. Appended before after (unit_plain cipher number (take got (front ++ known))))
+  pub whole : got ≡ len → AppendsUnit cipher number len front before after
+  pub torn : got < len → unwritten
+
+-- a read or a write of that sector failed
+pub record SectorAborted (cipher : Cipher) (number len : ℕ) (front : List ℕ) (fault : VolumeFault)
+    (left left' before after : Option (List ℕ)) (unwritten : Type 0) : Type 0 where
+  pub known : IfKnown left (λ known. AbortsInSector cipher number len front known left' before after fault)
+  pub unread : fault ≡ Read → unwritten
+  pub only : (fault ≡ Read) ⊎ (fault ≡ Write)
+
+-- the effect of forwarding that sector
+abbrev pub SectorEffect : Cipher → ℕ → ℕ → List ℕ → Result ℕ VolumeFault → Option (List ℕ) → Option (List ℕ)
+    → Option (List ℕ) → Option (List ℕ) → Type 0 → Type 0
+SectorEffect cipher number len front answer left left' before after unwritten = MatchResult answer
+    (λ got. SectorForwarded cipher number len front got left left' before after unwritten)
+    (λ fault. SectorAborted cipher number len front fault left left' before after unwritten)
 
 -- the most sectors that are forwarded: those of a fixed size, and otherwise the greatest count of 64 bits
 abbrev pub limit_within : Option ℕ → ℕ → ℕ

@@ -1,16 +1,11 @@
 //! Bytes on their way from a source: those before the payload, and those of one sector.
 
-ghost use Rattle.std.specs.Prelude.{◌≡◌, ◌-◌, ◌%◌, ◌<◌, ◌≤◌, ◌⊎◌, ◌++◌, List, ℕ, Some, IfOk, IfErr};
-ghost use Rattle.std.specs.Prelude.{OnOk, length, take, min};
-ghost use Rattle.luks_io.specs.Devices.{Appended, ConsumedExactly, ConsumedFewer, IfKnown, counted};
-ghost use Rattle.luks_io.specs.Devices.{is_short_read};
-ghost use Rattle.luks_io.specs.Counts.{ReadsAsNeeded, WritesAsNeeded};
-ghost use Rattle.luks_payload.specs.SectorEffects.{AppendsUnit, BeginsWith, FilledSector};
-ghost use Rattle.luks_payload.specs.SectorEffects.{AbortsDiscarding};
-ghost use Rattle.luks_payload.specs.SectorEffects.{SectorEffect};
-ghost use Rattle.luks_payload.specs.SectorEffects.{is_cut, is_pump_read_failure};
+ghost use Rattle.std.specs.Prelude.{◌≡◌, ◌-◌, ◌%◌, ◌<◌, ◌≤◌, ◌⊎◌, IfOk, IfErr, OnOk, length};
+ghost use Rattle.luks_io.specs.Devices.{ConsumedExactly, ConsumedFewer, IfKnown, is_short_read};
+ghost use Rattle.luks_io.specs.Counts.{Reads, Writes};
+ghost use Rattle.luks_payload.specs.SectorEffects.{AbortsDiscarding, BeginsWith, FilledSector};
+ghost use Rattle.luks_payload.specs.SectorEffects.{SectorEffect, is_cut, is_pump_read_failure};
 ghost use Rattle.luks_payload.specs.SectorEffects.{is_pump_write_failure};
-ghost use Rattle.luks_payload.specs.Plain.{unit_plain};
 
 use crate::decryption::Decryption;
 use crate::fault::VolumeFault;
@@ -31,10 +26,8 @@ pub(crate) fn discard<S: Source>(
         (λ known. AbortsDiscarding count known (S.to_come source.new) fault)) }
     ensures only { IfErr result
         (λ fault. (fault ≡ VolumeFault.CutBeforePayload) ⊎ (fault ≡ VolumeFault.Read)) }
-    ensures reads { (S.counts source.new).failures ≡ counted (is_pump_read_failure result)
-        (S.counts source.old).failures }
-    ensures ends { (S.counts source.new).ends ≡ counted (is_cut result) (S.counts source.old).ends }
-    ensures needed { ReadsAsNeeded (S.counts source.old) (S.counts source.new) }
+    ensures reads { Reads (is_pump_read_failure result) (is_cut result)
+        (S.counts source.old) (S.counts source.new) }
 {
     let mut left = count;
     'pieces: while left > 0 {
@@ -63,16 +56,43 @@ fn fill_sector<S: Source>(
         (λ known. ConsumedFewer known (S.to_come source.new)
         (length sector.old - length front.now))) }
     ensures only { IfErr result (λ fault. fault ≡ VolumeFault.Read) }
-    ensures reads { (S.counts source.new).failures ≡ counted (is_pump_read_failure result)
-        (S.counts source.old).failures }
-    ensures ends { (S.counts source.new).ends ≡ counted (is_short_read result (length sector.old))
-        (S.counts source.old).ends }
-    ensures needed { ReadsAsNeeded (S.counts source.old) (S.counts source.new) }
+    ensures reads { Reads (is_pump_read_failure result) (is_short_read result (length sector.old))
+        (S.counts source.old) (S.counts source.new) }
 {
     let held = front.len().min(sector.len());
     sector[..held].copy_from_slice(&front[..held]);
     let got = fill(source, &mut sector[held..])?;
     Ok(held + got)
+}
+
+/// Fills `sector` as [`fill_sector`] does, and writes its plaintext if it is whole. Answers how many
+/// bytes there were.
+fn forward_filled<S: Source, O: Sink>(
+    cipher: &SectorCipher,
+    number: u64,
+    front: &[u8],
+    sector: &mut [u8],
+    source: &mut S,
+    sink: &mut O,
+) -> Result<usize, VolumeFault>
+    requires whole_blocks { length sector.old % 16 ≡ 0 }
+    requires shortest { 16 ≤ length sector.old }
+    requires longest { length sector.old ≤ 4096 }
+    ensures forwards { SectorEffect cipher.now number (length sector.old) front.now result
+        (S.to_come source.old) (S.to_come source.new) (O.written sink.old) (O.written sink.new)
+        (sink.new ≡ sink.old) }
+    ensures reads { Reads (is_pump_read_failure result) (is_short_read result (length sector.old))
+        (S.counts source.old) (S.counts source.new) }
+    ensures writes { Writes (is_pump_write_failure result)
+        (O.counts sink.old) (O.counts sink.new) }
+{
+    let got = fill_sector(front, sector, source)?;
+    if got < sector.len() {
+        return Ok(got);
+    }
+    cipher.decrypt_unit(number, sector);
+    put_all(sink, sector)?;
+    Ok(got)
 }
 
 /// Consumes the sector of this unit number, which starts with the bytes of `front`, and writes its
@@ -92,14 +112,10 @@ pub(crate) fn forward_sector<S: Source, O: Sink>(
     ensures forwards { SectorEffect cipher.now number (length sector.old) front.now result
         (S.to_come source.old) (S.to_come source.new) (O.written sink.old) (O.written sink.new)
         (sink.new ≡ sink.old) }
-    ensures reads { (S.counts source.new).failures ≡ counted (is_pump_read_failure result)
-        (S.counts source.old).failures }
-    ensures ends { (S.counts source.new).ends ≡ counted (is_short_read result (length sector.old))
-        (S.counts source.old).ends }
-    ensures writes { (O.counts sink.new).failures ≡ counted (is_pump_write_failure result)
-        (O.counts sink.old).failures }
-    ensures needed_reads { ReadsAsNeeded (S.counts source.old) (S.counts source.new) }
-    ensures needed_writes { WritesAsNeeded (O.counts sink.old) (O.counts sink.new) }
+    ensures reads { Reads (is_pump_read_failure result) (is_short_read result (length sector.old))
+        (S.counts source.old) (S.counts source.new) }
+    ensures writes { Writes (is_pump_write_failure result)
+        (O.counts sink.old) (O.counts sink.new) }
 {
     // Bytes of `front` are not the source's: a sector that starts with them is filled in the
     // buffer.
@@ -110,11 +126,5 @@ pub(crate) fn forward_sector<S: Source, O: Sink>(
             return Ok(sector.len());
         }
     }
-    let got = fill_sector(front, sector, source)?;
-    if got < sector.len() {
-        return Ok(got);
-    }
-    cipher.decrypt_unit(number, sector);
-    put_all(sink, sector)?;
-    Ok(got)
+    forward_filled(cipher, number, front, sector, source, sink)
 }

@@ -1,15 +1,14 @@
 //! The sector stream: an image's payload in, its plain text out, one sector at a time.
 
-ghost use Rattle.std.specs.Prelude.{◌≡◌, ◌+◌, ◌^◌, ◌<◌, ◌≤◌, ◌⊎◌, List, [], ℕ, Some, Ok, IfErr};
-ghost use Rattle.std.specs.Prelude.{true, drop, length};
-ghost use Rattle.luks_io.specs.Devices.{counted};
-ghost use Rattle.luks_io.specs.Counts.{ReadsAsNeeded, WritesAsNeeded};
+ghost use Rattle.std.specs.Prelude.{◌≡◌, ◌+◌, ◌^◌, ◌<◌, ◌≤◌, ◌⊎◌, List, [], ℕ, Ok, IfErr};
+ghost use Rattle.std.specs.Prelude.{true, length};
+ghost use Rattle.luks_io.specs.Counts.{Reads, Writes};
 ghost use Rattle.luks_payload.specs.SectorEffects.{AppendsUnit, PositionedAt, is_cut};
 ghost use Rattle.luks_payload.specs.SectorEffects.{is_pump_read_failure};
 ghost use Rattle.luks_payload.specs.SectorEffects.{is_pump_write_failure, max_sectors};
 ghost use Rattle.luks_payload.specs.Plain.{sector_len, sector_start, unit_number};
 ghost use Rattle.luks_payload.specs.PumpEffects.{MayAnswer, SkipsAgain, SkipEffect, PositionedIn};
-ghost use Rattle.luks_payload.specs.PumpEffects.{StepEffect, StepsAgain, WritesSectors};
+ghost use Rattle.luks_payload.specs.PumpEffects.{StepEffect, StepsIdle, WritesSectors};
 ghost use Rattle.luks_payload.specs.PumpEffects.{after_step, hits_eof_at, is_running, consumed_by};
 ghost use Rattle.luks_payload.specs.PumpEffects.{state_after_skip};
 
@@ -71,33 +70,26 @@ fn next_sector<S: Source, O: Sink>(
     cipher: &SectorCipher,
     count: u64,
     front: &[u8],
-    buffer: &mut [u8],
+    buffer: &mut [u8; ROOM],
     source: &mut S,
     sink: &mut O,
 ) -> Result<Step, VolumeFault>
-    requires room { length buffer.old ≡ ROOM }
-    requires within { count ≤ max_sectors segment.now }
+    requires { count ≤ max_sectors segment.now }
     ensures limit { count ≡ max_sectors segment.now
         → (result ≡ Ok Step.End) × (source.new ≡ source.old) × (sink.new ≡ sink.old) }
-    ensures below { result ≡ Ok Step.Sector → count < max_sectors segment.now }
-    ensures passed { result ≡ Ok Step.Sector
-        → AppendsUnit cipher.now (unit_number segment.now count)
-        (sector_len segment.now) front.now (O.written sink.old) (O.written sink.new) }
     ensures only { MayAnswer State.InPayload segment.now count result }
     ensures run { (image : List ℕ) → length image < 2 ^ 64
         → PositionedAt image front.now (sector_start segment.now count) (S.to_come source.old)
         → StepEffect segment.now cipher.now count
         (sector_start segment.now count + length front.now)
         image result (S.to_come source.new) (O.written sink.old) (O.written sink.new) }
-    ensures writes_sectors { WritesSectors result (sink.new ≡ sink.old) }
-    ensures reads { (S.counts source.new).failures ≡ counted (is_pump_read_failure result)
-        (S.counts source.old).failures }
-    ensures ends { (S.counts source.new).ends ≡ counted (hits_eof_at segment.now count result)
-        (S.counts source.old).ends }
-    ensures writes { (O.counts sink.new).failures ≡ counted (is_pump_write_failure result)
-        (O.counts sink.old).failures }
-    ensures needed_reads { ReadsAsNeeded (S.counts source.old) (S.counts source.new) }
-    ensures needed_writes { WritesAsNeeded (O.counts sink.old) (O.counts sink.new) }
+    ensures writes_sectors { WritesSectors result (AppendsUnit cipher.now
+        (unit_number segment.now count) (sector_len segment.now) front.now
+        (O.written sink.old) (O.written sink.new)) (sink.new ≡ sink.old) }
+    ensures reads { Reads (is_pump_read_failure result) (hits_eof_at segment.now count result)
+        (S.counts source.old) (S.counts source.new) }
+    ensures writes { Writes (is_pump_write_failure result)
+        (O.counts sink.old) (O.counts sink.new) }
 {
     if count == limit(segment) {
         return Ok(Step::End);
@@ -184,11 +176,8 @@ impl<'a> Pump<'a> {
         ensures fresh { self.old.state ≡ State.BeforePayload
             → (self.old.count ≡ 0) × (self.old.front ≡ []) }
         ensures reads { is_running self.old.state ≡ true
-            → (S.counts source.new).failures ≡ counted (is_pump_read_failure result)
-            (S.counts source.old).failures }
-        ensures ends { is_running self.old.state ≡ true
-            → (S.counts source.new).ends ≡ counted (is_cut result) (S.counts source.old).ends }
-        ensures needed { ReadsAsNeeded (S.counts source.old) (S.counts source.new) }
+            → Reads (is_pump_read_failure result) (is_cut result)
+            (S.counts source.old) (S.counts source.new) }
     {
         match self.state {
             State::BeforePayload => {
@@ -240,34 +229,23 @@ impl<'a> Pump<'a> {
         sink: &mut O,
     ) -> Result<Step, VolumeFault>
         ensures pump { self.new ≡ after_step self.old result }
-        ensures again { StepsAgain self.old.state result ((source.new ≡ source.old)
-            × (sink.new ≡ sink.old)) }
-        ensures limit { self.old.state ≡ State.InPayload
-            → self.old.count ≡ max_sectors self.old.segment
-            → (result ≡ Ok Step.End) × (source.new ≡ source.old) × (sink.new ≡ sink.old) }
+        ensures idle { StepsIdle self.old.state (self.old.count ≡ max_sectors self.old.segment)
+            result ((source.new ≡ source.old) × (sink.new ≡ sink.old)) }
         ensures run { (image : List ℕ) → length image < 2 ^ 64
             → PositionedIn image self.old (S.to_come source.old)
             → StepEffect self.old.segment self.old.cipher self.old.count
             (consumed_by self.old) image result
             (S.to_come source.new) (O.written sink.old) (O.written sink.new) }
-        ensures passed { result ≡ Ok Step.Sector
-            → AppendsUnit self.old.cipher (unit_number self.old.segment self.old.count)
-            (sector_len self.old.segment) self.old.front
-            (O.written sink.old) (O.written sink.new) }
         ensures only { is_running self.old.state ≡ true
             → MayAnswer self.old.state self.old.segment self.old.count result }
-        ensures writes_sectors { WritesSectors result (sink.new ≡ sink.old) }
-        ensures reads { is_running self.old.state ≡ true
-            → (S.counts source.new).failures ≡ counted (is_pump_read_failure result)
-            (S.counts source.old).failures }
-        ensures ends { is_running self.old.state ≡ true → (S.counts source.new).ends
-            ≡ counted (hits_eof_at self.old.segment self.old.count result)
-            (S.counts source.old).ends }
+        ensures writes_sectors { WritesSectors result (AppendsUnit self.old.cipher
+            (unit_number self.old.segment self.old.count) (sector_len self.old.segment)
+            self.old.front (O.written sink.old) (O.written sink.new)) (sink.new ≡ sink.old) }
+        ensures reads { is_running self.old.state ≡ true → Reads (is_pump_read_failure result)
+            (hits_eof_at self.old.segment self.old.count result)
+            (S.counts source.old) (S.counts source.new) }
         ensures writes { is_running self.old.state ≡ true
-            → (O.counts sink.new).failures ≡ counted (is_pump_write_failure result)
-            (O.counts sink.old).failures }
-        ensures needed_reads { ReadsAsNeeded (S.counts source.old) (S.counts source.new) }
-        ensures needed_writes { WritesAsNeeded (O.counts sink.old) (O.counts sink.new) }
+            → Writes (is_pump_write_failure result) (O.counts sink.old) (O.counts sink.new) }
     {
         self.skip(source)?;
         if self.state == State::Ended {

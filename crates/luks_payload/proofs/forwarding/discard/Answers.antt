@@ -1,7 +1,8 @@
-use Rattle.std.proofs.Common.{rules, ◌≡◌, ◌+◌, ◌-◌, ◌<◌, ◌∙◌, length, length-take-le, arith}
+use Rattle.std.proofs.Common.{◌≡◌, ◌+◌, ◌-◌, ◌<◌, ◌∙◌, length, length-take-le, arith}
 use Rattle.std.proofs.lemmas.Result.{err_from_is_err_and}
-use Rattle.luks_io.proofs.CountsLemmas.{reads_then}
-use Rattle.luks_io.proofs.Consuming.{counted-whole, consumed_all, consumed_more, consumed_sum}
+use Rattle.luks_io.proofs.CountsLemmas.{reads_more}
+use Rattle.luks_io.proofs.Consuming.{consumed_all, consumed_more, consumed_sum}
+use Rattle.luks_payload.proofs.ForwardingLemmas.{whole_reads}
 use Rattle.luks_payload.proofs.forwarding.discard.Goals as goal
 
 pub returns-in_err-fill-clause-err : goal.returns-in_err-fill-clause-err
@@ -38,31 +39,10 @@ pieces-preserved g c =
     let more : c.args.count - c.pieces.left + c.in_ok-fill.field-0
     ≡ c.args.count - (c.pieces.left - c.min-size.result) = omega arith in
     record {
-      reads = c.in_ok-fill.ensures.counts ∙ c.pieces.invariant.reads;
-      ends = c.in_ok-fill.ensures.ends ∙ counted-whole _ _ _ (omega arith) ∙ c.pieces.invariant.ends;
-      needed = reads_then _ _ (g.S.Source.counts c.fill.new.source) c.pieces.invariant.reads c.pieces.invariant.ends
-          c.pieces.invariant.needed c.fill.ensures.needed;
+      reads = reads_more _ _ _ _ (g.S.Source.counts c.fill.new.source) c.pieces.invariant.reads
+          (whole_reads _ _ _ _ (omega arith) c.in_ok-fill.ensures.reads);
       few = omega arith;
       taken = λ known is.
           consumed_sum known _ _ _ _ _ more (c.pieces.invariant.taken known is)
           (λ rest left. (c.in_ok-fill.ensures.bytes rest left).0);
     }
-
-pub returns-then-branch-size-clause-reads : goal.returns-then-branch-size-clause-reads
-returns-then-branch-size-clause-reads g c = search rules
-
-pub returns-then-branch-size-clause-ends : goal.returns-then-branch-size-clause-ends
-returns-then-branch-size-clause-ends g c = search rules
-
-pub returns-then-branch-size-clause-only : goal.returns-then-branch-size-clause-only
-returns-then-branch-size-clause-only g c = search rules
-
-pub returns-in_err-fill-clause-needed : goal.returns-in_err-fill-clause-needed
-returns-in_err-fill-clause-needed g c =
-    reads_then _ _ (g.S.Source.counts c.fill.new.source) c.pieces.invariant.reads c.pieces.invariant.ends
-    c.pieces.invariant.needed c.fill.ensures.needed
-
-pub returns-then-branch-size-clause-needed : goal.returns-then-branch-size-clause-needed
-returns-then-branch-size-clause-needed g c =
-    reads_then _ _ (g.S.Source.counts c.fill.new.source) c.pieces.invariant.reads c.pieces.invariant.ends
-    c.pieces.invariant.needed c.fill.ensures.needed

@@ -1,14 +1,12 @@
-use Rattle.std.proofs.Common.{◌≡◌, ◌≤◌, ◌-◌}
+use Rattle.std.proofs.Common.{◌≤◌, ◌-◌, false}
 use Rattle.luks_io.specs.Devices.{ConsumedExactly, IfKnown}
-use Rattle.luks_io.specs.Counts.{ReadsAsNeeded}
+use Rattle.luks_io.specs.Counts.{Reads}
 use Rattle.luks_payload.proofs.forwarding.discard.Given as goal
 
 -- the bytes so far are gone, no read has failed or found the end, and none was needless
 abbrev pub invariant-pieces : goal.invariant-pieces
 invariant-pieces g l = record {
-  reads : (g.S.Source.counts l.source).failures ≡ (g.S.Source.counts l.initial.source).failures;
-  ends : (g.S.Source.counts l.source).ends ≡ (g.S.Source.counts l.initial.source).ends;
-  needed : ReadsAsNeeded (g.S.Source.counts l.initial.source) (g.S.Source.counts l.source);
+  reads : Reads false false (g.S.Source.counts l.initial.source) (g.S.Source.counts l.source);
   few : l.left ≤ l.count;
   taken : IfKnown (g.S.Source.to_come l.initial.source)
       (λ known. ConsumedExactly known (g.S.Source.to_come l.source) (l.count - l.left));

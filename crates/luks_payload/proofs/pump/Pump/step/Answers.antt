@@ -1,9 +1,11 @@
-use Rattle.std.proofs.Common.{◌≡◌, ◌∙◌, ap}
+use Rattle.std.proofs.Common.{◌≡◌, ◌+◌, ◌≤◌, ◌∙◌, ap, sym, subst, length, inl, inr}
 use Rattle.std.proofs.lemmas.Result.{err_from_is_err_and}
-use Rattle.luks_payload.specs.PumpEffects.{PumpModel}
+use Rattle.luks_payload.specs.Plain.{sector_start}
+use Rattle.luks_payload.specs.SectorEffects.{PositionedAt, max_sectors}
+use Rattle.luks_payload.specs.PumpEffects.{PumpModel, StepEffect}
 use Rattle.luks_payload.specs.declared.state.State.TheVariants.{Ended}
-use Rattle.luks_payload.proofs.StepLemmas.{first_answer, needed_skipped, resumed, steps_resumed, steps_unskipped}
-use Rattle.luks_payload.proofs.StepLemmas.{unwritten}
+use Rattle.luks_payload.proofs.StepLemmas.{resumed, steps_skipped, steps_unskipped}
+use Rattle.luks_payload.proofs.StepLemmas.{unskipped_reads, unskipped_writes, was_before}
 use Rattle.luks_payload.proofs.pump.Pump.step.Goals as goal
 
 pub returns-in_err-skip-clause-run : goal.returns-in_err-skip-clause-run
@@ -15,35 +17,55 @@ returns-in_err-skip-clause-run g c =
     c.in_err-skip.ensures.again c.in_err-skip.ensures.fresh
     (λ first. c.in_err-skip.ensures.run image first stands))
 
+pub returns-in_err-skip-clause-reads : goal.returns-in_err-skip-clause-reads
+returns-in_err-skip-clause-reads g c =
+    let p = err_from_is_err_and c.from_residual.result c.from_residual.ensures.1 in
+    let was = c.args.self.now in
+    let broken = c.in_err-skip.ensures in
+    rw (p.1, p.2) (λ running.
+    unskipped_reads was.segment was.count _ (broken.only (was_before was.state _ _ broken.again running)) _ _
+    (broken.reads running))
+
 pub returns-in_err-skip-clause-writes : goal.returns-in_err-skip-clause-writes
 returns-in_err-skip-clause-writes g c =
     let p = err_from_is_err_and c.from_residual.result c.from_residual.ensures.1 in
+    let was = c.args.self.now in
+    let broken = c.in_err-skip.ensures in
     rw (p.1, p.2) (λ running.
-    unwritten c.args.self.now.state _ _ _ c.in_err-skip.ensures.again c.in_err-skip.ensures.only running)
+    unskipped_writes was.segment was.count _ (broken.only (was_before was.state _ _ broken.again running)) _)
 
 pub returns-clause-run : goal.returns-clause-run
 returns-clause-run g c image few stands =
     let was = c.args.self.now in
-    steps_resumed was.segment was.cipher was.consumed was.count was.front image _ _ _ _ _ _ _ _ was.state _ _
-    c.self.view_is c.in_ok-skip.ensures.pump stands c.self.invariant.0
-    c.in_ok-skip.ensures.again (λ same. ap g.S.Source.to_come same) c.in_ok-skip.ensures.fresh
-    (λ first. c.in_ok-skip.ensures.run image first stands)
-    (λ stands'. c.next_sector-answer.ensures.run image few stands')
+    let skip = c.in_ok-skip.ensures in
+    let now = c.self.view_is ∙ skip.pump in
+    steps_skipped was.segment was.cipher was.consumed was.count was.front image _ _ _ _ _ _ was.state _ stands
+    (subst (λ (p : PumpModel). p.consumed ≤ p.segment.offset) now c.self.invariant.0)
+    skip.again (λ same. ap g.S.Source.to_come same) skip.fresh (λ first. skip.run image first stands)
+    (subst (λ (p : PumpModel).
+    PositionedAt image p.front (sector_start p.segment p.count) (g.S.Source.to_come c.skip.new.source)
+    → StepEffect p.segment p.cipher p.count (sector_start p.segment p.count + length p.front) image
+    c.next_sector-answer.result (g.S.Source.to_come c.next_sector-answer.new.source) (g.O.Sink.written c.args.sink.now)
+    (g.O.Sink.written c.next_sector-answer.new.sink)) now (c.next_sector-answer.ensures.run image few))
 
 pub remember-requires-clause-running : goal.remember-requires-clause-running
 remember-requires-clause-running g c =
     let going : c.self.inside.state ≡ Ended → ⊥ = λ ended. (let f = rw ended at c.if-eq.ensures in absurd cc) in
-    resumed c.args.self.now.state c.self.inside.state _ c.in_ok-skip.ensures.again
-    (ap (λ (p : PumpModel). p.state) (c.self.view_is ∙ c.in_ok-skip.ensures.pump)) going
+    (resumed c.args.self.now.state c.self.inside.state _ c.in_ok-skip.ensures.again
+    (ap (λ (p : PumpModel). p.state) (c.self.view_is ∙ c.in_ok-skip.ensures.pump)) going).0
 
-pub returns-clause-again : goal.returns-clause-again
-returns-clause-again g c =
+pub remember-requires-clause-below : goal.remember-requires-clause-below
+remember-requires-clause-below g c is = rw is at c.next_sector-answer.ensures.only
+
+pub returns-clause-idle : goal.returns-clause-idle
+returns-clause-idle g c =
     let going : c.self.inside.state ≡ Ended → ⊥ = λ ended. (let f = rw ended at c.if-eq.ensures in absurd cc) in
-    first_answer c.args.self.now.state c.self.inside.state _ _ _ c.in_ok-skip.ensures.again
-    (ap (λ (p : PumpModel). p.state) (c.self.view_is ∙ c.in_ok-skip.ensures.pump)) going
-
-pub returns-clause-needed_reads : goal.returns-clause-needed_reads
-returns-clause-needed_reads g c =
-    needed_skipped c.args.self.now.state _ _ _ (g.S.Source.counts c.next_sector-answer.new.source)
-    c.in_ok-skip.ensures.again (λ same. ap g.S.Source.counts same) c.in_ok-skip.ensures.reads c.in_ok-skip.ensures.ends
-    c.in_ok-skip.ensures.needed c.next_sector-answer.ensures.needed_reads
+    let now = c.self.view_is ∙ c.in_ok-skip.ensures.pump in
+    elim (resumed c.args.self.now.state c.self.inside.state _ c.in_ok-skip.ensures.again
+    (ap (λ (p : PumpModel). p.state) now) going).1 [
+      | inl is ↦ rw is tt
+      | inr (is, same) ↦ rw is (λ full.
+          let end = c.next_sector-answer.ensures.limit
+          (ap (λ (p : PumpModel). p.count) now ∙ full ∙ ap (λ (p : PumpModel). max_sectors p.segment) (sym now)) in
+          (end.0, (end.1 ∙ same, end.2)))
+    ]
