@@ -7,7 +7,7 @@ use Rattle.std.proofs.lemmas.Bool.{le-ltb}
 use Rattle.std.proofs.lemmas.Nat.{div-mul-add}
 use Rattle.std.proofs.Math.Nat.{div-mul-le_self, mod-eq-sub-div-mul, le-div_iff_mul-le, mul-le-mul_right}
 use Rattle.std.proofs.Math.Nat.{mul-le-mul_left, zero-div}
-use Rattle.luks_header.specs.SectorSize.{bytes_of}
+use Rattle.luks_verdict.specs.SectorSize.{bytes_of}
 use Rattle.luks_verdict.specs.declared.sector_size.SectorSize.{SectorSize}
 use Rattle.luks_verdict.specs.declared.sector_size.SectorSize.TheVariants.{B512, B1024, B2048, B4096}
 use Rattle.luks_payload.specs.SectorEffects.{limit_within}

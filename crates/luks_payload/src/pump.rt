@@ -17,9 +17,9 @@ use crate::forwarding::{discard, forward_sector};
 use crate::sector::{ending, limit, number};
 use crate::state::{State, Step};
 use luks_cipher::SectorCipher;
-use luks_header::segment::Segment;
 use luks_io::sink::Sink;
 use luks_io::source::Source;
+use luks_verdict::segment::Segment;
 use std::marker::Model;
 
 /// Room for the longest sector.

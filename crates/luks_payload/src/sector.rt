@@ -6,7 +6,7 @@ ghost use Rattle.luks_payload.specs.Plain.{ending_within, sector_len, unit_numbe
 
 use crate::fault::VolumeFault;
 use crate::state::Step;
-use luks_header::segment::Segment;
+use luks_verdict::segment::Segment;
 
 /// The most sectors that are forwarded: those of a fixed size, and otherwise the greatest count of
 /// 64 bits.
