@@ -1,6 +1,7 @@
 //! An image that is read at offsets, as a source of its bytes.
 
 ghost use Rattle.std.specs.Prelude.{◌≡◌};
+ghost use Rattle.luks_io.specs.Counts.{unread};
 ghost use Rattle.luks_access.specs.Image.{remaining_from};
 
 use crate::image::ReadAt;
@@ -23,7 +24,7 @@ impl<'a, I: ReadAt> ImageSource<'a, I> {
         ensures bytes { ⟦<ImageSource<'a, I> as Source>⟧.to_come result
             ≡ remaining_from 0 (I.image image.entry.now) }
         ensures counts { ⟦<ImageSource<'a, I> as Source>⟧.counts result
-            ≡ record { failures = 0; ends = 0; needless = 0 } }
+            ≡ unread }
     {
         ImageSource {
             image,

@@ -1,6 +1,6 @@
 -- What parts of a run add to the counts of a device, one after the other.
 use Rattle.luks_io.specs.Devices.{counted}
-use Rattle.std.proofs.Common.{◌≡◌, ◌∙◌, Bool, ap, false, refl}
+use Rattle.std.proofs.Common.{◌≡◌, ◌∙◌, Bool, ap, arith, false, refl}
 use Rattle.luks_io.specs.Counts.{IsLive, Reads, ReadsAsNeeded, Writes, WritesAsNeeded}
 use Rattle.luks_io.specs.declared.counts.ReadCounts.{ReadCounts}
 use Rattle.luks_io.specs.declared.counts.WriteCounts.{WriteCounts}
@@ -21,7 +21,7 @@ writes_then a b c failures first then live = then (failures ∙ live) ∙ first 
 
 -- without a read, nothing is counted
 pub no_reads : (a : ReadCounts) → Reads false false a a
-no_reads a = record { failures = refl; ends = refl; needed = λ live. refl }
+no_reads a = record { failures = refl; ends = refl; needed = λ live. refl; ahead = omega arith }
 
 -- reads of which none failed or hit the end, and then further ones
 pub reads_more : (failed ended : Bool) (a b c : ReadCounts) → Reads false false a b → Reads failed ended b c
@@ -30,6 +30,7 @@ reads_more failed ended a b c first then = record {
   failures = then.failures ∙ ap (counted failed) first.failures;
   ends = then.ends ∙ ap (counted ended) first.ends;
   needed = reads_then a b c first.failures first.ends first.needed then.needed;
+  ahead = omega (arith, first.ahead, then.ahead);
 }
 
 -- without a write, nothing is counted

@@ -1,5 +1,5 @@
 -- What devices count of their calls, and what the calls of a part of a run add to it.
-use Rattle.std.specs.Prelude.{◌≡◌, ℕ, ◌==◌, ◌||◌, nat_lt, is_err, Bool, Result}
+use Rattle.std.specs.Prelude.{◌≡◌, ℕ, ◌-◌, ◌≤◌, ◌==◌, ◌||◌, nat_lt, is_err, Bool, Result, Ok, Err, Option, Some, None}
 use Rattle.luks_io.specs.Devices.{counted, is_end}
 use Rattle.luks_io.specs.declared.counts.ReadCounts.{ReadCounts}
 use Rattle.luks_io.specs.declared.counts.WriteCounts.{WriteCounts}
@@ -8,13 +8,37 @@ use Rattle.luks_io.specs.declared.counts.WriteCounts.{WriteCounts}
 abbrev pub is_needless_read : ReadCounts → ℕ → Bool
 is_needless_read counts room = room == 0 || (nat_lt 0 counts.failures || nat_lt 0 counts.ends)
 
+-- how many bytes a read gave
+abbrev pub given : {E : Type 0} → Result ℕ E → ℕ
+given (Ok count) = count
+given (Err _) = 0
+
+-- the counts of a source that was not read yet, and is not allowed to read ahead
+abbrev pub unread : ReadCounts
+unread = record { failures = 0; ends = 0; needless = 0; ahead = 0 }
+
 -- what is counted after one more read into a buffer with capacity for so many bytes
 abbrev pub after_read : {E : Type 0} → Result ℕ E → ℕ → ReadCounts → ReadCounts
 after_read answer room counts = record {
   failures = counted (is_err answer) counts.failures;
   ends = counted (is_end answer room) counts.ends;
   needless = counted (is_needless_read counts room) counts.needless;
+  ahead = counts.ahead - given answer;
 }
+
+-- the same source, which is allowed to read so many bytes ahead
+abbrev pub with_ahead : ℕ → ReadCounts → ReadCounts
+with_ahead count counts = record {
+  failures = counts.failures;
+  ends = counts.ends;
+  needless = counts.needless;
+  ahead = count;
+}
+
+-- how many bytes are allowed to be read ahead after so many buffered ones were forwarded, or none
+abbrev pub left_ahead : {A : Type 0} → Option A → ℕ → ℕ → ℕ
+left_ahead (Some _) count ahead = ahead - count
+left_ahead None count ahead = ahead
 
 -- no read has failed or hit the end so far
 pub record IsLive (counts : ReadCounts) : Type 0 where
@@ -41,11 +65,12 @@ abbrev pub WritesAsNeeded : WriteCounts → WriteCounts → Type 0
 WritesAsNeeded before after = before.failures ≡ 0 → after.needless ≡ before.needless
 
 -- what the reads of a part of a run add to the counts of a source: a failure if one failed, an end if one hit the end,
--- and nothing needless
+-- and nothing needless. No more is allowed to be read ahead than before
 pub record Reads (failed ended : Bool) (before after : ReadCounts) : Type 0 where
   pub failures : after.failures ≡ counted failed before.failures
   pub ends : after.ends ≡ counted ended before.ends
   pub needed : ReadsAsNeeded before after
+  pub ahead : after.ahead ≤ before.ahead
 
 -- what the writes of a part of a run add to the counts of a sink: a failure if one failed, and nothing needless
 pub record Writes (failed : Bool) (before after : WriteCounts) : Type 0 where

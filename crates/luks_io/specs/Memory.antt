@@ -12,7 +12,7 @@ pub record MemSourceModel : Type 0 where
 
 -- what it counts
 abbrev pub counts_of_memory : MemSourceModel → ReadCounts
-counts_of_memory source = record { failures = 0; ends = source.ends; needless = source.needless }
+counts_of_memory source = record { failures = 0; ends = source.ends; needless = source.needless; ahead = 0 }
 
 -- a sink over memory: the bytes written, how many more fit, and what it counts of its writes
 pub record MemSinkModel : Type 0 where

@@ -2,12 +2,13 @@
 //! ahead.
 
 ghost use Rattle.std.specs.Prelude.{◌≡◌, ◌≢◌, ◌+◌, ◌-◌, ◌<◌, ◌≤◌, ◌++◌, ◌⊎◌, [], IfOk};
-ghost use Rattle.std.specs.Prelude.{IsErr, MatchResult, is_err, is_some, length, min, nat_le, take};
+ghost use Rattle.std.specs.Prelude.{IsErr, MatchResult, is_err, is_some, length, max, min, nat_le, take};
 ghost use Rattle.std.specs.Io.{ReadsAtMost};
 ghost use Rattle.std.specs.Io.KnownBytes.{Consumes, IsAtEnd, Keeps, ReadConsumes, prepend_known};
-ghost use Rattle.luks_io.specs.Ahead.{ReadsAhead, announced_after, max_read};
+ghost use Rattle.luks_io.specs.Ahead.{ReadsAhead, announced_of, max_read};
 ghost use Rattle.luks_io.specs.Devices.{ConsumedAtMost, IfKnown, is_end};
-ghost use Rattle.luks_io.specs.Counts.{Reads, Writes, after_read};
+ghost use Rattle.luks_io.specs.Counts.{Reads, Writes, after_read, given, left_ahead};
+ghost use Rattle.luks_io.specs.Counts.{unread, with_ahead};
 ghost use Rattle.luks_io.specs.Forwarding.{ForwardEffect, held_after, is_aborted};
 
 use crate::DeviceFault;
@@ -22,20 +23,19 @@ use std::marker::Model;
 /// allowed to be read ahead and fit into its buffer, and copies them out as they are requested. It
 /// reads no others before they are requested, so what is not needed stays in the source below.
 ///
-/// A clause sees the source below, which of its bytes are buffered, how many behind these are
-/// allowed to be read ahead, the buffer's capacity, and what is counted.
+/// A clause sees the source below, which of its bytes are buffered, the buffer's capacity, and what
+/// is counted. The buffered bytes are some of those that are allowed to be read ahead.
 #[derive(Drop)]
 pub struct AheadSource<S> {
     source: S,
     buffer: Vec<u8>,
     start: usize,
     end: usize,
-    announced: u64,
     counts: ReadCounts,
 }
 
 impl<S> Model for AheadSource<S> {
-    ghost use Rattle.std.specs.Prelude.{◌≤◌, slice_range, vec_len};
+    ghost use Rattle.std.specs.Prelude.{◌-◌, ◌≤◌, slice_range, vec_len};
     ghost use Rattle.luks_io.specs.Ahead.{ReadAheadModel};
 
     ghost Value = { ReadAheadModel S };
@@ -44,12 +44,12 @@ impl<S> Model for AheadSource<S> {
         record {
           source = a.source;
           held = slice_range a.buffer.items a.start a.end;
-          announced = a.announced;
           room = vec_len a.buffer;
           counts = a.counts;
         } };
 
-    ghost invariant = { λ a. (a.start ≤ a.end) × (a.end ≤ vec_len a.buffer) };
+    ghost invariant = { λ a. (a.start ≤ a.end) × (a.end ≤ vec_len a.buffer)
+        × (a.end - a.start ≤ a.counts.ahead) };
 }
 
 /// Reads at most `count` bytes into the front of a buffer.
@@ -81,9 +81,8 @@ impl<S: Source + Drop> AheadSource<S> {
         ensures { IfOk result (λ a. a ≡ record {
           source = source;
           held = [];
-          announced = 0;
           room = room;
-          counts = record { failures = 0; ends = 0; needless = 0 };
+          counts = unread;
         }) }
     {
         let buffer = vec![in alloc; 0; room]?;
@@ -92,7 +91,6 @@ impl<S: Source + Drop> AheadSource<S> {
             buffer,
             start: 0,
             end: 0,
-            announced: 0,
             counts: ReadCounts::new(),
         })
     }
@@ -113,19 +111,15 @@ impl<S: Source> AheadSource<S> {
             result buf.new }
         ensures below { S.counts self.new.source
             ≡ after_read result (length buf.new) (S.counts self.old.source) }
-        ensures leaves { self.new ≡ record self.old {
-          source = self.new.source;
-          announced = announced_after result self.old.announced;
-        } }
+        ensures leaves { self.new ≡ record self.old { source = self.new.source } }
     {
-        let count = self.source.read(buf)?;
-        self.announced = self.announced.saturating_sub(count as u64);
-        Ok(count)
+        self.source.read(buf)
     }
 
     /// Reads at most `count` bytes into the empty buffer, and answers how many came.
     fn refill(&mut self, count: usize) -> Result<usize, DeviceFault>
         requires room { count ≤ self.old.room }
+        requires allowed { count ≤ self.old.counts.ahead }
         requires empty { self.old.held ≡ [] }
         ensures held { MatchResult result (λ n. (n ≤ count) × (length self.new.held ≡ n))
             (λ _. self.new.held ≡ self.old.held) }
@@ -138,14 +132,12 @@ impl<S: Source> AheadSource<S> {
         ensures leaves { self.new ≡ record self.old {
           source = self.new.source;
           held = self.new.held;
-          announced = announced_after result self.old.announced;
         } }
     {
         self.start = 0;
         self.end = 0;
         let got = read_front(&mut self.source, &mut self.buffer, count)?;
         self.end = got;
-        self.announced = self.announced.saturating_sub(got as u64);
         Ok(got)
     }
 
@@ -155,6 +147,7 @@ impl<S: Source> AheadSource<S> {
         ensures len { length buf.new ≡ length buf.old }
         ensures bytes { self.old.held ≡ take result buf.new ++ self.new.held }
         ensures leaves { self.new ≡ record self.old { held = self.new.held } }
+        ensures allowed { length self.new.held ≤ self.old.counts.ahead - result }
     {
         let (start, end) = (self.start, self.end);
         let count = buf.len().min(end - start);
@@ -171,6 +164,7 @@ impl<S> AheadSource<S> {
         answer: Result<usize, DeviceFault>,
         room: usize,
     ) -> Result<usize, DeviceFault>
+        requires { length self.old.held ≤ self.old.counts.ahead - given answer }
         ensures value { result ≡ answer }
         ensures counts { self.new
             ≡ record self.old { counts = after_read answer room self.old.counts } }
@@ -198,11 +192,11 @@ impl<S: Source> Source for AheadSource<S> {
             (S.counts self.old.source) (S.counts self.new.source) }
         ensures within { IfKnown (S.to_come self.old.source)
             (λ known. ConsumedAtMost known (S.to_come self.new.source)
-            (max_read (length buf.old) self.old.announced self.old.room)) }
+            (max_read (length buf.old) (announced_of self.old) self.old.room)) }
         ensures leaves { ReadsAhead (length buf.old) result self.old self.new }
     {
         if self.start == self.end && !buf.is_empty() {
-            let ahead = self.announced.min(self.buffer.len() as u64) as usize;
+            let ahead = self.counts.ahead.min(self.buffer.len() as u64) as usize;
             if ahead <= buf.len() {
                 let answer = self.pass(buf);
                 return self.counted(answer, buf.len());
@@ -217,9 +211,12 @@ impl<S: Source> Source for AheadSource<S> {
 
     /// Allows read-ahead for the next `count` bytes, including those that are buffered.
     fn announce(&mut self, count: u64)
-        ensures { self.new ≡ record self.old { announced = count - length self.old.held } }
+        ensures leaves { self.new ≡ record self.old {
+          counts = with_ahead (max count (length self.old.held)) self.old.counts;
+        } }
+        ensures allowed { length self.old.held ≤ self.old.counts.ahead }
     {
-        self.announced = count.saturating_sub((self.end - self.start) as u64);
+        self.counts.ahead = count.max((self.end - self.start) as u64);
     }
 
     /// Forwards only buffered bytes, and does not read from the source below.
@@ -235,11 +232,14 @@ impl<S: Source> Source for AheadSource<S> {
             (C.transformed transform.now) (prepend_known self.old.held (S.to_come self.old.source))
             (prepend_known self.new.held (S.to_come self.new.source))
             (O.written sink.old) (O.written sink.new) }
-        ensures counts { self.new.counts ≡ self.old.counts }
+        ensures counts { self.new.counts
+            ≡ with_ahead (left_ahead result count self.old.counts.ahead) self.old.counts }
         ensures writes { Writes (is_aborted result) (O.counts sink.old) (O.counts sink.new) }
         ensures enough { is_some result ≡ nat_le count (length self.old.held) }
-        ensures leaves { self.new
-            ≡ record self.old { held = held_after result count self.old.held } }
+        ensures leaves { self.new ≡ record self.old {
+          held = held_after result count self.old.held;
+          counts = self.new.counts;
+        } }
     {
         let start = self.start;
         if self.end - start < count {
@@ -247,6 +247,7 @@ impl<S: Source> Source for AheadSource<S> {
         }
         let answer = put_transformed(&mut self.buffer, start, count, transform, sink);
         self.start += count;
+        self.counts.ahead -= count as u64;
         Some(answer)
     }
 }

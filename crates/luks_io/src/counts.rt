@@ -2,7 +2,7 @@
 
 ghost use Rattle.std.specs.Prelude.{◌≡◌, ◌==◌, ◌&&◌, nat_lt, Bool};
 ghost use Rattle.luks_io.specs.Devices.{counted, is_end};
-ghost use Rattle.luks_io.specs.Counts.{after_read, after_write, is_needless_read, is_needless_write};
+ghost use Rattle.luks_io.specs.Counts.{after_read, after_write, given, is_needless_read, is_needless_write, unread};
 
 use crate::DeviceFault;
 
@@ -16,17 +16,20 @@ pub struct ReadCounts {
     /// Reads that no caller needs: into a buffer without capacity, or after a read that failed or
     /// hit the end.
     pub needless: u64,
+    /// How many of the next bytes are allowed to be read ahead, before they are requested.
+    pub ahead: u64,
 }
 
 impl ReadCounts {
     /// The counts of a source that was not read yet.
     pub fn new() -> ReadCounts
-        ensures { result ≡ record { failures = 0; ends = 0; needless = 0 } }
+        ensures { result ≡ unread }
     {
         ReadCounts {
             failures: 0,
             ends: 0,
             needless: 0,
+            ahead: 0,
         }
     }
 
@@ -44,6 +47,7 @@ impl ReadCounts {
         count_if(&mut self.needless, needless);
         count_if(&mut self.failures, answer.is_err());
         count_if(&mut self.ends, hits_end(&answer, room));
+        self.ahead = self.ahead.saturating_sub(given(&answer));
         answer
     }
 }
@@ -81,6 +85,16 @@ impl WriteCounts {
         count_if(&mut self.needless, needless);
         count_if(&mut self.failures, answer.is_err());
         answer
+    }
+}
+
+/// How many bytes a read gave.
+fn given(answer: &Result<usize, DeviceFault>) -> u64
+    ensures { result ≡ given answer.now }
+{
+    match answer {
+        Ok(count) => *count as u64,
+        Err(_) => 0,
     }
 }
 

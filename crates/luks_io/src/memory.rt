@@ -32,7 +32,7 @@ impl<'a> Model for MemSource<'a> {
     ghost view = { λ s.
         record { left = s.left.now; ends = s.counts.ends; needless = s.counts.needless } };
 
-    ghost invariant = { λ s. s.counts.failures ≡ 0 };
+    ghost invariant = { λ s. (s.counts.failures ≡ 0) × (s.counts.ahead ≡ 0) };
 }
 
 impl<'a> MemSource<'a> {

@@ -1,11 +1,11 @@
 //! What gives bytes.
 
-ghost use Rattle.std.specs.Prelude.{◌≡◌, ◌<◌, ◌≤◌, ℕ, List, Option, length, min};
+ghost use Rattle.std.specs.Prelude.{◌≡◌, ◌<◌, ◌≤◌, ℕ, List, Option, length, max, min};
 ghost use Rattle.std.specs.Prelude.{is_err, IfOk, MatchResult};
 ghost use Rattle.std.specs.Io.{ReadsAtMost};
 ghost use Rattle.std.specs.Io.KnownBytes.{ReadConsumes};
 ghost use Rattle.luks_io.specs.Devices.{ConsumedInto, IfKnown, is_short_read};
-ghost use Rattle.luks_io.specs.Counts.{Reads, Writes, after_read};
+ghost use Rattle.luks_io.specs.Counts.{Reads, Writes, after_read, left_ahead, with_ahead};
 ghost use Rattle.luks_io.specs.declared.counts.ReadCounts.{ReadCounts};
 ghost use Rattle.luks_io.specs.Forwarding.{ForwardEffect, is_aborted};
 ghost use Rattle.luks_io.specs.Reads.{got_in};
@@ -33,9 +33,10 @@ pub trait Source {
     /// Allows read-ahead for the next `count` bytes: they will be requested, unless the source ends
     /// or a call of some device fails first. A source may consume them before they are requested;
     /// the bytes that it gives are the same. A later call replaces an earlier one.
-    fn announce(&mut self, _count: u64)
+    fn announce(&mut self, count: u64)
         ensures bytes { to_come self.new ≡ to_come self.old }
-        ensures counts { counts self.new ≡ counts self.old }
+        ensures counts { counts self.new ≡ with_ahead (counts self.new).ahead (counts self.old) }
+        ensures ahead { (counts self.new).ahead ≤ max count (counts self.old).ahead }
     {}
 
     /// Forwards the next `count` bytes, transformed, to the sink, if the source has so many
@@ -52,7 +53,8 @@ pub trait Source {
             count
             (C.transformed transform.now) (to_come self.old) (to_come self.new)
             (O.written sink.old) (O.written sink.new) }
-        ensures counts { counts self.new ≡ counts self.old }
+        ensures counts { counts self.new
+            ≡ with_ahead (left_ahead result count (counts self.old).ahead) (counts self.old) }
         ensures writes { Writes (is_aborted result) (O.counts sink.old) (O.counts sink.new) }
     {
         None

@@ -1,6 +1,7 @@
 //! Devices over memory that move a few bytes a call, and of which one call fails.
 
 ghost use Rattle.std.specs.Prelude.{◌≡◌, ◌<◌, ℕ, List, [], Some, IfOk, length};
+ghost use Rattle.luks_io.specs.Counts.{unread};
 
 use luks_io::DeviceFault;
 use luks_io::counts::{ReadCounts, WriteCounts};
@@ -26,7 +27,7 @@ impl<'a> Flaky<'a> {
     pub fn new(bytes: &'a [u8], piece: usize, failing: u64) -> Flaky<'a>
         ensures bytes { ⟦<Flaky<'a> as Source>⟧.to_come result ≡ Some bytes.entry.now }
         ensures counts { ⟦<Flaky<'a> as Source>⟧.counts result
-            ≡ record { failures = 0; ends = 0; needless = 0 } }
+            ≡ unread }
     {
         Flaky {
             left: bytes,
@@ -157,7 +158,7 @@ impl<'a> Broken<'a> {
     pub fn new(bytes: &'a [u8], given: usize) -> Broken<'a>
         ensures bytes { ⟦<Broken<'a> as Source>⟧.to_come result ≡ Some bytes.entry.now }
         ensures counts { ⟦<Broken<'a> as Source>⟧.counts result
-            ≡ record { failures = 0; ends = 0; needless = 0 } }
+            ≡ unread }
     {
         Broken {
             left: bytes,

@@ -5,6 +5,7 @@ ghost use Rattle.std.specs.Io.{ReadsAtMost};
 ghost use Rattle.std.specs.Io.KnownBytes.{ReadConsumes};
 ghost use Rattle.luks_io.specs.CallOutcomes.{OutcomeConsumes, GivesNext, ReportsFirst, max_retries};
 ghost use Rattle.luks_io.specs.CallOutcomes.{read_result};
+ghost use Rattle.luks_io.specs.Counts.{unread};
 ghost use Rattle.luks_io.specs.declared.adapters.CallOutcome.{CallOutcome};
 
 use super::{CallOutcome, MAX_RETRIES, call_outcome};
@@ -68,7 +69,7 @@ impl<R: Read> ReadSource<R> {
     pub fn new(reader: R) -> ReadSource<R>
         ensures bytes { ⟦<ReadSource<R> as Source>⟧.to_come result ≡ R.remaining reader }
         ensures counts { ⟦<ReadSource<R> as Source>⟧.counts result
-            ≡ record { failures = 0; ends = 0; needless = 0 } }
+            ≡ unread }
     {
         ReadSource {
             reader,
