@@ -19,7 +19,7 @@ module _ (known : List ℕ) (r r' : Option (List ℕ)) where
       → ConsumedExactly known r' (m + n)
   consumed_more m n before next = consumed_behind m n before (next (drop m known) before.left)
 
-  -- the same, of a sum that is told
+  -- the same, of a sum that is given
   pub consumed_sum : (m n sum : ℕ) → m + n ≡ sum → ConsumedExactly known r m
       → IfKnown r (λ rest. ConsumedExactly rest r' n)
       → ConsumedExactly known r' sum

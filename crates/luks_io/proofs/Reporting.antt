@@ -1,4 +1,4 @@
--- What is told of a device's answers, one answer after the other.
+-- What is reported of a device's answers, one answer after the other.
 use Rattle.std.proofs.Common.{◌≡◌, ℕ, zero, suc, ◌-◌, ◌<◌, List, [], ◌∷◌, Option, Result, Err, refl, subst, arith}
 use Rattle.luks_io.specs.CallOutcomes.{GivesNext, IsNextOf, ReportsFirst, ReportsFirstOf}
 use Rattle.luks_io.specs.declared.DeviceFault.{DeviceFault}

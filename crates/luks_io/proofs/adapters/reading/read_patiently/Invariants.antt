@@ -5,8 +5,8 @@ use Rattle.luks_io.specs.declared.DeviceFault.{DeviceFault}
 use Rattle.luks_io.specs.declared.adapters.CallOutcome.{CallOutcome}
 use Rattle.luks_io.proofs.adapters.reading.read_patiently.Given as goal
 
--- the calls so far were interrupted: they took nothing, and what is told from here on is told of
--- the whole
+-- the calls so far were interrupted: they consumed nothing, and what is reported from here on is
+-- reported of all calls
 abbrev pub invariant-tries : goal.invariant-tries
 invariant-tries g l = record {
   told : (told : Result ℕ DeviceFault) (after : Option (List CallOutcome)) →
