@@ -1,13 +1,13 @@
 //! Finding the header of an image.
 
 ghost use Rattle.std.specs.Prelude.{◌≡◌, ◌+◌, ◌≤◌, ◌↔◌, ◌⊎◌, ◌++◌, ◌<◌, ◌&&◌, not, true, false, length, max};
-ghost use Rattle.std.specs.Prelude.{take, IsTrue, Ok, Err, IfOk, IfErr, IfSome, OnErr, OnOk, List};
-ghost use Rattle.std.specs.Prelude.{ℕ, [], Some, option_and_then};
+ghost use Rattle.std.specs.Prelude.{take, IsTrue, Ok, IfOk, IfErr, IfSome, OnErr, OnOk};
+ghost use Rattle.std.specs.Prelude.{Some, option_and_then};
 ghost use Rattle.luks_io.specs.Devices.{IfKnown};
 ghost use Rattle.luks_io.specs.Counts.{Reads};
 ghost use Rattle.luks_area.specs.Area.{is_read, max_area_len};
-ghost use Rattle.luks2_binary.specs.Choice2.{chosen2_of, found_at, header2_of, least_valid};
-ghost use Rattle.luks2_binary.specs.ReadLen2.{header2_read_len, reach2_of, probe_end, search_reach};
+ghost use Rattle.luks2_binary.specs.Choice2.{chosen2_of, found_at, least_valid};
+ghost use Rattle.luks2_binary.specs.ReadLen2.{reach2_of, probe_end, search_reach};
 ghost use Rattle.luks2_binary.specs.Front2.{AnsweredFrom, Extended, LoadedFor, OfEach};
 ghost use Rattle.luks2_binary.specs.Front2.{RemembersEnd, SeeksHeader2, hits_eof};
 ghost use Rattle.luks2_binary.specs.Front2.{unloaded, valid_size};

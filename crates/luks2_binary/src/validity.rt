@@ -1,6 +1,6 @@
 //! Whether there is a valid header at a place.
 
-ghost use Rattle.std.specs.Prelude.{◌≡◌, ◌+◌, ◌≤◌, ◌++◌, ◌==◌, ◌&&◌, ◌||◌, IfSome, bytes_eq};
+ghost use Rattle.std.specs.Prelude.{◌≡◌, ◌+◌, ◌≤◌, ◌==◌, ◌&&◌, ◌||◌, IfSome, bytes_eq};
 ghost use Rattle.std.specs.Prelude.{if◌then◌else◌, length, Some, None};
 ghost use Rattle.std.specs.List.{list_any};
 ghost use Rattle.luks_kdf.specs.Hash.{hash_of, digest_len};

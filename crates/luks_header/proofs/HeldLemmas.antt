@@ -48,7 +48,7 @@ module _ (image : List ℕ) (other : is_luks1 image ≡ false) where
   unfolding header_of
   header_read header tree found read = rw (other, found, read) refl
 
-  -- of one whose text cannot be read that is told
+  -- the fault of one whose text cannot be read
   pub header_unreadable : (header : Header2) → header2_of image ≡ Ok header
       → tree_of (json_text_of image header) ≡ None → header_of image ≡ Err Json
   unfolding header_of

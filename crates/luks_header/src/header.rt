@@ -1,8 +1,8 @@
 //! Which header an image has.
 
-ghost use Rattle.std.specs.Prelude.{◌≡◌, ◌++◌, Bool, List, ℕ, Some, Ok, Err, IfOk, IfErr, drop};
+ghost use Rattle.std.specs.Prelude.{◌≡◌, ◌++◌, Bool, Some, Ok, Err, IfOk, IfErr};
 ghost use Rattle.std.specs.Prelude.{[], length, take, true, false};
-ghost use Rattle.luks_io.specs.Devices.{ConsumedExactly, IfKnown, counted};
+ghost use Rattle.luks_io.specs.Devices.{ConsumedExactly, IfKnown};
 ghost use Rattle.luks_io.specs.Counts.{Reads};
 ghost use Rattle.luks_area.specs.Area.{is_read};
 ghost use Rattle.luks1_header.specs.Header1.{is_luks1};

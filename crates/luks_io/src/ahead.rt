@@ -1,8 +1,8 @@
 //! A source that reads many bytes at once, but only those that are requested or allowed to be read
 //! ahead.
 
-ghost use Rattle.std.specs.Prelude.{◌≡◌, ◌≢◌, ◌+◌, ◌-◌, ◌<◌, ◌≤◌, ◌++◌, ◌⊎◌, [], IfOk};
-ghost use Rattle.std.specs.Prelude.{IsErr, MatchResult, is_err, is_some, length, max, min, nat_le, take};
+ghost use Rattle.std.specs.Prelude.{◌≡◌, ◌+◌, ◌-◌, ◌<◌, ◌≤◌, ◌++◌, [], IfOk};
+ghost use Rattle.std.specs.Prelude.{MatchResult, is_err, is_some, length, max, min, nat_le, take};
 ghost use Rattle.std.specs.Io.{ReadsAtMost};
 ghost use Rattle.std.specs.Io.KnownBytes.{Consumes, IsAtEnd, Keeps, ReadConsumes, prepend_known};
 ghost use Rattle.luks_io.specs.Ahead.{ReadsAhead, announced_of, max_read};

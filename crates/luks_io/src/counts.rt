@@ -1,8 +1,8 @@
-//! What devices count of their calls. Each count stays at its greatest value.
+//! What devices count of their calls. A count of calls stays at its greatest value.
 
-ghost use Rattle.std.specs.Prelude.{◌≡◌, ◌==◌, ◌&&◌, nat_lt, Bool};
+ghost use Rattle.std.specs.Prelude.{◌≡◌, ◌==◌, ◌&&◌};
 ghost use Rattle.luks_io.specs.Devices.{counted, is_end};
-ghost use Rattle.luks_io.specs.Counts.{after_read, after_write, given, is_needless_read, is_needless_write, unread};
+ghost use Rattle.luks_io.specs.Counts.{after_read, after_write, given, unread};
 
 use crate::DeviceFault;
 

@@ -19,7 +19,8 @@ pub trait Source {
     /// The remaining bytes, if the source knows them.
     ghost to_come: { Self → Option (List ℕ) };
 
-    /// How many reads have failed, have hit the end, and were needless.
+    /// How many reads have failed, have hit the end, and were needless; and how many of the next
+    /// bytes are allowed to be read ahead.
     ghost counts: { Self → ReadCounts };
 
     /// Reads the next bytes into the start of the buffer, and answers how many. `Ok(0)` for a
