@@ -2,7 +2,7 @@
 use Rattle.std.specs.Prelude.{◌==◌}
 use Rattle.std.proofs.Common.{◌≡◌, ℕ, ◌≤◌, Bool, true, false, List, Option, Result, Ok, Err, refl}
 use Rattle.std.proofs.Common.{length, arith}
-use Rattle.luks_io.specs.Devices.{Appended, ConsumedExactly, counted}
+use Rattle.luks_io.specs.Devices.{Appended, ConsumedExactly}
 use Rattle.luks_io.proofs.Consuming.{adds-none}
 use Rattle.luks_header.specs.Header.{AbortsReading, header_read_len, header_of}
 use Rattle.luks_header.proofs.HeaderLemmas.{memory_below}
@@ -24,8 +24,7 @@ use Rattle.luks_runs.proofs.HeaderConsumption.{reading_fault}
 use Rattle.luks_runs.specs.declared.headers.Printout.{Printout}
 use Rattle.luks_runs.specs.declared.headers.Printout.TheVariants.{Uuid, Dump, Check}
 use Rattle.luks_report.specs.CheckOutput.{check_of, findings_of, message_for_check}
-use Rattle.luks_runs.specs.Run.{Counts, IsPrefixLen, IsSilent, RunMatches, Aborted, ConsumedNothing, at_any_pace}
-use Rattle.luks_runs.specs.Run.{failures_of}
+use Rattle.luks_runs.specs.Run.{IsPrefixLen, IsSilent, RunMatches, Aborted, ConsumedNothing, at_any_pace}
 use Rattle.luks_runs.specs.Run.{is_run_write_failure}
 
 -- a run that ended before any output
@@ -81,14 +80,6 @@ told_prints Check header text before after is a = by (length (findings_of header
       → Prints (check_of header) (message_for_check header) before after (message_for_check header)
   by true none = rw none (refl, rw is at a)
   by false some = rw some (refl, rw is at a)
-
--- the counts of a run that printed a text: only writes are counted
-pub printing_counts : (text : List ℕ) (told : Message) (before after : Option (List ℕ)) (message : Message)
-    (image secret written written' : ℕ) → Prints text told before after message
-    → written' ≡ counted (is_run_write_failure message) written
-    → Counts message (failures_of image secret written) (failures_of image secret written')
-printing_counts text told before after ReadFailed image secret written written' lost is = absurd lost
-printing_counts text told before after _ image secret written written' prints is = rw is refl
 
 module _ (location : HeaderLocation) (text : Header → List ℕ) (told : Header → Message) (image : List ℕ)
     (i w : Option (List ℕ)) where

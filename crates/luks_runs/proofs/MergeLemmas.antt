@@ -46,16 +46,6 @@ module _ (bytes : List ℕ) (i len : ℕ) (s : Option (List ℕ)) (p : ConsumedE
       (i * len + here.0, omega (arith, here.1), consumed_behind bytes s s' (i * len) here.0 p here.2)
   stops_at count _ s' below stop = absurd (stop (drop (i * len) bytes) p.left)
 
--- what stops before all but one stripe are there stops before all are
-pub stops_before : (count len : ℕ) (bytes : List ℕ) (s : Option (List ℕ)) (message : Message)
-    → AbortsReadingStripes (count - 1) len bytes s message
-    → AbortsReadingStripes count len bytes s message
-stops_before count len bytes s FewStripes stop = let fewer : (count - 1) * len
-    ≤ count * len = mul-le-mul_right len (omega arith) in (omega (arith, stop.0), stop.1)
-stops_before count len bytes s ReadFailed stop = let fewer : (count - 1) * len
-    ≤ count * len = mul-le-mul_right len (omega arith) in (stop.0, omega (arith, stop.1), stop.2)
-stops_before count len bytes s _ stop = absurd stop
-
 module _ (h : Hash) (count len : ℕ) (bytes : List ℕ) where
   stripes_enough : count * len ≤ length bytes
       → merge_outcome h count len bytes

@@ -1,7 +1,8 @@
 -- Passing on a payload sector by sector.
-use Rattle.std.proofs.Common.{◌≡◌, ◌≢◌, ℕ, zero, suc, ◌+◌, ◌-◌, ◌*◌, ◌/◌, ◌%◌, ◌^◌, ◌<◌, ◌≤◌, ◌⊎◌, inl, inr, List, []}
+use Rattle.std.proofs.Common.{◌≡◌, ℕ, zero, suc, ◌+◌, ◌-◌, ◌*◌, ◌/◌, ◌%◌, ◌^◌, ◌<◌, ◌≤◌, ◌⊎◌, inl, inr, List, []}
 use Rattle.std.proofs.Common.{◌++◌, Option, None, Some, Result, Ok, Err, ◌∙◌, ap, sym, refl, take, drop, length}
 use Rattle.std.proofs.Common.{take_all, length-take-le, length-drop, length-append, append-nil, add-one, max, arith}
+use Rattle.std.proofs.Common.{false}
 use Rattle.std.proofs.lemmas.Bool.{cases_lt}
 use Rattle.std.proofs.lemmas.List.{drop-drop, drop-take, drop_all, take-append-le}
 use Rattle.std.proofs.Math.Nat.{div-eq_of_lt-le, div-mul-le_self, mul-le-mul_left, mul-le-mul_right}
@@ -14,13 +15,14 @@ use Rattle.luks_verdict.specs.declared.sector_size.SectorSize.{SectorSize}
 use Rattle.luks_verdict.specs.declared.sector_size.SectorSize.TheVariants.{B512, B1024, B2048, B4096}
 use Rattle.luks_verdict.specs.declared.segment.Segment.{Segment}
 use Rattle.luks_io.proofs.Consuming.{adds-more, adds-none}
-use Rattle.luks_io.specs.Devices.{Appended, ConsumedExactly, counted}
-use Rattle.luks_payload.specs.SectorEffects.{is_pump_read_failure as is_lost, is_pump_write_failure as is_unwritten}
+use Rattle.luks_io.specs.Counts.{Reads, with_ahead}
+use Rattle.luks_io.specs.Devices.{Appended, ConsumedExactly}
+use Rattle.luks_io.specs.declared.counts.ReadCounts.{ReadCounts}
 use Rattle.luks_payload.specs.Plain.{end_within, ending_of, payload_end_of, plain_of, sector_len, sector_plaintext}
 use Rattle.luks_payload.specs.Plain.{sector_start, sectors_of, unit_plain, within_size}
 use Rattle.luks_payload.specs.PumpEffects.{EndEffect, PumpModel, PositionedIn, StepEffect, WritesSectors, after_step}
 use Rattle.luks_payload.specs.PumpEffects.{next_offset, position}
-use Rattle.luks_payload.specs.PumpEffects.{hits_eof_at, consumed_by}
+use Rattle.luks_payload.specs.PumpEffects.{consumed_by}
 use Rattle.luks_payload.specs.declared.fault.VolumeFault.{VolumeFault}
 use Rattle.luks_payload.specs.declared.fault.VolumeFault.TheVariants.{CutBeforePayload as IsCutBefore, Tail as HasTail}
 use Rattle.luks_payload.specs.declared.fault.VolumeFault.TheVariants.{Short as IsShort, Read, Write}
@@ -28,10 +30,9 @@ use Rattle.luks_payload.specs.declared.state.State.{State}
 use Rattle.luks_payload.specs.declared.state.State.TheVariants.{BeforePayload, InPayload, Ended, Faulted}
 use Rattle.luks_payload.specs.declared.state.Step.{Step}
 use Rattle.luks_payload.specs.declared.state.Step.TheVariants.{Sector, End}
-use Rattle.luks_runs.specs.Payload.{HitsPayloadEof, ForwardsPayload}
+use Rattle.luks_runs.specs.Payload.{ForwardsPayload, max_needed, with_payload_ahead}
 use Rattle.luks_report.specs.Faults.{message_at_end, message_for_payload}
-use Rattle.luks_runs.specs.Run.{is_run_read_failure, is_run_write_failure}
-use Rattle.luks_report.specs.declared.message.Message.TheVariants.{Done, OutOfMemory}
+use Rattle.luks_report.specs.declared.message.Message.TheVariants.{Done}
 
 -- ---- lengths
 
@@ -178,14 +179,15 @@ pub record Forwarding (p : PumpModel) (image : List ℕ) (held : ℕ) (left befo
   pub wrote : Appended before after (joined (sector_plaintext p.segment p.cipher image) p.count)
 
 pub forwarding_start : (p : PumpModel) (image : List ℕ) (held : ℕ) (left w : Option (List ℕ)) → p.count ≡ 0
-    → p.consumed ≤ p.segment.offset → (p.front ≡ []) ⊎ (p.state ≡ InPayload) → consumed_by p ≡ held
+    → p.consumed ≤ p.segment.offset → ((p.state ≡ BeforePayload) × (p.front ≡ [])) ⊎ (p.state ≡ InPayload)
+    → consumed_by p ≡ held
     → PositionedIn image p left
     → Forwarding p image held left w w
 unfolding joined
 forwarding_start p image held left w none early bare reach stands = record {
   stands = stands;
   early = early;
-  bare = elim bare [ inl empty ↦ inl (none, empty) | inr is ↦ inr is ];
+  bare = elim bare [ inl empty ↦ inl (none, empty.1) | inr is ↦ inr is ];
   reach = omega arith;
   few = omega arith;
   wrote = rw none (adds-none w);
@@ -322,14 +324,15 @@ module _ (p : PumpModel) (image : List ℕ) (held : ℕ) (l b w l' w' : Option (
         )
 
     -- a step was not made
-    pub forwarding_aborts : (fault : VolumeFault) (Same : Type 0) → (Same → w' ≡ w) → WritesSectors (Err fault) Same
+    pub forwarding_aborts : (fault : VolumeFault) (Wrote Same : Type 0) → (Same → w' ≡ w)
+        → WritesSectors (Err fault) Wrote Same
         → StepEffect p.segment p.cipher p.count (consumed_by p) image (Err fault) l' w w'
         → ForwardsPayload p.segment p.cipher image held l' b w' (message_for_payload fault)
-    forwarding_aborts IsCutBefore Same same is step = ended (Err IsCutBefore) step (same is)
-    forwarding_aborts (HasTail bytes) Same same is step = ended (Err (HasTail bytes)) step (same is)
-    forwarding_aborts (IsShort bytes) Same same is step = ended (Err (IsShort bytes)) step (same is)
-    forwarding_aborts Read Same same is step = lost step (same is)
-    forwarding_aborts Write Same same is step = unwritten step
+    forwarding_aborts IsCutBefore _ Same same is step = ended (Err IsCutBefore) step (same is)
+    forwarding_aborts (HasTail bytes) _ Same same is step = ended (Err (HasTail bytes)) step (same is)
+    forwarding_aborts (IsShort bytes) _ Same same is step = ended (Err (IsShort bytes)) step (same is)
+    forwarding_aborts Read _ Same same is step = lost step (same is)
+    forwarding_aborts Write _ Same same is step = unwritten step
 
 -- ---- a pump behind what is held
 
@@ -351,35 +354,15 @@ module _ (held image : List ℕ) (offset : ℕ) (within : offset ≤ length held
       ∙ drop-take offset (length held - offset) image
       ∙ ap (λ n. take n (drop offset image)) (sym front_len)
 
--- ---- counts of ends and of failures
+-- ---- read-ahead
 
-pub ends_are : (s : Segment) (count : ℕ) (fault : VolumeFault) (n n' : ℕ)
-    → n' ≡ counted (hits_eof_at s count (Err fault)) n → HitsPayloadEof (message_for_payload fault) n n'
-ends_are s count IsCutBefore n n' is = is
-ends_are s count (HasTail bytes) n n' is = is
-ends_are s count (IsShort bytes) n n' is = is
-ends_are s count Read n n' is = is
-ends_are s count Write n n' is = is
-
-pub reads_are : (fault : VolumeFault) (n : ℕ)
-    → counted (is_lost {T = Step} (Err fault)) n ≡ counted (is_run_read_failure (message_for_payload fault)) n
-reads_are IsCutBefore n = refl
-reads_are (HasTail bytes) n = refl
-reads_are (IsShort bytes) n = refl
-reads_are Read n = refl
-reads_are Write n = refl
-
-pub writes_are : (fault : VolumeFault) (n : ℕ)
-    → counted (is_unwritten {T = Step} (Err fault)) n ≡ counted (is_run_write_failure (message_for_payload fault)) n
-writes_are IsCutBefore n = refl
-writes_are (HasTail bytes) n = refl
-writes_are (IsShort bytes) n = refl
-writes_are Read n = refl
-writes_are Write n = refl
-
-pub never_memory : (fault : VolumeFault) → message_for_payload fault ≢ OutOfMemory
-never_memory IsCutBefore e = cc
-never_memory (HasTail bytes) e = cc
-never_memory (IsShort bytes) e = cc
-never_memory Read e = cc
-never_memory Write e = cc
+-- it was allowed for what the payload needs
+pub reads_announced : (s : Segment) (held : ℕ) (before after : ReadCounts) → after ≡ with_ahead after.ahead before
+    → after.ahead ≤ max (max_needed s.size s.offset held) before.ahead
+    → Reads false false (with_payload_ahead s held before) after
+reads_announced s held before after is few = record {
+  failures = ap (λ (c : ReadCounts). c.failures) is;
+  ends = ap (λ (c : ReadCounts). c.ends) is;
+  needed = λ live. ap (λ (c : ReadCounts). c.needless) is;
+  ahead = few;
+}

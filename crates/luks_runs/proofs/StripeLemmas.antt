@@ -26,12 +26,7 @@ module _ (random : List ℕ) (r : Option (List ℕ)) (stripe : List ℕ) (t : Co
   pub is_next : stripe ≡ take (length stripe) random
   is_next = sym (take_all (length stripe) stripe (omega arith)) ∙ t.1
 
-  -- and written
-  pub stripe_passed : (w w' : Option (List ℕ)) → Appended w w' stripe
-      → ForwardedBytes random r w w' (length stripe) (length stripe)
-  stripe_passed w w' a = record { took = t.0; added = subst (Appended w w') is_next a }
-
-  -- or a write failed within it
+  -- but a write of it failed
   pub stripe_torn : (w w' : Option (List ℕ)) (n : ℕ) → n < length stripe → Appended w w' (take n stripe)
       → ForwardedBytes random r w w' (length stripe) n
   stripe_torn w w' n few a = record {

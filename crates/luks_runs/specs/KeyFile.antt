@@ -1,7 +1,9 @@
 -- The key file.
-use Rattle.std.specs.Prelude.{◌≡◌, ℕ, ◌+◌, ◌<◌, List, length, min, Option}
-use Rattle.luks_io.specs.Devices.{ConsumedExactly, ConsumedAtMost, saturating_inc}
-use Rattle.luks_runs.specs.Run.{HitsEofOnce}
+use Rattle.std.specs.Prelude.{◌≡◌, ℕ, ◌+◌, ◌<◌, Bool, true, false, List, length, min, Option}
+use Rattle.luks_io.specs.Counts.{Reads}
+use Rattle.luks_io.specs.Devices.{ConsumedExactly, ConsumedAtMost}
+use Rattle.luks_io.specs.declared.counts.ReadCounts.{ReadCounts}
+use Rattle.luks_runs.specs.Run.{is_run_read_failure}
 use Rattle.luks_report.specs.declared.message.Message.{Message}
 use Rattle.luks_report.specs.declared.message.Message.TheVariants.{Done, KeyFileLength, OutOfMemory, ReadFailed}
 
@@ -17,9 +19,14 @@ NoKeyFileRead secret left OutOfMemory = ConsumedAtMost secret left (min (length 
 NoKeyFileRead secret left ReadFailed = ConsumedAtMost secret left (min (length secret) (max_key_file_len + 1))
 NoKeyFileRead secret left _ = ⊥
 
--- how often reading a key file hit its end: once if all of it was read, and never if it was too long or a read failed;
--- if memory ran out, the end may be that of the last piece
-abbrev pub HitsKeyFileEof : Message → ℕ → ℕ → Type 0
-HitsKeyFileEof Done before after = after ≡ saturating_inc before
-HitsKeyFileEof OutOfMemory before after = HitsEofOnce before after
-HitsKeyFileEof _ before after = after ≡ before
+-- whether reading a key file hit its end: it did if all of it was read, and not if it was too long or a read failed; if
+-- memory ran out, the end may be that of the last piece
+abbrev pub HitsKeyFileEof : Message → Bool → Type 0
+HitsKeyFileEof Done ended = ended ≡ true
+HitsKeyFileEof OutOfMemory ended = Unit {0}
+HitsKeyFileEof _ ended = ended ≡ false
+
+-- what reading a key file adds to the counts of its source
+abbrev pub ReadsKeyFile : Message → ReadCounts → ReadCounts → Type 0
+ReadsKeyFile message before after = (ended : Bool) × Reads (is_run_read_failure message) ended before after
+    × HitsKeyFileEof message ended

@@ -1,6 +1,7 @@
 -- How a header is read, by its location, and the source that it was read from.
-use Rattle.std.specs.Prelude.{◌≡◌, ℕ, true, List, [], Option, Some}
-use Rattle.luks_io.specs.Devices.{IfKnown, counted}
+use Rattle.std.specs.Prelude.{◌≡◌, ℕ, true, false, List, [], Option, Some}
+use Rattle.luks_io.specs.Counts.{Reads}
+use Rattle.luks_io.specs.Devices.{IfKnown}
 use Rattle.luks_io.specs.declared.counts.ReadCounts.{ReadCounts}
 use Rattle.luks_area.specs.Area.{HeaderAreaModel}
 use Rattle.luks_header.specs.Header.{header_of}
@@ -12,9 +13,9 @@ abbrev pub reader_for : HeaderLocation → HeaderReader
 reader_for Attached = header_of
 reader_for Detached = detached_header_of
 
--- the start of an image was loaded from this source, which hit the image's end exactly if the area says so. Then no
--- bytes remain
+-- the start of an image was loaded from this source: no read failed, and one hit the image's end exactly if the area
+-- says so. Then no bytes remain
 pub record LoadedFrom (area : HeaderAreaModel) (left left' : Option (List ℕ)) (counts counts' : ReadCounts) : Type 0
   where
-    pub ends : counts'.ends ≡ counted area.ended counts.ends
+    pub reads : Reads false area.ended counts counts'
     pub emptied : area.ended ≡ true → IfKnown left (λ _. left' ≡ Some [])

@@ -1,19 +1,26 @@
 -- The effects of forwarding a payload on its devices.
 use Rattle.std.specs.Prelude.{◌≡◌, ℕ, ◌+◌, ◌-◌, ◌*◌, ◌/◌, ◌^◌, ◌<◌, ◌≤◌, List, length, max, take, Option}
+use Rattle.std.specs.Prelude.{Bool, true, false}
 use Rattle.luks_cipher.specs.Sector.{Cipher}
-use Rattle.luks_io.specs.Devices.{Appended, ConsumedExactly, max_count, saturating_inc}
+use Rattle.luks_io.specs.Counts.{with_ahead}
+use Rattle.luks_io.specs.Devices.{Appended, ConsumedExactly, max_count}
+use Rattle.luks_io.specs.declared.counts.ReadCounts.{ReadCounts}
 use Rattle.luks_verdict.specs.declared.segment.Segment.{Segment}
 use Rattle.luks_payload.specs.Plain.{end_within, ending_of, payload_end_of, plain_of, sector_len, sector_start}
 use Rattle.luks_payload.specs.Plain.{sectors_of}
 use Rattle.luks_report.specs.Faults.{message_at_end}
 use Rattle.luks_report.specs.declared.message.Message.{Message}
 use Rattle.luks_report.specs.declared.message.Message.TheVariants.{Done, ReadFailed, WriteFailed}
-use Rattle.luks_runs.specs.Run.{HitsEofOnce}
 
 -- how many bytes of an image, however long it is, are requested at most to forward a payload of this size from this
 -- offset on, if so many of the first ones are loaded: those behind them, up to the payload's end
 abbrev pub max_needed : Option ℕ → ℕ → ℕ → ℕ
 max_needed size offset held = end_within size offset max_count - held
+
+-- the counts of the image, which is allowed to read ahead what forwarding its payload needs, if so many of its first
+-- bytes are loaded
+abbrev pub with_payload_ahead : Segment → ℕ → ReadCounts → ReadCounts
+with_payload_ahead s held counts = with_ahead (max (max_needed s.size s.offset held) counts.ahead) counts
 
 -- forwarding the payload of an image, of which so many bytes were consumed before, ended with this message: all of it
 -- was written and consumed, or it was aborted within a sector
@@ -40,10 +47,10 @@ ForwardsHeld s cipher held rest left before after message =
     → ConsumedExactly image rest (length held)
     → ForwardsPayload s cipher image (length held) left before after message
 
--- how often forwarding a payload hit the end of the image: once if the message is that the image ended, never if a read
--- or a write failed, and at most once if the run succeeded, since a payload of fixed size may end before its image
-abbrev pub HitsPayloadEof : Message → ℕ → ℕ → Type 0
-HitsPayloadEof Done before after = HitsEofOnce before after
-HitsPayloadEof ReadFailed before after = after ≡ before
-HitsPayloadEof WriteFailed before after = after ≡ before
-HitsPayloadEof _ before after = after ≡ saturating_inc before
+-- whether forwarding a payload hit the end of the image: it did if the message is that the image ended, and not if a
+-- read or a write failed; if the run succeeded, a payload of fixed size may have ended before its image
+abbrev pub HitsPayloadEof : Message → Bool → Type 0
+HitsPayloadEof Done ended = Unit {0}
+HitsPayloadEof ReadFailed ended = ended ≡ false
+HitsPayloadEof WriteFailed ended = ended ≡ false
+HitsPayloadEof _ ended = ended ≡ true

@@ -2,7 +2,7 @@
 -- a run consumes so many bytes of the image and of the second input, and writes these; what that means for a device is
 -- a separate fact.
 use Rattle.std.specs.Prelude.{◌≡◌, ℕ, ◌<◌, ◌≤◌, List, length, take, Bool, true, false, MatchBool, ◌⊎◌, Result, Ok, Err}
-use Rattle.luks_io.specs.Devices.{counted, saturating_inc}
+use Rattle.luks_io.specs.Devices.{saturating_inc}
 use Rattle.luks_runs.specs.Ending.{Outcome}
 use Rattle.luks_report.specs.declared.message.Message.{Message}
 use Rattle.luks_report.specs.declared.message.Message.TheVariants.{Done, OutOfMemory, ReadFailed, WriteFailed}
@@ -91,10 +91,6 @@ is_run_read_failure _ = false
 abbrev pub is_run_write_failure : Message → Bool
 is_run_write_failure WriteFailed = true
 is_run_write_failure _ = false
-
--- the end of a source was found at most once
-abbrev pub HitsEofOnce : ℕ → ℕ → Type 0
-HitsEofOnce before after = (found : Bool) × (after ≡ counted found before)
 
 -- how many reads of the image and of the second input and how many writes have failed
 pub record Failures : Type 0 where

@@ -1,5 +1,6 @@
 -- The outcomes of the commands on stripes.
-use Rattle.std.specs.Prelude.{ℕ, ◌+◌, ◌-◌, ◌*◌, ◌/◌, ◌&&◌, ◌++◌, List, length, take, min, nat_lt, nat_le, if◌then◌else◌}
+use Rattle.std.specs.Prelude.{ℕ, ◌≤◌, ◌+◌, ◌-◌, ◌*◌, ◌/◌, ◌&&◌, ◌++◌, List, length, take, min, nat_lt, nat_le}
+use Rattle.std.specs.Prelude.{if◌then◌else◌}
 use Rattle.luks_kdf.specs.Bytes.{xor}
 use Rattle.luks_kdf.specs.Stripes.{chain_of, merged}
 use Rattle.luks_kdf.specs.declared.hash.Hash.{Hash}
@@ -9,6 +10,10 @@ use Rattle.luks_runs.specs.Ending.{Outcome, no_output}
 -- the longest key
 abbrev pub max_key_len : ℕ
 max_key_len = 512
+
+-- a key may be so long
+abbrev pub IsKeyLen : ℕ → Type 0
+IsKeyLen len = (1 ≤ len) × (len ≤ max_key_len)
 
 -- the stripes of a key: the random ones, and the one that makes them merge to the key
 abbrev pub split_stripes : Hash → ℕ → List ℕ → List ℕ → List ℕ

@@ -1,10 +1,13 @@
 -- What the parts of the stripe commands leave in their devices.
-use Rattle.std.specs.Prelude.{◌≡◌, ℕ, ◌+◌, ◌*◌, ◌/◌, ◌<◌, ◌≤◌, ◌⊎◌, Bool, true, false, List, length, take, min}
-use Rattle.std.specs.Prelude.{Option}
+use Rattle.std.specs.Prelude.{◌≡◌, ℕ, ◌+◌, ◌*◌, ◌/◌, ◌<◌, ◌≤◌, ◌⊎◌, ◌&&◌, not, Bool, true, false, List, length, take}
+use Rattle.std.specs.Prelude.{min, Option}
+use Rattle.luks_io.specs.Counts.{Reads}
 use Rattle.luks_io.specs.Devices.{Appended, ConsumedExactly, ConsumedAtMost}
+use Rattle.luks_io.specs.declared.counts.ReadCounts.{ReadCounts}
 use Rattle.luks_report.specs.declared.message.Message.{Message}
 use Rattle.luks_report.specs.declared.message.Message.TheVariants.{KeyLength, FewRandomBytes, FewStripes, ReadFailed}
 use Rattle.luks_report.specs.declared.message.Message.TheVariants.{WriteFailed}
+use Rattle.luks_runs.specs.Run.{is_run_read_failure}
 use Rattle.luks_runs.specs.Stripe.{max_key_len}
 
 -- how reading a key failed: if it is too long, one byte more is consumed than the longest one has
@@ -64,3 +67,11 @@ abbrev pub is_few : Message → Bool
 is_few FewRandomBytes = true
 is_few FewStripes = true
 is_few _ = false
+
+-- what a split adds to the counts of its sources: a failed read is one of the key, which may hit its end, or one of the
+-- random bytes
+pub record ReadsForSplit (message : Message) (before before' next next' : ReadCounts) : Type 0 where
+  pub in_key : Bool
+  pub ended : Bool
+  pub key : Reads (in_key && is_run_read_failure message) ended before before'
+  pub random : Reads (not in_key && is_run_read_failure message) (is_few message) next next'

@@ -1,16 +1,13 @@
 //! `isLuks`, `luksUUID`, `luksDump` and `luksCheck`: what an image's header says.
 
-ghost use Rattle.std.specs.Prelude.{◌≡◌, List, ℕ, IfOk, Option, string_bytes};
-ghost use Rattle.luks_io.specs.Devices.{Appended, ConsumedExactly, IfKnown, counted};
-ghost use Rattle.luks_io.specs.Counts.{ReadsAsNeeded, WritesAsNeeded};
+ghost use Rattle.std.specs.Prelude.{◌≡◌, Bool, List, ℕ, IfOk, Option, string_bytes};
+ghost use Rattle.luks_io.specs.Devices.{Appended, ConsumedExactly, IfKnown};
+ghost use Rattle.luks_io.specs.Counts.{Reads, Writes};
 ghost use Rattle.luks_runs.specs.HeaderOutcome.{answer_to_is_luks, is_luks_outcome};
-ghost use Rattle.luks_runs.specs.HeaderOutcome.{print_outcome_by};
-ghost use Rattle.luks_runs.specs.HeaderOutcome.{printout_text, printout_message};
+ghost use Rattle.luks_runs.specs.HeaderOutcome.{print_outcome_by, printout_text, printout_message};
 ghost use Rattle.luks_runs.specs.Printing.{Prints};
-ghost use Rattle.luks_runs.specs.Run.{Counts, failures_of, HitsEofOnce, RunMatches};
-ghost use Rattle.luks_runs.specs.Run.{ConsumedNothing};
-ghost use Rattle.luks_runs.specs.Run.{at_any_pace};
-ghost use Rattle.luks_runs.specs.Run.{is_run_write_failure, result_message};
+ghost use Rattle.luks_runs.specs.Run.{ConsumedNothing, RunMatches, at_any_pace, result_message};
+ghost use Rattle.luks_runs.specs.Run.{is_run_read_failure, is_run_write_failure};
 ghost use Rattle.luks_runs.specs.RunMessages.{IsLuksMessage, PrintoutMessage};
 ghost use Rattle.luks_runs.specs.Location.{reader_for};
 
@@ -30,11 +27,9 @@ pub fn is_luks<S: Source>(alloc: Global, image: &mut S) -> Result<(), Message>
         RunMatches at_any_pace (is_luks_outcome known) (result_message result)
         (ConsumedExactly known (S.to_come image.new)) ConsumedNothing (Appended written written)) }
     ensures only { IsLuksMessage (result_message result) }
-    ensures counts { (secret written : ℕ) → Counts (result_message result)
-        (failures_of (S.counts image.old).failures secret written)
-        (failures_of (S.counts image.new).failures secret written) }
-    ensures ends { HitsEofOnce (S.counts image.old).ends (S.counts image.new).ends }
-    ensures needed { ReadsAsNeeded (S.counts image.old) (S.counts image.new) }
+    ensures reads { (ended : Bool)
+        × Reads (is_run_read_failure (result_message result)) ended
+        (S.counts image.old) (S.counts image.new) }
 {
     match read_header(alloc, image) {
         Ok(_) => Ok(()),
@@ -106,12 +101,11 @@ pub fn print<S: Source, O: Sink>(
         (Appended (O.written out.old) (O.written out.new))) }
     ensures only { PrintoutMessage printout (result_message result) }
     ensures reads_first { result_message result ≡ Message.ReadFailed → out.new ≡ out.old }
-    ensures counts { (secret : ℕ) → Counts (result_message result)
-        (failures_of (S.counts image.old).failures secret (O.counts out.old).failures)
-        (failures_of (S.counts image.new).failures secret (O.counts out.new).failures) }
-    ensures ends { HitsEofOnce (S.counts image.old).ends (S.counts image.new).ends }
-    ensures needed_reads { ReadsAsNeeded (S.counts image.old) (S.counts image.new) }
-    ensures needed_writes { WritesAsNeeded (O.counts out.old) (O.counts out.new) }
+    ensures reads { (ended : Bool)
+        × Reads (is_run_read_failure (result_message result)) ended
+        (S.counts image.old) (S.counts image.new) }
+    ensures writes { Writes (is_run_write_failure (result_message result))
+        (O.counts out.old) (O.counts out.new) }
 {
     let (header, _held) = read_header_at(alloc, location, image)?;
     print_text(alloc, printout, &header, out)
@@ -127,9 +121,8 @@ fn print_text<O: Sink>(
     ensures run { Prints (printout_text printout header.now) (printout_message printout header.now)
         (O.written out.old) (O.written out.new) (result_message result) }
     ensures only { PrintoutMessage printout (result_message result) }
-    ensures writes { (O.counts out.new).failures
-        ≡ counted (is_run_write_failure (result_message result)) (O.counts out.old).failures }
-    ensures needed { WritesAsNeeded (O.counts out.old) (O.counts out.new) }
+    ensures writes { Writes (is_run_write_failure (result_message result))
+        (O.counts out.old) (O.counts out.new) }
 {
     let (text, message) = printed_text(alloc, printout, header)?;
     put_all(out, text.as_bytes())?;

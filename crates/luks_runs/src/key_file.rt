@@ -1,11 +1,11 @@
 //! The key file, whose bytes are the passphrase.
 
-ghost use Rattle.std.specs.Prelude.{◌≡◌, ◌+◌, ◌<◌, ◌≤◌, ◌⊎◌, ◌++◌, List, ℕ, IfOk, IfErr, length};
-ghost use Rattle.std.specs.Prelude.{min, nat_lt, take, vec_len};
-ghost use Rattle.luks_io.specs.Devices.{ConsumedExactly, ConsumedAtMost, IfKnown, counted};
-ghost use Rattle.luks_io.specs.Counts.{ReadsAsNeeded};
-ghost use Rattle.luks_runs.specs.Run.{is_run_read_failure, result_message};
-ghost use Rattle.luks_runs.specs.KeyFile.{HitsKeyFileEof, NoKeyFileRead, max_key_file_len};
+ghost use Rattle.std.specs.Prelude.{◌≡◌, ◌+◌, ◌≤◌, ◌⊎◌, ◌++◌, IfOk, IfErr, MatchResult, length};
+ghost use Rattle.std.specs.Prelude.{false, min, nat_lt, take, vec_len};
+ghost use Rattle.luks_io.specs.Devices.{ConsumedExactly, ConsumedAtMost, IfKnown};
+ghost use Rattle.luks_io.specs.Counts.{Reads};
+ghost use Rattle.luks_runs.specs.Run.{result_message};
+ghost use Rattle.luks_runs.specs.KeyFile.{NoKeyFileRead, ReadsKeyFile, max_key_file_len};
 
 use luks_io::source::{Source, fill};
 use luks_report::message::Message;
@@ -33,11 +33,8 @@ pub fn read_key_file<S: Source>(alloc: Global, source: &mut S) -> Result<Vec<u8>
         (λ known. NoKeyFileRead known (S.to_come source.new) message)) }
     ensures only { IfErr result (λ message. (message ≡ Message.KeyFileLength)
         ⊎ ((message ≡ Message.OutOfMemory) ⊎ (message ≡ Message.ReadFailed))) }
-    ensures reads { (S.counts source.new).failures
-        ≡ counted (is_run_read_failure (result_message result)) (S.counts source.old).failures }
-    ensures ends { HitsKeyFileEof (result_message result) (S.counts source.old).ends
-        (S.counts source.new).ends }
-    ensures needed { ReadsAsNeeded (S.counts source.old) (S.counts source.new) }
+    ensures reads { ReadsKeyFile (result_message result)
+        (S.counts source.old) (S.counts source.new) }
 {
     let mut buffer = [0; PIECE];
     let mut secret = Vec::new(alloc);
@@ -68,13 +65,10 @@ fn read_piece<S: Source>(
         (λ known. ConsumedAtMost known (S.to_come source.new) (length piece.old))) }
     ensures only { IfErr result
         (λ message. (message ≡ Message.OutOfMemory) ⊎ (message ≡ Message.ReadFailed)) }
-    ensures reads { (S.counts source.new).failures
-        ≡ counted (is_run_read_failure (result_message result)) (S.counts source.old).failures }
-    ensures ends { IfOk result (λ got. (S.counts source.new).ends
-        ≡ counted (nat_lt got (length piece.old)) (S.counts source.old).ends) }
-    ensures ends_lost { IfErr result
-        (λ message. HitsKeyFileEof message (S.counts source.old).ends (S.counts source.new).ends) }
-    ensures needed { ReadsAsNeeded (S.counts source.old) (S.counts source.new) }
+    ensures reads { MatchResult result
+        (λ got. Reads false (nat_lt got (length piece.old))
+        (S.counts source.old) (S.counts source.new))
+        (λ message. ReadsKeyFile message (S.counts source.old) (S.counts source.new)) }
 {
     let got = fill(source, piece)?;
     secret.extend_from_slice(&piece[..got])?;

@@ -1,11 +1,10 @@
 //! Where a header is, and reading it there.
 
-ghost use Rattle.std.specs.Prelude.{◌≡◌, Ok, IfOk, IfErr, length, take};
-ghost use Rattle.luks_io.specs.Counts.{ReadsAsNeeded};
-ghost use Rattle.luks_io.specs.Devices.{ConsumedExactly, IfKnown, counted};
+ghost use Rattle.std.specs.Prelude.{◌≡◌, Bool, Ok, IfOk, IfErr, length, take};
+ghost use Rattle.luks_io.specs.Counts.{Reads};
+ghost use Rattle.luks_io.specs.Devices.{ConsumedExactly, IfKnown};
 ghost use Rattle.luks_area.specs.Area.{is_read};
 ghost use Rattle.luks_header.specs.Header.{AbortsReading, header_read_len};
-ghost use Rattle.luks_runs.specs.Run.{HitsEofOnce};
 ghost use Rattle.luks_runs.specs.Location.{LoadedFrom, reader_for};
 
 use luks_header::area::HeaderArea;
@@ -39,10 +38,8 @@ pub fn read_header_at<S: Source>(
         (S.counts source.new).ends fault)) }
     ensures held { IfOk result (λ read. reader_for location read.1.bytes ≡ Ok read.0) }
     ensures only { IfOk result (λ read. length read.1.bytes ≡ header_read_len read.1.bytes) }
-    ensures reads { (S.counts source.new).failures
-        ≡ counted (is_read result) (S.counts source.old).failures }
-    ensures ends { HitsEofOnce (S.counts source.old).ends (S.counts source.new).ends }
-    ensures needed { ReadsAsNeeded (S.counts source.old) (S.counts source.new) }
+    ensures reads { (ended : Bool)
+        × Reads (is_read result) ended (S.counts source.old) (S.counts source.new) }
     ensures loaded { IfOk result (λ read. LoadedFrom read.1 (S.to_come source.old)
         (S.to_come source.new) (S.counts source.old) (S.counts source.new)) }
 {

@@ -1,13 +1,14 @@
 //! The payload on its way from the image to the output.
 
-ghost use Rattle.std.specs.Prelude.{◌≡◌, ◌≢◌, ◌<◌, ◌≤◌, ◌⊎◌, ◌^◌, List, [], ℕ, Option, IfErr, true};
+ghost use Rattle.std.specs.Prelude.{◌≡◌, ◌≤◌, ◌⊎◌, Bool, List, [], ℕ, Option};
 ghost use Rattle.std.specs.Prelude.{length, take};
 ghost use Rattle.luks_runs.specs.Payload.{HitsPayloadEof, ForwardsHeld, max_needed};
+ghost use Rattle.luks_runs.specs.Payload.{with_payload_ahead};
 ghost use Rattle.luks_runs.specs.RunMessages.{PayloadMessage};
 ghost use Rattle.luks_runs.specs.Run.{is_run_read_failure, is_run_write_failure, result_message};
-ghost use Rattle.luks_io.specs.Devices.{ConsumedExactly, counted};
-ghost use Rattle.luks_io.specs.Counts.{ReadsAsNeeded, WritesAsNeeded};
-ghost use Rattle.luks_payload.specs.PumpEffects.{PositionedIn, is_running, consumed_by};
+ghost use Rattle.luks_io.specs.Devices.{ConsumedExactly};
+ghost use Rattle.luks_io.specs.Counts.{Reads, Writes};
+ghost use Rattle.luks_payload.specs.PumpEffects.{PositionedIn, consumed_by};
 
 use luks_cipher::SectorCipher;
 use luks_header::segment::Segment;
@@ -24,8 +25,8 @@ fn pump_behind<'a>(segment: Segment, cipher: SectorCipher, held: &'a [u8]) -> Pu
     ensures cipher { result.cipher ≡ cipher }
     ensures count { result.count ≡ 0 }
     ensures early { result.consumed ≤ segment.offset }
-    ensures running { is_running result.state ≡ true }
-    ensures bare { (result.front ≡ []) ⊎ (result.state ≡ State.InPayload) }
+    ensures state { ((result.state ≡ State.BeforePayload) × (result.front ≡ []))
+        ⊎ (result.state ≡ State.InPayload) }
     ensures reach { consumed_by result ≡ length held.now }
     ensures stands { (whole : List ℕ) (left : Option (List ℕ))
         → held.now ≡ take (length held.now) whole → ConsumedExactly whole left (length held.now)
@@ -62,15 +63,12 @@ pub fn write_payload<I: Source, O: Sink>(
     ensures run { ForwardsHeld segment cipher held.now (I.to_come image.old) (I.to_come image.new)
         (O.written out.old) (O.written out.new) (result_message result) }
     ensures only { PayloadMessage (result_message result) }
-    ensures memory { IfErr result (λ message. message ≢ Message.OutOfMemory) }
-    ensures reads { (I.counts image.new).failures
-        ≡ counted (is_run_read_failure (result_message result)) (I.counts image.old).failures }
-    ensures writes { (O.counts out.new).failures
-        ≡ counted (is_run_write_failure (result_message result)) (O.counts out.old).failures }
-    ensures ends { HitsPayloadEof (result_message result) (I.counts image.old).ends
-        (I.counts image.new).ends }
-    ensures needed_reads { ReadsAsNeeded (I.counts image.old) (I.counts image.new) }
-    ensures needed_writes { WritesAsNeeded (O.counts out.old) (O.counts out.new) }
+    ensures reads { (ended : Bool)
+        × Reads (is_run_read_failure (result_message result)) ended
+        (with_payload_ahead segment (length held.now) (I.counts image.old)) (I.counts image.new)
+        × HitsPayloadEof (result_message result) ended }
+    ensures writes { Writes (is_run_write_failure (result_message result))
+        (O.counts out.old) (O.counts out.new) }
 {
     image.announce(bytes_needed(&segment, held.len()));
     let mut pump = pump_behind(segment, cipher, held);

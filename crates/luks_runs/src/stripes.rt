@@ -1,20 +1,17 @@
 //! `afSplit` and `afMerge`: keys and the stripes that hold them.
 
-ghost use Rattle.std.specs.Prelude.{◌≡◌, ◌≢◌, ◌*◌, ◌<◌, ◌≤◌, ◌⊎◌, ◌+◌, List, ℕ, IfOk, IfErr, OnOk};
+ghost use Rattle.std.specs.Prelude.{◌≡◌, ◌*◌, ◌<◌, ◌⊎◌, ◌+◌, Bool, List, ℕ, IfOk, IfErr, OnOk};
 ghost use Rattle.std.specs.Prelude.{Option, length, take};
 ghost use Rattle.luks_kdf.specs.Stripes.{chain_after, merged};
-ghost use Rattle.luks_io.specs.Devices.{Appended, ConsumedExactly, IfKnown, counted};
-ghost use Rattle.luks_io.specs.Counts.{ReadsAsNeeded, WritesAsNeeded};
-ghost use Rattle.luks_runs.specs.Run.{Counts, failures_of, HitsEofOnce, RunMatches};
-ghost use Rattle.luks_runs.specs.Run.{ConsumedNothing};
-ghost use Rattle.luks_runs.specs.Run.{at_any_pace, is_run_read_failure, is_run_write_failure};
-ghost use Rattle.luks_runs.specs.Run.{result_message};
+ghost use Rattle.luks_io.specs.Devices.{Appended, ConsumedExactly, IfKnown};
+ghost use Rattle.luks_io.specs.Counts.{Reads, Writes};
+ghost use Rattle.luks_runs.specs.Run.{ConsumedNothing, RunMatches, at_any_pace, result_message};
+ghost use Rattle.luks_runs.specs.Run.{is_run_read_failure, is_run_write_failure};
 ghost use Rattle.luks_runs.specs.RunMessages.{MergeMessage, SplitMessage};
-ghost use Rattle.luks_runs.specs.Stripe.{merge_outcome, split_outcome};
+ghost use Rattle.luks_runs.specs.Stripe.{IsKeyLen, max_key_len, merge_outcome, split_outcome};
 ghost use Rattle.luks_runs.specs.StripeParts.{NoKeyRead, ForwardedBytes, AbortsAtStripe};
-ghost use Rattle.luks_runs.specs.StripeParts.{AbortsInStripe};
-ghost use Rattle.luks_runs.specs.StripeParts.{AbortsReadingStripes, is_few, split_promptly};
-ghost use Rattle.luks_runs.specs.Stripe.{max_key_len};
+ghost use Rattle.luks_runs.specs.StripeParts.{AbortsInStripe, AbortsReadingStripes};
+ghost use Rattle.luks_runs.specs.StripeParts.{ReadsForSplit, is_few, split_promptly};
 
 use luks_io::sink::{Sink, put_all};
 use luks_io::source::{Source, fill};
@@ -29,20 +26,18 @@ const MAX_KEY_LEN: usize = 512;
 /// length. The buffer has one byte more than the longest key.
 fn read_key<S: Source>(source: &mut S, buf: &mut [u8]) -> Result<usize, Message>
     requires { length buf.old ≡ max_key_len + 1 }
-    ensures length { IfOk result (λ len. (1 ≤ len) × (len ≤ max_key_len)) }
-    ensures fits { IfOk result
-        (λ len. IfKnown (S.to_come source.old) (λ key. len ≡ length key)) }
+    ensures length { IfOk result IsKeyLen }
     ensures key { IfOk result (λ len. IfKnown (S.to_come source.old)
-        (λ key. (take len buf.new ≡ key) × ConsumedExactly key (S.to_come source.new)
+        (λ key. (len ≡ length key) × (take len buf.new ≡ key)
+        × ConsumedExactly key (S.to_come source.new)
         (length key))) }
     ensures err { IfErr result (λ message. IfKnown (S.to_come source.old)
         (λ key. NoKeyRead key (S.to_come source.new) message)) }
     ensures only { IfErr result (λ message.
         (message ≡ Message.KeyLength) ⊎ (message ≡ Message.ReadFailed)) }
-    ensures reads { (S.counts source.new).failures
-        ≡ counted (is_run_read_failure (result_message result)) (S.counts source.old).failures }
-    ensures ends { HitsEofOnce (S.counts source.old).ends (S.counts source.new).ends }
-    ensures needed { ReadsAsNeeded (S.counts source.old) (S.counts source.new) }
+    ensures reads { (ended : Bool)
+        × Reads (is_run_read_failure (result_message result)) ended
+        (S.counts source.old) (S.counts source.new) }
 {
     let len = fill(source, buf)?;
     if len == 0 || len > MAX_KEY_LEN {
@@ -60,9 +55,7 @@ fn forward_stripes<R: Source, O: Sink>(
     random: &mut R,
     out: &mut O,
 ) -> Result<AfSplitter, Message>
-    requires some { 1 ≤ length stripe.old }
-    requires room { length stripe.old ≤ max_key_len }
-    requires few { count ≤ 4000 }
+    requires { IsKeyLen (length stripe.old) }
     ensures len { IfOk result (λ splitter. length splitter.block ≡ length stripe.new) }
     ensures ok { IfOk result (λ splitter. IfKnown (R.to_come random.old)
         (λ known. (splitter ≡ chain_after hash (length stripe.new) known count)
@@ -72,15 +65,10 @@ fn forward_stripes<R: Source, O: Sink>(
         (λ known. AbortsAtStripe count (length stripe.new) known
         (R.to_come random.new) (O.written out.old) (O.written out.new) message)) }
     ensures only { SplitMessage (result_message result) }
-    ensures memory { IfErr result (λ message. message ≢ Message.OutOfMemory) }
-    ensures reads { (R.counts random.new).failures
-        ≡ counted (is_run_read_failure (result_message result)) (R.counts random.old).failures }
-    ensures ends { (R.counts random.new).ends
-        ≡ counted (is_few (result_message result)) (R.counts random.old).ends }
-    ensures writes { (O.counts out.new).failures
-        ≡ counted (is_run_write_failure (result_message result)) (O.counts out.old).failures }
-    ensures needed_reads { ReadsAsNeeded (R.counts random.old) (R.counts random.new) }
-    ensures needed_writes { WritesAsNeeded (O.counts out.old) (O.counts out.new) }
+    ensures reads { Reads (is_run_read_failure (result_message result))
+        (is_few (result_message result)) (R.counts random.old) (R.counts random.new) }
+    ensures writes { Writes (is_run_write_failure (result_message result))
+        (O.counts out.old) (O.counts out.new) }
 {
     let mut splitter = AfSplitter::new(hash, stripe.len());
     'stripes: for _ in 0..count {
@@ -103,16 +91,11 @@ fn forward_stripe<R: Source, O: Sink>(
     ensures err { IfErr result (λ message. IfKnown (R.to_come random.old)
         (λ known. AbortsInStripe (length stripe.new) known
         (R.to_come random.new) (O.written out.old) (O.written out.new) message)) }
-    ensures reads { (R.counts random.new).failures
-        ≡ counted (is_run_read_failure (result_message result)) (R.counts random.old).failures }
-    ensures ends { (R.counts random.new).ends
-        ≡ counted (is_few (result_message result)) (R.counts random.old).ends }
-    ensures writes { (O.counts out.new).failures
-        ≡ counted (is_run_write_failure (result_message result)) (O.counts out.old).failures }
+    ensures reads { Reads (is_run_read_failure (result_message result))
+        (is_few (result_message result)) (R.counts random.old) (R.counts random.new) }
+    ensures writes { Writes (is_run_write_failure (result_message result))
+        (O.counts out.old) (O.counts out.new) }
     ensures only { SplitMessage (result_message result) }
-    ensures memory { IfErr result (λ message. message ≢ Message.OutOfMemory) }
-    ensures needed_reads { ReadsAsNeeded (R.counts random.old) (R.counts random.new) }
-    ensures needed_writes { WritesAsNeeded (O.counts out.old) (O.counts out.new) }
 {
     if fill(random, stripe)? < stripe.len() {
         return Err(Message::FewRandomBytes);
@@ -138,18 +121,10 @@ pub fn split<K: Source, R: Source, O: Sink>(
     ensures only { SplitMessage (result_message result) }
     ensures unneeded { IfKnown (K.to_come key.old) (λ known.
         (length known ≡ 0) ⊎ (max_key_len < length known) → random.new ≡ random.old) }
-    ensures memory { IfErr result (λ message. message ≢ Message.OutOfMemory) }
-    ensures counts { Counts (result_message result)
-        (failures_of (K.counts key.old).failures (R.counts random.old).failures
-        (O.counts out.old).failures)
-        (failures_of (K.counts key.new).failures (R.counts random.new).failures
-        (O.counts out.new).failures) }
-    ensures key_end { HitsEofOnce (K.counts key.old).ends (K.counts key.new).ends }
-    ensures random_end { (R.counts random.new).ends
-        ≡ counted (is_few (result_message result)) (R.counts random.old).ends }
-    ensures needed_key { ReadsAsNeeded (K.counts key.old) (K.counts key.new) }
-    ensures needed_random { ReadsAsNeeded (R.counts random.old) (R.counts random.new) }
-    ensures needed_writes { WritesAsNeeded (O.counts out.old) (O.counts out.new) }
+    ensures reads { ReadsForSplit (result_message result) (K.counts key.old) (K.counts key.new)
+        (R.counts random.old) (R.counts random.new) }
+    ensures writes { Writes (is_run_write_failure (result_message result))
+        (O.counts out.old) (O.counts out.new) }
 {
     let mut key_buf = [0; MAX_KEY_LEN + 1];
     let len = read_key(key, &mut key_buf)?;
@@ -163,8 +138,7 @@ fn split_key<R: Source, O: Sink>(
     random: &mut R,
     out: &mut O,
 ) -> Result<(), Message>
-    requires some { 1 ≤ length key.now }
-    requires room { length key.now ≤ max_key_len }
+    requires { IsKeyLen (length key.now) }
     ensures run { (left : Option (List ℕ)) → ConsumedExactly key.now left (length key.now)
         → IfKnown (R.to_come random.old) (λ bytes.
         RunMatches (split_promptly (length key.now))
@@ -173,15 +147,10 @@ fn split_key<R: Source, O: Sink>(
         (R.to_come random.new))
         (Appended (O.written out.old) (O.written out.new))) }
     ensures only { SplitMessage (result_message result) }
-    ensures memory { IfErr result (λ message. message ≢ Message.OutOfMemory) }
-    ensures ends { (R.counts random.new).ends
-        ≡ counted (is_few (result_message result)) (R.counts random.old).ends }
-    ensures reads { (R.counts random.new).failures
-        ≡ counted (is_run_read_failure (result_message result)) (R.counts random.old).failures }
-    ensures writes { (O.counts out.new).failures
-        ≡ counted (is_run_write_failure (result_message result)) (O.counts out.old).failures }
-    ensures needed_reads { ReadsAsNeeded (R.counts random.old) (R.counts random.new) }
-    ensures needed_writes { WritesAsNeeded (O.counts out.old) (O.counts out.new) }
+    ensures reads { Reads (is_run_read_failure (result_message result))
+        (is_few (result_message result)) (R.counts random.old) (R.counts random.new) }
+    ensures writes { Writes (is_run_write_failure (result_message result))
+        (O.counts out.old) (O.counts out.new) }
 {
     let mut block_buf = [0; MAX_KEY_LEN];
     let block = &mut block_buf[..key.len()];
@@ -204,8 +173,7 @@ fn read_stripes<S: Source>(
     stripe: &mut [u8],
     stripes: &mut S,
 ) -> Result<AfSplitter, Message>
-    requires some { 1 ≤ length stripe.old }
-    requires room { length stripe.old ≤ max_key_len }
+    requires { IsKeyLen (length stripe.old) }
     ensures len { IfOk result (λ splitter. length splitter.block ≡ length stripe.new) }
     ensures ok { IfOk result (λ splitter. IfKnown (S.to_come stripes.old)
         (λ known. (splitter ≡ chain_after hash (length stripe.new) known count)
@@ -215,11 +183,8 @@ fn read_stripes<S: Source>(
         message)) }
     ensures only { IfErr result (λ message.
         (message ≡ Message.FewStripes) ⊎ (message ≡ Message.ReadFailed)) }
-    ensures reads { (S.counts stripes.new).failures
-        ≡ counted (is_run_read_failure (result_message result)) (S.counts stripes.old).failures }
-    ensures ends { (S.counts stripes.new).ends
-        ≡ counted (is_few (result_message result)) (S.counts stripes.old).ends }
-    ensures needed { ReadsAsNeeded (S.counts stripes.old) (S.counts stripes.new) }
+    ensures reads { Reads (is_run_read_failure (result_message result))
+        (is_few (result_message result)) (S.counts stripes.old) (S.counts stripes.new) }
 {
     let mut splitter = AfSplitter::new(hash, stripe.len());
     'stripes: for _ in 0..count {
@@ -239,11 +204,8 @@ fn read_stripe<S: Source>(stripe: &mut [u8], stripes: &mut S) -> Result<(), Mess
         message)) }
     ensures only { IfErr result (λ message.
         (message ≡ Message.FewStripes) ⊎ (message ≡ Message.ReadFailed)) }
-    ensures reads { (S.counts stripes.new).failures
-        ≡ counted (is_run_read_failure (result_message result)) (S.counts stripes.old).failures }
-    ensures ends { (S.counts stripes.new).ends
-        ≡ counted (is_few (result_message result)) (S.counts stripes.old).ends }
-    ensures needed { ReadsAsNeeded (S.counts stripes.old) (S.counts stripes.new) }
+    ensures reads { Reads (is_run_read_failure (result_message result))
+        (is_few (result_message result)) (S.counts stripes.old) (S.counts stripes.new) }
 {
     if fill(stripes, stripe)? < stripe.len() {
         return Err(Message::FewStripes);
@@ -267,11 +229,8 @@ fn read_merged_key<S: Source>(
         (S.to_come stripes.new) message)) }
     ensures only { IfErr result (λ message.
         (message ≡ Message.FewStripes) ⊎ (message ≡ Message.ReadFailed)) }
-    ensures reads { (S.counts stripes.new).failures
-        ≡ counted (is_run_read_failure (result_message result)) (S.counts stripes.old).failures }
-    ensures ends { (S.counts stripes.new).ends
-        ≡ counted (is_few (result_message result)) (S.counts stripes.old).ends }
-    ensures needed { ReadsAsNeeded (S.counts stripes.old) (S.counts stripes.new) }
+    ensures reads { Reads (is_run_read_failure (result_message result))
+        (is_few (result_message result)) (S.counts stripes.old) (S.counts stripes.new) }
 {
     let mut stripe_buf = [0; MAX_KEY_LEN];
     let stripe = &mut stripe_buf[..key.len()];
@@ -291,16 +250,12 @@ pub fn merge<S: Source, O: Sink>(
         RunMatches at_any_pace (merge_outcome m.hash m.stripes.count m.key_bytes.bytes known)
         (result_message result) (ConsumedExactly known (S.to_come stripes.new)) ConsumedNothing
         (Appended (O.written out.old) (O.written out.new))) }
-    ensures memory { IfErr result (λ message. message ≢ Message.OutOfMemory) }
     ensures only { MergeMessage (result_message result) }
     ensures reads_first { result_message result ≡ Message.ReadFailed → out.new ≡ out.old }
-    ensures counts { (secret : ℕ) → Counts (result_message result)
-        (failures_of (S.counts stripes.old).failures secret (O.counts out.old).failures)
-        (failures_of (S.counts stripes.new).failures secret (O.counts out.new).failures) }
-    ensures ends { (S.counts stripes.new).ends
-        ≡ counted (is_few (result_message result)) (S.counts stripes.old).ends }
-    ensures needed_reads { ReadsAsNeeded (S.counts stripes.old) (S.counts stripes.new) }
-    ensures needed_writes { WritesAsNeeded (O.counts out.old) (O.counts out.new) }
+    ensures reads { Reads (is_run_read_failure (result_message result))
+        (is_few (result_message result)) (S.counts stripes.old) (S.counts stripes.new) }
+    ensures writes { Writes (is_run_write_failure (result_message result))
+        (O.counts out.old) (O.counts out.new) }
 {
     let mut key_buf = [0; MAX_KEY_LEN];
     let key = &mut key_buf[..merging.key_bytes.get()];

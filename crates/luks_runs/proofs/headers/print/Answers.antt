@@ -1,6 +1,6 @@
 use Rattle.std.proofs.lemmas.Result.{err_from_is_err_and}
 use Rattle.luks_runs.specs.HeaderOutcome.{printout_text, printout_message}
-use Rattle.luks_runs.proofs.HeaderRuns.{printing_counts, runs_with_text, runs_without_header}
+use Rattle.luks_runs.proofs.HeaderRuns.{runs_with_text, runs_without_header}
 use Rattle.luks_runs.proofs.headers.print.Goals as goal
 
 pub returns-in_err-header-clause-run : goal.returns-in_err-header-clause-run
@@ -17,11 +17,3 @@ returns-clause-run g c known is =
     runs_with_text c.args.location (printout_text c.args.printout)
     (printout_message c.args.printout) known _ _ _ read.0 read.2 _ _
     c.print_text.ensures.run
-
-pub returns-clause-reads_first : goal.returns-clause-reads_first
-returns-clause-reads_first g c wrong = absurd (rw wrong at c.print_text.ensures.run)
-
-pub returns-clause-counts : goal.returns-clause-counts
-returns-clause-counts g c secret =
-    rw c.in_ok-header.ensures.reads
-    (printing_counts _ _ _ _ _ _ secret _ _ c.print_text.ensures.run c.print_text.ensures.writes)

@@ -1,15 +1,7 @@
-use Rattle.std.proofs.Common.{◌∙◌, refl}
+use Rattle.std.proofs.Common.{◌∙◌}
 use Rattle.std.proofs.lemmas.Result.{err_from_is_err_and}
 use Rattle.luks_runs.proofs.HeaderRuns.{told_may_end, told_prints, told_unfailed}
 use Rattle.luks_runs.proofs.headers.print_text.Goals as goal
-
-pub returns-in_err-text-clause-run : goal.returns-in_err-text-clause-run
-returns-in_err-text-clause-run g c =
-    let p = err_from_is_err_and c.from_residual.result c.from_residual.ensures.1 in rw (p.1, p.2) refl
-
-pub returns-in_err-text-clause-writes : goal.returns-in_err-text-clause-writes
-returns-in_err-text-clause-writes g c =
-    let p = err_from_is_err_and c.from_residual.result c.from_residual.ensures.1 in rw (p.1, p.2) refl
 
 pub returns-in_err-put_all-clause-run : goal.returns-in_err-put_all-clause-run
 returns-in_err-put_all-clause-run g c =
@@ -17,11 +9,6 @@ returns-in_err-put_all-clause-run g c =
     let failed = c.in_err-put_all.ensures.err in
     rw (p.1, p.2, ← c.in_ok-text.ensures.text, ← c.as_bytes.ensures.value)
     (c.in_err-put_all.field-0.0.written, failed.0, failed.1)
-
-pub returns-in_err-put_all-clause-writes : goal.returns-in_err-put_all-clause-writes
-returns-in_err-put_all-clause-writes g c =
-    let p = err_from_is_err_and c.from_residual-in_err-put_all.result c.from_residual-in_err-put_all.ensures.1 in
-    rw (p.1, p.2) c.in_err-put_all.ensures.counts
 
 pub returns-clause-run : goal.returns-clause-run
 returns-clause-run g c =
@@ -34,4 +21,4 @@ returns-clause-only g c = rw (c.ended.ensures, c.in_ok-text.ensures.told) (told_
 pub returns-clause-writes : goal.returns-clause-writes
 returns-clause-writes g c =
     rw (c.ended.ensures, c.in_ok-text.ensures.told, told_unfailed c.args.printout c.args.header.now)
-    c.in_ok-put_all.ensures.counts
+    c.in_ok-put_all.ensures.writes

@@ -1,7 +1,7 @@
-use Rattle.std.proofs.Common.{◌≡◌, ◌∙◌, ◌+◌, length-take-le, vec_len, arith}
+use Rattle.std.proofs.Common.{◌≡◌, ◌+◌, length-take-le, vec_len, arith}
 use Rattle.std.proofs.lemmas.Bool.{le-ltb}
 use Rattle.std.proofs.lemmas.Result.{err_from_is_err_and}
-use Rattle.luks_io.proofs.CountsLemmas.{reads_then}
+use Rattle.luks_io.proofs.CountsLemmas.{reads_more}
 use Rattle.luks_runs.proofs.KeyFileLemmas.{piece_last, piece_lost, piece_more}
 use Rattle.luks_runs.specs.KeyFile.{max_key_file_len}
 use Rattle.luks_runs.proofs.key_file.read_key_file.Goals as goal
@@ -31,10 +31,8 @@ pieces-preserved g c =
     let next = c.in_ok-read_piece.ensures.ok in
     record {
       within = omega (arith, c.in_ok-read_piece.ensures.size);
-      reads = c.in_ok-read_piece.ensures.reads ∙ c.pieces.invariant.reads;
-      ends = rw (sized, le-ltb _ _ c.if-branch-size.false) at c.in_ok-read_piece.ensures.ends ∙ c.pieces.invariant.ends;
-      needed = reads_then _ _ (g.S.Source.counts c.read_piece.new.source) c.pieces.invariant.reads
-          c.pieces.invariant.ends c.pieces.invariant.needed c.read_piece.ensures.needed;
+      reads = reads_more _ _ _ _ _ c.pieces.invariant.reads
+          (rw (sized, le-ltb _ _ c.if-branch-size.false) at c.in_ok-read_piece.ensures.reads);
       taken = λ known is.
           let so_far = c.pieces.invariant.taken known is in
           rw len (piece_more known _ _ _ so_far.1 _ _ _ so_far.0 (λ rest left. (next rest left).1)
@@ -47,13 +45,3 @@ returns-clause-err g c known is =
     let within = c.pieces.invariant.within in
     let full : vec_len c.pieces.secret ≡ max_key_file_len + 1 = omega arith in
     (omega (arith, so_far.1.within), rw full at so_far.1)
-
-pub returns-in_err-read_piece-clause-needed : goal.returns-in_err-read_piece-clause-needed
-returns-in_err-read_piece-clause-needed g c =
-    reads_then _ _ (g.S.Source.counts c.read_piece.new.source) c.pieces.invariant.reads c.pieces.invariant.ends
-    c.pieces.invariant.needed c.read_piece.ensures.needed
-
-pub returns-then-branch-size-clause-needed : goal.returns-then-branch-size-clause-needed
-returns-then-branch-size-clause-needed g c =
-    reads_then _ _ (g.S.Source.counts c.read_piece.new.source) c.pieces.invariant.reads c.pieces.invariant.ends
-    c.pieces.invariant.needed c.read_piece.ensures.needed

@@ -1,6 +1,6 @@
-use Rattle.std.proofs.Common.{◌≡◌, ◌+◌, ◌≤◌, ◌-◌, take, vec_len}
+use Rattle.std.proofs.Common.{◌≡◌, ◌+◌, ◌≤◌, ◌-◌, false, take, vec_len}
 use Rattle.luks_io.specs.Devices.{ConsumedExactly, IfKnown}
-use Rattle.luks_io.specs.Counts.{ReadsAsNeeded}
+use Rattle.luks_io.specs.Counts.{Reads}
 use Rattle.luks_runs.specs.KeyFile.{max_key_file_len}
 use Rattle.luks_runs.proofs.key_file.read_key_file.Given as goal
 
@@ -8,9 +8,7 @@ use Rattle.luks_runs.proofs.key_file.read_key_file.Given as goal
 abbrev pub invariant-pieces : goal.invariant-pieces
 invariant-pieces g l = record {
   within : vec_len l.secret ≤ max_key_file_len + 1;
-  reads : (g.S.Source.counts l.source).failures ≡ (g.S.Source.counts l.initial.source).failures;
-  ends : (g.S.Source.counts l.source).ends ≡ (g.S.Source.counts l.initial.source).ends;
-  needed : ReadsAsNeeded (g.S.Source.counts l.initial.source) (g.S.Source.counts l.source);
+  reads : Reads false false (g.S.Source.counts l.initial.source) (g.S.Source.counts l.source);
   taken : IfKnown (g.S.Source.to_come l.initial.source)
       (λ known. (l.secret.items ≡ take (vec_len l.secret) known)
       × ConsumedExactly known (g.S.Source.to_come l.source) (vec_len l.secret));

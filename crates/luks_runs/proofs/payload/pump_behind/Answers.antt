@@ -4,14 +4,6 @@ use Rattle.luks_payload.specs.Plain.{sector_start}
 use Rattle.luks_runs.proofs.PayloadLemmas.{held_reach, positioned_within}
 use Rattle.luks_runs.proofs.payload.pump_behind.Goals as goal
 
-pub returns-then-consumed-segment-clause-stands : goal.returns-then-consumed-segment-clause-stands
-returns-then-consumed-segment-clause-stands c whole left front took =
-    let same : length c.args.held.now ≡ length c.args.held.now + 0 = omega arith in
-    rw c.new.ensures (record {
-      running = refl;
-      stands = record { next = refl; took = subst (ConsumedExactly whole left) same took };
-    })
-
 pub returns-clause-stands : goal.returns-clause-stands
 returns-clause-stands c whole left front took =
     let held = c.args.held.now in
@@ -30,10 +22,3 @@ returns-clause-stands c whole left front took =
         took = subst (ConsumedExactly whole left) all took;
       };
     })
-
-pub returns-clause-reach : goal.returns-clause-reach
-returns-clause-reach c =
-    let held = c.args.held.now in
-    let offset = c.args.segment.offset in
-    let within : offset ≤ length held = omega arith in
-    rw c.with_front.ensures (omega (arith, held_reach held held offset within))

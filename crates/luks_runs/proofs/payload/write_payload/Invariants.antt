@@ -1,7 +1,8 @@
-use Rattle.std.proofs.Common.{◌≡◌, ◌<◌, ◌^◌, List, ℕ, length, take, true}
+use Rattle.std.proofs.Common.{◌≡◌, ◌<◌, ◌^◌, List, ℕ, length, take, true, false}
 use Rattle.luks_io.specs.Devices.{ConsumedExactly}
-use Rattle.luks_io.specs.Counts.{ReadsAsNeeded, WritesAsNeeded}
+use Rattle.luks_io.specs.Counts.{Reads, Writes}
 use Rattle.luks_payload.specs.PumpEffects.{is_running}
+use Rattle.luks_runs.specs.Payload.{with_payload_ahead}
 use Rattle.luks_runs.proofs.PayloadLemmas.{Forwarding}
 use Rattle.luks_runs.proofs.payload.write_payload.Given as goal
 
@@ -12,11 +13,9 @@ invariant-sectors g l = record {
   cipher : l.pump.cipher ≡ l.fn.cipher;
   count : l.pump.count ≡ l.counter;
   running : is_running l.pump.state ≡ true;
-  reads : (g.I.Source.counts l.image).failures ≡ (g.I.Source.counts l.initial.image).failures;
-  ends : (g.I.Source.counts l.image).ends ≡ (g.I.Source.counts l.initial.image).ends;
-  writes : (g.O.Sink.counts l.out).failures ≡ (g.O.Sink.counts l.initial.out).failures;
-  needed_reads : ReadsAsNeeded (g.I.Source.counts l.initial.image) (g.I.Source.counts l.image);
-  needed_writes : WritesAsNeeded (g.O.Sink.counts l.initial.out) (g.O.Sink.counts l.out);
+  reads : Reads false false (with_payload_ahead l.fn.segment (length l.fn.held) (g.I.Source.counts l.fn.image))
+      (g.I.Source.counts l.image);
+  writes : Writes false (g.O.Sink.counts l.initial.out) (g.O.Sink.counts l.out);
   forwarding : (whole : List ℕ) → length whole < 2 ^ 64 → l.fn.held ≡ take (length l.fn.held) whole
       → ConsumedExactly whole (g.I.Source.to_come l.initial.image) (length l.fn.held)
       → Forwarding l.pump whole (length l.fn.held) (g.I.Source.to_come l.image) (g.O.Sink.written l.initial.out)

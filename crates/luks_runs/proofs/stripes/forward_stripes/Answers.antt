@@ -1,17 +1,14 @@
-use Rattle.std.proofs.Common.{◌≡◌, ◌∙◌, sym, arith, refl}
+use Rattle.std.proofs.Common.{◌≡◌, ◌∙◌, sym, arith, rules}
 use Rattle.std.proofs.lemmas.Result.{err_from_is_err_and}
-use Rattle.luks_io.proofs.CountsLemmas.{reads_then, writes_then}
+use Rattle.luks_io.proofs.CountsLemmas.{no_reads, no_writes}
 use Rattle.luks_kdf.proofs.StripesLemmas.{chain_more, chain_start}
 use Rattle.luks_runs.proofs.StripeLemmas.{is_stripe, passed_more, passed_none, stops_at}
 use Rattle.luks_runs.proofs.stripes.forward_stripes.Goals as goal
 
 pub stripes-init : goal.stripes-init
 stripes-init g c = record {
-  reads = refl;
-  ends = refl;
-  writes = refl;
-  needed_reads = λ live. refl;
-  needed_writes = λ live. refl;
+  reads = no_reads _;
+  writes = no_writes _;
   len = c.new-splitter.ensures.len;
   passed = λ bytes is. (chain_start _ _ bytes _ c.new-splitter.ensures.start, passed_none bytes _ _ _ is);
 }
@@ -27,13 +24,8 @@ pub stripes-preserved : goal.stripes-preserved
 stripes-preserved g c =
     let next = rw c.forward_stripe.auto.stripe at c.in_ok-forward_stripe.ensures.ok in
     record {
-      reads = c.in_ok-forward_stripe.ensures.reads ∙ c.stripes.invariant.reads;
-      ends = c.in_ok-forward_stripe.ensures.ends ∙ c.stripes.invariant.ends;
-      writes = c.in_ok-forward_stripe.ensures.writes ∙ c.stripes.invariant.writes;
-      needed_reads = reads_then _ _ (g.R.Source.counts c.forward_stripe.new.random) c.stripes.invariant.reads
-          c.stripes.invariant.ends c.stripes.invariant.needed_reads c.forward_stripe.ensures.needed_reads;
-      needed_writes = writes_then _ _ (g.O.Sink.counts c.forward_stripe.new.out) c.stripes.invariant.writes
-          c.stripes.invariant.needed_writes c.forward_stripe.ensures.needed_writes;
+      reads = search rules;
+      writes = search rules;
       len = c.stripe.ensures.len ∙ c.stripes.invariant.len ∙ sym c.forward_stripe.auto.stripe;
       passed = λ bytes is.
           let passed = c.stripes.invariant.passed bytes is in
@@ -48,14 +40,3 @@ stripes-preserved g c =
 pub returns-clause-ok : goal.returns-clause-ok
 returns-clause-ok g c bytes is =
     let all : c.stripes.counter ≡ c.args.count = omega arith in rw all at (c.stripes.invariant.passed bytes is)
-
-pub returns-in_err-forward_stripe-clause-needed_reads : goal.returns-in_err-forward_stripe-clause-needed_reads
-returns-in_err-forward_stripe-clause-needed_reads g c =
-    reads_then _ _ (g.R.Source.counts c.forward_stripe.new.random) c.stripes.invariant.reads c.stripes.invariant.ends
-    c.stripes.invariant.needed_reads c.forward_stripe.ensures.needed_reads
-
-pub returns-in_err-forward_stripe-clause-needed_writes : goal.returns-in_err-forward_stripe-clause-needed_writes
-returns-in_err-forward_stripe-clause-needed_writes g c =
-    writes_then _ _ (g.O.Sink.counts c.forward_stripe.new.out) c.stripes.invariant.writes
-    c.stripes.invariant.needed_writes
-    c.forward_stripe.ensures.needed_writes

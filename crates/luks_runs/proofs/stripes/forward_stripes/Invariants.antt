@@ -1,6 +1,6 @@
-use Rattle.std.proofs.Common.{◌≡◌, ◌*◌, length}
+use Rattle.std.proofs.Common.{◌≡◌, ◌*◌, false, length}
 use Rattle.luks_io.specs.Devices.{IfKnown}
-use Rattle.luks_io.specs.Counts.{ReadsAsNeeded, WritesAsNeeded}
+use Rattle.luks_io.specs.Counts.{Reads, Writes}
 use Rattle.luks_kdf.specs.Stripes.{chain_after}
 use Rattle.luks_runs.specs.StripeParts.{ForwardedBytes}
 use Rattle.luks_runs.proofs.stripes.forward_stripes.Given as goal
@@ -8,11 +8,8 @@ use Rattle.luks_runs.proofs.stripes.forward_stripes.Given as goal
 -- the stripes so far were taken, written and chained, and no call was needless
 abbrev pub invariant-stripes : goal.invariant-stripes
 invariant-stripes g l = record {
-  reads : (g.R.Source.counts l.random).failures ≡ (g.R.Source.counts l.initial.random).failures;
-  ends : (g.R.Source.counts l.random).ends ≡ (g.R.Source.counts l.initial.random).ends;
-  writes : (g.O.Sink.counts l.out).failures ≡ (g.O.Sink.counts l.initial.out).failures;
-  needed_reads : ReadsAsNeeded (g.R.Source.counts l.initial.random) (g.R.Source.counts l.random);
-  needed_writes : WritesAsNeeded (g.O.Sink.counts l.initial.out) (g.O.Sink.counts l.out);
+  reads : Reads false false (g.R.Source.counts l.initial.random) (g.R.Source.counts l.random);
+  writes : Writes false (g.O.Sink.counts l.initial.out) (g.O.Sink.counts l.out);
   len : length l.splitter.block ≡ length l.stripe;
   passed : IfKnown (g.R.Source.to_come l.initial.random)
       (λ known. (l.splitter ≡ chain_after l.fn.hash (length l.stripe) known l.counter)

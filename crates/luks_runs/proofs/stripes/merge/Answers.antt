@@ -1,4 +1,3 @@
-use Rattle.std.proofs.Common.{inl, inr, refl}
 use Rattle.std.proofs.lemmas.Result.{err_from_is_err_and}
 use Rattle.luks_runs.proofs.MergeLemmas.{runs_to_end, runs_without_key, runs_without_stripes}
 use Rattle.luks_runs.proofs.stripes.merge.Goals as goal
@@ -24,22 +23,3 @@ returns-clause-run g c bytes is =
     let taken = c.in_ok-read_merged_key.ensures.ok bytes is in
     runs_to_end m.hash m.stripes.count m.key_bytes.bytes bytes _ _ _ c.read_merged_key.new.key taken.1 taken.0
     c.in_ok-put_all.ensures.ok
-
-pub returns-in_err-read_merged_key-clause-reads_first : goal.returns-in_err-read_merged_key-clause-reads_first
-returns-in_err-read_merged_key-clause-reads_first g c = λ lost. refl
-
-pub returns-in_err-read_merged_key-clause-counts : goal.returns-in_err-read_merged_key-clause-counts
-returns-in_err-read_merged_key-clause-counts g c secret =
-    let p = err_from_is_err_and c.from_residual.result c.from_residual.ensures.1 in
-    rw (p.1, p.2) (elim c.in_err-read_merged_key.ensures.only [
-      | inl few ↦ rw (few, rw few at c.in_err-read_merged_key.ensures.reads) refl
-      | inr lost ↦ rw lost (inl (rw (rw lost at c.in_err-read_merged_key.ensures.reads) refl))
-    ])
-
-pub returns-in_err-put_all-clause-counts : goal.returns-in_err-put_all-clause-counts
-returns-in_err-put_all-clause-counts g c secret =
-    let p = err_from_is_err_and c.from_residual-in_err-put_all.result c.from_residual-in_err-put_all.ensures.1 in
-    rw (p.1, p.2, c.in_ok-read_merged_key.ensures.reads, c.in_err-put_all.ensures.counts) refl
-
-pub returns-clause-counts : goal.returns-clause-counts
-returns-clause-counts g c secret = rw (c.in_ok-read_merged_key.ensures.reads, c.in_ok-put_all.ensures.counts) refl

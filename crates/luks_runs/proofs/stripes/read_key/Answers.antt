@@ -13,8 +13,8 @@ returns-in_err-len-clause-err g c =
 pub returns-clause-key : goal.returns-clause-key
 returns-clause-key g c key is =
     let next = c.in_ok-len.ensures.bytes key is in
-    let whole : c.in_ok-len.len ≡ length key = omega (arith, c.in_ok-len.ensures.end key is) in
-    (next.1 ∙ take_all c.in_ok-len.len key (omega arith), took-all key _ c.in_ok-len.len (omega arith) next.0.left)
-
-pub returns-clause-length : goal.returns-clause-length
-returns-clause-length g c = (omega arith, omega arith)
+    let whole : c.in_ok-len.len ≡ length key = omega (arith, c.in_ok-len.ensures.end key is) in (
+      whole,
+      next.1 ∙ take_all c.in_ok-len.len key (omega arith),
+      took-all key _ c.in_ok-len.len (omega arith) next.0.left,
+    )

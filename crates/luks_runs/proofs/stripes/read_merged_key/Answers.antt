@@ -1,19 +1,8 @@
 use Rattle.std.proofs.Common.{◌≡◌, ◌≤◌, ◌+◌, ◌-◌, ◌∙◌, length, length-take-le, arith}
 use Rattle.std.proofs.Math.Nat.{mul-le-mul_right}
 use Rattle.std.proofs.lemmas.Result.{err_from_is_err_and}
-use Rattle.luks_io.proofs.CountsLemmas.{reads_then}
-use Rattle.luks_runs.proofs.MergeLemmas.{key_merged, stops_at, stops_before, stripe_more}
+use Rattle.luks_runs.proofs.MergeLemmas.{key_merged, stops_at, stripe_more}
 use Rattle.luks_runs.proofs.stripes.read_merged_key.Goals as goal
-
-pub returns-in_err-splitter-clause-err : goal.returns-in_err-splitter-clause-err
-returns-in_err-splitter-clause-err g c =
-    let p = err_from_is_err_and c.from_residual.result c.from_residual.ensures.1 in
-    let m = c.args.merging.now in
-    let size = m.key_bytes.in_range in
-    let stripe : length c.read_stripes.new.stripe ≡ m.key_bytes.bytes =
-    c.read_stripes.auto.stripe ∙ length-take-le _ _ (omega arith) ∙ c.requires in
-    rw (p.1, p.2) (λ bytes is.
-    stops_before _ _ bytes _ _ (rw (stripe, c.get.ensures) at (c.in_err-splitter.ensures.err bytes is)))
 
 pub returns-in_err-read_stripe-clause-err : goal.returns-in_err-read_stripe-clause-err
 returns-in_err-read_stripe-clause-err g c =
@@ -46,13 +35,3 @@ returns-clause-ok g c bytes is =
           (omega arith) (omega arith) all.within taken.0 more.1 c.last.ensures,
       all,
     )
-
-pub returns-in_err-read_stripe-clause-needed : goal.returns-in_err-read_stripe-clause-needed
-returns-in_err-read_stripe-clause-needed g c =
-    reads_then _ _ (g.S.Source.counts c.read_stripe.new.stripes) c.in_ok-splitter.ensures.reads
-    c.in_ok-splitter.ensures.ends c.read_stripes.ensures.needed c.read_stripe.ensures.needed
-
-pub returns-clause-needed : goal.returns-clause-needed
-returns-clause-needed g c =
-    reads_then _ _ (g.S.Source.counts c.read_stripe.new.stripes) c.in_ok-splitter.ensures.reads
-    c.in_ok-splitter.ensures.ends c.read_stripes.ensures.needed c.read_stripe.ensures.needed

@@ -1,16 +1,14 @@
-use Rattle.std.proofs.Common.{◌≡◌, ◌+◌, ◌≤◌, ◌∙◌, sym, refl, arith}
+use Rattle.std.proofs.Common.{◌+◌, ◌≤◌, ◌∙◌, sym, arith, rules}
 use Rattle.std.proofs.Math.Nat.{mul-le-mul_right}
 use Rattle.std.proofs.lemmas.Result.{err_from_is_err_and}
-use Rattle.luks_io.proofs.CountsLemmas.{reads_then}
+use Rattle.luks_io.proofs.CountsLemmas.{no_reads}
 use Rattle.luks_kdf.proofs.StripesLemmas.{chain_more, chain_start}
 use Rattle.luks_runs.proofs.MergeLemmas.{stops_at, stripe_more, taken_none}
 use Rattle.luks_runs.proofs.stripes.read_stripes.Goals as goal
 
 pub stripes-init : goal.stripes-init
 stripes-init g c = record {
-  reads = refl;
-  ends = refl;
-  needed = λ live. refl;
+  reads = no_reads _;
   len = c.new-splitter.ensures.len;
   taken = λ bytes is. (chain_start _ _ bytes _ c.new-splitter.ensures.start, taken_none bytes _ _ is);
 }
@@ -27,10 +25,7 @@ pub stripes-preserved : goal.stripes-preserved
 stripes-preserved g c =
     let next = rw c.read_stripe.auto.stripe at c.in_ok-read_stripe.ensures.ok in
     record {
-      reads = c.in_ok-read_stripe.ensures.reads ∙ c.stripes.invariant.reads;
-      ends = c.in_ok-read_stripe.ensures.ends ∙ c.stripes.invariant.ends;
-      needed = reads_then _ _ (g.S.Source.counts c.read_stripe.new.stripes) c.stripes.invariant.reads
-          c.stripes.invariant.ends c.stripes.invariant.needed c.read_stripe.ensures.needed;
+      reads = search rules;
       len = c.stripe.ensures.len ∙ c.stripes.invariant.len ∙ sym c.read_stripe.auto.stripe;
       taken = λ bytes is.
           let taken = c.stripes.invariant.taken bytes is in
@@ -38,12 +33,3 @@ stripes-preserved g c =
           rw c.read_stripe.auto.stripe
           (c.stripe.ensures.next ∙ chain_more _ _ bytes _ _ c.read_stripe.new.stripe taken.0 more.1, more.0);
     }
-
-pub returns-clause-ok : goal.returns-clause-ok
-returns-clause-ok g c bytes is =
-    let all : c.stripes.counter ≡ c.args.count = omega arith in rw all at (c.stripes.invariant.taken bytes is)
-
-pub returns-in_err-read_stripe-clause-needed : goal.returns-in_err-read_stripe-clause-needed
-returns-in_err-read_stripe-clause-needed g c =
-    reads_then _ _ (g.S.Source.counts c.read_stripe.new.stripes) c.stripes.invariant.reads c.stripes.invariant.ends
-    c.stripes.invariant.needed c.read_stripe.ensures.needed

@@ -1,15 +1,13 @@
-use Rattle.std.proofs.Common.{◌≡◌, ◌*◌, length}
+use Rattle.std.proofs.Common.{◌≡◌, ◌*◌, false, length}
 use Rattle.luks_io.specs.Devices.{ConsumedExactly, IfKnown}
-use Rattle.luks_io.specs.Counts.{ReadsAsNeeded}
+use Rattle.luks_io.specs.Counts.{Reads}
 use Rattle.luks_kdf.specs.Stripes.{chain_after}
 use Rattle.luks_runs.proofs.stripes.read_stripes.Given as goal
 
 -- the stripes so far were taken and chained, and no read was needless
 abbrev pub invariant-stripes : goal.invariant-stripes
 invariant-stripes g l = record {
-  reads : (g.S.Source.counts l.stripes).failures ≡ (g.S.Source.counts l.initial.stripes).failures;
-  ends : (g.S.Source.counts l.stripes).ends ≡ (g.S.Source.counts l.initial.stripes).ends;
-  needed : ReadsAsNeeded (g.S.Source.counts l.initial.stripes) (g.S.Source.counts l.stripes);
+  reads : Reads false false (g.S.Source.counts l.initial.stripes) (g.S.Source.counts l.stripes);
   len : length l.splitter.block ≡ length l.stripe;
   taken : IfKnown (g.S.Source.to_come l.initial.stripes)
       (λ known. (l.splitter ≡ chain_after l.fn.hash (length l.stripe) known l.counter)

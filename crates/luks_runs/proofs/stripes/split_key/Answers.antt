@@ -1,6 +1,5 @@
 use Rattle.std.proofs.Common.{◌≡◌, ◌∙◌, length, length-take-le, arith}
 use Rattle.std.proofs.lemmas.Result.{err_from_is_err_and}
-use Rattle.luks_io.proofs.CountsLemmas.{writes_then}
 use Rattle.luks_runs.proofs.SplitLemmas.{last_stripe, runs_to_end, runs_without_last, runs_without_stripes}
 use Rattle.luks_runs.proofs.stripes.split_key.Goals as goal
 
@@ -11,7 +10,7 @@ returns-in_err-splitter-clause-run g c =
     let stripe : length c.forward_stripes.new.stripe ≡ length key =
     c.forward_stripes.auto.stripe ∙ length-take-le (length key) _ (omega arith) in
     rw (p.1, p.2) (λ left took bytes known.
-    runs_without_stripes _ _ key bytes left _ _ _ c.requires.some c.requires.room took _
+    runs_without_stripes _ _ key bytes left _ _ _ c.requires.0 c.requires.1 took _
     (rw (stripe, c.get.ensures) at (c.in_err-splitter.ensures.err bytes known)))
 
 pub returns-in_err-put_all-clause-run : goal.returns-in_err-put_all-clause-run
@@ -23,7 +22,7 @@ returns-in_err-put_all-clause-run g c =
     rw (p.1, p.2) (λ left took bytes known.
     let passed = rw (stripe, c.get.ensures) at (c.in_ok-splitter.ensures.ok bytes known) in
     let last = last_stripe _ _ key bytes _ passed.0 passed.1.took.within c.last.new.out c.last.ensures in
-    runs_without_last _ _ key bytes left _ _ _ c.requires.some c.requires.room took c.last.new.out passed.1 last _
+    runs_without_last _ _ key bytes left _ _ _ c.requires.0 c.requires.1 took c.last.new.out passed.1 last _
     c.in_err-put_all.field-0.0.written c.in_err-put_all.ensures.err.0
     (c.last.auto.out ∙ stripe) c.in_err-put_all.ensures.err.1)
 
@@ -34,15 +33,5 @@ returns-clause-run g c left took bytes known =
     c.forward_stripes.auto.stripe ∙ length-take-le (length key) _ (omega arith) in
     let passed = rw (stripe, c.get.ensures) at (c.in_ok-splitter.ensures.ok bytes known) in
     let last = last_stripe _ _ key bytes _ passed.0 passed.1.took.within c.last.new.out c.last.ensures in
-    runs_to_end _ _ key bytes left _ _ _ c.requires.some c.requires.room took c.last.new.out passed.1 last _
+    runs_to_end _ _ key bytes left _ _ _ c.requires.0 c.requires.1 took c.last.new.out passed.1 last _
     c.in_ok-put_all.ensures.ok
-
-pub returns-in_err-put_all-clause-needed_writes : goal.returns-in_err-put_all-clause-needed_writes
-returns-in_err-put_all-clause-needed_writes g c =
-    writes_then _ _ (g.O.Sink.counts c.put_all.new.sink) c.in_ok-splitter.ensures.writes
-    c.forward_stripes.ensures.needed_writes c.put_all.ensures.needed
-
-pub returns-clause-needed_writes : goal.returns-clause-needed_writes
-returns-clause-needed_writes g c =
-    writes_then _ _ (g.O.Sink.counts c.put_all.new.sink) c.in_ok-splitter.ensures.writes
-    c.forward_stripes.ensures.needed_writes c.put_all.ensures.needed
