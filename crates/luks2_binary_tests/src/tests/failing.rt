@@ -176,7 +176,7 @@ fn check_failed(rt: &(impl Abort + AllocGlobal), bytes: &[u8], given: usize) {
 }
 
 #[test]
-fn each_failed_read_is_told(rt: HostRuntime) {
+fn each_failed_read_is_reported(rt: HostRuntime) {
     let both = image_of(&rt, 40_000, &[PRIMARY, SECONDARY]);
     let alone = image_of(&rt, 40_000, &[SECONDARY]);
     for given in [
@@ -205,7 +205,7 @@ fn scarce_runs(rt: &(impl Abort + AllocGlobal), image: &[u8]) -> Option<u32> {
 }
 
 #[test]
-fn want_of_memory_is_told(rt: HostRuntime) {
+fn lack_of_memory_is_reported(rt: HostRuntime) {
     let runs = scarce_runs(&rt, &image_of(&rt, 32_768, &[SECONDARY]));
     // Another fault than running out of memory, too little given back, or no run that ran out of
     // memory.

@@ -120,7 +120,7 @@ fn check_row(rt: &(impl Abort + AllocGlobal), (change, len, fault): &Row) {
 }
 
 #[test]
-fn other_images_are_cut_or_no_luks(rt: HostRuntime) {
+fn other_images_are_truncated_or_not_luks(rt: HostRuntime) {
     for row in &FAULTS {
         check_row(&rt, row);
     }

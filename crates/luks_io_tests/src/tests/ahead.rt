@@ -22,7 +22,7 @@ type Row = (&'static str, (usize, u64), &'static [Step], (u64, u64, u64));
 
 static ROWS: [Row; 7] = [
     (
-        "takes what is announced at once",
+        "reads what is announced at once",
         (0, 99),
         &[
             (Some(6), 1, Ok(1), 6, 1),
@@ -35,7 +35,7 @@ static ROWS: [Row; 7] = [
         (0, 0, 0),
     ),
     (
-        "takes nothing ahead that is not announced",
+        "reads nothing ahead that is not announced",
         (0, 99),
         &[
             (None, 1, Ok(1), 9, 1),
@@ -49,7 +49,7 @@ static ROWS: [Row; 7] = [
     ),
     // At the third read one byte is still announced.
     (
-        "passes large reads by",
+        "passes large reads on",
         (0, 99),
         &[
             (Some(10), 4, Ok(4), 6, 1),
@@ -60,7 +60,7 @@ static ROWS: [Row; 7] = [
         (0, 1, 0),
     ),
     (
-        "what is held counts as announced",
+        "buffered bytes count as announced",
         (0, 99),
         &[
             (Some(10), 1, Ok(1), 6, 1),
@@ -74,7 +74,7 @@ static ROWS: [Row; 7] = [
         (0, 0, 0),
     ),
     (
-        "hands on more than a later announcement",
+        "gives more than a later announcement allows",
         (0, 99),
         &[
             (Some(10), 1, Ok(1), 6, 1),
@@ -84,7 +84,7 @@ static ROWS: [Row; 7] = [
         (0, 0, 0),
     ),
     (
-        "hands on what came of few bytes",
+        "gives what came of few bytes",
         (3, 99),
         &[
             (Some(5), 2, Ok(2), 7, 1),
@@ -96,7 +96,7 @@ static ROWS: [Row; 7] = [
         (0, 0, 0),
     ),
     (
-        "tells a failure in its turn",
+        "reports a failure in its turn",
         (0, 1),
         &[
             (Some(8), 3, Ok(3), 6, 1),
@@ -111,7 +111,7 @@ static ROWS: [Row; 7] = [
 ];
 
 // Whether the step goes as its row says.
-fn is_as_told(
+fn goes_as_stated(
     source: &mut AheadSource<Flaky<'_>>,
     (announced, asked, answer, left, calls): &Step,
 ) -> bool {
@@ -128,7 +128,7 @@ fn check_row(rt: &(impl Abort + AllocGlobal), (name, (piece, failing), steps, la
     let below = Flaky::new(BYTES, *piece, *failing);
     let mut source = AheadSource::new(rt.alloc(), 4, below).expect(rt, "memory");
     for (i, step) in steps.iter().enumerate() {
-        assert_at(rt, name, i, is_as_told(&mut source, step));
+        assert_at(rt, name, i, goes_as_stated(&mut source, step));
     }
     let counts = source.get_ref().counts;
     let counted = (counts.failures, counts.ends, counts.needless);
@@ -136,7 +136,7 @@ fn check_row(rt: &(impl Abort + AllocGlobal), (name, (piece, failing), steps, la
 }
 
 #[test]
-fn asks_for_what_is_announced_at_once(rt: HostRuntime) {
+fn requests_what_is_announced_at_once(rt: HostRuntime) {
     for row in &ROWS {
         check_row(&rt, row);
     }

@@ -39,7 +39,7 @@ type Row = (
 
 static ROWS: [Row; 4] = [
     (
-        "what is held",
+        "buffered bytes",
         9,
         &[(2, Some(Ok(()))), (3, Some(Ok(())))],
         (b"cbfed", 2, 0),

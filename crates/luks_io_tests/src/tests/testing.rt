@@ -85,7 +85,7 @@ fn a_leaky_sink_fails_once_and_takes_pieces(rt: HostRuntime) -> Result<(), Fail>
 
 #[test]
 #[should_panic(expected = "the same: InCase { case: 3, wrong: Difference { left: 1, right: 2 } }")]
-fn a_difference_is_told_and_ends_a_test(rt: HostRuntime) {
+fn a_difference_is_printed_and_ends_a_test(rt: HostRuntime) {
     assert!(rt; same(1, 1).is_ok() && same(1, 2).is_err());
     assert!(rt; same_in(&"case", "a", "a").is_ok() && same_in(&"case", "a", "b").is_err());
     assert!(rt; holds_in(&7, true).is_ok() && holds_in(&7, false).is_err());

@@ -89,7 +89,7 @@ static PAYLOADS: [Payload; 7] = [
 /// how many a sink accepts at once.
 type Shape = (usize, usize, usize);
 
-// Pieces alone; and then none is held; less than a sector of 512 bytes, and one and a part; three,
+// Pieces alone; and then none is loaded; less than a sector of 512 bytes, and one and a part; three,
 // and the whole image; and pieces that end within sectors.
 static SHAPES: [Shape; 13] = [
     (0, 1, 700),
@@ -137,7 +137,7 @@ fn check_payload(
 }
 
 #[test]
-fn payloads_end_as_they_are_cut(rt: HostRuntime) {
+fn payloads_end_as_they_are_truncated(rt: HostRuntime) {
     for payload in &PAYLOADS {
         check_payload(&rt, payload);
     }
@@ -223,7 +223,7 @@ static BAD_READS: [(u64, End); 8] = [
 ];
 
 #[test]
-fn failed_reads_are_told_for_good(rt: HostRuntime) {
+fn failed_reads_are_reported_from_then_on(rt: HostRuntime) {
     let volume = volume_of(&rt, SectorSize::B512, &UNITS_512);
     let parts = (volume.image.as_slice(), volume.plain.as_slice());
     let segment = segment_of(&rt, SectorSize::B512, 5, None);
@@ -234,7 +234,7 @@ fn failed_reads_are_told_for_good(rt: HostRuntime) {
         };
         check_run(&rt, segment, parts, way, *end);
     }
-    // Behind what is held.
+    // Behind the loaded bytes.
     let way = Way {
         held: 1600,
         bad_read: 0,
@@ -259,7 +259,7 @@ static BAD_WRITES: [(u64, End); 5] = [
 ];
 
 #[test]
-fn failed_writes_are_told_for_good(rt: HostRuntime) {
+fn failed_writes_are_reported_from_then_on(rt: HostRuntime) {
     let volume = volume_of(&rt, SectorSize::B512, &UNITS_512);
     let segment = segment_of(&rt, SectorSize::B512, 5, None);
     for (bad_write, end) in &BAD_WRITES {
