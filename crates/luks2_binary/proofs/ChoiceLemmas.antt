@@ -4,7 +4,8 @@ use Rattle.std.proofs.Common.{length, max, arith}
 use Rattle.std.specs.Prelude.{IfErr, IfOk, OnOk, Result, Ok, Err, option_and_then}
 use Rattle.luks_area.specs.declared.fault.HeaderFault.{HeaderFault}
 use Rattle.luks_area.specs.declared.fault.HeaderFault.TheVariants.{Memory}
-use Rattle.luks2_binary.specs.Choice2.{with_valid_primary, binary_at, chosen2_of, found_at, is_valid, least_valid, size_at}
+use Rattle.luks2_binary.specs.Choice2.{with_valid_primary, binary_at, chosen2_of, found_at, is_valid, least_valid}
+use Rattle.luks2_binary.specs.Choice2.{size_at}
 use Rattle.luks2_binary.specs.ReadLen2.{reach2_of, probe_end, search_reach}
 use Rattle.luks2_binary.specs.Front2.{FallsShort, IsPrefixOf, OfEach, Reaches, StaysBelow, valid_size}
 use Rattle.luks2_binary.specs.declared.header.Header2.{Header2}

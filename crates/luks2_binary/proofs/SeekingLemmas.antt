@@ -1,6 +1,7 @@
 -- What is held and taken once the header of an image is found, or is not.
 use Rattle.std.proofs.Common.{◌≡◌, ◌∙◌, ℕ, ◌+◌, ◌-◌, ◌<◌, ◌≤◌, ◌⊎◌, inl, inr, List, ◌++◌, Option, Some, None, Err}
-use Rattle.std.proofs.Common.{Bool, true, false, ap, sym, subst, refl, take, drop, take_all, length, length-append, append-nil, max, arith}
+use Rattle.std.proofs.Common.{Bool, true, false, ap, sym, subst, refl, take, drop, take_all, length, length-append}
+use Rattle.std.proofs.Common.{append-nil, max, arith}
 use Rattle.std.specs.Prelude.{[], Result, ok_or}
 use Rattle.std.proofs.Math.Seq.{drop-append_seam, take-append-add, take-append_seam}
 use Rattle.std.proofs.lemmas.List.{drop-drop, drop_all}

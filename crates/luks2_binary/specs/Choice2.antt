@@ -7,7 +7,8 @@ use Rattle.luks_area.specs.Fields.{at}
 use Rattle.luks_area.specs.declared.fault.HeaderFault.{HeaderFault}
 use Rattle.luks_area.specs.declared.fault.HeaderFault.TheVariants.{NotLuks}
 use Rattle.luks2_binary.specs.Checksum2.{checksum_matches}
-use Rattle.luks2_binary.specs.Header2.{binary_len, checksum_hash_in, header2_from, hdr_offset_in, sequence_in, size_in, sizes}
+use Rattle.luks2_binary.specs.Header2.{binary_len, checksum_hash_in, header2_from, hdr_offset_in, sequence_in, size_in}
+use Rattle.luks2_binary.specs.Header2.{sizes}
 use Rattle.luks2_binary.specs.declared.header.Finding.TheVariants.{PrimaryNotValid, SecondaryNotValid, SequencesDiffer}
 use Rattle.luks2_binary.specs.declared.header.Header2.{Header2}
 use Rattle.luks2_binary.specs.declared.header.Place.TheVariants.{Primary, Secondary}

@@ -1,6 +1,7 @@
 //! Finding the header of an image.
 
-ghost use Rattle.std.specs.Prelude.{◌≡◌, ◌+◌, ◌≤◌, ◌↔◌, ◌⊎◌, ◌++◌, ◌<◌, ◌&&◌, not, true, false, length, max};
+ghost use Rattle.std.specs.Prelude.{◌≡◌, ◌+◌, ◌≤◌, ◌↔◌, ◌⊎◌, ◌++◌, ◌<◌, ◌&&◌, not, true, false};
+ghost use Rattle.std.specs.Prelude.{length, max};
 ghost use Rattle.std.specs.Prelude.{take, IsTrue, Ok, IfOk, IfErr, IfSome, OnErr, OnOk};
 ghost use Rattle.std.specs.Prelude.{Some, option_and_then};
 ghost use Rattle.luks_io.specs.Devices.{IfKnown};

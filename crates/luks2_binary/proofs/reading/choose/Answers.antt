@@ -34,7 +34,12 @@ returns-in_default-clause-loads g c = record {
   within = λ image front.
       let first = c.search.ensures.grew.fronts image front in
       let none = no_size_valid image 0 (sym c.in_default.is ∙ c.in_ok-size.ensures.valid image first) in
-      omega (arith, c.header_at.ensures.loads.within image first, c.search.ensures.loads.within image front, reach_other image none);
+      omega (
+        arith,
+        c.header_at.ensures.loads.within image first,
+        c.search.ensures.loads.within image front,
+        reach_other image none,
+      );
   settled = let grew = c.search.ensures.grew in
       found_settled c.search.new.area.bytes c.search.new.area.ended c.search.result
       (λ image front. no_size_valid image 0
@@ -104,7 +109,8 @@ returns-clause-loads g c = record {
   over = λ image front.
       let first = c.grow.ensures.grew.fronts image front in
       let is = size_valid image 0 c.in-Some.size (sym c.in-Some.is ∙ c.in_ok-size.ensures.valid image first) in
-      over_joined image c.header_at.new.area.bytes c.grow.new.area.bytes c.args.area.now.ended c.header_at.new.area.ended
+      over_joined image c.header_at.new.area.bytes c.grow.new.area.bytes c.args.area.now.ended
+      c.header_at.new.area.ended
       c.grow.new.area.ended
       (probe_end image 0) (2 * c.in-Some.size) (reach2_of image) first front
       (c.in_ok-size.ensures.loads.over image first) c.in_ok-grow.ensures.over (reach_first image)

@@ -52,8 +52,8 @@ pub returns-in_default-clause-loads : goal.returns-in_default-clause-loads
 returns-in_default-clause-loads g c = record {
   within = λ image front. omega (arith, c.grow.ensures.within, reach_least image c.args.place);
   settled = λ image front goes.
-      let there : c.args.place + 4096 ≤ length c.grow.new.area.bytes = c.in_ok-grow.ensures.whole.0 c.if-not-branch.false
-      in
+      let there : c.args.place + 4096 ≤ length c.grow.new.area.bytes =
+      c.in_ok-grow.ensures.whole.0 c.if-not-branch.false in
       let unfit = unfit_here c.grow.new.area.bytes c.grow.new.area.ended image c.as_slice.result.now c.args.place front
       c.as_slice.ensures.value there c.in_default.ensures.value in
       omega (arith, there, reach_unfit image c.args.place unfit);
@@ -139,8 +139,8 @@ returns-clause-loads g c = record {
       (c.in_ok-grow.ensures.whole.0 c.if-not-branch.false) c.in-Some.size c.in-Some.ensures.value in
       omega (arith, c.grow.ensures.within, c.grow-2.ensures.within, reach_fit image c.args.place fit.0, fit.1);
   settled = λ image front goes.
-      let there : c.args.place + 4096 ≤ length c.grow.new.area.bytes = c.in_ok-grow.ensures.whole.0 c.if-not-branch.false
-      in
+      let there : c.args.place + 4096 ≤ length c.grow.new.area.bytes =
+      c.in_ok-grow.ensures.whole.0 c.if-not-branch.false in
       let fit = fit_here c.grow.new.area.bytes c.grow.new.area.ended image c.as_slice.result.now c.args.place
       (c.grow-2.ensures.grew.fronts image front) c.as_slice.ensures.value there c.in-Some.size c.in-Some.ensures.value in
       let whole = c.in_ok-grow-2.ensures.whole.0 c.if-not-branch-2.false in

@@ -3,7 +3,8 @@ use Rattle.std.proofs.lemmas.Result.{err_from_is_err_and}
 use Rattle.luks2_binary.specs.Front2.{IsPrefixOf}
 use Rattle.luks2_binary.proofs.FrontLemmas.{front_self}
 use Rattle.luks2_binary.proofs.SeekingLemmas.{aborts_seeking, answer_is, answered_from, below_cost, consumed_read_len}
-use Rattle.luks2_binary.proofs.SeekingLemmas.{cost_held, fault_answered, hits_end, holds_unloaded, remembers_end, seeks_answer}
+use Rattle.luks2_binary.proofs.SeekingLemmas.{cost_held, fault_answered, hits_end, holds_unloaded, remembers_end}
+use Rattle.luks2_binary.proofs.SeekingLemmas.{seeks_answer}
 use Rattle.luks2_binary.proofs.reading.read_header2.Goals as goal
 
 -- a read failed, or memory ran out
@@ -24,7 +25,8 @@ pub returns-in_err-header-clause-answered : goal.returns-in_err-header-clause-an
 returns-in_err-header-clause-answered g c =
     let p = err_from_is_err_and c.from_residual.result c.from_residual.ensures.1 in
     let new = c.choose.new.area.bytes in
-    rw (p.1, p.2) (fault_answered new c.in_err-header.field-0.0 c.in_err-header.ensures.loads.refusals (λ stops image front.
+    rw (p.1, p.2)
+    (fault_answered new c.in_err-header.field-0.0 c.in_err-header.ensures.loads.refusals (λ stops image front.
     c.in_err-header.ensures.loads.early stops image
     (subst (λ ended. IsPrefixOf new ended image) (sym c.in_err-header.ensures.loads.going) front)))
 
@@ -55,5 +57,6 @@ returns-clause-answered g c =
 
 pub returns-clause-ended : goal.returns-clause-ended
 returns-clause-ended g c =
-    remembers_end _ c.args.area.now c.choose.new.area _ _ _ _ _ c.choose.ensures.grew (hits_end _ _ _ _ _ c.ok_or.ensures.value c.in_ok-header.ensures.loads.over
+    remembers_end _ c.args.area.now c.choose.new.area _ _ _ _ _ c.choose.ensures.grew
+    (hits_end _ _ _ _ _ c.ok_or.ensures.value c.in_ok-header.ensures.loads.over
     c.in_ok-header.ensures.loads.settled)

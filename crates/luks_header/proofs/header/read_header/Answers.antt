@@ -15,7 +15,8 @@ returns-in_err-whole-clause-broken g c =
     let p = err_from_is_err_and c.from_residual.result c.from_residual.ensures.1 in
     rw (p.1, p.2) (λ image knows.
     aborts_reading _ _ image _ _ _ _
-    (ap (λ (area : HeaderAreaModel). area.bytes) c.new-area.ensures) (let h = c.in_err-whole.ensures.taken in h image knows)
+    (ap (λ (area : HeaderAreaModel). area.bytes) c.new-area.ensures)
+    (let h = c.in_err-whole.ensures.taken in h image knows)
     c.in_err-whole.ensures.reads.ends)
 
 pub returns-then-not-whole-clause-broken : goal.returns-then-not-whole-clause-broken
