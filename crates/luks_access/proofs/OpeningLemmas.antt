@@ -9,7 +9,6 @@ use Rattle.luks_header.specs.Header.{header_read_len}
 use Rattle.luks_header.specs.HeaderSegment.{segment_of}
 use Rattle.luks_header.specs.declared.header.Header.{Header}
 use Rattle.luks_open.specs.Order.{OrderModel, key_areas_end, order_of}
-use Rattle.luks_open.specs.declared.opening.Opened.{Opened}
 use Rattle.luks_report.specs.Faults.{message_at_end}
 use Rattle.luks_report.specs.declared.message.Message.{Message}
 use Rattle.luks_report.specs.declared.message.Message.TheVariants.{Done, KeyFileLength, OutOfMemory, ReadFailed}
@@ -27,7 +26,8 @@ use Rattle.luks_unlock.proofs.OutcomeLemmas.{area_cut, found_cut, found_is, foun
 use Rattle.luks_unlock.proofs.OutcomeLemmas.{volume_with}
 use Rattle.luks_unlock.specs.Finding.{AbortsFinding}
 use Rattle.luks_unlock.specs.OpeningMessages.{OpeningMessage}
-use Rattle.luks_unlock.specs.Trying.{TriesSlots}
+use Rattle.luks_unlock.specs.Trying.{TriesSlots, opened_of}
+use Rattle.luks_unlock.specs.declared.unlocked.UnlockedVolume.{UnlockedVolume}
 use Rattle.luks_unlock.specs.Volume.{OnOpened, detached_payload_outcome, held_for, payload_outcome}
 use Rattle.luks_unlock.specs.Volume.{outcome_after, volume_by, volume_in_header, volume_in_segment}
 use Rattle.luks_unlock.specs.Volume.{volume_outcome_by}
@@ -39,7 +39,7 @@ use Rattle.luks_payload.specs.declared.fault.VolumeFault.TheVariants.{CutBeforeP
 use Rattle.luks_payload.specs.declared.fault.VolumeFault.TheVariants.{Short as IsShort}
 use Rattle.luks_payload.specs.declared.state.Step.{Step}
 use Rattle.luks_payload.specs.declared.state.Step.TheVariants.{End}
-use Rattle.luks_access.specs.Opens.{HasOptions, IsCatOf, IsOnlyAborted, IsPlainOf, OpenVolume, Opens, Refuses}
+use Rattle.luks_access.specs.Opens.{HasOptions, IsCatOf, IsOnlyAborted, IsPlainOf, Opens, Refuses}
 use Rattle.luks_access.specs.Opens.{cat_outcome_of, payload_image_of, plaintext_of}
 use Rattle.luks_access.specs.Unlocks.{UnlocksVolume}
 use Rattle.luks_access.specs.declared.options.Options.{Options}
@@ -111,7 +111,7 @@ module _ (options : Options) (o : VolumeRequest) (image pass : List ℕ) (i : Op
       (front : area ≡ take (header_read_len image) image) where
     -- the key slots were tried, and none of them opens
     refused_slots : (short : length pass ≤ max_key_file_len) (message : Message) → aborts message ≡ false
-        → TriesSlots o.key_slot tries pass area area' (drop (header_read_len image) image) i (Err message)
+        → TriesSlots o.key_slot segment tries pass area area' (drop (header_read_len image) image) i (Err message)
         → Refuses options image pass message
     refused_slots short message never (inl (LostRead, is, lost)) = cc
     refused_slots short message never (inl (NoMemory, is, lost)) = cc
@@ -132,7 +132,7 @@ module _ (options : Options) (o : VolumeRequest) (image pass : List ℕ) (i : Op
 
     -- the volume was not opened
     pub refused_unopened : (message : Message) → aborts message ≡ false
-        → UnlocksVolume o.key_slot tries pass area area' (drop (header_read_len image) image) i (Err message)
+        → UnlocksVolume o.key_slot segment tries pass area area' (drop (header_read_len image) image) i (Err message)
         → Refuses options image pass message
     refused_unopened message never (inl (short, tried)) = refused_slots short message never tried
     refused_unopened message never (inr (long, is)) =
@@ -143,26 +143,27 @@ module _ (options : Options) (o : VolumeRequest) (image pass : List ℕ) (i : Op
         ∙ found_long on_opened o.key_slot v image pass long))
 
     -- the volume was opened
-    pub opened_by : (opened : Opened)
-        → UnlocksVolume o.key_slot tries pass area area' (drop (header_read_len image) image) i (Ok opened)
-        → Opens options image pass (record { segment = segment; slot = opened.slot; key = opened.key })
-    opened_by opened (inl (short, (grows, enough, tried))) =
+    pub opened_by : (opened : UnlockedVolume)
+        → UnlocksVolume o.key_slot segment tries pass area area' (drop (header_read_len image) image) i (Ok opened)
+        → Opens options image pass opened
+    opened_by opened (inl (short, (grows, enough, same, tried))) =
         let v = volume_with header segment tries in
         record {
           held = held_for image v;
           outcome = λ p of_p on_opened.
               same_options options p o of_p has (reader_for options.location) on_opened image pass
               ∙ tried_is options.location o image pass header segment tries found is_segment ordered short area area'
-              i front grows enough (Ok opened) tried on_opened;
+              i front grows enough (Ok (opened_of opened)) tried on_opened
+              ∙ ap (λ s. on_opened s (opened_of opened) (held_for image v)) (sym same);
         }
     opened_by opened (inr (long, is)) = cc
 
 -- ---- what an open volume means
 
-module _ (o : VolumeRequest) (header image pass : List ℕ) (v : OpenVolume) (held : ℕ) where
+module _ (o : VolumeRequest) (header image pass : List ℕ) (v : UnlockedVolume) (held : ℕ) where
   cat_by : (location : HeaderLocation)
       → ((on_opened : OnOpened) → volume_outcome_by (reader_for location) on_opened o header pass
-      ≡ on_opened v.segment (record { slot = v.slot; key = v.key }) held)
+      ≡ on_opened v.segment (opened_of v) held)
       → ((cat_outcome_of location o header image pass).output ≡ plaintext_of v (payload_image_of location header image))
       × ((cat_outcome_of location o header image pass).message
       ≡ message_at_end (ending_of v.segment (payload_image_of location header image)))
@@ -174,7 +175,7 @@ module _ (o : VolumeRequest) (header image pass : List ℕ) (v : OpenVolume) (he
       (ap (λ (out : Outcome). out.output) cat, ap (λ (out : Outcome). out.message) cat)
 
 -- `luksCat` writes its plain text
-pub cat_of : (options : Options) (header pass : List ℕ) (v : OpenVolume) → Opens options header pass v
+pub cat_of : (options : Options) (header pass : List ℕ) (v : UnlockedVolume) → Opens options header pass v
     → IsCatOf options header pass v
 cat_of options header pass v opens o image has =
     cat_by o header image pass v opens.held options.location (opens.outcome o has)
@@ -206,11 +207,11 @@ ends_whole s image well =
     (ends_within s.size (sector_len s) (payload_len s image)) well
 
 -- of an honestly sealed volume it is the text that was sealed
-pub plain_of_honest : (options : Options) (image pass : List ℕ) (v : OpenVolume) → Opens options image pass v
+pub plain_of_honest : (options : Options) (image pass : List ℕ) (v : UnlockedVolume) → Opens options image pass v
     → IsPlainOf options image pass v
 plain_of_honest options image pass v opens o plain attached has honest =
     let outcome : (on_opened : OnOpened) → volume_outcome_by (reader_for Attached) on_opened o image pass
-    ≡ on_opened v.segment (record { slot = v.slot; key = v.key }) opens.held =
+    ≡ on_opened v.segment (opened_of v) opens.held =
     rw attached at (opens.outcome o has) in
     let cat = cat_by o image image pass v opens.held Attached outcome in
     let sealed = unsealed o image pass plain honest in

@@ -11,25 +11,20 @@ use Rattle.luks_runs.specs.Location.{reader_for}
 use Rattle.luks_runs.specs.declared.location.HeaderLocation.{HeaderLocation}
 use Rattle.luks_runs.specs.declared.location.HeaderLocation.TheVariants.{Attached, Detached}
 use Rattle.luks_unlock.specs.Honest.{IsHonest}
+use Rattle.luks_unlock.specs.Trying.{opened_of}
+use Rattle.luks_unlock.specs.declared.unlocked.UnlockedVolume.{UnlockedVolume}
 use Rattle.luks_unlock.specs.Volume.{OnOpened, detached_payload_outcome, payload_outcome, volume_outcome}
 use Rattle.luks_unlock.specs.Volume.{volume_outcome_by}
-use Rattle.luks_verdict.specs.declared.segment.Segment.{Segment}
 use Rattle.luks_payload.specs.Plain.{ending_of, plain_of}
 use Rattle.luks_payload.specs.declared.state.Step.TheVariants.{End}
 use Rattle.luks_access.specs.declared.options.Options.{Options}
 
--- a volume that is open: its segment, the key slot that opened, and the volume key
-pub record OpenVolume : Type 0 where
-  pub segment : Segment
-  pub slot : ℕ
-  pub key : List ℕ
-
--- its cipher
-abbrev pub cipher_of : OpenVolume → Cipher
+-- the cipher of a volume that is open
+abbrev pub cipher_of : UnlockedVolume → Cipher
 cipher_of v = (v.segment.mode, v.key)
 
 -- its plaintext in this image of its payload
-abbrev pub plaintext_of : OpenVolume → List ℕ → List ℕ
+abbrev pub plaintext_of : UnlockedVolume → List ℕ → List ℕ
 plaintext_of v image = plain_of v.segment (cipher_of v) image
 
 -- a request of `luksCat` with these options, whatever its files are called
@@ -39,11 +34,11 @@ HasOptions o options = (o.key_slot ≡ option_map (λ slot. slot.number) options
 
 -- each command that opens a volume opens this one, with these options and this passphrase, from this image or detached
 -- header
-pub record Opens (options : Options) (header pass : List ℕ) (v : OpenVolume) : Type 0 where
+pub record Opens (options : Options) (header pass : List ℕ) (v : UnlockedVolume) : Type 0 where
   pub held : ℕ
   pub outcome : (o : VolumeRequest) → HasOptions o options → (on_opened : OnOpened)
       → volume_outcome_by (reader_for options.location) on_opened o header pass
-      ≡ on_opened v.segment (record { slot = v.slot; key = v.key }) held
+      ≡ on_opened v.segment (opened_of v) held
 
 -- each such command ends with this message and no output
 pub record Refuses (options : Options) (header pass : List ℕ) (message : Message) : Type 0 where
@@ -65,7 +60,7 @@ cat_outcome_of Detached o header image pass =
     volume_outcome_by detached_header_of (detached_payload_outcome image pass) o header pass
 
 -- `luksCat` writes the volume's plaintext, and ends as the payload does
-abbrev pub IsCatOf : Options → List ℕ → List ℕ → OpenVolume → Type 0
+abbrev pub IsCatOf : Options → List ℕ → List ℕ → UnlockedVolume → Type 0
 IsCatOf options header pass v =
     (o : VolumeRequest) (image : List ℕ) → HasOptions o options
     → ((cat_outcome_of options.location o header image pass).output
@@ -74,7 +69,7 @@ IsCatOf options header pass v =
     ≡ message_at_end (ending_of v.segment (payload_image_of options.location header image)))
 
 -- the plaintext of an honestly sealed volume is the one that was sealed, and it is whole
-abbrev pub IsPlainOf : Options → List ℕ → List ℕ → OpenVolume → Type 0
+abbrev pub IsPlainOf : Options → List ℕ → List ℕ → UnlockedVolume → Type 0
 IsPlainOf options image pass v =
     (o : VolumeRequest) (plain : List ℕ) → options.location ≡ Attached → HasOptions o options
     → IsHonest o image pass plain → (plaintext_of v image ≡ plain) × (ending_of v.segment image ≡ Ok End)

@@ -1,14 +1,12 @@
 //! Volumes that are open.
 
-ghost use Rattle.std.specs.Prelude.{◌≡◌, ◌≢◌, ◌+◌, ◌-◌, ◌%◌, ◌^◌, ◌<◌, ◌≤◌, List, ℕ, Ok, Err};
+ghost use Rattle.std.specs.Prelude.{◌≡◌, ◌≢◌, ◌+◌, ◌-◌, ◌%◌, ◌^◌, ◌<◌, ◌≤◌, Bool, List, ℕ, Err};
 ghost use Rattle.std.specs.Prelude.{[], IfErr, IfOk, OnOk, false, length, nat_le, replicate, true};
-ghost use Rattle.luks_cipher.specs.Sector.{is_mode_key_length};
-ghost use Rattle.luks_io.specs.Counts.{ReadsAsNeeded};
-ghost use Rattle.luks_io.specs.Devices.{IfKnown, counted};
-ghost use Rattle.luks_header.specs.HeaderSegment.{segment_of};
-ghost use Rattle.luks_open.specs.Order.{order_of};
+ghost use Rattle.luks_io.specs.Counts.{Reads};
+ghost use Rattle.luks_io.specs.Devices.{IfKnown};
 ghost use Rattle.luks_request.specs.Request.{volume_request};
 ghost use Rattle.luks_runs.specs.Run.{aborts, is_run_read_failure, result_message};
+ghost use Rattle.luks_unlock.specs.Finding.{HasSlots};
 ghost use Rattle.luks_unlock.specs.OpeningMessages.{OpeningMessage};
 ghost use Rattle.luks_payload.specs.Plain.{ending_of, sector_len};
 ghost use Rattle.luks_access.specs.Opens.{IsCatOf, IsOnlyAborted, IsPlainOf, Opens, Refuses};
@@ -25,62 +23,36 @@ use crate::source::ImageSource;
 use luks_cipher::SectorCipher;
 use luks_header::segment::Segment;
 use luks_io::source::Source;
-use luks_open::key::Key;
-use luks_open::opening::Opened;
 use luks_payload::fault::VolumeFault;
 use luks_payload::state::Step;
 use luks_report::message::Message;
 use luks_request::command::VolumeArgs;
 use luks_unlock::finding::{FoundVolume, find_volume};
 use luks_unlock::trying::try_slots;
+use luks_unlock::unlocked::UnlockedVolume;
 use std::alloc::Global;
 use std::marker::Model;
 
 /// The length of the longest passphrase in bytes, which is also that of the longest key file.
 pub const MAX_PASSPHRASE_LEN: usize = 8_388_608;
 
-/// A volume that is open. A clause sees its segment, the key slot that opened, and the volume key.
+/// A volume that is open. A clause sees its segment, the key slot that opened, and the volume key,
+/// whose length fits the segment's mode.
 #[derive(Drop)]
 pub struct Volume {
-    segment: Segment,
-    slot: u8,
-    key: Key,
+    unlocked: UnlockedVolume,
     cipher: SectorCipher,
 }
 
 impl Model for Volume {
     ghost use Rattle.std.specs.Prelude.{◌≡◌};
-    ghost use Rattle.luks_access.specs.Opens.{OpenVolume};
+    ghost use Rattle.luks_unlock.specs.declared.unlocked.UnlockedVolume.{UnlockedVolume};
 
-    ghost Value = { OpenVolume };
+    ghost Value = { UnlockedVolume };
 
-    ghost view = { λ v. record { segment = v.segment; slot = v.slot; key = v.key } };
+    ghost view = { λ v. v.unlocked };
 
-    ghost invariant = { λ v. v.cipher ≡ (v.segment.mode, v.key) };
-}
-
-/// The volume of this segment that was opened.
-fn volume_of(segment: Segment, opened: Opened) -> Volume
-    requires key { is_mode_key_length segment.mode (length opened.key) ≡ true }
-    ensures { result ≡ record { segment = segment; slot = opened.slot; key = opened.key } }
-{
-    let Opened { slot, key } = opened;
-    let Some(cipher) = SectorCipher::new(segment.mode, key.as_slice()) else {
-        unreachable!()
-    };
-    Volume {
-        segment,
-        slot,
-        key,
-        cipher,
-    }
-}
-
-/// The segment of a volume that was found. The rest of it is dropped, whether it was opened or not.
-fn payload_of(found: FoundVolume) -> Segment
-    ensures { result ≡ found.segment }
-{
-    found.segment
+    ghost invariant = { λ v. v.cipher ≡ (v.unlocked.segment.mode, v.unlocked.key) };
 }
 
 /// Tries the key slots of a volume that was found, unless the passphrase is too long.
@@ -89,21 +61,15 @@ fn unlock<S: Source>(
     found: &mut FoundVolume,
     source: &mut S,
     pass: &[u8],
-) -> Result<Opened, Message>
-    requires segment { segment_of found.old.header ≡ Ok found.old.segment }
-    requires order { let o = volume_request opening.now in
-        order_of found.old.header o.key_slot o.max_iterations ≡ Ok found.old.order }
+) -> Result<UnlockedVolume, Message>
+    requires { HasSlots (volume_request opening.now) found.old }
     ensures run { IfKnown (S.to_come source.old) (λ rest.
         (found.old.area.ended ≡ true → rest ≡ [])
-        → UnlocksVolume (volume_request opening.now).key_slot found.old.order pass.now
-        found.old.area.bytes found.new.area.bytes rest (S.to_come source.new) result) }
-    ensures kept { found.new.segment ≡ found.old.segment }
+        → UnlocksVolume (volume_request opening.now).key_slot found.old.segment found.old.order
+        pass.now found.old.area.bytes found.new.area.bytes rest (S.to_come source.new) result) }
     ensures only { IfErr result OpeningMessage }
-    ensures key { IfOk result (λ opened.
-        is_mode_key_length found.old.segment.mode (length opened.key) ≡ true) }
-    ensures reads { (S.counts source.new).failures
-        ≡ counted (is_run_read_failure (result_message result)) (S.counts source.old).failures }
-    ensures needed { ReadsAsNeeded (S.counts source.old) (S.counts source.new) }
+    ensures reads { (ended : Bool) × Reads (is_run_read_failure (result_message result)) ended
+        (S.counts source.old) (S.counts source.new) }
     ensures ended { found.old.area.ended ≡ true → source.new ≡ source.old }
 {
     if pass.len() > MAX_PASSPHRASE_LEN {
@@ -130,22 +96,19 @@ impl Volume {
             (λ known. IsCatOf options.now known pass.now volume)) }
         ensures honest { IfOk result (λ volume. IfKnown (S.to_come source.old)
             (λ known. IsPlainOf options.now known pass.now volume)) }
-        ensures key { IfOk result (λ volume.
-            is_mode_key_length volume.segment.mode (length volume.key) ≡ true) }
         ensures refuses { IfErr result (λ message. IfKnown (S.to_come source.old)
             (λ known. aborts message ≡ false → Refuses options.now known pass.now message)) }
         ensures refuses_no_honest { IfErr result (λ message. IfKnown (S.to_come source.old)
             (λ known. IsOnlyAborted options.now known pass.now message)) }
         ensures only { IfErr result OpeningMessage }
-        ensures reads { (S.counts source.new).failures
-            ≡ counted (is_run_read_failure (result_message result)) (S.counts source.old).failures }
-        ensures needed { ReadsAsNeeded (S.counts source.old) (S.counts source.new) }
+        ensures reads { (ended : Bool) × Reads (is_run_read_failure (result_message result)) ended
+            (S.counts source.old) (S.counts source.new) }
     {
         let opening = opening(options);
         let mut found = find_volume(alloc, options.location, &opening, source)?;
-        let opened = unlock(&opening, &mut found, source, pass);
-        let segment = payload_of(found);
-        Ok(volume_of(segment, opened?))
+        let unlocked = unlock(&opening, &mut found, source, pass)?;
+        let cipher = unlocked.cipher();
+        Ok(Volume { unlocked, cipher })
     }
 
     /// Opens a volume by a passphrase, as [`Volume::open_from`] does, from its image or its
@@ -162,8 +125,6 @@ impl Volume {
             (λ known. IsCatOf options.now known pass.now volume)) }
         ensures honest { IfOk result (λ volume. IfKnown (I.image image.now)
             (λ known. IsPlainOf options.now known pass.now volume)) }
-        ensures key { IfOk result (λ volume.
-            is_mode_key_length volume.segment.mode (length volume.key) ≡ true) }
         ensures refuses { IfErr result (λ message. IfKnown (I.image image.now)
             (λ known. aborts message ≡ false → Refuses options.now known pass.now message)) }
         ensures refuses_no_honest { IfErr result (λ message. IfKnown (I.image image.now)
@@ -177,21 +138,21 @@ impl Volume {
     pub fn segment(&self) -> Segment
         ensures { result ≡ self.now.segment }
     {
-        self.segment
+        self.unlocked.segment
     }
 
     /// The number of the key slot that opened.
     pub fn slot(&self) -> u8
         ensures { result ≡ self.now.slot }
     {
-        self.slot
+        self.unlocked.slot
     }
 
     /// The volume key.
     pub fn key(&self) -> &[u8]
         ensures { result.now ≡ self.now.key }
     {
-        self.key.as_slice()
+        self.unlocked.key.as_slice()
     }
 
     /// The length in bytes of the plaintext in an image of this length: all whole sectors.
@@ -202,7 +163,7 @@ impl Volume {
         ensures counted { self.now.segment.offset + result < 2 ^ 64 }
         ensures multiple { result % sector_len self.now.segment ≡ 0 }
     {
-        let segment = &self.segment;
+        let segment = &self.unlocked.segment;
         text_len(segment.offset, segment.size, segment.sector_size, image_len)
     }
 
@@ -216,7 +177,7 @@ impl Volume {
         ensures { (image : List ℕ) → length image ≡ image_len
             → result ≡ ending_of self.now.segment image }
     {
-        let segment = &self.segment;
+        let segment = &self.unlocked.segment;
         payload_ending(segment.offset, segment.size, segment.sector_size, image_len)
     }
 
@@ -247,7 +208,14 @@ impl Volume {
         if !is_within(len, offset, buf.len()) {
             return Err(RangeFault::PastEnd);
         }
-        let answer = read_range(&self.segment, &self.cipher, image, len, offset, buf);
+        let answer = read_range(
+            &self.unlocked.segment,
+            &self.cipher,
+            image,
+            len,
+            offset,
+            buf,
+        );
         if answer.is_err() {
             buf.fill(0);
         }

@@ -1,8 +1,8 @@
 -- Opening from C: the first bytes of an image decide.
-use Rattle.std.proofs.Common.{◌≡◌, ◌≢◌, ◌∙◌, ℕ, ◌<◌, List, true, false, length, arith}
-use Rattle.luks_access.specs.Opens.{OpenVolume, Opens, Refuses}
+use Rattle.std.proofs.Common.{◌≡◌, ◌≢◌, ◌∙◌, ℕ, ◌<◌, List, false, arith}
+use Rattle.luks_access.specs.Opens.{Opens, Refuses}
+use Rattle.luks_unlock.specs.declared.unlocked.UnlockedVolume.{UnlockedVolume}
 use Rattle.luks_access.specs.declared.options.Options.{Options}
-use Rattle.luks_cipher.specs.Sector.{is_mode_key_length}
 use Rattle.luks_io.specs.Devices.{counted}
 use Rattle.luks_report.specs.declared.message.Message.{Message}
 use Rattle.luks_report.specs.declared.message.Message.TheVariants.{Done, ReadFailed}
@@ -20,15 +20,14 @@ use Rattle.luks_c.specs.declared.volume.LuksrdVolume.{LuksrdVolume}
 
 module _ (c : LuksrdOptions) (header pass : List ℕ) (message : LuksrdMessage) (options : Options)
     (are : AreOptions c options) where
-  pub opened_for : (volume : LuksrdVolume) (v : OpenVolume) → Opens options header pass v → Filled volume v
-      → is_mode_key_length v.segment.mode (length v.key) ≡ true → StoresMessage message Done
+  pub opened_for : (volume : LuksrdVolume) (v : UnlockedVolume) → Opens options header pass v → Filled volume v
+      → StoresMessage message Done
       → Opened c header pass volume message
-  opened_for volume v opens filled key says = record {
+  opened_for volume v opens filled says = record {
     options = options;
     are = are;
     opened = v;
     filled = filled;
-    key = key;
     opens = λ image begins. record {
       held = opens.held;
       outcome = λ o has on_opened. outcome_decided options.location o image header pass on_opened begins

@@ -7,7 +7,8 @@ use Rattle.std.proofs.lemmas.Option.{none-some, same_Some}
 use Rattle.std.specs.Prelude.{◌==◌, if◌then◌else◌, nat_lt, option_map}
 use Rattle.luks_access.proofs.PartLemmas.{part_of_plain}
 use Rattle.luks_access.proofs.RangeLemmas.{text_is_long}
-use Rattle.luks_access.specs.Opens.{OpenVolume, cipher_of, plaintext_of}
+use Rattle.luks_access.specs.Opens.{cipher_of, plaintext_of}
+use Rattle.luks_unlock.specs.declared.unlocked.UnlockedVolume.{UnlockedVolume}
 use Rattle.luks_access.specs.Sectors.{AreStored, plain_at, plain_in}
 use Rattle.luks_cipher.proofs.ModeLemmas.{key_length_of_mode}
 use Rattle.luks_cipher.specs.Sector.{Cipher, is_mode_key_length}
@@ -93,7 +94,7 @@ module _ (offset : ℕ) (size : Option ℕ) (iv : ℕ) (z : SectorSize) (mode : 
 abbrev made_in : LuksrdVolume → Option SectorSize → Option Mode → Option Segment
 made_in c z mode = segment_of_all (Some c.offset) (Some (size_stored_in c)) (Some c.iv_tweak) z mode
 
-module _ (c : LuksrdVolume) (v : OpenVolume) (stored : Stores c v) where
+module _ (c : LuksrdVolume) (v : UnlockedVolume) (stored : Stores c v) where
   pub stored_sector : sector_size_in c.sector_size ≡ Some v.segment.sector_size
   stored_sector = ap sector_size_in stored.sector_size ∙ size_again v.segment.sector_size
 
@@ -155,7 +156,7 @@ same_plain s t cipher first bytes iv size =
 
 -- ---- what is computed of a volume that C keeps
 
-module _ (c : LuksrdVolume) (v : OpenVolume) (stored : Stores c v) (z : SectorSize) (size : Option ℕ)
+module _ (c : LuksrdVolume) (v : UnlockedVolume) (stored : Stores c v) (z : SectorSize) (size : Option ℕ)
     (sector : Some z ≡ sector_size_in c.sector_size) (fixed : size ≡ size_stored_in c) (image : List ℕ) (image_len : ℕ)
     (long : length image ≡ image_len) where
   z_is : z ≡ v.segment.sector_size
@@ -179,12 +180,12 @@ module _ (c : LuksrdVolume) (v : OpenVolume) (stored : Stores c v) (z : SectorSi
       else ending_within v.segment.size (sector_len v.segment) (n - v.segment.offset)) (sym long)
 
 -- a volume that C keeps has a sector size
-pub some_sector : (c : LuksrdVolume) (v : OpenVolume) → Stores c v → None ≡ sector_size_in c.sector_size → ⊥
+pub some_sector : (c : LuksrdVolume) (v : UnlockedVolume) → Stores c v → None ≡ sector_size_in c.sector_size → ⊥
 some_sector c v stored none = let wrong : None ≡ Some v.segment.sector_size = none ∙ stored_sector c v stored in cc
 
 -- stored sectors became that part of the plain text
-pub decrypted_for : (c : LuksrdVolume) (v : OpenVolume) (image : List ℕ) → Stores c v → (s : Segment) (cipher : Cipher)
-    (first : ℕ) (old new : List ℕ) → Some s ≡ segment_in c → cipher ≡ cipher_in c s.mode
+pub decrypted_for : (c : LuksrdVolume) (v : UnlockedVolume) (image : List ℕ) → Stores c v → (s : Segment)
+    (cipher : Cipher) (first : ℕ) (old new : List ℕ) → Some s ≡ segment_in c → cipher ≡ cipher_in c s.mode
     → length old % bytes_of s.sector_size ≡ 0 → new ≡ plain_in s cipher first old
     → AreStored v.segment image first old
     → new ≡ plain_at v.segment (cipher_of v) image (first * sector_len v.segment) (length old)

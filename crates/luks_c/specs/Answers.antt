@@ -1,7 +1,8 @@
 -- What the functions for C answer.
-use Rattle.std.specs.Prelude.{ℕ, ◌≡◌, ◌≢◌, ◌+◌, ◌/◌, ◌%◌, ◌^◌, ◌==◌, Bool, false, true, if◌then◌else◌, nat_lt}
-use Rattle.std.specs.Prelude.{List, length, take, Option, None, Some, Result, Ok, Err}
-use Rattle.luks_access.specs.Opens.{OpenVolume, Opens, Refuses}
+use Rattle.std.specs.Prelude.{ℕ, ◌≡◌, ◌≢◌, ◌+◌, ◌/◌, ◌%◌, ◌^◌, ◌==◌, Bool, false, if◌then◌else◌, nat_lt}
+use Rattle.std.specs.Prelude.{List, take, Option, None, Some, Result, Ok, Err}
+use Rattle.luks_access.specs.Opens.{Opens, Refuses}
+use Rattle.luks_unlock.specs.declared.unlocked.UnlockedVolume.{UnlockedVolume}
 use Rattle.luks_access.specs.declared.options.Options.{Options}
 use Rattle.luks_area.specs.Area.{max_area_len}
 use Rattle.luks_cipher.specs.Sector.{is_mode_key_length}
@@ -34,9 +35,8 @@ pub record Opened (c : LuksrdOptions) (header pass : List ℕ) (volume : LuksrdV
   where
     pub options : Options
     pub are : AreOptions c options
-    pub opened : OpenVolume
+    pub opened : UnlockedVolume
     pub filled : Filled volume opened
-    pub key : is_mode_key_length opened.segment.mode (length opened.key) ≡ true
     pub opens : (image : List ℕ) → BeginsAs image header → Opens options image pass opened
     pub says : StoresMessage message Done
 

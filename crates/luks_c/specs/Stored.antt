@@ -1,6 +1,6 @@
 -- A volume as C keeps it, field by field, and what is read of it again.
 use Rattle.std.specs.Prelude.{ℕ, ◌≡◌, ◌-◌, ◌==◌, if◌then◌else◌, drop, length, replicate, take, Option, None, Some}
-use Rattle.luks_access.specs.Opens.{OpenVolume}
+use Rattle.luks_unlock.specs.declared.unlocked.UnlockedVolume.{UnlockedVolume}
 use Rattle.luks_cipher.specs.Sector.{Cipher}
 use Rattle.luks_cipher.specs.declared.mode.Mode.{Mode}
 use Rattle.luks_cipher.specs.declared.mode.Mode.TheVariants.{XtsPlain64, XtsPlain, CbcEssivSha256, CbcPlain64}
@@ -28,7 +28,7 @@ size_or_zero None = 0
 size_or_zero (Some size) = size
 
 -- the struct holds this volume
-pub record Stores (c : LuksrdVolume) (v : OpenVolume) : Type 0 where
+pub record Stores (c : LuksrdVolume) (v : UnlockedVolume) : Type 0 where
   pub offset : c.offset ≡ v.segment.offset
   pub has_size : c.has_size ≡ has_size_of v.segment.size
   pub size : c.size ≡ size_or_zero v.segment.size
@@ -39,7 +39,7 @@ pub record Stores (c : LuksrdVolume) (v : OpenVolume) : Type 0 where
   pub key : take c.key_size c.key ≡ v.key
 
 -- the same, and zeros in what no field of the volume needs
-pub record Filled (c : LuksrdVolume) (v : OpenVolume) : Type 0 where
+pub record Filled (c : LuksrdVolume) (v : UnlockedVolume) : Type 0 where
   pub stores : Stores c v
   pub key_size : c.key_size ≡ length v.key
   pub rest : drop c.key_size c.key ≡ replicate (64 - c.key_size) 0

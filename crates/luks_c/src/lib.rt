@@ -7,7 +7,8 @@
 ghost use Rattle.std.specs.Prelude.{◌≡◌, ◌≢◌, ◌+◌, ◌*◌, ◌/◌, ◌%◌, ◌^◌, ◌<◌, List, ℕ, None};
 ghost use Rattle.std.specs.Prelude.{length, true};
 ghost use Rattle.luks_cipher.specs.Sector.{is_mode_key_length};
-ghost use Rattle.luks_access.specs.Opens.{OpenVolume, cipher_of, plaintext_of};
+ghost use Rattle.luks_access.specs.Opens.{cipher_of, plaintext_of};
+ghost use Rattle.luks_unlock.specs.declared.unlocked.UnlockedVolume.{UnlockedVolume};
 ghost use Rattle.luks_access.specs.Sectors.{AreStored, plain_at};
 ghost use Rattle.luks_payload.specs.Plain.{ending_of, sector_len};
 ghost use Rattle.luks_verdict.specs.SectorSize.{bytes_of};
@@ -90,7 +91,7 @@ fn answer_code(code: u32, message: &mut LuksrdMessage) -> u32
 /// without a sector size has none.
 #[unsafe(no_mangle)]
 pub extern "C" fn luksrd_len(volume: &LuksrdVolume, image_len: u64) -> u64
-    ensures value { (v : OpenVolume) (image : List ℕ) → Stores volume.now v
+    ensures value { (v : UnlockedVolume) (image : List ℕ) → Stores volume.now v
         → length image ≡ image_len
         → result ≡ length (plaintext_of v image) }
     ensures unfilled { sector_size_in volume.now.sector_size ≡ None → result ≡ 0 }
@@ -111,7 +112,7 @@ pub extern "C" fn luksrd_ending(
     bytes: &mut u64,
     message: &mut LuksrdMessage,
 ) -> u32
-    ensures value { (v : OpenVolume) (image : List ℕ) → Stores volume.now v
+    ensures value { (v : UnlockedVolume) (image : List ℕ) → Stores volume.now v
         → length image ≡ image_len
         → EndsAs (ending_of v.segment image) result bytes.new message.new }
     ensures unfilled { sector_size_in volume.now.sector_size ≡ None
@@ -160,13 +161,13 @@ fn is_range(sector_size: SectorSize, first: u64, len: usize) -> bool
 /// the bytes are as they were.
 #[unsafe(no_mangle)]
 pub extern "C" fn luksrd_decrypt(volume: &LuksrdVolume, first_sector: u64, bytes: &mut [u8]) -> u32
-    ensures plain { result ≡ 0 → (v : OpenVolume) (image : List ℕ) → Stores volume.now v
+    ensures plain { result ≡ 0 → (v : UnlockedVolume) (image : List ℕ) → Stores volume.now v
         → AreStored v.segment image first_sector bytes.old
         → bytes.new ≡ plain_at v.segment (cipher_of v) image
         (first_sector * sector_len v.segment) (length bytes.old) }
     ensures kept { result ≢ 0 → bytes.new ≡ bytes.old }
     ensures code { result ≡ decrypt_code volume.now first_sector (length bytes.old) }
-    ensures filled { (v : OpenVolume) → Stores volume.now v
+    ensures filled { (v : UnlockedVolume) → Stores volume.now v
         → is_mode_key_length v.segment.mode volume.now.key_size ≡ true
         → result ≡ range_code v.segment.sector_size first_sector (length bytes.old) }
 {

@@ -1,3 +1,4 @@
+pub mod CallLemmas
 pub mod DetachedRuns
 pub mod HonestVolumes
 pub mod OpenedRuns

@@ -1,5 +1,5 @@
 -- How the commands on volumes end once their volume is opened.
-use Rattle.std.proofs.Common.{◌≡◌, ◌≢◌, ℕ, ◌+◌, ◌*◌, ◌/◌, ◌<◌, ◌≤◌, List, Option, Some, Result, Ok, Err}
+use Rattle.std.proofs.Common.{◌≡◌, ◌≢◌, ℕ, ◌+◌, ◌*◌, ◌/◌, ◌<◌, ◌≤◌, List, Option, Some}
 use Rattle.std.proofs.Common.{◌⊎◌, inl, inr, Bool, true, false, ap, refl, subst, sym, take, length, max}
 use Rattle.std.proofs.Common.{[], drop, length-drop, arith}
 use Rattle.std.proofs.lemmas.List.{drop_all}
@@ -24,7 +24,7 @@ use Rattle.luks_cli.specs.VolumeParts.{cat_promptly}
 use Rattle.luks_runs.specs.RunMessages.{PayloadMessage}
 use Rattle.luks_request.specs.Request.{VolumeRequest}
 use Rattle.luks_runs.specs.Run.{Aborted, Completed, Counts, Failures, Promptness, RunMatches, at_any_pace, aborts}
-use Rattle.luks_runs.specs.Run.{is_run_read_failure, is_run_write_failure, result_message}
+use Rattle.luks_runs.specs.Run.{is_run_read_failure, is_run_write_failure}
 use Rattle.luks_cli.specs.VolumeParts.{ConsumesHeld}
 use Rattle.luks_unlock.specs.OpeningMessages.{OpeningMessage}
 use Rattle.luks_cli.specs.Unlocking.{ReportsSlot, Unlocks}
@@ -121,7 +121,7 @@ module _ (location : HeaderLocation) (o : VolumeRequest) (image pass : List ℕ)
     })
 
   -- the key slot was told, or not all of its line
-  pub runs_slot : (w w' : Option (List ℕ)) (message : Message) → ReportsSlot opened w w' message
+  pub runs_slot : (w w' : Option (List ℕ)) (message : Message) → ReportsSlot opened.slot w w' message
       → RunMatches at_any_pace (volume_outcome_by (reader_for location) (slot_outcome pass) o image pass) message
       (ConsumedExactly image i) (ConsumedExactly pass s)
       (Appended w w')
@@ -131,25 +131,25 @@ module _ (location : HeaderLocation) (o : VolumeRequest) (image pass : List ℕ)
   runs_slot w w' _ told = absurd told
 
 -- a write failed within the line
-pub told_in_part : (opened : Opened) (w w' : Option (List ℕ)) (line : List ℕ) → line ≡ opened_line opened.slot
-    → (n : ℕ) → n < length line → Appended w w' (take n line) → ReportsSlot opened w w' WriteFailed
-told_in_part opened w w' line is n within added = rw (← is) (n, within, added)
+pub told_in_part : (slot : ℕ) (w w' : Option (List ℕ)) (line : List ℕ) → line ≡ opened_line slot
+    → (n : ℕ) → n < length line → Appended w w' (take n line) → ReportsSlot slot w w' WriteFailed
+told_in_part slot w w' line is n within added = rw (← is) (n, within, added)
 
 -- telling the key slot ends with one of these messages
-pub slot_message : (opened : Opened) (w w' : Option (List ℕ)) (message : Message) → ReportsSlot opened w w' message
+pub slot_message : (slot : ℕ) (w w' : Option (List ℕ)) (message : Message) → ReportsSlot slot w w' message
     → OpeningMessage message ⊎ (message ≡ Done ⊎ message ≡ WriteFailed)
-slot_message opened w w' Done told = inr (inl refl)
-slot_message opened w w' WriteFailed told = inr (inr refl)
-slot_message opened w w' OutOfMemory told = inl tt
-slot_message opened w w' _ told = absurd told
+slot_message slot w w' Done told = inr (inl refl)
+slot_message slot w w' WriteFailed told = inr (inr refl)
+slot_message slot w w' OutOfMemory told = inl tt
+slot_message slot w w' _ told = absurd told
 
 -- and reads nothing
-pub slot_reads_nothing : (opened : Opened) (w w' : Option (List ℕ)) (message : Message)
-    → ReportsSlot opened w w' message → is_run_read_failure message ≡ false
-slot_reads_nothing opened w w' Done told = refl
-slot_reads_nothing opened w w' WriteFailed told = refl
-slot_reads_nothing opened w w' OutOfMemory told = refl
-slot_reads_nothing opened w w' _ told = absurd told
+pub slot_reads_nothing : (slot : ℕ) (w w' : Option (List ℕ)) (message : Message)
+    → ReportsSlot slot w w' message → is_run_read_failure message ≡ false
+slot_reads_nothing slot w w' Done told = refl
+slot_reads_nothing slot w w' WriteFailed told = refl
+slot_reads_nothing slot w w' OutOfMemory told = refl
+slot_reads_nothing slot w w' _ told = absurd told
 
 -- ---- `luksCat`
 

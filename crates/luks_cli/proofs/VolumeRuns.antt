@@ -30,7 +30,9 @@ use Rattle.luks_runs.proofs.HeaderConsumption.{cost_there, consumed_header}
 use Rattle.luks_runs.specs.KeyFile.{NoKeyFileRead}
 use Rattle.luks_runs.specs.KeyFile.{max_key_file_len}
 use Rattle.luks_cli.specs.VolumeParts.{ConsumesHeld}
-use Rattle.luks_unlock.specs.Trying.{TriesSlots}
+use Rattle.luks_unlock.specs.OpeningMessages.{OpeningMessage}
+use Rattle.luks_unlock.specs.Trying.{TriesSlots, opened_of}
+use Rattle.luks_unlock.specs.declared.unlocked.UnlockedVolume.{UnlockedVolume}
 use Rattle.luks_cli.specs.Unlocking.{OpensVolume, Unlocks, opens_promptly}
 use Rattle.luks_unlock.specs.Finding.{AbortsFinding}
 use Rattle.luks_unlock.specs.Volume.{Volume, held_for, volume_by}
@@ -91,6 +93,10 @@ no_write_told named (NoneTried skipped) h = cc
 no_write_told named (NoneOpens skipped) h = cc
 no_write_told named Memory h = cc
 
+-- nor of opening a volume
+never_written : (message : Message) → OpeningMessage message → message ≢ WriteFailed
+never_written message only same = absurd (rw same at only)
+
 -- ---- how much is taken of a volume that was found
 
 module _ (on_opened : OnOpened) (named : Option ℕ) (v : Volume) (image secret : List ℕ)
@@ -138,27 +144,27 @@ module _ (location : HeaderLocation) (o : VolumeRequest) (image pass : List ℕ)
         after (Err message) = omega arith
 
     -- there was no volume, or its header was not read
-    pub runs_without_volume : (message : Message) → message ≢ WriteFailed
+    pub runs_without_volume : (message : Message) → OpeningMessage message
         → AbortsFinding (reader_for location) o image i message
         → s ≡ Some pass
         → RunMatches (opens_promptly location image) (volume_outcome_by (reader_for location) on_opened o image pass)
         message
         (ConsumedExactly image i) (ConsumedExactly pass s)
         (Appended w w)
-    runs_without_volume OutOfMemory other stop whole =
+    runs_without_volume OutOfMemory only stop whole =
         early location _ image pass OutOfMemory i s w stop.0 0 refl (omega arith)
         (prompt_in_header location image OutOfMemory stop.0 0 stop.1) (omega (arith, stop.1, cost_consumed))
         (omega arith)
         stop.2 (took-none pass s whole)
-    runs_without_volume ReadFailed other stop whole =
+    runs_without_volume ReadFailed only stop whole =
         early location _ image pass ReadFailed i s w stop.0 0 tt (omega arith)
         (prompt_in_header location image ReadFailed stop.0 0 stop.1) (omega (arith, stop.1, cost_consumed))
         (omega arith)
         stop.2 (took-none pass s whole)
-    runs_without_volume WriteFailed other stop whole = absurd (other refl)
-    runs_without_volume message other stop whole =
+    runs_without_volume WriteFailed only stop whole = absurd only
+    runs_without_volume message only stop whole =
         rw (outcome_is location o image pass on_opened (Err message) stop.0)
-        (ends_unwritten location image pass message i s w (header_read_len image) 0 other
+        (ends_unwritten location image pass message i s w (header_read_len image) 0 (never_written message only)
         (prompt_in_header location image message (header_read_len image) 0 (omega arith)) stop.1
         (took-none pass s whole))
 
@@ -312,7 +318,7 @@ module _ (location : HeaderLocation) (o : VolumeRequest) (image pass : List ℕ)
     runs_without_slot : (short : length pass ≤ max_key_file_len) (gone : ConsumedExactly pass s (length pass))
         (area area' : List ℕ) (front : area ≡ take (header_read_len image) image) (on_opened : OnOpened)
         (takes : ConsumesHeld pass on_opened) (message : Message)
-        → TriesSlots o.key_slot tries pass area area' (drop (header_read_len image) image) i (Err message)
+        → TriesSlots o.key_slot segment tries pass area area' (drop (header_read_len image) image) i (Err message)
         → RunMatches (opens_promptly location image) (volume_outcome_by (reader_for location) on_opened o image pass)
         message
         (ConsumedExactly image i) (ConsumedExactly pass s) (Appended w w)
@@ -329,7 +335,7 @@ module _ (location : HeaderLocation) (o : VolumeRequest) (image pass : List ℕ)
         (takes : ConsumesHeld pass on_opened) (left : ConsumedExactly image (Some (drop (header_read_len image) image))
         (header_read_len image))
         (message : Message)
-        → OpensVolume o.key_slot tries pass area area' (drop (header_read_len image) image) i s (Err message)
+        → OpensVolume o.key_slot segment tries pass area area' (drop (header_read_len image) image) i s (Err message)
         → RunMatches (opens_promptly location image) (volume_outcome_by (reader_for location) on_opened o image pass)
         message
         (ConsumedExactly image i) (ConsumedExactly pass s) (Appended w w)
@@ -340,9 +346,10 @@ module _ (location : HeaderLocation) (o : VolumeRequest) (image pass : List ℕ)
         rw same (runs_without_secret on_opened takes none.0 none.2 (rw none.4 left))
 
     -- the volume was opened
-    pub unlocks_volume : (area area' : List ℕ) (front : area ≡ take (header_read_len image) image) (opened : Opened)
-        → OpensVolume o.key_slot tries pass area area' (drop (header_read_len image) image) i s (Ok opened)
-        → Unlocks location o image pass segment opened area' i s
+    pub unlocks_volume : (area area' : List ℕ) (front : area ≡ take (header_read_len image) image)
+        (opened : UnlockedVolume)
+        → OpensVolume o.key_slot segment tries pass area area' (drop (header_read_len image) image) i s (Ok opened)
+        → Unlocks location o image pass opened.segment (opened_of opened) area' i s
     unlocks_volume area area' front opened (inl (short, gone, tried)) =
-        unlocks short gone area area' front tried.0 tried.1 opened tried.2
+        rw tried.2 (unlocks short gone area area' front tried.0 tried.1 (opened_of opened) tried.3)
     unlocks_volume area area' front opened (inr none) = cc

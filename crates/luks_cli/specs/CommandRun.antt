@@ -1,6 +1,6 @@
 -- How a run of a command is compared with the outcome that is specified for it.
-use Rattle.std.specs.Prelude.{◌≡◌, ℕ, ◌<◌, ◌^◌, List, length, Option, Some, true, ◌⊎◌, is_err}
-use Rattle.luks_io.specs.Counts.{ReadsAsNeeded, WritesAsNeeded}
+use Rattle.std.specs.Prelude.{◌≡◌, ℕ, ◌<◌, ◌^◌, List, length, Option, Some, Bool, true, ◌⊎◌, is_err}
+use Rattle.luks_io.specs.Counts.{Reads, Writes, with_ahead}
 use Rattle.luks_io.specs.declared.counts.ReadCounts.{ReadCounts}
 use Rattle.luks_io.specs.declared.counts.WriteCounts.{WriteCounts}
 use Rattle.luks_io.specs.Devices.{Appended, ConsumedExactly, IfKnown}
@@ -75,11 +75,30 @@ NeedsNoSecret (luks_cat o) image = Knows image (λ known. is_err (volume_of o kn
 NeedsNoSecret (af_split s) image = Knows image (λ known. (length known ≡ 0) ⊎ (max_key_len < length known))
 NeedsNoSecret _ image = Unit {0}
 
--- what a run adds to the counts of its devices: one failure if a read or a write failed, and no needless call
-pub record CountsCalls (message : Message) (image image' secret secret' : ReadCounts) (out out' : WriteCounts) : Type 0
-  where
-    pub failures : Counts message (failures_of image.failures secret.failures out.failures)
-        (failures_of image'.failures secret'.failures out'.failures)
-    pub image_needed : ReadsAsNeeded image image'
-    pub secret_needed : ReadsAsNeeded secret secret'
-    pub out_needed : WritesAsNeeded out out'
+-- what a run adds to the counts of a source: a failure if a read failed, an end if one hit the end, each once at most,
+-- and nothing needless. No more is allowed to be read ahead than before
+abbrev pub ReadsOnce : ReadCounts → ReadCounts → Type 0
+ReadsOnce before after = (failed : Bool) × (ended : Bool) × Reads failed ended before after
+
+-- the same of the image of a payload, of which more may be allowed to be read ahead
+abbrev pub ReadsPayload : ReadCounts → ReadCounts → Type 0
+ReadsPayload before after = (most : ℕ) × ReadsOnce (with_ahead most before) after
+
+-- what a command adds to the counts of the image: `luksCat` alone reads a payload
+abbrev pub ReadsImage : Request → ReadCounts → ReadCounts → Type 0
+ReadsImage (luks_cat o) = ReadsPayload
+ReadsImage _ = ReadsOnce
+
+-- what a run adds to the counts of a sink: a failure if a write failed, once at most, and nothing needless
+abbrev pub WritesOnce : WriteCounts → WriteCounts → Type 0
+WritesOnce before after = (failed : Bool) × Writes failed before after
+
+-- what a run that reads the image so adds to the counts of its devices: one failure if a read or a write failed, at
+-- most one end of each input, and no needless call
+pub record CountsCalls (ReadsIt : ReadCounts → ReadCounts → Type 0) (message : Message)
+    (image image' secret secret' : ReadCounts) (out out' : WriteCounts) : Type 0 where
+  pub failures : Counts message (failures_of image.failures secret.failures out.failures)
+      (failures_of image'.failures secret'.failures out'.failures)
+  pub image_reads : ReadsIt image image'
+  pub secret_reads : ReadsOnce secret secret'
+  pub out_writes : WritesOnce out out'

@@ -1,7 +1,6 @@
 -- The headline for a header in a file of its own: header and key areas come from that file, and the payload from the
 -- image, at the segment's own place.
 use Rattle.std.specs.Prelude.{◌≡◌, ◌⊎◌, ℕ, List, Option, Some, is_err, true}
-use Rattle.luks_io.specs.Counts.{ReadsAsNeeded, WritesAsNeeded}
 use Rattle.luks_io.specs.declared.counts.ReadCounts.{ReadCounts}
 use Rattle.luks_io.specs.declared.counts.WriteCounts.{WriteCounts}
 use Rattle.luks_io.specs.Devices.{Appended, ConsumedExactly, IfKnown, saturating_inc}
@@ -17,8 +16,9 @@ use Rattle.luks_runs.specs.Ending.{Outcome}
 use Rattle.luks_runs.specs.HeaderOutcome.{is_luks_outcome, print_outcome_by, always_done}
 use Rattle.luks_cli.specs.Outcome.{outcome_of}
 use Rattle.luks_runs.specs.HeaderReading.{detached_header_of}
-use Rattle.luks_runs.specs.Run.{Counts, Failures, failures_of, Promptness, DetachedRunMatches, ConsumedNothing, at_any_pace}
-use Rattle.luks_cli.specs.CommandRun.{IsCounted, Knows, KnowsSecret, ConsumedSecret}
+use Rattle.luks_runs.specs.Run.{Counts, Failures, failures_of, Promptness, DetachedRunMatches, ConsumedNothing}
+use Rattle.luks_runs.specs.Run.{at_any_pace}
+use Rattle.luks_cli.specs.CommandRun.{IsCounted, Knows, KnowsSecret, ConsumedSecret, ReadsOnce, WritesOnce}
 use Rattle.luks_unlock.specs.Volume.{detached_payload_outcome, slot_outcome, volume_by, volume_outcome_by}
 use Rattle.luks_cli.specs.VolumeParts.{detached_cat_promptly}
 
@@ -99,13 +99,14 @@ CountsDetached ReadFailed header header' before after =
     ((header' ≡ saturating_inc header) × (after ≡ before)) ⊎ ((header' ≡ header) × Counts ReadFailed before after)
 CountsDetached message header header' before after = (header' ≡ header) × Counts message before after
 
--- what a run adds to the counts of its devices: one failure if a read or a write failed, and no needless call
-pub record CountsCallsDetached (message : Message) (header header' image image' secret secret' : ReadCounts)
-    (out out' : WriteCounts) : Type 0 where
+-- what a run that reads the image so adds to the counts of its devices: one failure if a read or a write failed, at
+-- most one end of each input, and no needless call
+pub record CountsCallsDetached (ReadsIt : ReadCounts → ReadCounts → Type 0) (message : Message)
+    (header header' image image' secret secret' : ReadCounts) (out out' : WriteCounts) : Type 0 where
   pub failures : CountsDetached message header.failures header'.failures
       (failures_of image.failures secret.failures out.failures)
       (failures_of image'.failures secret'.failures out'.failures)
-  pub header_needed : ReadsAsNeeded header header'
-  pub image_needed : ReadsAsNeeded image image'
-  pub secret_needed : ReadsAsNeeded secret secret'
-  pub out_needed : WritesAsNeeded out out'
+  pub header_reads : ReadsOnce header header'
+  pub image_reads : ReadsIt image image'
+  pub secret_reads : ReadsOnce secret secret'
+  pub out_writes : WritesOnce out out'

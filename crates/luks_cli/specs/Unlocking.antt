@@ -6,15 +6,19 @@ use Rattle.luks_header.specs.Header.{header_read_len}
 use Rattle.luks_verdict.specs.declared.segment.Segment.{Segment}
 use Rattle.luks_open.specs.Order.{OrderModel}
 use Rattle.luks_open.specs.declared.opening.Opened.{Opened}
+use Rattle.luks_io.specs.declared.counts.ReadCounts.{ReadCounts}
 use Rattle.luks_report.specs.Texts.{opened_line}
 use Rattle.luks_request.specs.Request.{VolumeRequest}
 use Rattle.luks_report.specs.declared.message.Message.{Message}
 use Rattle.luks_report.specs.declared.message.Message.TheVariants.{Done, OutOfMemory, WriteFailed}
 use Rattle.luks_runs.specs.KeyFile.{NoKeyFileRead, max_key_file_len}
 use Rattle.luks_runs.specs.Location.{reader_for}
+use Rattle.luks_runs.specs.Run.{Counts, failures_of}
 use Rattle.luks_unlock.specs.Finding.{HasSegmentBy}
 use Rattle.luks_unlock.specs.Trying.{TriesSlots}
 use Rattle.luks_unlock.specs.Volume.{OnOpened, volume_outcome_by}
+use Rattle.luks_unlock.specs.declared.unlocked.UnlockedVolume.{UnlockedVolume}
+use Rattle.luks_cli.specs.CommandRun.{ReadsOnce}
 use Rattle.luks_cli.specs.VolumeParts.{cat_promptly}
 use Rattle.luks_runs.specs.declared.location.HeaderLocation.{HeaderLocation}
 use Rattle.luks_runs.specs.declared.location.HeaderLocation.TheVariants.{Attached, Detached}
@@ -40,18 +44,26 @@ pub record Unlocks (location : HeaderLocation) (o : VolumeRequest) (image secret
 
 -- a volume that was found was opened by the passphrase in the key file, or was not. The key file is read whole before
 -- the key slots are tried; if it cannot be, nothing more of the image is consumed
-abbrev pub OpensVolume : Option ℕ → OrderModel → List ℕ → List ℕ → List ℕ → List ℕ → Option (List ℕ) → Option (List ℕ)
-    → Result Opened Message → Type 0
-OpensVolume named tries pass area area' rest left secret' result =
+abbrev pub OpensVolume : Option ℕ → Segment → OrderModel → List ℕ → List ℕ → List ℕ → List ℕ → Option (List ℕ)
+    → Option (List ℕ) → Result UnlockedVolume Message → Type 0
+OpensVolume named segment tries pass area area' rest left secret' result =
     ((length pass ≤ max_key_file_len) × ConsumedExactly pass secret' (length pass)
-    × TriesSlots named tries pass area area' rest left result)
+    × TriesSlots named segment tries pass area area' rest left result)
     ⊎ ((message : Message) × (result ≡ Err message) × NoKeyFileRead pass secret' message × (area' ≡ area)
     × (left ≡ Some rest))
 
+-- what opening a volume, or a part of that, adds to the counts of both inputs: one failure if a read failed, at most
+-- one end of each, and no needless read
+pub record CountsReads (message : Message) (image image' secret secret' : ReadCounts) : Type 0 where
+  pub failures : (written : ℕ) → Counts message (failures_of image.failures secret.failures written)
+      (failures_of image'.failures secret'.failures written)
+  pub image_reads : ReadsOnce image image'
+  pub secret_reads : ReadsOnce secret secret'
+
 -- the key slot that opened was reported: its line was written, or a write failed within it, or memory for it ran out
-abbrev pub ReportsSlot : Opened → Option (List ℕ) → Option (List ℕ) → Message → Type 0
-ReportsSlot opened written written' Done = Appended written written' (opened_line opened.slot)
-ReportsSlot opened written written' WriteFailed = (count : ℕ) × (count < length (opened_line opened.slot))
-    × Appended written written' (take count (opened_line opened.slot))
-ReportsSlot opened written written' OutOfMemory = written' ≡ written
-ReportsSlot opened written written' _ = ⊥
+abbrev pub ReportsSlot : ℕ → Option (List ℕ) → Option (List ℕ) → Message → Type 0
+ReportsSlot slot written written' Done = Appended written written' (opened_line slot)
+ReportsSlot slot written written' WriteFailed = (count : ℕ) × (count < length (opened_line slot))
+    × Appended written written' (take count (opened_line slot))
+ReportsSlot slot written written' OutOfMemory = written' ≡ written
+ReportsSlot slot written written' _ = ⊥

@@ -1,13 +1,12 @@
 //! What the commands do.
 
 ghost use Rattle.std.specs.Prelude.{◌≡◌, false};
-ghost use Rattle.luks_report.specs.Report.{report_of};
 ghost use Rattle.luks_request.specs.Request.{has_header_file, request_of};
 ghost use Rattle.luks_runs.specs.Run.{result_message};
 ghost use Rattle.luks_cli.specs.CommandRun.{CountsCalls, NeedsNoSecret};
-ghost use Rattle.luks_cli.specs.CommandRun.{ReadsFirst, RunsAsStated};
+ghost use Rattle.luks_cli.specs.CommandRun.{ReadsFirst, ReadsImage, RunsAsStated};
 ghost use Rattle.luks_cli.specs.Honest.{WritesPlain};
-ghost use Rattle.luks_cli.specs.CommandMessages.{MayReport};
+ghost use Rattle.luks_cli.specs.CommandMessages.{MayReport, Reports};
 
 pub use detached::execute_detached;
 use luks_io::sink::Sink;
@@ -35,7 +34,8 @@ mod volumes;
 /// its bytes. Except for `luksCat` and `afSplit`, nothing is written if a read fails.
 ///
 /// No device is called needlessly: no read goes into an empty buffer or follows one that failed or
-/// hit the end, and no write brings nothing or follows one that failed.
+/// hit the end, and no write brings nothing or follows one that failed. The end of each input is
+/// hit at most once. No command but `luksCat` allows read-ahead.
 ///
 /// `luksCat` writes the plaintext of an honestly sealed volume if the passphrase has at most
 /// 8,388,608 bytes and is that of a key slot which is tried, no slot tried before gives another
@@ -62,13 +62,12 @@ pub fn execute<I: Source, K: Source, O: Sink>(
     ensures honest { WritesPlain (request_of command.now) result.message
         (I.to_come image.old) (K.to_come secret.old)
         (O.written out.old) (O.written out.new) }
-    ensures only { MayReport (request_of command.now) result.message }
-    ensures status { result ≡ report_of result.message }
+    ensures report { Reports (request_of command.now) result }
     ensures unneeded { NeedsNoSecret (request_of command.now) (I.to_come image.old)
         → secret.new ≡ secret.old }
     ensures reads_first { ReadsFirst (request_of command.now) → result.message ≡ Message.ReadFailed
         → out.new ≡ out.old }
-    ensures calls { CountsCalls result.message
+    ensures calls { CountsCalls (ReadsImage (request_of command.now)) result.message
         (I.counts image.old) (I.counts image.new) (K.counts secret.old) (K.counts secret.new)
         (O.counts out.old) (O.counts out.new) }
 {
@@ -94,7 +93,7 @@ fn perform<I: Source, K: Source, O: Sink>(
         → secret.new ≡ secret.old }
     ensures reads_first { ReadsFirst (request_of command.now)
         → result_message result ≡ Message.ReadFailed → out.new ≡ out.old }
-    ensures calls { CountsCalls (result_message result)
+    ensures calls { CountsCalls (ReadsImage (request_of command.now)) (result_message result)
         (I.counts image.old) (I.counts image.new) (K.counts secret.old) (K.counts secret.new)
         (O.counts out.old) (O.counts out.new) }
 {

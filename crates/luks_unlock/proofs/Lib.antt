@@ -2,7 +2,6 @@ pub mod FrontLemmas
 pub mod HonestPayload
 pub mod HonestSlots
 pub mod HonestVolumes
-pub mod KeyLemmas
 pub mod OutcomeLemmas
 pub mod SealedUnits
 pub mod SectorsUndone

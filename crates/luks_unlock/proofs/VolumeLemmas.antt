@@ -3,8 +3,8 @@ use Rattle.std.proofs.Common.{◌≡◌, ◌∙◌, ℕ, ◌⊎◌, inl, inr, Li
 use Rattle.std.proofs.Common.{Bool, min, sym}
 use Rattle.std.proofs.Common.{length, length-take-le, take, append-nil, arith}
 use Rattle.std.specs.Prelude.{is_err}
-use Rattle.luks_io.proofs.CountsLemmas.{reads_then}
-use Rattle.luks_io.specs.Counts.{ReadsAsNeeded}
+use Rattle.luks_io.proofs.CountsLemmas.{reads_more}
+use Rattle.luks_io.specs.Counts.{Reads}
 use Rattle.luks_io.specs.Devices.{ConsumedExactly, counted}
 use Rattle.luks_io.specs.declared.counts.ReadCounts.{ReadCounts}
 use Rattle.luks_header.specs.Header.{AbortsReading, header_read_len, header_of}
@@ -19,11 +19,15 @@ use Rattle.luks_verdict.specs.declared.refusal.SegmentFault.{SegmentFault}
 use Rattle.luks_verdict.specs.declared.segment.Segment.{Segment}
 use Rattle.luks_open.specs.Order.{OrderModel, order_of}
 use Rattle.luks_open.specs.declared.fault.OpenFault.{OpenFault}
-use Rattle.luks_open.specs.declared.fault.OpenFault.TheVariants.{Memory}
+use Rattle.luks_open.specs.declared.fault.OpenFault.TheVariants.{NoSuchSlot as NotThere, Disabled, NamedSkipped}
+use Rattle.luks_open.specs.declared.fault.OpenFault.TheVariants.{NothingTried as NoneTried, NoKey as NoneOpens, Memory}
 use Rattle.luks_report.specs.Faults.{message_for_header}
 use Rattle.luks_request.specs.Request.{VolumeRequest}
 use Rattle.luks_runs.proofs.HeaderConsumption.{cost_there}
-use Rattle.luks_unlock.specs.Finding.{AbortsFinding}
+use Rattle.luks_unlock.specs.Finding.{AbortsFinding, FindsVolume}
+use Rattle.luks_unlock.specs.Trying.{HitsEndOfAreas}
+use Rattle.luks_unlock.specs.declared.finding.FoundVolume.{FoundVolume}
+use Rattle.luks_runs.specs.Run.{is_run_read_failure}
 use Rattle.luks_runs.proofs.HeaderConsumption.{reading_fault}
 use Rattle.luks_runs.specs.Location.{LoadedFrom, reader_for}
 use Rattle.luks_unlock.specs.Volume.{volume_by, volume_in_header}
@@ -51,15 +55,43 @@ pub nothing_left : (area : HeaderAreaModel) (left left' : Option (List ℕ)) (co
 nothing_left area left left' counts counts' known rest loaded knows there ended =
     let same : Some rest ≡ Some [] = sym there ∙ loaded.emptied ended known knows in cc
 
--- a source was read as needed while the start of an image was loaded, and after that, unless its end was hit
-pub needed_after : (area : HeaderAreaModel) (a b c : ReadCounts) → b.failures ≡ a.failures
-    → b.ends ≡ counted area.ended a.ends → (area.ended ≡ true → c.needless ≡ b.needless) → ReadsAsNeeded a b
-    → ReadsAsNeeded b c → ReadsAsNeeded a c
-needed_after area a b c failures ends kept first next = by area.ended refl
-  where
-    by : (ended : Bool) → area.ended ≡ ended → ReadsAsNeeded a c
-    by true is = λ live. kept is ∙ first live
-    by false is = reads_then a b c failures (ends ∙ ap (λ ended. counted ended a.ends) is) first next
+-- ---- what is counted
+
+-- nothing was read behind the end of an image
+ends_for_good : (failed ended : Bool) (a b c : ReadCounts) → Reads false true a b → c ≡ b → Reads failed ended b c
+    → Reads failed true a c
+ends_for_good failed ended a b c first kept then = record {
+  failures = then.failures ∙ ap (counted failed) first.failures;
+  ends = ap (λ (counts : ReadCounts). counts.ends) kept ∙ first.ends;
+  needed = λ live. ap (λ (counts : ReadCounts). counts.needless) kept ∙ first.needed live;
+  ahead = omega (arith, first.ahead, then.ahead);
+}
+
+-- reads of which none failed, and then further ones, unless the first hit the end
+pub reads_on : (failed ended ended' : Bool) (a b c : ReadCounts) → Reads false ended a b → (ended ≡ true → c ≡ b)
+    → Reads failed ended' b c → (last : Bool) × Reads failed last a c
+reads_on failed true ended' a b c first kept then =
+    (true, ends_for_good failed ended' a b c first (kept refl) then)
+reads_on failed false ended' a b c first kept then = (ended', reads_more failed ended' a b c first then)
+
+-- the same if the further ones did not hit the end
+pub reads_within : (failed ended : Bool) (a b c : ReadCounts) → Reads false ended a b → (ended ≡ true → c ≡ b)
+    → Reads failed false b c → Reads failed ended a c
+reads_within failed true a b c first kept then = ends_for_good failed false a b c first (kept refl) then
+reads_within failed false a b c first kept then = reads_more failed false a b c first then
+
+-- no fault of opening is told as a failed read, or as an image that ended
+pub opening_reads : (named : Option ℕ) (fault : OpenFault) (a b : ReadCounts) → Reads false false a b
+    → (ended : Bool) × Reads (is_run_read_failure (message_for_opening named fault)) ended a b
+    × HitsEndOfAreas (message_for_opening named fault) ended
+opening_reads named NotThere a b reads = (false, reads, refl)
+opening_reads named Disabled a b reads = (false, reads, refl)
+opening_reads named (NamedSkipped reason) a b reads = (false, reads, refl)
+opening_reads named (NoneTried skipped) a b reads = (false, reads, refl)
+opening_reads named (NoneOpens skipped) a b reads = (false, reads, refl)
+opening_reads named Memory a b reads = (false, reads, refl)
+
+-- ---- the header of an image
 
 module _ (location : HeaderLocation) (o : VolumeRequest) (image : List ℕ) (left : Option (List ℕ)) where
   no_header : (fault : HeaderFault) → header_of image ≡ Err fault
@@ -96,6 +128,17 @@ module _ (location : HeaderLocation) (o : VolumeRequest) (image : List ℕ) (lef
     pub volume_found : (tries : OrderModel) → order_of header o.key_slot o.max_iterations ≡ Ok tries
         → is_err (volume_by (reader_for location) o image) ≡ false
     volume_found tries ordered = rw (volume_is tries ordered) refl
+
+-- an image in which a volume was found has one
+pub there_is_volume : (location : HeaderLocation) (o : VolumeRequest) (volume : FoundVolume)
+    (left left' : Option (List ℕ)) (counts counts' : ReadCounts) (known : List ℕ)
+    → FindsVolume location o volume left left' counts counts' → left ≡ Some known
+    → is_err (volume_by (reader_for location) o known) ≡ true → ⊥
+there_is_volume location o volume left left' counts counts' known found is none =
+    let there = volume_found location o known left' volume.header (found.header known is).0 volume.segment
+    found.slots.segment volume.order found.slots.order in
+    let wrong : false ≡ true = sym there ∙ none in
+    cc
 
 -- ---- the key slots of a header
 

@@ -1,15 +1,20 @@
 -- What a header says of its volume, and what finding that leaves in its device.
-use Rattle.std.specs.Prelude.{◌≡◌, List, ℕ, Option, Ok, Err}
-use Rattle.luks_io.specs.Devices.{ConsumedExactly, ConsumedAtMost}
+use Rattle.std.specs.Prelude.{◌≡◌, List, ℕ, length, take, Option, Ok, Err}
+use Rattle.luks_io.specs.Devices.{ConsumedExactly, ConsumedAtMost, IfKnown}
+use Rattle.luks_io.specs.declared.counts.ReadCounts.{ReadCounts}
 use Rattle.luks_header.specs.Header.{header_read_len, header_of}
 use Rattle.luks_header.specs.HeaderSegment.{segment_of}
 use Rattle.luks_header.specs.declared.header.Header.{Header}
 use Rattle.luks_verdict.specs.declared.segment.Segment.{Segment}
+use Rattle.luks_open.specs.Order.{order_of}
 use Rattle.luks_request.specs.Request.{VolumeRequest}
 use Rattle.luks_report.specs.declared.message.Message.{Message}
 use Rattle.luks_report.specs.declared.message.Message.TheVariants.{OutOfMemory, ReadFailed}
 use Rattle.luks_runs.specs.HeaderReading.{HeaderReader}
+use Rattle.luks_runs.specs.Location.{LoadedFrom, reader_for}
+use Rattle.luks_runs.specs.declared.location.HeaderLocation.{HeaderLocation}
 use Rattle.luks_unlock.specs.Volume.{volume_by}
+use Rattle.luks_unlock.specs.declared.finding.FoundVolume.{FoundVolume}
 
 -- a header is read, and it has this segment
 abbrev pub HasSegmentBy : HeaderReader → List ℕ → Segment → Type 0
@@ -25,3 +30,19 @@ AbortsFinding read o image left ReadFailed = ConsumedAtMost image left (header_r
 AbortsFinding read o image left OutOfMemory = ConsumedAtMost image left (header_read_len image)
 AbortsFinding read o image left message =
     (volume_by read o image ≡ Err message) × ConsumedExactly image left (header_read_len image)
+
+-- a volume has the segment of its header, and the key slots of its header that are tried
+pub record HasSlots (o : VolumeRequest) (volume : FoundVolume) : Type 0 where
+  pub segment : segment_of volume.header ≡ Ok volume.segment
+  pub order : order_of volume.header o.key_slot o.max_iterations ≡ Ok volume.order
+
+-- a volume was found: it has the header that its bytes have, which are those that were consumed, and no more
+pub record FindsVolume (location : HeaderLocation) (o : VolumeRequest) (volume : FoundVolume)
+    (before after : Option (List ℕ)) (counts counts' : ReadCounts) : Type 0 where
+  pub slots : HasSlots o volume
+  pub front : reader_for location volume.area.bytes ≡ Ok volume.header
+  pub area : length volume.area.bytes ≡ header_read_len volume.area.bytes
+  pub header : IfKnown before (λ known. (reader_for location known ≡ Ok volume.header)
+      × (volume.area.bytes ≡ take (header_read_len known) known)
+      × ConsumedExactly known after (header_read_len known))
+  pub loaded : LoadedFrom volume.area before after counts counts'

@@ -5,14 +5,14 @@ use Rattle.luks_c.proofs.StoredLemmas.{short_key}
 use Rattle.luks_c.proofs.luksrd_open.Goals as goal
 
 pub store-requires : goal.store-requires
-store-requires c = short_key _ _ c.in-Ok.ensures.key
+store-requires c = short_key _ _ c.in-Ok.opened.key_length
 
 pub returns-in-Ok-clause-opens : goal.returns-in-Ok-clause-opens
 returns-in-Ok-clause-opens c done =
     opened_for c.args.options.now c.args.header.now c.args.passphrase.now c.set.new.self c.in-Some.options
     c.in-Some.ensures.made c.store.new.self _
     (c.in-Ok.ensures.opens c.args.header.now (ap (λ (g : MemSourceModel). Some g.left) c.new.ensures)) c.store.ensures
-    c.in-Ok.ensures.key c.set.ensures
+    c.set.ensures
 
 pub returns-in-Err-clause-opens : goal.returns-in-Err-clause-opens
 returns-in-Err-clause-opens c none =
@@ -22,5 +22,5 @@ pub returns-in-Err-clause-refuses : goal.returns-in-Err-clause-refuses
 returns-in-Err-clause-refuses c some other =
     refused_for c.args.options.now c.args.header.now c.args.passphrase.now c.set-in-Err.new.self c.in-Some.options
     c.in-Some.ensures.made c.in-Err.refusal c.code_of.result c.code_of.ensures c.set-in-Err.ensures
-    c.in-Err.ensures.only (no_read c.in-Err.refusal c.in-Err.ensures.reads)
+    c.in-Err.ensures.only (no_read c.in-Err.refusal c.in-Err.ensures.reads.1.failures)
     (c.in-Err.ensures.refuses c.args.header.now (ap (λ (g : MemSourceModel). Some g.left) c.new.ensures))

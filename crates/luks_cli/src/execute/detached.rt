@@ -1,13 +1,12 @@
 //! What the commands do over a header in a file of its own.
 
 ghost use Rattle.std.specs.Prelude.{◌≡◌, true};
-ghost use Rattle.luks_report.specs.Report.{report_of};
 ghost use Rattle.luks_request.specs.Request.{has_header_file, request_of};
 ghost use Rattle.luks_cli.specs.Detached.{CountsCallsDetached, NeedsNoPayload};
 ghost use Rattle.luks_cli.specs.Detached.{NeedsNoSecretDetached, RunsDetached};
-ghost use Rattle.luks_cli.specs.CommandRun.{ReadsFirst};
+ghost use Rattle.luks_cli.specs.CommandRun.{ReadsFirst, ReadsImage};
 ghost use Rattle.luks_runs.specs.Run.{result_message};
-ghost use Rattle.luks_cli.specs.CommandMessages.{MayReport};
+ghost use Rattle.luks_cli.specs.CommandMessages.{MayReport, Reports};
 
 use super::volumes;
 use luks_io::sink::Sink;
@@ -39,15 +38,14 @@ pub fn execute_detached<H: Source, I: Source, K: Source, O: Sink>(
     ensures run { RunsDetached (request_of command.now) result.message
         (H.to_come header.old) (H.to_come header.new) (I.to_come image.old) (I.to_come image.new)
         (K.to_come secret.old) (K.to_come secret.new) (O.written out.old) (O.written out.new) }
-    ensures only { MayReport (request_of command.now) result.message }
-    ensures status { result ≡ report_of result.message }
+    ensures report { Reports (request_of command.now) result }
     ensures unneeded { NeedsNoSecretDetached (request_of command.now) (H.to_come header.old)
         → secret.new ≡ secret.old }
     ensures untouched { NeedsNoPayload (request_of command.now) result.message
         → image.new ≡ image.old }
     ensures reads_first { ReadsFirst (request_of command.now) → result.message ≡ Message.ReadFailed
         → out.new ≡ out.old }
-    ensures calls { CountsCallsDetached result.message
+    ensures calls { CountsCallsDetached (ReadsImage (request_of command.now)) result.message
         (H.counts header.old) (H.counts header.new) (I.counts image.old) (I.counts image.new)
         (K.counts secret.old) (K.counts secret.new) (O.counts out.old) (O.counts out.new) }
 {
@@ -77,7 +75,8 @@ fn perform_detached<H: Source, I: Source, K: Source, O: Sink>(
         → image.new ≡ image.old }
     ensures reads_first { ReadsFirst (request_of command.now)
         → result_message result ≡ Message.ReadFailed → out.new ≡ out.old }
-    ensures calls { CountsCallsDetached (result_message result)
+    ensures calls { CountsCallsDetached (ReadsImage (request_of command.now))
+        (result_message result)
         (H.counts header.old) (H.counts header.new) (I.counts image.old) (I.counts image.new)
         (K.counts secret.old) (K.counts secret.new) (O.counts out.old) (O.counts out.new) }
 {

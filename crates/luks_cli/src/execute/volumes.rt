@@ -1,13 +1,12 @@
 //! `testPassphrase` and `luksCat`: volumes that a passphrase opens.
 
-ghost use Rattle.std.specs.Prelude.{◌≡◌, ◌<◌, ◌≤◌, ◌⊎◌, ◌^◌, List, [], ℕ, Option, Ok};
-ghost use Rattle.std.specs.Prelude.{IfOk, IfErr, is_err, length, true};
-ghost use Rattle.luks_cipher.specs.Sector.{is_mode_key_length};
-ghost use Rattle.luks_io.specs.Counts.{ReadsAsNeeded, WritesAsNeeded};
-ghost use Rattle.luks_io.specs.Devices.{Appended, ConsumedExactly, IfKnown, counted};
-ghost use Rattle.luks_header.specs.HeaderSegment.{segment_of};
-ghost use Rattle.luks_open.specs.Order.{order_of};
+ghost use Rattle.std.specs.Prelude.{◌≡◌, ◌<◌, ◌⊎◌, ◌^◌, List, [], ℕ, Bool, Option};
+ghost use Rattle.std.specs.Prelude.{IfOk, IfErr, false, is_err, length, true};
+ghost use Rattle.luks_io.specs.Counts.{Reads, Writes, with_ahead};
+ghost use Rattle.luks_io.specs.Devices.{Appended, ConsumedExactly, IfKnown};
+ghost use Rattle.luks_unlock.specs.Finding.{HasSlots};
 ghost use Rattle.luks_unlock.specs.OpeningMessages.{OpeningMessage};
+ghost use Rattle.luks_unlock.specs.Trying.{opened_of};
 ghost use Rattle.luks_unlock.specs.Volume.{OnOpened, detached_payload_outcome, payload_outcome};
 ghost use Rattle.luks_unlock.specs.Volume.{slot_outcome, volume_by, volume_of};
 ghost use Rattle.luks_unlock.specs.Volume.{volume_outcome, volume_outcome_by};
@@ -15,22 +14,19 @@ ghost use Rattle.luks_request.specs.Request.{volume_request};
 ghost use Rattle.luks_runs.specs.RunMessages.{PayloadMessage};
 ghost use Rattle.luks_runs.specs.Payload.{ForwardsHeld};
 ghost use Rattle.luks_runs.specs.HeaderReading.{detached_header_of};
-ghost use Rattle.luks_runs.specs.Run.{Counts, failures_of};
 ghost use Rattle.luks_runs.specs.Run.{RunMatches, DetachedRunMatches, at_any_pace};
 ghost use Rattle.luks_runs.specs.Run.{is_run_read_failure, is_run_write_failure, result_message};
 ghost use Rattle.luks_runs.specs.Location.{LoadedFrom, reader_for};
-ghost use Rattle.luks_cli.specs.CommandRun.{CountsCalls};
+ghost use Rattle.luks_cli.specs.CommandRun.{CountsCalls, ReadsOnce, ReadsPayload};
 ghost use Rattle.luks_cli.specs.Detached.{CountsCallsDetached, EndsWithoutKey};
-ghost use Rattle.luks_cli.specs.Unlocking.{OpensVolume, ReportsSlot, Unlocks, opens_promptly};
+ghost use Rattle.luks_cli.specs.Unlocking.{CountsReads, OpensVolume, ReportsSlot, Unlocks};
+ghost use Rattle.luks_cli.specs.Unlocking.{opens_promptly};
 ghost use Rattle.luks_cli.specs.VolumeParts.{ConsumesHeld, cat_promptly, detached_cat_promptly};
 
-use luks_cipher::SectorCipher;
 use luks_header::area::HeaderArea;
-use luks_header::segment::Segment;
 use luks_io::memory::MemSource;
 use luks_io::sink::{Sink, put_all};
 use luks_io::source::Source;
-use luks_open::opening::Opened;
 use luks_report::message::Message;
 use luks_report::opened::opened_text;
 use luks_request::command::VolumeArgs;
@@ -39,6 +35,7 @@ use luks_runs::location::HeaderLocation;
 use luks_runs::payload::write_payload;
 use luks_unlock::finding::{FoundVolume, find_volume};
 use luks_unlock::trying::try_slots;
+use luks_unlock::unlocked::UnlockedVolume;
 use std::alloc::Global;
 
 /// A volume that is opened.
@@ -47,8 +44,7 @@ struct Unlocked {
     /// The first bytes of the image, or of the file with the detached header: all that were
     /// consumed.
     area: HeaderArea,
-    segment: Segment,
-    opened: Opened,
+    volume: UnlockedVolume,
 }
 
 /// Opens a volume that was found by the passphrase that the key file has.
@@ -58,38 +54,29 @@ fn open_volume<I: Source, K: Source>(
     volume: &mut FoundVolume,
     image: &mut I,
     secret: &mut K,
-) -> Result<Opened, Message>
-    requires segment { segment_of volume.old.header ≡ Ok volume.old.segment }
-    requires order { let o = volume_request opening.now in
-        order_of volume.old.header o.key_slot o.max_iterations ≡ Ok volume.old.order }
+) -> Result<UnlockedVolume, Message>
+    requires { HasSlots (volume_request opening.now) volume.old }
     ensures run { IfKnown (I.to_come image.old) (λ rest. IfKnown (K.to_come secret.old)
         (λ passphrase. (volume.old.area.ended ≡ true → rest ≡ [])
-        → OpensVolume (volume_request opening.now).key_slot volume.old.order passphrase
-        volume.old.area.bytes volume.new.area.bytes rest (I.to_come image.new)
-        (K.to_come secret.new)
-        result)) }
-    ensures kept { volume.new ≡ record volume.old { area = volume.new.area } }
+        → OpensVolume (volume_request opening.now).key_slot volume.old.segment volume.old.order
+        passphrase volume.old.area.bytes volume.new.area.bytes rest (I.to_come image.new)
+        (K.to_come secret.new) result)) }
     ensures only { IfErr result OpeningMessage }
-    ensures key { IfOk result (λ opened.
-        is_mode_key_length volume.old.segment.mode (length opened.key) ≡ true) }
-    ensures counts { (written : ℕ) → Counts (result_message result)
-        (failures_of (I.counts image.old).failures (K.counts secret.old).failures written)
-        (failures_of (I.counts image.new).failures (K.counts secret.new).failures written) }
-    ensures needed { ReadsAsNeeded (I.counts image.old) (I.counts image.new)
-        × ReadsAsNeeded (K.counts secret.old) (K.counts secret.new) }
+    ensures counts { CountsReads (result_message result) (I.counts image.old) (I.counts image.new)
+        (K.counts secret.old) (K.counts secret.new) }
     ensures ended { volume.old.area.ended ≡ true → image.new ≡ image.old }
     ensures still { IfOk result (λ _. (volume.new.area.ended ≡ volume.old.area.ended)
-        × ((I.counts image.new).ends ≡ (I.counts image.old).ends)) }
+        × Reads false false (I.counts image.old) (I.counts image.new)) }
 {
     let passphrase = read_key_file(alloc, secret)?;
     try_slots(opening, volume, image, &passphrase)
 }
 
-/// The parts of an open volume that are kept: the loaded bytes of its image, and its segment.
-fn kept_parts(volume: FoundVolume) -> (HeaderArea, Segment)
-    ensures { result ≡ (volume.area, volume.segment) }
+/// The bytes that are loaded of the image of a volume. The rest of the found volume is dropped.
+fn area_of(volume: FoundVolume) -> HeaderArea
+    ensures { result ≡ volume.area }
 {
-    (volume.area, volume.segment)
+    volume.area
 }
 
 /// Opens a volume by the passphrase in the key file. Its header is at the start of this image, or
@@ -103,8 +90,9 @@ fn unlock<I: Source, K: Source>(
 ) -> Result<Unlocked, Message>
     ensures ok { IfOk result (λ unlocked. IfKnown (I.to_come image.old) (λ known.
         IfKnown (K.to_come secret.old) (λ passphrase.
-        Unlocks location (volume_request opening.now) known passphrase unlocked.segment
-        unlocked.opened unlocked.area.bytes (I.to_come image.new) (K.to_come secret.new)))) }
+        Unlocks location (volume_request opening.now) known passphrase unlocked.volume.segment
+        (opened_of unlocked.volume) unlocked.area.bytes (I.to_come image.new)
+        (K.to_come secret.new)))) }
     ensures err { IfErr result
         (λ message. (written : Option (List ℕ)) → IfKnown (I.to_come image.old) (λ known.
         IfKnown (K.to_come secret.old) (λ passphrase.
@@ -117,36 +105,28 @@ fn unlock<I: Source, K: Source>(
         is_err (volume_by (reader_for location) (volume_request opening.now) known) ≡ true
         → secret.new ≡ secret.old) }
     ensures only { IfErr result OpeningMessage }
-    ensures key { IfOk result (λ unlocked.
-        is_mode_key_length unlocked.segment.mode (length unlocked.opened.key) ≡ true) }
-    ensures counts { (written : ℕ) → Counts (result_message result)
-        (failures_of (I.counts image.old).failures (K.counts secret.old).failures written)
-        (failures_of (I.counts image.new).failures (K.counts secret.new).failures written) }
-    ensures needed { ReadsAsNeeded (I.counts image.old) (I.counts image.new)
-        × ReadsAsNeeded (K.counts secret.old) (K.counts secret.new) }
+    ensures counts { CountsReads (result_message result) (I.counts image.old) (I.counts image.new)
+        (K.counts secret.old) (K.counts secret.new) }
     ensures loaded { IfOk result (λ unlocked. LoadedFrom unlocked.area (I.to_come image.old)
         (I.to_come image.new) (I.counts image.old) (I.counts image.new)) }
 {
     let mut volume = find_volume(alloc, location, opening, image)?;
     let opened = open_volume(alloc, opening, &mut volume, image, secret);
-    // The rest of the found volume is dropped here, whether or not a slot opened.
-    let (area, segment) = kept_parts(volume);
+    let area = area_of(volume);
     Ok(Unlocked {
         area,
-        segment,
-        opened: opened?,
+        volume: opened?,
     })
 }
 
 /// Reports the key slot that opened a volume.
-fn report_slot<O: Sink>(alloc: Global, unlocked: &Unlocked, out: &mut O) -> Result<(), Message>
-    ensures told { ReportsSlot unlocked.now.opened (O.written out.old) (O.written out.new)
+fn report_slot<O: Sink>(alloc: Global, slot: u8, out: &mut O) -> Result<(), Message>
+    ensures told { ReportsSlot slot (O.written out.old) (O.written out.new)
         (result_message result) }
-    ensures writes { (O.counts out.new).failures
-        ≡ counted (is_run_write_failure (result_message result)) (O.counts out.old).failures }
-    ensures needed { WritesAsNeeded (O.counts out.old) (O.counts out.new) }
+    ensures writes { Writes (is_run_write_failure (result_message result))
+        (O.counts out.old) (O.counts out.new) }
 {
-    let line = opened_text(alloc, unlocked.opened.slot)?;
+    let line = opened_text(alloc, slot)?;
     put_all(out, line.as_bytes())?;
     Ok(())
 }
@@ -173,12 +153,12 @@ pub(super) fn test_passphrase<I: Source, K: Source, O: Sink>(
     ensures only { OpeningMessage (result_message result)
         ⊎ (result_message result ≡ Message.Done ⊎ result_message result ≡ Message.WriteFailed) }
     ensures reads_first { result_message result ≡ Message.ReadFailed → out.new ≡ out.old }
-    ensures calls { CountsCalls (result_message result)
+    ensures calls { CountsCalls ReadsOnce (result_message result)
         (I.counts image.old) (I.counts image.new) (K.counts secret.old) (K.counts secret.new)
         (O.counts out.old) (O.counts out.new) }
 {
     let unlocked = unlock(alloc, location, opening, image, secret)?;
-    report_slot(alloc, &unlocked, out)
+    report_slot(alloc, unlocked.volume.slot, out)
 }
 
 /// Writes the payload of an open volume. These first bytes of its image are loaded.
@@ -187,30 +167,22 @@ pub(super) fn test_passphrase<I: Source, K: Source, O: Sink>(
 /// more stack than the program has if memory is short.
 #[inline(never)]
 fn write_plain<I: Source, O: Sink>(
-    unlocked: &Unlocked,
+    volume: &UnlockedVolume,
     loaded: &[u8],
     image: &mut I,
     out: &mut O,
 ) -> Result<(), Message>
-    requires key { is_mode_key_length unlocked.now.segment.mode (length unlocked.now.opened.key)
-        ≡ true }
-    ensures run { ForwardsHeld unlocked.now.segment
-        (unlocked.now.segment.mode, unlocked.now.opened.key) loaded.now (I.to_come image.old)
-        (I.to_come image.new) (O.written out.old) (O.written out.new) (result_message result) }
-    ensures needed { ReadsAsNeeded (I.counts image.old) (I.counts image.new)
-        × WritesAsNeeded (O.counts out.old) (O.counts out.new) }
+    ensures run { ForwardsHeld volume.now.segment (volume.now.segment.mode, volume.now.key)
+        loaded.now (I.to_come image.old) (I.to_come image.new) (O.written out.old)
+        (O.written out.new) (result_message result) }
     ensures only { PayloadMessage (result_message result) }
-    ensures reads { (I.counts image.new).failures
-        ≡ counted (is_run_read_failure (result_message result)) (I.counts image.old).failures }
-    ensures writes { (O.counts out.new).failures
-        ≡ counted (is_run_write_failure (result_message result)) (O.counts out.old).failures }
+    ensures reads { (most : ℕ) × (ended : Bool)
+        × Reads (is_run_read_failure (result_message result)) ended
+        (with_ahead most (I.counts image.old)) (I.counts image.new) }
+    ensures writes { Writes (is_run_write_failure (result_message result))
+        (O.counts out.old) (O.counts out.new) }
 {
-    let segment = unlocked.segment;
-    let key = unlocked.opened.key.as_slice();
-    let Some(cipher) = SectorCipher::new(segment.mode, key) else {
-        unreachable!()
-    };
-    write_payload(segment, cipher, loaded, image, out)
+    write_payload(volume.segment, volume.cipher(), loaded, image, out)
 }
 
 /// `luksCat` of an image with its header.
@@ -232,7 +204,7 @@ pub(super) fn cat<I: Source, K: Source, O: Sink>(
         (Appended (O.written out.old) (O.written out.new)))) }
     ensures unneeded { IfKnown (I.to_come image.old) (λ known.
         is_err (volume_of (volume_request opening.now) known) ≡ true → secret.new ≡ secret.old) }
-    ensures calls { CountsCalls (result_message result)
+    ensures calls { CountsCalls ReadsPayload (result_message result)
         (I.counts image.old) (I.counts image.new) (K.counts secret.old) (K.counts secret.new)
         (O.counts out.old) (O.counts out.new) }
 {
@@ -240,9 +212,9 @@ pub(super) fn cat<I: Source, K: Source, O: Sink>(
     let loaded = unlocked.area.as_slice();
     if unlocked.area.has_ended() {
         // The image's end was hit: all of it is loaded.
-        return write_plain(&unlocked, loaded, &mut MemSource::new(&[]), out);
+        return write_plain(&unlocked.volume, loaded, &mut MemSource::new(&[]), out);
     }
-    write_plain(&unlocked, loaded, image, out)
+    write_plain(&unlocked.volume, loaded, image, out)
 }
 
 /// `luksCat` of an image with a detached header.
@@ -267,10 +239,10 @@ pub(super) fn cat_detached<H: Source, I: Source, K: Source, O: Sink>(
         is_err (volume_by detached_header_of (volume_request opening.now) file) ≡ true
         → secret.new ≡ secret.old) }
     ensures before_key { EndsWithoutKey (result_message result) → image.new ≡ image.old }
-    ensures calls { CountsCallsDetached (result_message result)
+    ensures calls { CountsCallsDetached ReadsPayload (result_message result)
         (H.counts header.old) (H.counts header.new) (I.counts image.old) (I.counts image.new)
         (K.counts secret.old) (K.counts secret.new) (O.counts out.old) (O.counts out.new) }
 {
     let unlocked = unlock(alloc, HeaderLocation::Detached, opening, header, secret)?;
-    write_plain(&unlocked, &[], image, out)
+    write_plain(&unlocked.volume, &[], image, out)
 }

@@ -1,3 +1,4 @@
+use Rattle.std.proofs.Common.{refl}
 use Rattle.luks_request.specs.Request.{request_of}
 use Rattle.luks_report.specs.declared.message.Message.TheVariants.{Done}
 use Rattle.luks_cli.proofs.HonestVolumes.{writes_plain}
@@ -22,8 +23,8 @@ returns-in-Err-clause-honest g c =
 pub returns-in-Ok-clause-run : goal.returns-in-Ok-clause-run
 returns-in-Ok-clause-run g c = rw c.of.ensures c.in-Ok.ensures.run
 
-pub returns-in-Ok-clause-only : goal.returns-in-Ok-clause-only
-returns-in-Ok-clause-only g c = rw c.of.ensures c.in-Ok.ensures.only
+pub returns-in-Ok-clause-report : goal.returns-in-Ok-clause-report
+returns-in-Ok-clause-report g c = rw c.of.ensures (record { only = c.in-Ok.ensures.only; status = refl })
 
 pub returns-in-Ok-clause-calls : goal.returns-in-Ok-clause-calls
 returns-in-Ok-clause-calls g c = rw c.of.ensures c.in-Ok.ensures.calls
@@ -31,8 +32,8 @@ returns-in-Ok-clause-calls g c = rw c.of.ensures c.in-Ok.ensures.calls
 pub returns-in-Err-clause-run : goal.returns-in-Err-clause-run
 returns-in-Err-clause-run g c = rw c.of-in-Err.ensures c.in-Err.ensures.run
 
-pub returns-in-Err-clause-only : goal.returns-in-Err-clause-only
-returns-in-Err-clause-only g c = rw c.of-in-Err.ensures c.in-Err.ensures.only
+pub returns-in-Err-clause-report : goal.returns-in-Err-clause-report
+returns-in-Err-clause-report g c = rw c.of-in-Err.ensures (record { only = c.in-Err.ensures.only; status = refl })
 
 pub returns-in-Err-clause-calls : goal.returns-in-Err-clause-calls
 returns-in-Err-clause-calls g c = rw c.of-in-Err.ensures c.in-Err.ensures.calls

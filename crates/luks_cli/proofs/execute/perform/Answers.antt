@@ -1,4 +1,6 @@
-use Rattle.std.proofs.Common.{rules, refl}
+use Rattle.std.proofs.Common.{rules}
+use Rattle.luks_runs.specs.Run.{result_message}
+use Rattle.luks_cli.proofs.CallLemmas.{calls_of_image, calls_of_is_luks, calls_of_split}
 use Rattle.luks_cli.proofs.execute.perform.Goals as goal
 
 pub returns-in-LuksUuid-clause-run : goal.returns-in-LuksUuid-clause-run
@@ -40,53 +42,44 @@ pub returns-in-IsLuks-clause-run : goal.returns-in-IsLuks-clause-run
 returns-in-IsLuks-clause-run g c = search rules
 
 pub returns-in-IsLuks-clause-calls : goal.returns-in-IsLuks-clause-calls
-returns-in-IsLuks-clause-calls g c = record {
-  failures = c.is_luks.ensures.counts _ _;
-  image_needed = c.is_luks.ensures.needed;
-  secret_needed = λ live. refl;
-  out_needed = λ live. refl;
-}
+returns-in-IsLuks-clause-calls g c =
+    rw c.in-IsLuks.is
+    (calls_of_is_luks (result_message c.is_luks.result) _ _ _ _ _ c.is_luks.ensures.only c.is_luks.ensures.reads.1)
 
 pub returns-in-LuksUuid-clause-calls : goal.returns-in-LuksUuid-clause-calls
-returns-in-LuksUuid-clause-calls g c = record {
-  failures = c.print.ensures.counts _;
-  image_needed = c.print.ensures.needed_reads;
-  secret_needed = λ live. refl;
-  out_needed = c.print.ensures.needed_writes;
-}
+returns-in-LuksUuid-clause-calls g c =
+    let print = c.print.ensures in
+    rw c.in-LuksUuid.is
+    (calls_of_image (result_message c.print.result) _ _ _ _ _ _ print.reads.1 print.writes)
 
 pub returns-in-LuksDump-clause-calls : goal.returns-in-LuksDump-clause-calls
-returns-in-LuksDump-clause-calls g c = record {
-  failures = c.print-in-LuksDump.ensures.counts _;
-  image_needed = c.print-in-LuksDump.ensures.needed_reads;
-  secret_needed = λ live. refl;
-  out_needed = c.print-in-LuksDump.ensures.needed_writes;
-}
+returns-in-LuksDump-clause-calls g c =
+    let print = c.print-in-LuksDump.ensures in
+    rw c.in-LuksDump.is
+    (calls_of_image (result_message c.print-in-LuksDump.result) _ _ _ _ _ _ print.reads.1 print.writes)
 
 pub returns-in-LuksCheck-clause-calls : goal.returns-in-LuksCheck-clause-calls
-returns-in-LuksCheck-clause-calls g c = record {
-  failures = c.print-in-LuksCheck.ensures.counts _;
-  image_needed = c.print-in-LuksCheck.ensures.needed_reads;
-  secret_needed = λ live. refl;
-  out_needed = c.print-in-LuksCheck.ensures.needed_writes;
-}
+returns-in-LuksCheck-clause-calls g c =
+    let print = c.print-in-LuksCheck.ensures in
+    rw c.in-LuksCheck.is
+    (calls_of_image (result_message c.print-in-LuksCheck.result) _ _ _ _ _ _ print.reads.1 print.writes)
 
 pub returns-in-AfSplit-clause-unneeded : goal.returns-in-AfSplit-clause-unneeded
 returns-in-AfSplit-clause-unneeded g c =
     rw c.in-AfSplit.is (λ needs. c.split.ensures.unneeded needs.0 needs.1 needs.2)
 
 pub returns-in-AfSplit-clause-calls : goal.returns-in-AfSplit-clause-calls
-returns-in-AfSplit-clause-calls g c = record {
-  failures = c.split.ensures.counts;
-  image_needed = c.split.ensures.needed_key;
-  secret_needed = c.split.ensures.needed_random;
-  out_needed = c.split.ensures.needed_writes;
-}
+returns-in-AfSplit-clause-calls g c =
+    rw c.in-AfSplit.is
+    (calls_of_split (result_message c.split.result) _ _ _ _ _ _ c.split.ensures.reads c.split.ensures.writes)
 
 pub returns-in-AfMerge-clause-calls : goal.returns-in-AfMerge-clause-calls
-returns-in-AfMerge-clause-calls g c = record {
-  failures = c.merge.ensures.counts _;
-  image_needed = c.merge.ensures.needed_reads;
-  secret_needed = λ live. refl;
-  out_needed = c.merge.ensures.needed_writes;
-}
+returns-in-AfMerge-clause-calls g c =
+    rw c.in-AfMerge.is
+    (calls_of_image (result_message c.merge.result) _ _ _ _ _ _ c.merge.ensures.reads c.merge.ensures.writes)
+
+pub returns-in-TestPassphrase-clause-calls : goal.returns-in-TestPassphrase-clause-calls
+returns-in-TestPassphrase-clause-calls g c = rw c.in-TestPassphrase.is c.test_passphrase.ensures.calls
+
+pub returns-in-LuksCat-clause-calls : goal.returns-in-LuksCat-clause-calls
+returns-in-LuksCat-clause-calls g c = rw c.in-LuksCat.is c.cat.ensures.calls

@@ -1,7 +1,6 @@
 use Rattle.std.proofs.lemmas.Result.{err_from_is_err_and}
-use Rattle.std.proofs.Common.{None}
 use Rattle.luks_request.specs.Request.{volume_request}
-use Rattle.luks_unlock.proofs.VolumeLemmas.{aborts_without_header, aborts_without_slots, volume_found}
+use Rattle.luks_unlock.proofs.VolumeLemmas.{aborts_without_header, aborts_without_slots}
 use Rattle.luks_unlock.proofs.finding.find_volume.Goals as goal
 
 pub returns-in_err-header-clause-err : goal.returns-in_err-header-clause-err
@@ -17,11 +16,13 @@ returns-in-Err-clause-err g c known is =
     aborts_without_slots c.args.location (volume_request c.args.opening.now) known _ c.in_ok-header.header read.0 read.2
     c.in-Err.message c.in-Err.ensures.err
 
-pub returns-in-Ok-clause-ok : goal.returns-in-Ok-clause-ok
-returns-in-Ok-clause-ok g c = c.in_ok-header.ensures.taken
-
-pub returns-in-Ok-clause-volume : goal.returns-in-Ok-clause-volume
-returns-in-Ok-clause-volume g c known is =
-    let read = c.in_ok-header.ensures.taken known is in
-    volume_found c.args.location (volume_request c.args.opening.now) known None c.in_ok-header.header read.0
-    _ c.in-Ok.ensures.segment _ c.in-Ok.ensures.order
+pub returns-in-Ok-clause-found : goal.returns-in-Ok-clause-found
+returns-in-Ok-clause-found g c =
+    let read = c.in_ok-header.ensures in
+    record {
+      slots = record { segment = c.in-Ok.ensures.segment; order = c.in-Ok.ensures.order };
+      front = read.held;
+      area = read.only;
+      header = read.taken;
+      loaded = read.loaded;
+    }

@@ -2,8 +2,10 @@ use Rattle.std.proofs.lemmas.Result.{err_from_is_err_and}
 use Rattle.std.proofs.Common.{◌∙◌, ◌<◌, ap, inl, inr, length, refl, sym, arith}
 use Rattle.luks_header.proofs.HeaderLemmas.{short_from_not_whole}
 use Rattle.luks_open.specs.Order.{key_areas_end}
-use Rattle.luks_unlock.proofs.VolumeLemmas.{none_behind}
+use Rattle.luks_unlock.proofs.VolumeLemmas.{none_behind, opening_reads}
 use Rattle.luks_unlock.proofs.trying.try_slots.Goals as goal
+use Rattle.luks_unlock.proofs.trying.try_slots.Goals.{else-has_ended-via-then-has_ended+else-as_slice-end}
+use Rattle.luks_unlock.proofs.trying.try_slots.Goals.{else-has_ended-via-else-has_ended}
 
 pub returns-in_err-extend_to-clause-run : goal.returns-in_err-extend_to-clause-run
 returns-in_err-extend_to-clause-run g c =
@@ -12,25 +14,27 @@ returns-in_err-extend_to-clause-run g c =
     inl (
       c.in_err-extend_to.field-0.0,
       refl,
-      rw c.held_end-end.ensures.value at (c.in_err-extend_to.ensures.broken rest there),
+      rw c.held_end-end.ensures.value at (c.in_err-extend_to.ensures.taken rest there),
     ))
 
 pub returns-then-not-branch-clause-run : goal.returns-then-not-branch-clause-run
 returns-then-not-branch-clause-run g c rest there nothing =
     let end = c.held_end-end.ensures.value in
-    let few = short_from_not_whole c.in_ok-extend_to.field-0 _ _ c.in_ok-extend_to.ensures.whole c.if-not-branch.true in
+    let whole = c.in_ok-extend_to.ensures.loads.whole in
+    let few = short_from_not_whole c.in_ok-extend_to.field-0 _ _ whole c.if-not-branch.true in
     inr (rw end at (c.in_ok-extend_to.ensures.taken rest there), inl (refl, rw end at few))
 
 pub open-requires-clause-held : goal.open-requires-clause-held
 open-requires-clause-held g c =
-    rw c.held_end-end.ensures.value at (c.in_ok-extend_to.ensures.whole.0 c.if-not-branch.false)
+    rw c.held_end-end.ensures.value at (c.in_ok-extend_to.ensures.loads.whole.0 c.if-not-branch.false)
 
 pub returns-in-Ok-clause-run : goal.returns-in-Ok-clause-run
 returns-in-Ok-clause-run g c rest there nothing =
     let end = c.held_end-end.ensures.value in (
       rw end at (c.in_ok-extend_to.ensures.taken rest there),
-      rw end at (c.in_ok-extend_to.ensures.whole.0 c.if-not-branch.false),
-      sym c.in-Ok.ensures.value,
+      rw end at (c.in_ok-extend_to.ensures.loads.whole.0 c.if-not-branch.false),
+      c.new-in-Ok.ensures.segment,
+      rw (c.new-in-Ok.ensures.slot, c.new-in-Ok.ensures.key) (sym c.in-Ok.ensures.value),
     )
 
 pub returns-in-Err-clause-run : goal.returns-in-Err-clause-run
@@ -41,7 +45,7 @@ returns-in-Err-clause-run g c = rw (c.of_opening.ensures, c.named_slot.ensures) 
       inr (
         c.in-Err.fault,
         refl,
-        rw end at (c.in_ok-extend_to.ensures.whole.0 c.if-not-branch.false),
+        rw end at (c.in_ok-extend_to.ensures.loads.whole.0 c.if-not-branch.false),
         sym c.in-Err.ensures.value,
       ),
     ))
@@ -57,3 +61,32 @@ returns-then-as_slice-end-clause-run g c rest there nothing =
       c.held_end-end.ensures.value,
     ) in
     inr (none_behind c.args.volume.now.area.bytes rest _ _ there none, inl (refl, few))
+
+pub returns-then-not-branch-clause-ended : goal.returns-then-not-branch-clause-ended
+returns-then-not-branch-clause-ended g c ended = elim c.else-has_ended.branch [
+  | else-has_ended-via-then-has_ended+else-as_slice-end w ↦
+      (c.extend_to.ensures.already (omega (arith, w.if-as_slice-end.false, ap length w.as_slice.ensures.value))).2
+  | else-has_ended-via-else-has_ended w ↦
+      absurd (let wrong = sym ended ∙ (sym c.has_ended.ensures ∙ w.if-has_ended.false) in cc)
+]
+
+pub returns-in-Ok-clause-ended : goal.returns-in-Ok-clause-ended
+returns-in-Ok-clause-ended g c ended = elim c.else-has_ended.branch [
+  | else-has_ended-via-then-has_ended+else-as_slice-end w ↦
+      (c.extend_to.ensures.already (omega (arith, w.if-as_slice-end.false, ap length w.as_slice.ensures.value))).2
+  | else-has_ended-via-else-has_ended w ↦
+      absurd (let wrong = sym ended ∙ (sym c.has_ended.ensures ∙ w.if-has_ended.false) in cc)
+]
+
+pub returns-in-Err-clause-ended : goal.returns-in-Err-clause-ended
+returns-in-Err-clause-ended g c ended = elim c.else-has_ended.branch [
+  | else-has_ended-via-then-has_ended+else-as_slice-end w ↦
+      (c.extend_to.ensures.already (omega (arith, w.if-as_slice-end.false, ap length w.as_slice.ensures.value))).2
+  | else-has_ended-via-else-has_ended w ↦
+      absurd (let wrong = sym ended ∙ (sym c.has_ended.ensures ∙ w.if-has_ended.false) in cc)
+]
+
+pub returns-in-Err-clause-reads : goal.returns-in-Err-clause-reads
+returns-in-Err-clause-reads g c =
+    rw c.of_opening.ensures
+    (opening_reads c.named_slot.result c.in-Err.fault _ _ (rw c.if-not-branch.false at c.in_ok-extend_to.ensures.reads))

@@ -3,5 +3,6 @@ use Rattle.luks_access.proofs.volume.Volume.len.Goals as goal
 
 pub returns-clause-value : goal.returns-clause-value
 returns-clause-value c = rw (← c.self.view_is) (λ image long.
-    text_is_long c.self.inside.segment (c.self.inside.segment.mode, c.self.inside.key) image c.args.image_len
+    let inside = c.self.inside.unlocked in
+    text_is_long inside.segment (inside.segment.mode, inside.key) image c.args.image_len
     c.text_len.result long c.text_len.ensures.value)

@@ -3,18 +3,17 @@ use Rattle.std.proofs.lemmas.Result.{err_from_is_err_and}
 use Rattle.luks_request.specs.Request.{volume_request}
 use Rattle.luks_access.proofs.OpeningLemmas.{aborted_only, cat_of, opened_by, plain_of_honest, refused_unfound}
 use Rattle.luks_access.proofs.OpeningLemmas.{refused_unopened}
-use Rattle.luks_unlock.proofs.VolumeLemmas.{needed_after, nothing_left}
+use Rattle.luks_unlock.proofs.VolumeLemmas.{nothing_left, reads_on}
 use Rattle.luks_access.proofs.volume.Volume.open_from.Goals as goal
 
 pub returns-clause-opens : goal.returns-clause-opens
 returns-clause-opens g c known is =
-    let found = c.in_ok-found.ensures in
-    let read = found.ok known is in
-    rw (c.volume_of.ensures, c.payload_of-segment.ensures, c.unlock-opened.ensures.kept)
-    (opened_by c.args.options.now (volume_request c.opening-opening.result) known c.args.pass.now _
-    c.opening-opening.ensures _ _ _ read.0 found.segment found.order _ _ read.1 _
-    (c.in_ok-opened.ensures.run _ read.2.left
-    (nothing_left _ _ _ _ _ known _ found.loaded is read.2.left)))
+    let found = c.in_ok-found.ensures.found in
+    let read = found.header known is in
+    opened_by c.args.options.now (volume_request c.opening-opening.result) known c.args.pass.now _
+    c.opening-opening.ensures _ _ _ read.0 found.slots.segment found.slots.order _ _ read.1 _
+    (c.in_ok-unlocked.ensures.run _ read.2.left
+    (nothing_left _ _ _ _ _ known _ found.loaded is read.2.left))
 
 pub returns-clause-cats : goal.returns-clause-cats
 returns-clause-cats g c known is =
@@ -39,44 +38,39 @@ returns-in_err-found-clause-refuses_no_honest g c =
     refused_unfound c.args.options.now (volume_request c.opening-opening.result) known c.args.pass.now _
     c.opening-opening.ensures _ never (c.in_err-found.ensures.err known is)))
 
-pub returns-in_err-opened-clause-refuses : goal.returns-in_err-opened-clause-refuses
-returns-in_err-opened-clause-refuses g c =
-    let p = err_from_is_err_and c.from_residual-in_err-opened.result c.from_residual-in_err-opened.ensures.1 in
+pub returns-in_err-unlocked-clause-refuses : goal.returns-in_err-unlocked-clause-refuses
+returns-in_err-unlocked-clause-refuses g c =
+    let p = err_from_is_err_and c.from_residual-in_err-unlocked.result c.from_residual-in_err-unlocked.ensures.1 in
     rw (p.1, p.2) (λ known is never.
-    let found = c.in_ok-found.ensures in
-    let read = found.ok known is in
+    let found = c.in_ok-found.ensures.found in
+    let read = found.header known is in
     refused_unopened c.args.options.now (volume_request c.opening-opening.result) known c.args.pass.now _
-    c.opening-opening.ensures _ _ _ read.0 found.segment found.order _ _ read.1 _ never
-    (c.in_err-opened.ensures.run _ read.2.left
+    c.opening-opening.ensures _ _ _ read.0 found.slots.segment found.slots.order _ _ read.1 _ never
+    (c.in_err-unlocked.ensures.run _ read.2.left
     (nothing_left _ _ _ _ _ known _ found.loaded is read.2.left)))
 
-pub returns-in_err-opened-clause-refuses_no_honest : goal.returns-in_err-opened-clause-refuses_no_honest
-returns-in_err-opened-clause-refuses_no_honest g c =
-    let p = err_from_is_err_and c.from_residual-in_err-opened.result c.from_residual-in_err-opened.ensures.1 in
+pub returns-in_err-unlocked-clause-refuses_no_honest : goal.returns-in_err-unlocked-clause-refuses_no_honest
+returns-in_err-unlocked-clause-refuses_no_honest g c =
+    let p = err_from_is_err_and c.from_residual-in_err-unlocked.result c.from_residual-in_err-unlocked.ensures.1 in
     rw (p.1, p.2) (λ known is.
-    aborted_only c.args.options.now known c.args.pass.now _ c.in_err-opened.ensures.only (λ never.
-    let found = c.in_ok-found.ensures in
-    let read = found.ok known is in
+    aborted_only c.args.options.now known c.args.pass.now _ c.in_err-unlocked.ensures.only (λ never.
+    let found = c.in_ok-found.ensures.found in
+    let read = found.header known is in
     refused_unopened c.args.options.now (volume_request c.opening-opening.result) known c.args.pass.now _
-    c.opening-opening.ensures _ _ _ read.0 found.segment found.order _ _ read.1 _ never
-    (c.in_err-opened.ensures.run _ read.2.left
+    c.opening-opening.ensures _ _ _ read.0 found.slots.segment found.slots.order _ _ read.1 _ never
+    (c.in_err-unlocked.ensures.run _ read.2.left
     (nothing_left _ _ _ _ _ known _ found.loaded is read.2.left))))
 
 -- the key slots were tried after the volume was found
-pub returns-clause-needed : goal.returns-clause-needed
-returns-clause-needed g c =
-    let found = c.in_ok-found.ensures in
-    let opened = c.unlock-opened.ensures in
-    needed_after c.in_ok-found.found.area (g.S.Source.counts c.args.source.now)
-    (g.S.Source.counts c.find_volume.new.image)
-    (g.S.Source.counts c.unlock-opened.new.source) found.reads found.loaded.ends
-    (λ ended. ap (λ source. (g.S.Source.counts source).needless) (opened.ended ended)) found.needed opened.needed
+pub returns-in_err-unlocked-clause-reads : goal.returns-in_err-unlocked-clause-reads
+returns-in_err-unlocked-clause-reads g c =
+    let p = err_from_is_err_and c.from_residual-in_err-unlocked.result c.from_residual-in_err-unlocked.ensures.1 in
+    let then = c.in_err-unlocked.ensures in
+    rw (p.1, p.2) (reads_on _ _ then.reads.0 _ _ _ c.in_ok-found.ensures.found.loaded.reads
+    (λ ended. ap g.S.Source.counts (then.ended ended)) then.reads.1)
 
-pub returns-in_err-opened-clause-needed : goal.returns-in_err-opened-clause-needed
-returns-in_err-opened-clause-needed g c =
-    let found = c.in_ok-found.ensures in
-    let opened = c.unlock-opened.ensures in
-    needed_after c.in_ok-found.found.area (g.S.Source.counts c.args.source.now)
-    (g.S.Source.counts c.find_volume.new.image)
-    (g.S.Source.counts c.unlock-opened.new.source) found.reads found.loaded.ends
-    (λ ended. ap (λ source. (g.S.Source.counts source).needless) (opened.ended ended)) found.needed opened.needed
+pub returns-clause-reads : goal.returns-clause-reads
+returns-clause-reads g c =
+    let then = c.in_ok-unlocked.ensures in
+    reads_on _ _ then.reads.0 _ _ _ c.in_ok-found.ensures.found.loaded.reads
+    (λ ended. ap g.S.Source.counts (then.ended ended)) then.reads.1

@@ -4,7 +4,7 @@ use Rattle.luks_access.proofs.volume.Volume.read_at.Goals as goal
 
 pub returns-then-is_err-clause-whole : goal.returns-then-is_err-clause-whole
 returns-then-is_err-clause-whole g c =
-    let inside = c.self.inside in
+    let inside = c.self.inside.unlocked in
     let long = rw (← c.self.view_is) at c.len-len.ensures.value in
     never_shorter inside.segment (inside.segment.mode, inside.key) c.len-len.result (g.I.ReadAt.image c.args.image.now)
     (g.I.ReadAt.fails c.args.image.now) c.args.offset c.read_range-answer.new.buf
@@ -13,7 +13,7 @@ returns-then-is_err-clause-whole g c =
 
 pub returns-else-is_err-clause-plain : goal.returns-else-is_err-clause-plain
 returns-else-is_err-clause-plain g c =
-    let inside = c.self.inside in
+    let inside = c.self.inside.unlocked in
     let long = rw (← c.self.view_is) at c.len-len.ensures.value in
     rw (← c.self.view_is)
     (range_read inside.segment (inside.segment.mode, inside.key) c.len-len.result (g.I.ReadAt.image c.args.image.now)
@@ -23,7 +23,7 @@ returns-else-is_err-clause-plain g c =
 
 pub returns-then-is_err-clause-failed : goal.returns-then-is_err-clause-failed
 returns-then-is_err-clause-failed g c =
-    let inside = c.self.inside in
+    let inside = c.self.inside.unlocked in
     let long = rw (← c.self.view_is) at c.len-len.ensures.value in
     read_fails inside.segment (inside.segment.mode, inside.key) c.len-len.result (g.I.ReadAt.image c.args.image.now)
     (g.I.ReadAt.fails c.args.image.now) c.args.offset c.read_range-answer.new.buf

@@ -1,9 +1,10 @@
-use Rattle.std.proofs.Common.{refl}
 use Rattle.luks_runs.specs.HeaderOutcome.{printout_text, printout_message}
 use Rattle.luks_runs.specs.HeaderReading.{detached_header_of}
-use Rattle.luks_runs.specs.Run.{at_any_pace}
+use Rattle.luks_runs.specs.Run.{at_any_pace, result_message}
 use Rattle.luks_runs.specs.declared.headers.Printout.TheVariants.{Uuid, Dump, Check}
-use Rattle.luks_cli.proofs.DetachedRuns.{counts_apart, no_payload_for_answer, no_payload_for_text, no_payload_for_slot}
+use Rattle.luks_cli.proofs.CallLemmas.{calls_apart, calls_of_image, calls_of_is_luks, none_read}
+use Rattle.luks_cli.specs.CommandRun.{ReadsOnce}
+use Rattle.luks_cli.proofs.DetachedRuns.{no_payload_for_answer, no_payload_for_text, no_payload_for_slot}
 use Rattle.luks_cli.proofs.DetachedRuns.{runs_apart}
 use Rattle.luks_cli.proofs.execute.detached.perform_detached.Goals as goal
 
@@ -40,54 +41,35 @@ returns-in-LuksCat-clause-run g c = rw c.in-LuksCat.is (λ file there known payl
     c.cat_detached.ensures.run file there known payload pass secret counted)
 
 pub returns-in-IsLuks-clause-calls : goal.returns-in-IsLuks-clause-calls
-returns-in-IsLuks-clause-calls g c = record {
-  failures = counts_apart _ _ _ _ _ _ _ _ (c.is_luks.ensures.counts _ _);
-  header_needed = c.is_luks.ensures.needed;
-  image_needed = λ live. refl;
-  secret_needed = λ live. refl;
-  out_needed = λ live. refl;
-}
+returns-in-IsLuks-clause-calls g c =
+    rw c.in-IsLuks.is (calls_apart ReadsOnce _ _ _ _ _ _ _ _ (none_read _)
+    (calls_of_is_luks (result_message c.is_luks.result) _ _ _ _ _ c.is_luks.ensures.only c.is_luks.ensures.reads.1))
 
 pub returns-in-LuksUuid-clause-calls : goal.returns-in-LuksUuid-clause-calls
-returns-in-LuksUuid-clause-calls g c = record {
-  failures = counts_apart _ _ _ _ _ _ _ _ (c.print.ensures.counts _);
-  header_needed = c.print.ensures.needed_reads;
-  image_needed = λ live. refl;
-  secret_needed = λ live. refl;
-  out_needed = c.print.ensures.needed_writes;
-}
+returns-in-LuksUuid-clause-calls g c =
+    let print = c.print.ensures in
+    rw c.in-LuksUuid.is (calls_apart ReadsOnce _ _ _ _ _ _ _ _ (none_read _)
+    (calls_of_image (result_message c.print.result) _ _ _ _ _ _ print.reads.1 print.writes))
 
 pub returns-in-LuksDump-clause-calls : goal.returns-in-LuksDump-clause-calls
-returns-in-LuksDump-clause-calls g c = record {
-  failures = counts_apart _ _ _ _ _ _ _ _ (c.print-in-LuksDump.ensures.counts _);
-  header_needed = c.print-in-LuksDump.ensures.needed_reads;
-  image_needed = λ live. refl;
-  secret_needed = λ live. refl;
-  out_needed = c.print-in-LuksDump.ensures.needed_writes;
-}
+returns-in-LuksDump-clause-calls g c =
+    let print = c.print-in-LuksDump.ensures in
+    rw c.in-LuksDump.is (calls_apart ReadsOnce _ _ _ _ _ _ _ _ (none_read _)
+    (calls_of_image (result_message c.print-in-LuksDump.result) _ _ _ _ _ _ print.reads.1 print.writes))
 
 pub returns-in-LuksCheck-clause-calls : goal.returns-in-LuksCheck-clause-calls
-returns-in-LuksCheck-clause-calls g c = record {
-  failures = counts_apart _ _ _ _ _ _ _ _ (c.print-in-LuksCheck.ensures.counts _);
-  header_needed = c.print-in-LuksCheck.ensures.needed_reads;
-  image_needed = λ live. refl;
-  secret_needed = λ live. refl;
-  out_needed = c.print-in-LuksCheck.ensures.needed_writes;
-}
+returns-in-LuksCheck-clause-calls g c =
+    let print = c.print-in-LuksCheck.ensures in
+    rw c.in-LuksCheck.is (calls_apart ReadsOnce _ _ _ _ _ _ _ _ (none_read _)
+    (calls_of_image (result_message c.print-in-LuksCheck.result) _ _ _ _ _ _ print.reads.1 print.writes))
 
 pub returns-in-TestPassphrase-clause-calls : goal.returns-in-TestPassphrase-clause-calls
 returns-in-TestPassphrase-clause-calls g c =
-    let calls = c.test_passphrase.ensures.calls in
-    record {
-      failures = counts_apart _ _ _ _ _ _ _ _ calls.failures;
-      header_needed = calls.image_needed;
-      image_needed = λ live. refl;
-      secret_needed = calls.secret_needed;
-      out_needed = calls.out_needed;
-    }
+    rw c.in-TestPassphrase.is
+    (calls_apart ReadsOnce _ _ _ _ _ _ _ _ (none_read _) c.test_passphrase.ensures.calls)
 
 pub returns-in-LuksCat-clause-calls : goal.returns-in-LuksCat-clause-calls
-returns-in-LuksCat-clause-calls g c = c.cat_detached.ensures.calls
+returns-in-LuksCat-clause-calls g c = rw c.in-LuksCat.is c.cat_detached.ensures.calls
 
 pub returns-in-IsLuks-clause-only : goal.returns-in-IsLuks-clause-only
 returns-in-IsLuks-clause-only g c = rw c.in-IsLuks.is c.is_luks.ensures.only

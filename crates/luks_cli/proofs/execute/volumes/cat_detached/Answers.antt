@@ -4,7 +4,9 @@ use Rattle.luks_io.proofs.Consuming.{took-none}
 use Rattle.luks_request.specs.Request.{volume_request}
 use Rattle.luks_runs.specs.Run.{result_message}
 use Rattle.luks_unlock.specs.Volume.{detached_payload_outcome}
-use Rattle.luks_cli.proofs.DetachedRuns.{counts_passed_apart, counts_apart, runs_passed_apart, runs_unopened_apart}
+use Rattle.luks_cli.proofs.CallLemmas.{calls_apart, calls_unopened, no_more_ahead, none_read}
+use Rattle.luks_cli.specs.CommandRun.{ReadsPayload}
+use Rattle.luks_cli.proofs.DetachedRuns.{counts_passed_apart, runs_passed_apart, runs_unopened_apart}
 use Rattle.luks_cli.proofs.DetachedRuns.{takes_detached_payload, with_key}
 use Rattle.luks_cli.proofs.OpenedRuns.{never_memory}
 use Rattle.luks_cli.proofs.execute.volumes.cat_detached.Goals as goal
@@ -31,23 +33,20 @@ returns-clause-before_key g c without = absurd (with_key _ c.write_plain.ensures
 pub returns-in_err-unlocked-clause-calls : goal.returns-in_err-unlocked-clause-calls
 returns-in_err-unlocked-clause-calls g c =
     let p = err_from_is_err_and c.from_residual.result c.from_residual.ensures.1 in
-    let stop = c.in_err-unlocked.ensures in
-    rw (p.1, p.2) (record {
-      failures = counts_apart _ _ _ _ _ _ _ _ (stop.counts _);
-      header_needed = stop.needed.0;
-      image_needed = λ live. refl;
-      secret_needed = stop.needed.1;
-      out_needed = λ live. refl;
-    })
+    let image = g.I.Source.counts c.args.image.now in
+    rw (p.1, p.2) (calls_apart ReadsPayload _ _ _ _ _ _ _ _ (no_more_ahead image image (none_read image))
+    (calls_unopened _ _ _ _ _ _ c.in_err-unlocked.ensures.counts))
 
 pub returns-clause-calls : goal.returns-clause-calls
 returns-clause-calls g c =
-    let unlocked = c.in_ok-unlocked.ensures in
+    let counts = c.in_ok-unlocked.ensures.counts in
+    let reads = c.write_plain.ensures.reads in
+    let writes = c.write_plain.ensures.writes in
     record {
-      failures = counts_passed_apart (result_message c.write_plain.result) _ _ _ _ _ _ _ _ unlocked.counts
-          c.write_plain.ensures.reads c.write_plain.ensures.writes;
-      header_needed = unlocked.needed.0;
-      image_needed = c.write_plain.ensures.needed.0;
-      secret_needed = unlocked.needed.1;
-      out_needed = c.write_plain.ensures.needed.1;
+      failures = counts_passed_apart (result_message c.write_plain.result) _ _ _ _ _ _ _ _ counts.failures
+          reads.2.failures writes.failures;
+      header_reads = counts.image_reads;
+      image_reads = (reads.0, (_, reads.1, reads.2));
+      secret_reads = counts.secret_reads;
+      out_writes = (_, writes);
     }

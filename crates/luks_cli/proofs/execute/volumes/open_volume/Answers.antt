@@ -1,12 +1,22 @@
 use Rattle.std.proofs.lemmas.Result.{err_from_is_err_and}
-use Rattle.std.proofs.Common.{◌≤◌, ap, arith, inl, inr, length, refl}
+use Rattle.std.proofs.Common.{◌≡◌, ◌≤◌, ap, arith, inl, inr, length, refl}
 use Rattle.luks_runs.specs.KeyFile.{max_key_file_len}
+use Rattle.luks_runs.specs.Run.{result_message}
+use Rattle.luks_cli.proofs.CallLemmas.{key_file_message, reads_of_both, reads_of_secret, unwritten, unwritten_by}
+use Rattle.luks_cli.proofs.CallLemmas.{within_areas}
 use Rattle.luks_cli.proofs.execute.volumes.open_volume.Goals as goal
 
 pub returns-in_err-passphrase-clause-run : goal.returns-in_err-passphrase-clause-run
 returns-in_err-passphrase-clause-run g c =
     let p = err_from_is_err_and c.from_residual.result c.from_residual.ensures.1 in
     rw (p.1, p.2) (λ rest there pass has nothing. inr (_, refl, c.in_err-passphrase.ensures.err pass has, refl, there))
+
+pub returns-in_err-passphrase-clause-counts : goal.returns-in_err-passphrase-clause-counts
+returns-in_err-passphrase-clause-counts g c =
+    let p = err_from_is_err_and c.from_residual.result c.from_residual.ensures.1 in
+    let failed = c.in_err-passphrase.ensures in
+    rw (p.1, p.2)
+    (reads_of_secret _ failed.reads.0 _ _ _ (unwritten _ (key_file_message _ failed.only)) failed.reads.1)
 
 pub returns-clause-run : goal.returns-clause-run
 returns-clause-run g c rest there pass has nothing =
@@ -19,3 +29,16 @@ returns-clause-run g c rest there pass has nothing =
       c.in_ok-passphrase.ensures.few,
     ) in
     inl (short, whole.1, rw (c.deref.ensures.value, whole.0) at (c.try_slots.ensures.run rest there nothing))
+
+pub returns-clause-counts : goal.returns-clause-counts
+returns-clause-counts g c =
+    let first = c.in_ok-passphrase.ensures.reads in
+    let then = c.try_slots.ensures.reads in
+    reads_of_both (result_message c.try_slots.result) first.0 then.0 _ _ _ _
+    (unwritten_by c.try_slots.result c.try_slots.ensures.only) first.1 then.1
+
+pub returns-clause-still : goal.returns-clause-still
+returns-clause-still g c =
+    let reads = c.try_slots.ensures.reads in
+    within_areas c.try_slots.result (c.try_slots.new.volume.area.ended ≡ c.args.volume.now.area.ended) reads.0 _ _
+    c.try_slots.ensures.area reads.1 reads.2

@@ -2,6 +2,7 @@ use Rattle.std.proofs.lemmas.Result.{err_from_is_err_and}
 use Rattle.std.proofs.Common.{refl}
 use Rattle.luks_unlock.specs.Volume.{slot_outcome}
 use Rattle.luks_runs.specs.Run.{result_message}
+use Rattle.luks_cli.proofs.CallLemmas.{calls_unopened}
 use Rattle.luks_cli.proofs.OpenedRuns.{counts_passed, runs_at_any_pace, runs_slot, slot_message, slot_reads_nothing}
 use Rattle.luks_cli.proofs.OpenedRuns.{takes_slot}
 use Rattle.luks_cli.proofs.execute.volumes.test_passphrase.Goals as goal
@@ -20,34 +21,29 @@ returns-clause-run g c known is pass has =
 
 pub returns-clause-only : goal.returns-clause-only
 returns-clause-only g c =
-    slot_message c.in_ok-unlocked.unlocked.opened _ _ (result_message c.report_slot.result) c.report_slot.ensures.told
+    slot_message c.in_ok-unlocked.unlocked.volume.slot _ _ (result_message c.report_slot.result)
+    c.report_slot.ensures.told
 
 pub returns-clause-reads_first : goal.returns-clause-reads_first
 returns-clause-reads_first g c failed =
-    let told = slot_reads_nothing c.in_ok-unlocked.unlocked.opened _ _ (result_message c.report_slot.result)
+    let told = slot_reads_nothing c.in_ok-unlocked.unlocked.volume.slot _ _ (result_message c.report_slot.result)
     c.report_slot.ensures.told in
     absurd (cc (rw failed at told))
 
 pub returns-in_err-unlocked-clause-calls : goal.returns-in_err-unlocked-clause-calls
 returns-in_err-unlocked-clause-calls g c =
     let p = err_from_is_err_and c.from_residual.result c.from_residual.ensures.1 in
-    let stop = c.in_err-unlocked.ensures in
-    rw (p.1, p.2) (record {
-      failures = stop.counts _;
-      image_needed = stop.needed.0;
-      secret_needed = stop.needed.1;
-      out_needed = λ live. refl;
-    })
+    rw (p.1, p.2) (calls_unopened _ _ _ _ _ _ c.in_err-unlocked.ensures.counts)
 
 pub returns-clause-calls : goal.returns-clause-calls
 returns-clause-calls g c =
-    let not_read = slot_reads_nothing c.in_ok-unlocked.unlocked.opened _ _ (result_message c.report_slot.result)
+    let not_read = slot_reads_nothing c.in_ok-unlocked.unlocked.volume.slot _ _ (result_message c.report_slot.result)
     c.report_slot.ensures.told in
-    let unlocked = c.in_ok-unlocked.ensures in
+    let counts = c.in_ok-unlocked.ensures.counts in
     record {
-      failures = counts_passed (result_message c.report_slot.result) _ _ _ _ _ _ _ unlocked.counts
-          (rw not_read refl) c.report_slot.ensures.writes;
-      image_needed = unlocked.needed.0;
-      secret_needed = unlocked.needed.1;
-      out_needed = c.report_slot.ensures.needed;
+      failures = counts_passed (result_message c.report_slot.result) _ _ _ _ _ _ _ counts.failures
+          (rw not_read refl) c.report_slot.ensures.writes.failures;
+      image_reads = counts.image_reads;
+      secret_reads = counts.secret_reads;
+      out_writes = (_, c.report_slot.ensures.writes);
     }

@@ -1,8 +1,8 @@
 use Rattle.std.proofs.lemmas.Result.{err_from_is_err_and}
-use Rattle.std.proofs.Common.{◌∙◌, [], Some, ap, refl}
+use Rattle.std.proofs.Common.{◌∙◌, [], Some, ap, false, refl}
 use Rattle.luks_request.specs.Request.{volume_request}
-use Rattle.luks_unlock.specs.declared.finding.FoundVolume.{FoundVolume}
-use Rattle.luks_unlock.proofs.VolumeLemmas.{needed_after, nothing_left}
+use Rattle.luks_unlock.proofs.VolumeLemmas.{nothing_left, reads_within, there_is_volume}
+use Rattle.luks_cli.proofs.CallLemmas.{once_on, reads_before, reads_of_image, unwritten}
 use Rattle.luks_cli.proofs.VolumeRuns.{runs_without_key, runs_without_volume, unlocks_volume}
 use Rattle.luks_cli.proofs.execute.volumes.unlock.Goals as goal
 
@@ -10,67 +10,66 @@ pub returns-in_err-volume-clause-err : goal.returns-in_err-volume-clause-err
 returns-in_err-volume-clause-err g c =
     let p = err_from_is_err_and c.from_residual.result c.from_residual.ensures.1 in
     rw (p.1, p.2) (λ written known is pass has on_opened takes.
-    runs_without_volume c.args.location _ known pass _ _ _ on_opened takes _ c.in_err-volume.ensures.writes
+    runs_without_volume c.args.location _ known pass _ _ _ on_opened takes _ c.in_err-volume.ensures.only
     (c.in_err-volume.ensures.err known is) has)
+
+pub returns-in_err-volume-clause-counts : goal.returns-in_err-volume-clause-counts
+returns-in_err-volume-clause-counts g c =
+    let p = err_from_is_err_and c.from_residual.result c.from_residual.ensures.1 in
+    let failed = c.in_err-volume.ensures in
+    rw (p.1, p.2) (reads_of_image _ failed.reads.0 _ _ _ (unwritten _ failed.only) failed.reads.1)
 
 pub returns-in_err-opened-clause-err : goal.returns-in_err-opened-clause-err
 returns-in_err-opened-clause-err g c =
     let p = err_from_is_err_and c.from_residual-in_err-opened.result c.from_residual-in_err-opened.ensures.1 in
     rw (p.1, p.2) (λ written known is pass has on_opened takes.
-    let volume = c.in_ok-volume.ensures in
-    let read = volume.ok known is in
+    let found = c.in_ok-volume.ensures.found in
+    let read = found.header known is in
     runs_without_key c.args.location (volume_request c.args.opening.now) known pass _ _ _ _ _ _ read.0
-    volume.segment volume.order _ _ read.1 on_opened takes
+    found.slots.segment found.slots.order _ _ read.1 on_opened takes
     (record { within = read.2.within; left = refl }) _
     (c.in_err-opened.ensures.run _ read.2.left pass has
-    (nothing_left _ _ _ _ _ known _ volume.loaded is read.2.left)))
+    (nothing_left _ _ _ _ _ known _ found.loaded is read.2.left)))
+
+pub returns-in_err-opened-clause-unneeded : goal.returns-in_err-opened-clause-unneeded
+returns-in_err-opened-clause-unneeded g c known is none =
+    absurd (there_is_volume c.args.location _ _ _ _ _ _ known c.in_ok-volume.ensures.found is none)
+
+-- the key slots were tried after the volume was found
+pub returns-in_err-opened-clause-counts : goal.returns-in_err-opened-clause-counts
+returns-in_err-opened-clause-counts g c =
+    let p = err_from_is_err_and c.from_residual-in_err-opened.result c.from_residual-in_err-opened.ensures.1 in
+    let first = c.in_ok-volume.ensures.found.loaded.reads in
+    let then = c.in_err-opened.ensures.counts in
+    rw (p.1, p.2) (reads_before _ _ _ _ _ _ first.failures (once_on _ _ _ _ first
+    (λ ended. ap g.I.Source.counts (c.open_volume-opened.ensures.ended ended)) then.image_reads) then)
 
 pub returns-clause-ok : goal.returns-clause-ok
 returns-clause-ok g c known is pass has =
-    let volume = c.in_ok-volume.ensures in
-    let read = volume.ok known is in
-    let kept = ap (λ (v : FoundVolume). v.segment) c.open_volume-opened.ensures.kept in
-    rw (c.kept_parts-area.ensures, kept) (unlocks_volume c.args.location (volume_request c.args.opening.now) known pass
-    _ _ (Some []) _ _ _ read.0 volume.segment volume.order _ _ read.1 _
+    let found = c.in_ok-volume.ensures.found in
+    let read = found.header known is in
+    rw c.area_of-area.ensures (unlocks_volume c.args.location (volume_request c.args.opening.now) known pass
+    _ _ (Some []) _ _ _ read.0 found.slots.segment found.slots.order _ _ read.1 _
     (c.in_ok-opened.ensures.run _ read.2.left pass has
-    (nothing_left _ _ _ _ _ known _ volume.loaded is read.2.left)))
+    (nothing_left _ _ _ _ _ known _ found.loaded is read.2.left)))
+
+pub returns-clause-unneeded : goal.returns-clause-unneeded
+returns-clause-unneeded g c known is none =
+    absurd (there_is_volume c.args.location _ _ _ _ _ _ known c.in_ok-volume.ensures.found is none)
 
 pub returns-clause-counts : goal.returns-clause-counts
-returns-clause-counts g c written =
-    rw c.in_ok-volume.ensures.reads at (c.in_ok-opened.ensures.counts written)
-
--- the key slots were tried after the volume was found
-pub returns-in_err-volume-clause-needed : goal.returns-in_err-volume-clause-needed
-returns-in_err-volume-clause-needed g c = (c.find_volume.ensures.needed, λ live. refl)
-
-pub returns-in_err-opened-clause-needed : goal.returns-in_err-opened-clause-needed
-returns-in_err-opened-clause-needed g c =
-    let volume = c.in_ok-volume.ensures in
-    let opened = c.open_volume-opened.ensures in (
-      needed_after c.in_ok-volume.volume.area (g.I.Source.counts c.args.image.now)
-          (g.I.Source.counts c.find_volume.new.image) (g.I.Source.counts c.open_volume-opened.new.image) volume.reads
-          volume.loaded.ends (λ ended. ap (λ image. (g.I.Source.counts image).needless) (opened.ended ended))
-          volume.needed opened.needed.0,
-      opened.needed.1,
-    )
-
-pub returns-clause-needed : goal.returns-clause-needed
-returns-clause-needed g c =
-    let volume = c.in_ok-volume.ensures in
-    let opened = c.open_volume-opened.ensures in (
-      needed_after c.in_ok-volume.volume.area (g.I.Source.counts c.args.image.now)
-          (g.I.Source.counts c.find_volume.new.image) (g.I.Source.counts c.open_volume-opened.new.image) volume.reads
-          volume.loaded.ends (λ ended. ap (λ image. (g.I.Source.counts image).needless) (opened.ended ended))
-          volume.needed opened.needed.0,
-      opened.needed.1,
-    )
+returns-clause-counts g c =
+    let first = c.in_ok-volume.ensures.found.loaded.reads in
+    let then = c.in_ok-opened.ensures.counts in
+    reads_before _ _ _ _ _ _ first.failures (once_on _ _ _ _ first
+    (λ ended. ap g.I.Source.counts (c.open_volume-opened.ensures.ended ended)) then.image_reads) then
 
 pub returns-clause-loaded : goal.returns-clause-loaded
 returns-clause-loaded g c =
-    let volume = c.in_ok-volume.ensures.loaded in
+    let loaded = c.in_ok-volume.ensures.found.loaded in
     let still = c.in_ok-opened.ensures.still in
-    rw (c.kept_parts-area.ensures, still.0) (record {
-      ends = still.1 ∙ volume.ends;
-      emptied = λ ended known is.
-          ap g.I.Source.to_come (c.open_volume-opened.ensures.ended ended) ∙ volume.emptied ended known is;
+    let kept = c.open_volume-opened.ensures.ended in
+    rw (c.area_of-area.ensures, still.0) (record {
+      reads = reads_within false _ _ _ _ loaded.reads (λ ended. ap g.I.Source.counts (kept ended)) still.1;
+      emptied = λ ended known is. ap g.I.Source.to_come (kept ended) ∙ loaded.emptied ended known is;
     })

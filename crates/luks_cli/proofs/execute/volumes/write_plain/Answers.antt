@@ -1,11 +1,7 @@
-use Rattle.std.proofs.Common.{ap, length, ◌∙◌}
-use Rattle.luks_cipher.specs.Sector.{is_mode_key_length}
-use Rattle.luks_unlock.proofs.KeyLemmas.{cipher_is}
 use Rattle.luks_cli.proofs.execute.volumes.write_plain.Goals as goal
 
 pub returns-clause-run : goal.returns-clause-run
-returns-clause-run g c =
-    let mode = c.args.unlocked.now.segment.mode in
-    let cipher = cipher_is c.in-Some.cipher mode c.as_slice-key.result.now
-    (ap (λ l. is_mode_key_length mode (length l)) c.as_slice-key.ensures ∙ c.requires.key) c.in-Some.ensures in
-    rw (cipher, c.as_slice-key.ensures) at c.write_payload.ensures.run
+returns-clause-run g c = rw c.cipher.ensures at c.write_payload.ensures.run
+
+pub returns-clause-reads : goal.returns-clause-reads
+returns-clause-reads g c = let reads = c.write_payload.ensures.reads in (_, reads.0, reads.1)

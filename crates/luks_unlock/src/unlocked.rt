@@ -1,0 +1,44 @@
+//! Volumes that a passphrase opened.
+
+ghost use Rattle.std.specs.Prelude.{◌≡◌, length, true};
+ghost use Rattle.luks_cipher.specs.Sector.{is_mode_key_length};
+
+use luks_cipher::SectorCipher;
+use luks_header::segment::Segment;
+use luks_open::key::Key;
+use luks_open::opening::Opened;
+
+/// A volume that a passphrase opened. Its key has a length of its segment's mode.
+#[derive(Drop)]
+pub struct UnlockedVolume {
+    /// Where its payload is.
+    pub segment: Segment,
+    /// The number of the key slot that opened.
+    pub slot: u8,
+    /// The volume key.
+    pub key: Key,
+    pub ghost key_length: { is_mode_key_length segment.mode (length key) ≡ true },
+}
+
+impl UnlockedVolume {
+    /// The volume of this segment that was opened.
+    pub(crate) fn new(segment: Segment, opened: Opened) -> UnlockedVolume
+        requires { is_mode_key_length segment.mode (length opened.key) ≡ true }
+        ensures segment { result.segment ≡ segment }
+        ensures slot { result.slot ≡ opened.slot }
+        ensures key { result.key ≡ opened.key }
+    {
+        let Opened { slot, key } = opened;
+        UnlockedVolume { segment, slot, key }
+    }
+
+    /// The cipher of its payload: its key, in its segment's mode.
+    pub fn cipher(&self) -> SectorCipher
+        ensures { result ≡ (self.now.segment.mode, self.now.key) }
+    {
+        let Some(cipher) = SectorCipher::new(self.segment.mode, self.key.as_slice()) else {
+            unreachable!()
+        };
+        cipher
+    }
+}
