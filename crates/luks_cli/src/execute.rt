@@ -6,7 +6,8 @@ ghost use Rattle.luks_runs.specs.Run.{result_message};
 ghost use Rattle.luks_cli.specs.CommandRun.{CountsCalls, NeedsNoSecret};
 ghost use Rattle.luks_cli.specs.CommandRun.{ReadsFirst, ReadsImage, RunsAsStated};
 ghost use Rattle.luks_cli.specs.Honest.{WritesPlain};
-ghost use Rattle.luks_cli.specs.CommandMessages.{MayReport, Reports};
+ghost use Rattle.luks_cli.specs.CommandMessages.{Reports};
+ghost use Rattle.luks_report.specs.Report.{report_of};
 
 pub use detached::execute_detached;
 use luks_io::sink::Sink;
@@ -71,43 +72,33 @@ pub fn execute<I: Source, K: Source, O: Sink>(
         (I.counts image.old) (I.counts image.new) (K.counts secret.old) (K.counts secret.new)
         (O.counts out.old) (O.counts out.new) }
 {
-    match perform(alloc, command, image, secret, out) {
-        Ok(()) => Report::of(Message::Done),
-        Err(message) => Report::of(message),
+    let location = HeaderLocation::Attached;
+    match command {
+        Command::IsLuks(_) => report(headers::is_luks(alloc, image)),
+        Command::LuksUuid(_) => report(headers::print(alloc, Printout::Uuid, location, image, out)),
+        Command::LuksDump(_) => report(headers::print(alloc, Printout::Dump, location, image, out)),
+        Command::LuksCheck(_) => report(headers::print(
+            alloc,
+            Printout::Check,
+            location,
+            image,
+            out,
+        )),
+        Command::TestPassphrase(opening) => report(volumes::test_passphrase(
+            alloc, location, opening, image, secret, out,
+        )),
+        Command::LuksCat(opening) => report(volumes::cat(alloc, opening, image, secret, out)),
+        Command::AfSplit(splitting) => report(stripes::split(splitting, image, secret, out)),
+        Command::AfMerge(merging) => report(stripes::merge(merging, image, out)),
     }
 }
 
-/// Performs a command. The error is the message of a run that does not succeed.
-fn perform<I: Source, K: Source, O: Sink>(
-    alloc: Global,
-    command: &Command<'_>,
-    image: &mut I,
-    secret: &mut K,
-    out: &mut O,
-) -> Result<(), Message>
-    ensures run { RunsAsStated (request_of command.now) (result_message result)
-        (I.to_come image.old) (I.to_come image.new) (K.to_come secret.old) (K.to_come secret.new)
-        (O.written out.old) (O.written out.new) }
-    ensures only { MayReport (request_of command.now) (result_message result) }
-    ensures unneeded { NeedsNoSecret (request_of command.now) (I.to_come image.old)
-        → secret.new ≡ secret.old }
-    ensures reads_first { ReadsFirst (request_of command.now)
-        → result_message result ≡ Message.ReadFailed → out.new ≡ out.old }
-    ensures calls { CountsCalls (ReadsImage (request_of command.now)) (result_message result)
-        (I.counts image.old) (I.counts image.new) (K.counts secret.old) (K.counts secret.new)
-        (O.counts out.old) (O.counts out.new) }
+/// The report of a run that succeeded, or ended with this message.
+fn report(run: Result<(), Message>) -> Report
+    ensures { result ≡ report_of (result_message run) }
 {
-    let location = HeaderLocation::Attached;
-    match command {
-        Command::IsLuks(_) => headers::is_luks(alloc, image),
-        Command::LuksUuid(_) => headers::print(alloc, Printout::Uuid, location, image, out),
-        Command::LuksDump(_) => headers::print(alloc, Printout::Dump, location, image, out),
-        Command::LuksCheck(_) => headers::print(alloc, Printout::Check, location, image, out),
-        Command::TestPassphrase(opening) => {
-            volumes::test_passphrase(alloc, location, opening, image, secret, out)
-        }
-        Command::LuksCat(opening) => volumes::cat(alloc, opening, image, secret, out),
-        Command::AfSplit(splitting) => stripes::split(splitting, image, secret, out),
-        Command::AfMerge(merging) => stripes::merge(merging, image, out),
+    match run {
+        Ok(()) => Report::of(Message::Done),
+        Err(message) => Report::of(message),
     }
 }

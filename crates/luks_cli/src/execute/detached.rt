@@ -5,10 +5,9 @@ ghost use Rattle.luks_request.specs.Request.{has_header_file, request_of};
 ghost use Rattle.luks_cli.specs.Detached.{CountsCallsDetached, NeedsNoPayload};
 ghost use Rattle.luks_cli.specs.Detached.{NeedsNoSecretDetached, RunsDetached};
 ghost use Rattle.luks_cli.specs.CommandRun.{ReadsFirst, ReadsImage};
-ghost use Rattle.luks_runs.specs.Run.{result_message};
-ghost use Rattle.luks_cli.specs.CommandMessages.{MayReport, Reports};
+ghost use Rattle.luks_cli.specs.CommandMessages.{Reports};
 
-use super::volumes;
+use super::{report, volumes};
 use luks_io::sink::Sink;
 use luks_io::source::Source;
 use luks_report::message::Message;
@@ -49,49 +48,36 @@ pub fn execute_detached<H: Source, I: Source, K: Source, O: Sink>(
         (H.counts header.old) (H.counts header.new) (I.counts image.old) (I.counts image.new)
         (K.counts secret.old) (K.counts secret.new) (O.counts out.old) (O.counts out.new) }
 {
-    match perform_detached(alloc, command, header, image, secret, out) {
-        Ok(()) => Report::of(Message::Done),
-        Err(message) => Report::of(message),
-    }
-}
-
-/// Performs a command. The error is the message of a run that does not succeed.
-fn perform_detached<H: Source, I: Source, K: Source, O: Sink>(
-    alloc: Global,
-    command: &Command<'_>,
-    header: &mut H,
-    image: &mut I,
-    secret: &mut K,
-    out: &mut O,
-) -> Result<(), Message>
-    requires detached { has_header_file (request_of command.now) ≡ true }
-    ensures run { RunsDetached (request_of command.now) (result_message result)
-        (H.to_come header.old) (H.to_come header.new) (I.to_come image.old) (I.to_come image.new)
-        (K.to_come secret.old) (K.to_come secret.new) (O.written out.old) (O.written out.new) }
-    ensures only { MayReport (request_of command.now) (result_message result) }
-    ensures unneeded { NeedsNoSecretDetached (request_of command.now) (H.to_come header.old)
-        → secret.new ≡ secret.old }
-    ensures untouched { NeedsNoPayload (request_of command.now) (result_message result)
-        → image.new ≡ image.old }
-    ensures reads_first { ReadsFirst (request_of command.now)
-        → result_message result ≡ Message.ReadFailed → out.new ≡ out.old }
-    ensures calls { CountsCallsDetached (ReadsImage (request_of command.now))
-        (result_message result)
-        (H.counts header.old) (H.counts header.new) (I.counts image.old) (I.counts image.new)
-        (K.counts secret.old) (K.counts secret.new) (O.counts out.old) (O.counts out.new) }
-{
     let location = HeaderLocation::Detached;
     match command {
-        Command::IsLuks(_) => headers::is_luks(alloc, header),
-        Command::LuksUuid(_) => headers::print(alloc, Printout::Uuid, location, header, out),
-        Command::LuksDump(_) => headers::print(alloc, Printout::Dump, location, header, out),
-        Command::LuksCheck(_) => headers::print(alloc, Printout::Check, location, header, out),
-        Command::TestPassphrase(opening) => {
-            volumes::test_passphrase(alloc, location, opening, header, secret, out)
-        }
-        Command::LuksCat(opening) => {
-            volumes::cat_detached(alloc, opening, header, image, secret, out)
-        }
+        Command::IsLuks(_) => report(headers::is_luks(alloc, header)),
+        Command::LuksUuid(_) => report(headers::print(
+            alloc,
+            Printout::Uuid,
+            location,
+            header,
+            out,
+        )),
+        Command::LuksDump(_) => report(headers::print(
+            alloc,
+            Printout::Dump,
+            location,
+            header,
+            out,
+        )),
+        Command::LuksCheck(_) => report(headers::print(
+            alloc,
+            Printout::Check,
+            location,
+            header,
+            out,
+        )),
+        Command::TestPassphrase(opening) => report(volumes::test_passphrase(
+            alloc, location, opening, header, secret, out,
+        )),
+        Command::LuksCat(opening) => report(volumes::cat_detached(
+            alloc, opening, header, image, secret, out,
+        )),
         Command::AfSplit(_) | Command::AfMerge(_) => unreachable!(),
     }
 }
