@@ -46,9 +46,9 @@ mod volumes;
 /// `luksCat` allows read-ahead for the bytes of the image that it will request, and writes each
 /// sector as it comes: if a write fails, nothing past the current sector was consumed, except for
 /// the header, and if a read fails, all whole sectors that were consumed are written, unless a
-/// damaged primary header reaches into the payload. No clause says how much read-ahead it allows,
-/// so none says what a source that reads ahead consumes of a pipe. Its image is shorter than 2^64
-/// bytes.
+/// damaged primary header reaches into the payload. How much read-ahead it allows is a clause of
+/// `write_payload` and not of this call. Its image is shorter than 2^64 bytes. No other command
+/// allows read-ahead, so of a pipe it consumes just what it requests.
 pub fn execute<I: Source, K: Source, O: Sink>(
     alloc: Global,
     command: &Command<'_>,
