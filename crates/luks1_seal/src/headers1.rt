@@ -8,9 +8,8 @@ ghost use Rattle.luks1_seal.specs.Layout1.{state1_of};
 ghost use Rattle.luks1_seal.specs.Ranges1.{AreParameters, FitsSlot};
 
 use crate::ranges::area_of;
-use luks_kdf::{Work, pbkdf2};
 use luks_seal::parameters::{Seal1, Slot1};
-use luks_seal::pieces::{padded, push_padded};
+use luks_seal::pieces::{derived_key, padded, push_padded};
 use std::alloc::{AllocError, Global};
 
 /// A key slot that is in use.
@@ -61,15 +60,14 @@ fn push_digest(alloc: Global, header: &mut Vec<u8>, seal: &Seal1<'_>) -> Result<
     requires { AreParameters seal.now }
     ensures { OnOk result (header.new.items ≡ header.old.items ++ digest1_fields seal.now) }
 {
-    let mut digest = vec![in alloc; 0; 20]?;
-    pbkdf2(
+    let digest = derived_key(
+        alloc,
         seal.hash,
         seal.key,
         &seal.digest_salt,
         seal.digest_iterations,
-        &mut digest,
-        &mut Work::new(0),
-    );
+        20,
+    )?;
     header.extend_from_slice(&digest)?;
     header.extend_from_slice(&seal.digest_salt)?;
     header.extend_from_slice(&seal.digest_iterations.to_be_bytes())

@@ -12,10 +12,9 @@ ghost use Rattle.luks1_seal.specs.Ranges1.{AreParameters, FitsSlot};
 use crate::headers1::{header1_bytes, slot1_numbered};
 use crate::ranges::{are_parameters, area_of};
 use crate::typed::typed1;
-use luks_kdf::{Work, pbkdf2};
 use luks_seal::parameters::{Seal1, SealFault, Slot1};
 use luks_seal::pieces::{
-    cipher_of, encrypted, encrypted_material, padded, push_padded, stripes_of,
+    cipher_of, derived_key, encrypted, encrypted_material, padded, push_padded, stripes_of,
 };
 use luks_verdict::sector_size::SectorSize;
 use std::alloc::{AllocError, Global};
@@ -28,16 +27,14 @@ fn area_key_of(alloc: Global, seal: &Seal1<'_>, slot: &Slot1<'_>) -> Result<Vec<
     ensures value { IfOk result (λ key. key.items ≡ area_key1_of seal.now slot.now) }
     ensures len { IfOk result (λ key. length key.items ≡ length seal.now.key.now) }
 {
-    let mut key = vec![in alloc; 0; seal.key.len()]?;
-    pbkdf2(
+    derived_key(
+        alloc,
         seal.hash,
         slot.passphrase,
         &slot.salt,
         slot.iterations,
-        &mut key,
-        &mut Work::new(0),
-    );
-    Ok(key)
+        seal.key.len(),
+    )
 }
 
 /// A slot's key material.

@@ -3,13 +3,14 @@
 
 ghost use Rattle.std.specs.Prelude.{◌≡◌, ◌-◌, ◌*◌, ◌%◌, ◌≤◌, ◌++◌, IfOk, OnOk, length};
 ghost use Rattle.luks_cipher.specs.Sector.{sector_encrypted};
+ghost use Rattle.luks_kdf.specs.Pbkdf2.{derived_key};
 ghost use Rattle.luks_seal.specs.Pieces.{encrypted_material, padded, sectors_encrypted, stripes_of};
 ghost use Rattle.luks_seal.specs.Pieces.{wrapping_number, sector_padded};
 ghost use Rattle.luks_seal.specs.Ranges.{FitsKey};
 ghost use Rattle.luks_verdict.specs.SectorSize.{bytes_of};
 
 use luks_cipher::{Mode, SectorCipher};
-use luks_kdf::{Hash, af_split};
+use luks_kdf::{Hash, Work, af_split, pbkdf2};
 use luks_verdict::sector_size::SectorSize;
 use std::alloc::{AllocError, Global};
 
@@ -34,6 +35,34 @@ pub fn push_padded(
 {
     let field = padded(alloc, bytes, room)?;
     image.extend_from_slice(&field)
+}
+
+/// A key of this length, which PBKDF2 derives from a password.
+pub fn derived_key(
+    alloc: Global,
+    hash: Hash,
+    password: &[u8],
+    salt: &[u8],
+    iterations: u32,
+    len: usize,
+) -> Result<Vec<u8>, AllocError>
+    requires turns { 1 ≤ iterations }
+    requires some { 1 ≤ len }
+    requires room { len ≤ 512 }
+    ensures value { IfOk result (λ key. key.items
+        ≡ derived_key hash password.now salt.now iterations len) }
+    ensures len { IfOk result (λ key. length key.items ≡ len) }
+{
+    let mut key = vec![in alloc; 0; len]?;
+    pbkdf2(
+        hash,
+        password,
+        salt,
+        iterations,
+        &mut key,
+        &mut Work::new(0),
+    );
+    Ok(key)
 }
 
 /// A cipher of this mode and key.

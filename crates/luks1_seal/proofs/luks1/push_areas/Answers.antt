@@ -1,0 +1,14 @@
+use Rattle.std.proofs.Common.{◌≡◌, ◌∙◌, ◌++◌, add-one, ap, append_assoc, arith}
+use Rattle.luks1_seal.specs.Layout1.{area1_of, areas1_below}
+use Rattle.luks1_seal.proofs.luks1.push_areas.Goals as goal
+
+pub slots-preserved : goal.slots-preserved
+unfolding areas1_below
+slots-preserved c =
+    let so_far = ap (λ front. front ++ area1_of c.args.seal.now c.slots.number) c.slots.invariant in
+    rw (add-one, ← append_assoc) (c.in_ok-push_area.ensures ∙ so_far)
+
+pub returns : goal.returns
+returns c =
+    let at_end : c.slots.number ≡ 8 = omega arith in
+    c.slots.invariant ∙ ap (λ n. c.args.image.now.items ++ areas1_below c.args.seal.now n) at_end
