@@ -1,6 +1,5 @@
 -- The ranges of parameters, as numbers.
-use Rattle.std.proofs.Common.{◌≡◌, ◌≤◌, ◌++◌, ℕ, List, length, take, drop, arith, true}
-use Rattle.std.proofs.lemmas.Grind.{common_steps}
+use Rattle.std.proofs.Common.{◌≡◌, ◌≤◌, ℕ, length, arith, true}
 use Rattle.std.proofs.lemmas.Bool.Decides.{nat_tests}
 use Rattle.luks_cipher.specs.Sector.{is_mode_key_length}
 use Rattle.luks_cipher.specs.declared.mode.Mode.{Mode}
@@ -32,8 +31,3 @@ module _ (p : Seal2) (fits : AreParameters2 p) where
 
   pub short_header : p.hdr_size ≤ 4194304
   short_header = (size_range p.hdr_size fits.size).1
-
--- a vector that was written whole is what was written
-pub written_whole : (new old : List ℕ) (len : ℕ) → len ≡ length new → length old ≡ length new
-    → take len (new ++ drop (length new) old) ≡ new
-written_whole new old len is same = grind (arith, common_steps)

@@ -7,9 +7,8 @@ ghost use Rattle.luks2_seal.specs.Layout2.{area_key_of, area_of, areas_below};
 ghost use Rattle.luks2_seal.specs.SlotAreas.{area_size, area_size_at, area_start, slot_numbered};
 ghost use Rattle.luks2_seal.specs.Ranges2.{AreParameters2, FitsSlot2};
 
-use luks_kdf::{Work, pbkdf2};
 use luks_seal::parameters::{Seal2, Slot2};
-use luks_seal::pieces::{encrypted_material, push_padded, stripes_of};
+use luks_seal::pieces::{derived_key, encrypted_material, push_padded, stripes_of};
 use std::alloc::{AllocError, Global};
 
 /// The slot of this number, if there is one.
@@ -74,16 +73,14 @@ fn area_key_of(alloc: Global, seal: &Seal2<'_>, slot: &Slot2<'_>) -> Result<Vec<
     ensures value { IfOk result (λ key. key.items ≡ area_key_of seal.now slot.now) }
     ensures len { IfOk result (λ key. length key.items ≡ seal.now.area_key_size) }
 {
-    let mut key = vec![in alloc; 0; seal.area_key_size]?;
-    pbkdf2(
+    derived_key(
+        alloc,
         slot.hash,
         slot.passphrase,
         &slot.salt,
         slot.iterations,
-        &mut key,
-        &mut Work::new(0),
-    );
-    Ok(key)
+        seal.area_key_size,
+    )
 }
 
 /// Adds a slot's area.

@@ -14,8 +14,8 @@ ghost use Rattle.serde_json.specs.View.{items_of, members_view, view};
 
 use crate::areas::{area_size, area_start, slot_numbered};
 use crate::members::{Content, decimal_value, object_of, put_members, put_object};
-use luks_kdf::{Work, pbkdf2};
 use luks_seal::parameters::{Seal2, Slot2};
+use luks_seal::pieces::derived_key;
 use serde_json::{Map, Value, json, put};
 use std::alloc::{AllocError, Global};
 
@@ -169,15 +169,14 @@ fn put_digest_text(
         seal.now.digest_iterations (digest_len seal.now.digest_hash)))
         (members_view map.old.entries)) }
 {
-    let mut digest = vec![in alloc; 0; seal.digest_hash.size()]?;
-    pbkdf2(
+    let digest = derived_key(
+        alloc,
         seal.digest_hash,
         seal.key,
         &seal.digest_salt,
         seal.digest_iterations,
-        &mut digest,
-        &mut Work::new(0),
-    );
+        seal.digest_hash.size(),
+    )?;
     put_members(alloc, map, &[("digest", Content::Bytes(&digest))])
 }
 
