@@ -14,6 +14,10 @@ use Rattle.luks_seal.specs.Pieces.{encrypted_sector, stripes_of, wrapping_number
 pub written : (len : ℕ) (new rest : List ℕ) → length new ≡ len → take len (new ++ rest) ≡ new
 written len new rest is = ap (λ n. take n (new ++ rest)) (sym is) ∙ take-append_seam new rest
 
+-- and so many bytes
+pub written_len : (len : ℕ) (new rest : List ℕ) → length new ≡ len → length (take len (new ++ rest)) ≡ len
+written_len len new rest is = ap length (written len new rest is) ∙ is
+
 -- a split with so many random stripes is the stated one
 pub split_is : (hash : Hash) (random key stripes : List ℕ) (count : ℕ) → 1 ≤ length key
     → length random ≡ (count - 1) * length key → IsSplit hash random key stripes

@@ -1,0 +1,24 @@
+use Rattle.std.proofs.Common.{◌∙◌, ap, arith}
+use Rattle.luks_kdf.specs.Pbkdf2.{derived_key}
+use Rattle.luks_seal.proofs.PieceLemmas.{written, written_len}
+use Rattle.luks_seal.proofs.pieces.derived_key.Goals as goal
+
+pub pbkdf2-requires-clause-some : goal.pbkdf2-requires-clause-some
+pbkdf2-requires-clause-some c =
+    let len = c.in_ok-key.ensures.len in
+    omega (arith, len)
+
+pub pbkdf2-requires-clause-room : goal.pbkdf2-requires-clause-room
+pbkdf2-requires-clause-room c =
+    let len = c.in_ok-key.ensures.len in
+    omega (arith, len)
+
+pub returns-clause-value : goal.returns-clause-value
+returns-clause-value c =
+    let len = c.in_ok-key.ensures.len in
+    written _ _ _ (omega arith)
+    ∙ c.pbkdf2.ensures.key
+    ∙ ap (derived_key c.args.hash c.args.password.now c.args.salt.now c.args.iterations) (omega (arith, len))
+
+pub returns-clause-len : goal.returns-clause-len
+returns-clause-len c = written_len c.in_ok-key.key.len c.pbkdf2.new.out _ (omega arith) ∙ c.in_ok-key.ensures.len
