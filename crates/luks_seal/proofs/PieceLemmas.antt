@@ -1,6 +1,7 @@
 -- What is written into a vector, encrypted sectors, and stripes.
 use Rattle.std.proofs.Common.{◌≡◌, ◌∙◌, ℕ, ◌+◌, ◌-◌, ◌*◌, ◌≤◌, List, [], ◌++◌, length, take, drop, refl, sym, ap, arith}
-use Rattle.std.proofs.Common.{add-one}
+use Rattle.std.proofs.Common.{◌<◌, ◌/◌, ◌%◌, add-one}
+use Rattle.std.proofs.lemmas.Grind.{common_steps}
 use Rattle.std.proofs.Math.Seq.{take-append_seam}
 use Rattle.std.proofs.Math.Nat.{eq_of_mul-eq-mul_right}
 use Rattle.luks_cipher.specs.Sector.{Cipher, sector_encrypted}
@@ -8,6 +9,9 @@ use Rattle.luks_cipher.specs.Xts.{joined}
 use Rattle.luks_kdf.specs.Bytes.{xor}
 use Rattle.luks_kdf.specs.Stripes.{IsSplit, chain_of}
 use Rattle.luks_kdf.specs.declared.hash.Hash.{Hash}
+use Rattle.luks_verdict.specs.SectorSize.{bytes_of}
+use Rattle.luks_verdict.specs.declared.sector_size.SectorSize.{SectorSize}
+use Rattle.luks_verdict.specs.declared.sector_size.SectorSize.TheVariants.{B512, B1024, B2048, B4096}
 use Rattle.luks_seal.specs.Pieces.{encrypted_sector, stripes_of, wrapping_number}
 
 -- a vector of so many bytes that were all written anew has what was written
@@ -26,6 +30,30 @@ unfolding stripes_of
 split_is hash random key stripes count some len (before, has, is) =
     let same : before ≡ count - 1 = eq_of_mul-eq-mul_right (length key) some before (count - 1) (sym has ∙ len) in
     is ∙ ap (λ n. random ++ xor (chain_of hash (length key) random n) key) same
+
+-- the bytes of one whole piece
+pub piece_len : (i size : ℕ) (bytes : List ℕ) → i < length bytes / size
+    → length (take (i * size + size - i * size) (drop (i * size) bytes)) ≡ size
+piece_len i size bytes below = grind (arith, common_steps)
+
+-- sectors have whole blocks of 16 bytes
+pub whole_blocks : (size : SectorSize) → bytes_of size % 16 ≡ 0
+whole_blocks B512 = refl
+whole_blocks B1024 = refl
+whole_blocks B2048 = refl
+whole_blocks B4096 = refl
+
+pub shortest_sector : (size : SectorSize) → 16 ≤ bytes_of size
+shortest_sector B512 = omega arith
+shortest_sector B1024 = omega arith
+shortest_sector B2048 = omega arith
+shortest_sector B4096 = omega arith
+
+pub longest_sector : (size : SectorSize) → bytes_of size ≤ 4096
+longest_sector B512 = omega arith
+longest_sector B1024 = omega arith
+longest_sector B2048 = omega arith
+longest_sector B4096 = omega arith
 
 module _ (cipher : Cipher) (first step size : ℕ) (bytes : List ℕ) where
   -- no sector yet
