@@ -93,8 +93,8 @@ ReadsImage _ = ReadsOnce
 abbrev pub WritesOnce : WriteCounts → WriteCounts → Type 0
 WritesOnce before after = (failed : Bool) × Writes failed before after
 
--- what a run that reads the image so adds to the counts of its devices: one failure if a read or a write failed, at
--- most one end of each input, and no needless call
+-- what a run that reads the image in this way adds to the counts of its devices: one failure if a read or a write
+-- failed, at most one end of each input, and no needless call
 pub record CountsCalls (ReadsIt : ReadCounts → ReadCounts → Type 0) (message : Message)
     (image image' secret secret' : ReadCounts) (out out' : WriteCounts) : Type 0 where
   pub failures : Counts message (failures_of image.failures secret.failures out.failures)

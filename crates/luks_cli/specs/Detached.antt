@@ -99,8 +99,8 @@ CountsDetached ReadFailed header header' before after =
     ((header' ≡ saturating_inc header) × (after ≡ before)) ⊎ ((header' ≡ header) × Counts ReadFailed before after)
 CountsDetached message header header' before after = (header' ≡ header) × Counts message before after
 
--- what a run that reads the image so adds to the counts of its devices: one failure if a read or a write failed, at
--- most one end of each input, and no needless call
+-- what a run that reads the image in this way adds to the counts of its devices: one failure if a read or a write
+-- failed, at most one end of each input, and no needless call
 pub record CountsCallsDetached (ReadsIt : ReadCounts → ReadCounts → Type 0) (message : Message)
     (header header' image image' secret secret' : ReadCounts) (out out' : WriteCounts) : Type 0 where
   pub failures : CountsDetached message header.failures header'.failures

@@ -1,4 +1,4 @@
--- What `luksCat` owes of an honestly sealed volume: its plain text.
+-- What `luksCat` writes if the volume is honestly sealed: its plaintext.
 use Rattle.std.specs.Prelude.{◌≡◌, ℕ, ◌^◌, ◌<◌, List, length, Option, false}
 use Rattle.luks_io.specs.Devices.{Appended, IfKnown}
 use Rattle.luks_request.specs.Request.{Request, luks_cat}

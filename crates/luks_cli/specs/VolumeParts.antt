@@ -20,18 +20,19 @@ pub record ConsumesHeld (secret : List ℕ) (on_opened : OnOpened) : Type 0 wher
 
 -- ---- the payload
 
--- the header ends before the payload starts, or more than the header was consumed: only a damaged primary header, whose
--- size reaches into the payload, can end a run without either
+-- the header ends before the payload starts, or more than the header was consumed. Neither need hold only if the size
+-- in a damaged primary header reaches into the payload
 abbrev pub PassesHeader : Segment → ℕ → ℕ → Type 0
-PassesHeader s cost taken = (cost ≤ s.offset) ⊎ (cost < taken)
+PassesHeader s header_len consumed = (header_len ≤ s.offset) ⊎ (header_len < consumed)
 
 -- forwarding a payload is aborted: if a write fails, no byte of the image past the sector of the last byte written was
 -- consumed, except for the header's; if a read fails, the output is the whole sectors that were consumed
 abbrev pub forwards_promptly : Segment → ℕ → Message → ℕ → ℕ → Type 0
-forwards_promptly s cost WriteFailed taken output = taken ≤ max cost (sector_start s (output / sector_len s + 1))
-forwards_promptly s cost ReadFailed taken output = PassesHeader s cost taken
-    → output ≡ (taken - s.offset) / sector_len s * sector_len s
-forwards_promptly s cost _ taken output = Unit {0}
+forwards_promptly s header_len WriteFailed consumed output =
+    consumed ≤ max header_len (sector_start s (output / sector_len s + 1))
+forwards_promptly s header_len ReadFailed consumed output = PassesHeader s header_len consumed
+    → output ≡ (consumed - s.offset) / sector_len s * sector_len s
+forwards_promptly s header_len _ consumed output = Unit {0}
 
 -- `luksCat` is aborted: this holds of the image's payload
 abbrev pub cat_promptly : List ℕ → Message → ℕ → ℕ → ℕ → Type 0

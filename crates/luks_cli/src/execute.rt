@@ -47,8 +47,8 @@ mod volumes;
 /// sector as it comes: if a write fails, nothing past the current sector was consumed, except for
 /// the header, and if a read fails, all whole sectors that were consumed are written, unless a
 /// damaged primary header reaches into the payload. How much read-ahead it allows is a clause of
-/// `write_payload` and not of this call. Its image is shorter than 2^64 bytes. No other command
-/// allows read-ahead, so of a pipe it consumes just what it requests.
+/// `write_payload` and not of this call. All this is said of images shorter than 2^64 bytes. Every
+/// other command consumes just what it requests, also of a pipe.
 pub fn execute<I: Source, K: Source, O: Sink>(
     alloc: Global,
     command: &Command<'_>,

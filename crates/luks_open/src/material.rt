@@ -40,7 +40,8 @@ fn take_in(splitter: &mut AfSplitter, stripes: &[u8], len: usize, count: usize)
     }
 }
 
-// The same, with a sector to work in.
+// Merges the key of the stripes that the key material holds, as `unlock` below does. It decrypts
+// one sector at a time into this buffer.
 fn unlock_by(
     af: Hash,
     key: &SectorCipher,

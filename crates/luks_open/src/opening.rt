@@ -91,7 +91,8 @@ fn first_opening(entries: &[Entry], image: &[u8], pass: &[u8], work: &mut Work) 
         → All (λ entry. is_mode_key_length mode entry.slot.parts.key_bytes ≡ true) entries.now
         → IfSome result (λ opened. is_mode_key_length mode (length opened.key) ≡ true) }
 {
-    // If there are no key slots, the count stays as it is: within its range.
+    // The clause of `count` says that the count is within its range: so it is capped as it stands,
+    // if there are no key slots.
     let _before = work.count();
     'entries: for entry in entries {
         if let Some(key) = key(entry, image, pass, work) {

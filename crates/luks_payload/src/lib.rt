@@ -1,7 +1,7 @@
 //! The payload of a volume: its stored sectors, one after the other, as plaintext.
 //!
-//! A [`Pump`](pump::Pump) reads an image once and forwards, and writes the plaintext of each sector
-//! as it comes.
+//! A [`Pump`](pump::Pump) reads an image once, from its start to the payload's end, and writes the
+//! plaintext of each sector as it comes.
 #![tactic(auto)]
 
 mod decryption;

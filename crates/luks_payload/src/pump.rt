@@ -27,9 +27,9 @@ const ROOM: usize = 4096;
 
 /// Forwards a payload, sector by sector. It holds one sector and allocates nothing.
 ///
-/// A clause sees its segment, its cipher, how many bytes of the image were consumed before it was
-/// made, how many sectors it has forwarded, its state, and which of the payload's next bytes were
-/// consumed before it was made.
+/// A clause sees its segment, its cipher, how many of the image's bytes before the payload were
+/// consumed before it was made, how many sectors it has forwarded, its state, and which of the
+/// payload's next bytes were consumed before it was made.
 #[derive(Drop)]
 pub struct Pump<'a> {
     segment: Segment,

@@ -50,7 +50,7 @@ message_printing told (Err fault) = message_for_header fault
 unfoldable pub is_luks_outcome : List ℕ → Outcome
 is_luks_outcome image = no_output (answer_to_is_luks (header_of image)) (header_read_len image) 0
 
--- a command that prints a text of a header that is read so
+-- a command that prints a text of a header that is read in this way
 unfoldable pub print_outcome_by : HeaderReader → (Header → List ℕ) → (Header → Message) → List ℕ → Outcome
 print_outcome_by read text told image = record {
   output = printed text (read image);

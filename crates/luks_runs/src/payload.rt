@@ -39,8 +39,8 @@ fn pump_behind<'a>(segment: Segment, cipher: SectorCipher, held: &'a [u8]) -> Pu
     Pump::with_front(segment, cipher, &held[segment.offset as usize..])
 }
 
-/// How many bytes of an image, however long it is, are requested at most to forward its payload, if
-/// so many of its first ones are loaded: those behind them, up to the payload's end.
+/// How many bytes of an image are still needed to forward its payload, if its first `held` bytes
+/// are loaded: those up to the payload's end, or as many as there can be if it ends with the image.
 fn bytes_needed(segment: &Segment, held: usize) -> u64
     ensures { result ≡ max_needed segment.now.size segment.now.offset held }
 {
@@ -78,5 +78,6 @@ pub fn write_payload<I: Source, O: Sink>(
             Step::End => return Ok(()),
         }
     }
+    // No payload has so many sectors.
     Ok(())
 }

@@ -24,7 +24,7 @@ HasSegmentBy read image segment = (header : Header) × (read image ≡ Ok header
 abbrev pub HasSegment : List ℕ → Segment → Type 0
 HasSegment = HasSegmentBy header_of
 
--- finding the volume whose header is read so was aborted with this message
+-- finding the volume whose header is read in this way was aborted with this message
 abbrev pub AbortsFinding : HeaderReader → VolumeRequest → List ℕ → Option (List ℕ) → Message → Type 0
 AbortsFinding read o image left ReadFailed = ConsumedAtMost image left (header_read_len image)
 AbortsFinding read o image left OutOfMemory = ConsumedAtMost image left (header_read_len image)

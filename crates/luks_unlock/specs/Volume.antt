@@ -45,8 +45,8 @@ abbrev pub volume_in_header : VolumeRequest → Result Header HeaderFault → Re
 volume_in_header o (Ok header) = volume_in_segment o header (segment_of header)
 volume_in_header o (Err fault) = Err (message_for_header fault)
 
--- the volume whose header is read so, or the message if there is none: about its header first, then about its segment,
--- then about the order of its key slots
+-- the volume whose header is read in this way, or the message if there is none: about its header first, then about its
+-- segment, then about the order of its key slots
 unfoldable pub volume_by : HeaderReader → VolumeRequest → List ℕ → Result Volume Message
 volume_by read o image = volume_in_header o (read image)
 
@@ -113,7 +113,7 @@ abbrev pub outcome_after : OnOpened → Option ℕ → List ℕ → List ℕ →
 outcome_after on_opened named image secret (Ok volume) = found_outcome on_opened named volume image secret
 outcome_after on_opened named image secret (Err message) = no_output message (header_read_len image) 0
 
--- a command that opens a volume whose header is read so
+-- a command that opens a volume whose header is read in this way
 unfoldable pub volume_outcome_by : HeaderReader → OnOpened → VolumeRequest → List ℕ → List ℕ → Outcome
 volume_outcome_by read on_opened o image secret =
     outcome_after on_opened o.key_slot image secret (volume_by read o image)

@@ -33,7 +33,7 @@ pub struct FoundVolume {
     pub area: HeaderArea,
     /// Where its payload is.
     pub segment: Segment,
-    /// The key slots that are tried, in their order.
+    /// The key slots that are tried, in their order, and those that are skipped.
     pub order: Order,
 }
 

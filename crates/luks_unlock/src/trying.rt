@@ -54,6 +54,7 @@ pub fn try_slots<I: Source>(
         order,
         ..
     } = volume;
+    // Nobody asks how much work it was.
     match open(header, area, order, pass, &mut Work::new(0)) {
         Ok(opened) => Ok(UnlockedVolume::new(segment, opened)),
         Err(fault) => Err(Message::of_opening(named_slot(opening), fault)),

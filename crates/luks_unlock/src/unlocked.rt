@@ -37,6 +37,7 @@ impl UnlockedVolume {
         ensures { result ≡ (self.now.segment.mode, self.now.key) }
     {
         let Some(cipher) = SectorCipher::new(self.segment.mode, self.key.as_slice()) else {
+            // The type says that the key has a length of this mode.
             unreachable!()
         };
         cipher

@@ -41,8 +41,8 @@ fn main(rt: HostRuntime) -> ExitCode {
 }
 
 /// Opens the inputs and runs the command over them: the image is opened first, then a detached
-/// header's file, then the second input. The result is the exit status either way. It is an error
-/// if the command could not be started, or its output not be flushed.
+/// header's file, then the second input. The result is the exit status either way: an error if the
+/// command was not started, or if its output was not all written.
 fn run(rt: &HostRuntime, command: &Command<'_>) -> Result<ExitCode, ExitCode> {
     let image = ReadSource::new(open(rt, Some(command.image()))?);
     let Ok(mut image) = AheadSource::new(rt.alloc(), BUFFER, image) else {
@@ -68,6 +68,7 @@ fn run(rt: &HostRuntime, command: &Command<'_>) -> Result<ExitCode, ExitCode> {
     } else {
         execute(alloc, command, &mut image, &mut secret, &mut out)
     };
+    // What the buffer still held is lost, so that counts, whatever the command reported.
     if out.into_inner().flush().is_err() {
         return Err(end(rt, Message::WriteFailed));
     }
@@ -90,6 +91,7 @@ fn report_fault(rt: &HostRuntime, fault: InputFault, name: &str) -> ExitCode {
     let Ok(line) = not_opened_text(rt.alloc(), name) else {
         return end(rt, Message::OutOfMemory);
     };
+    // If the message cannot be printed, only the status remains.
     let _ = put_all(&mut WriteSink::new(rt.stderr()), line.as_bytes());
     ExitCode::from(NOT_OPENED)
 }

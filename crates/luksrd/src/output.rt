@@ -5,9 +5,9 @@ use std::fs::{self, File};
 use std::io::{self, ErrorKind, Write};
 use std::os::fd::AsRawFd;
 
-/// A writer that retries an interrupted call, [`MAX_RETRIES`] times at most, and makes no call
-/// after one has failed. A buffer over the bare writer would retry without end, and would write
-/// once more after a failure when it is dropped.
+/// A writer that retries an interrupted write, [`MAX_RETRIES`] times at most, and writes nothing
+/// more once a write has failed. A buffer over the bare writer would retry without end, and would
+/// write once more after a failure when it is dropped.
 #[derive(Drop)]
 pub struct RetryingWriter<W> {
     writer: W,

@@ -112,6 +112,7 @@ fn unlock<I: Source, K: Source>(
 {
     let mut volume = find_volume(alloc, location, opening, image)?;
     let opened = open_volume(alloc, opening, &mut volume, image, secret);
+    // All but the loaded bytes is dropped here, whether or not a slot opened.
     let area = area_of(volume);
     Ok(Unlocked {
         area,
@@ -161,7 +162,7 @@ pub(super) fn test_passphrase<I: Source, K: Source, O: Sink>(
     report_slot(alloc, unlocked.volume.slot, out)
 }
 
-/// Writes the payload of an open volume. These first bytes of its image are loaded.
+/// Writes the plaintext of an open volume's payload. These first bytes of its image are loaded.
 ///
 /// It is not inlined: `cat` calls it for two types of sources, and both frames together would take
 /// more stack than the program has if memory is short.
@@ -211,7 +212,7 @@ pub(super) fn cat<I: Source, K: Source, O: Sink>(
     let unlocked = unlock(alloc, HeaderLocation::Attached, opening, image, secret)?;
     let loaded = unlocked.area.as_slice();
     if unlocked.area.has_ended() {
-        // The image's end was hit: all of it is loaded.
+        // The image's end was hit: all of it is loaded, and it is not read again.
         return write_plain(&unlocked.volume, loaded, &mut MemSource::new(&[]), out);
     }
     write_plain(&unlocked.volume, loaded, image, out)
