@@ -79,6 +79,6 @@ unfoldable pub chosen2_of : List ℕ → Option Header2
 chosen2_of image =
     if is_valid image 0 then with_valid_primary image else option_and_then (found_at image) (least_valid image)
 
--- the header of an image that is not of LUKS1, or that there is none
+-- the header of an image that is not of LUKS1, or the fault that it has none
 unfoldable pub header2_of : List ℕ → Result Header2 HeaderFault
 header2_of image = ok_or (chosen2_of image) NotLuks

@@ -25,7 +25,7 @@ pub record HoldsFront (image held : List ℕ) (ended : Bool) (left : Option (Lis
   pub behind : left ≡ Some (drop (length held) image)
 
 -- more of an image was loaded, unless a read failed, from a source that counts its reads. Once the image's end was hit,
--- the source rests
+-- nothing more is loaded, and the source is not read again
 pub record Extended (held held' : List ℕ) (ended ended' : Bool) (left left' : Option (List ℕ)) (failed' : Bool)
     (counts counts' : ReadCounts) : Type 0 where
   pub fronts : (image : List ℕ) → IsPrefixOf held' ended' image → IsPrefixOf held ended image
@@ -47,7 +47,7 @@ OfEach held ended Holds = (image : List ℕ) → IsPrefixOf held ended image →
 abbrev pub WithinReach : List ℕ → List ℕ → Bool → (List ℕ → ℕ) → Type 0
 WithinReach held held' ended' reach = OfEach held' ended' (λ image. length held' ≤ max (length held) (reach image))
 
--- and no fewer unless its end was hit
+-- unless the image's end was hit, as many bytes are loaded as are to be read
 abbrev pub Reaches : List ℕ → Bool → (List ℕ → ℕ) → Type 0
 Reaches held ended reach = OfEach held ended (λ image. ended ≡ false → reach image ≤ length held)
 
@@ -60,8 +60,9 @@ FallsShort held' ended ended' reach = OfEach held' ended' (λ image. ended ≡ f
 abbrev pub StaysBelow : List ℕ → Bool → (List ℕ → ℕ) → Type 0
 StaysBelow held ended reach = OfEach held ended (λ image. length held < reach image)
 
--- an image was loaded as far as it is to be read: no further, and no less unless its end was hit. A failed read or a
--- want of memory aborts this before its end is hit, and memory runs out only while more is yet to be read
+-- an image was loaded as far as it is to be read: no further (`within`), and no less (`settled`) unless its end was hit
+-- before (`over`). If a read fails or memory runs out (`refusals`), its end was not hit (`going`), and memory runs out
+-- only while more is to be read (`early`)
 pub record LoadedFor {T : Type 0} (reach : List ℕ → ℕ) (answer : Result T HeaderFault) (held held' : List ℕ)
     (ended ended' : Bool) : Type 0 where
   pub within : WithinReach held held' ended' reach

@@ -57,7 +57,7 @@ header_read_len image = if is_luks1 image then min header1_len (length image) el
 unfoldable pub probe_len : List ℕ → ℕ
 probe_len image = if is_luks1 image then header1_len else reach2_of image
 
--- the image ends before
+-- the image ends before that
 abbrev pub falls_short : List ℕ → Bool
 falls_short image = nat_lt (length image) (probe_len image)
 
@@ -71,27 +71,28 @@ abbrev pub ConsumedBeforeProbe : List ℕ → Option (List ℕ) → ℕ → ℕ 
 ConsumedBeforeProbe image left ends ends' = ConsumedFewer image left (probe_len image) × (ends' ≡ ends)
     × (is_luks1 image ≡ true → ConsumedExactly image left 0)
 
--- it has a header of LUKS2
-abbrev pub HasSecond : List ℕ → Type 0
-HasSecond image = (header : Header2) × (is_luks1 image ≡ false) × (header2_of image ≡ Ok header)
+-- the image has a header of LUKS2
+abbrev pub HasHeader2 : List ℕ → Type 0
+HasHeader2 image = (header : Header2) × (is_luks1 image ≡ false) × (header2_of image ≡ Ok header)
 
 -- reading the header ended without one. A failed read ended it somewhere; memory ran out while more was yet to be
 -- looked at, or behind a header of LUKS2, for the tree of its text; any other fault is the image's
 abbrev pub AbortsReading : List ℕ → Option (List ℕ) → ℕ → ℕ → HeaderFault → Type 0
 AbortsReading image left ends ends' Read = ConsumedAtMost image left (header_read_len image) × (ends' ≡ ends)
 AbortsReading image left ends ends' Memory =
-    ConsumedBeforeProbe image left ends ends' ⊎ (HasSecond image × ConsumedHeaderLen image left ends ends')
+    ConsumedBeforeProbe image left ends ends' ⊎ (HasHeader2 image × ConsumedHeaderLen image left ends ends')
 AbortsReading image left ends ends' fault = (header_of image ≡ Err fault) × ConsumedHeaderLen image left ends ends'
 
--- the same for an image of which some bytes were loaded before, and more went behind them
+-- as `ConsumedHeaderLen`, for an image of which some bytes were loaded before, and more went behind them
 abbrev pub ConsumedHeaderLenBehind : List ℕ → List ℕ → List ℕ → List ℕ → Option (List ℕ) → ℕ → ℕ → Type 0
 ConsumedHeaderLenBehind image held held' rest left ends ends' = ConsumedReadLen image held held' rest left
     × (ends' ≡ counted (falls_short image) ends)
 
+-- as `AbortsReading`, for such an image
 abbrev pub AbortsHeld : List ℕ → List ℕ → List ℕ → List ℕ → Option (List ℕ) → ℕ → ℕ → HeaderFault → Type 0
 AbortsHeld image held held' rest left ends ends' Read = ConsumedUpToReadLen image held held' rest left × (ends' ≡ ends)
 AbortsHeld image held held' rest left ends ends' Memory =
     (ConsumedBeforeReach image held held' rest left × (ends' ≡ ends))
-    ⊎ (HasSecond image × ConsumedHeaderLenBehind image held held' rest left ends ends')
+    ⊎ (HasHeader2 image × ConsumedHeaderLenBehind image held held' rest left ends ends')
 AbortsHeld image held held' rest left ends ends' fault =
     (header_of image ≡ Err fault) × ConsumedHeaderLenBehind image held held' rest left ends ends'

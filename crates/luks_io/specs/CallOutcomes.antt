@@ -37,7 +37,7 @@ ReportsFirstOf result_for tries (Failed ∷ rest) told after = (told ≡ Err rec
 ReportsFirstOf result_for zero (Interrupted ∷ rest) told after = (told ≡ Err record {}) × (after ≡ Some rest)
 ReportsFirstOf result_for (suc tries) (Interrupted ∷ rest) told after = ReportsFirstOf result_for tries rest told after
 
--- that, if the answers are known
+-- a device whose answers are known reports the first that is no interruption, as above
 abbrev pub ReportsFirst : (ℕ → Result ℕ DeviceFault) → Option (List CallOutcome) → ℕ → Result ℕ DeviceFault
     → Option (List CallOutcome)
     → Type 0

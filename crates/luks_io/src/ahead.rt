@@ -104,7 +104,7 @@ impl<S: Source> AheadSource<S> {
         &self.source
     }
 
-    /// Reads the requested bytes, past the buffer.
+    /// Reads the requested bytes from the source below, without the buffer.
     fn pass(&mut self, buf: &mut [u8]) -> Result<usize, DeviceFault>
         ensures bound { ReadsAtMost result buf.new }
         ensures bytes { ReadConsumes (S.to_come self.old.source) (S.to_come self.new.source)

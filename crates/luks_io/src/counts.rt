@@ -98,7 +98,7 @@ fn given(answer: &Result<usize, DeviceFault>) -> u64
     }
 }
 
-/// Counts one more, if it is one to count.
+/// Counts a call, if it is one of those counted.
 fn count_if(count: &mut u64, is: bool)
     ensures { count.new ≡ counted is count.old }
 {
