@@ -9,7 +9,9 @@ pub returns-in-IsLuks-clause-run : goal.returns-in-IsLuks-clause-run
 returns-in-IsLuks-clause-run g c = rw (c.report.ensures, c.in-IsLuks.is) (search rules)
 
 pub returns-in-IsLuks-clause-report : goal.returns-in-IsLuks-clause-report
-returns-in-IsLuks-clause-report g c = rw (c.report.ensures, c.in-IsLuks.is) (record { only = search rules; status = refl })
+returns-in-IsLuks-clause-report g c =
+    rw (c.report.ensures, c.in-IsLuks.is)
+    (record { only = search rules; status = refl })
 
 pub returns-in-IsLuks-clause-calls : goal.returns-in-IsLuks-clause-calls
 returns-in-IsLuks-clause-calls g c =
@@ -20,7 +22,9 @@ pub returns-in-LuksUuid-clause-run : goal.returns-in-LuksUuid-clause-run
 returns-in-LuksUuid-clause-run g c = rw (c.report-in-LuksUuid.ensures, c.in-LuksUuid.is) (search rules)
 
 pub returns-in-LuksUuid-clause-report : goal.returns-in-LuksUuid-clause-report
-returns-in-LuksUuid-clause-report g c = rw (c.report-in-LuksUuid.ensures, c.in-LuksUuid.is) (record { only = search rules; status = refl })
+returns-in-LuksUuid-clause-report g c =
+    rw (c.report-in-LuksUuid.ensures, c.in-LuksUuid.is)
+    (record { only = search rules; status = refl })
 
 pub returns-in-LuksUuid-clause-calls : goal.returns-in-LuksUuid-clause-calls
 returns-in-LuksUuid-clause-calls g c =
@@ -31,36 +35,48 @@ pub returns-in-LuksDump-clause-run : goal.returns-in-LuksDump-clause-run
 returns-in-LuksDump-clause-run g c = rw (c.report-in-LuksDump.ensures, c.in-LuksDump.is) (search rules)
 
 pub returns-in-LuksDump-clause-report : goal.returns-in-LuksDump-clause-report
-returns-in-LuksDump-clause-report g c = rw (c.report-in-LuksDump.ensures, c.in-LuksDump.is) (record { only = search rules; status = refl })
+returns-in-LuksDump-clause-report g c =
+    rw (c.report-in-LuksDump.ensures, c.in-LuksDump.is)
+    (record { only = search rules; status = refl })
 
 pub returns-in-LuksDump-clause-calls : goal.returns-in-LuksDump-clause-calls
 returns-in-LuksDump-clause-calls g c =
     rw (c.report-in-LuksDump.ensures, c.in-LuksDump.is)
-    (calls_of_image (result_message c.print-in-LuksDump.result) _ _ _ _ _ _ c.print-in-LuksDump.ensures.reads.1 c.print-in-LuksDump.ensures.writes)
+    (calls_of_image (result_message c.print-in-LuksDump.result) _ _ _ _ _ _ c.print-in-LuksDump.ensures.reads.1
+    c.print-in-LuksDump.ensures.writes)
 
 pub returns-in-LuksCheck-clause-run : goal.returns-in-LuksCheck-clause-run
 returns-in-LuksCheck-clause-run g c = rw (c.report-in-LuksCheck.ensures, c.in-LuksCheck.is) (search rules)
 
 pub returns-in-LuksCheck-clause-report : goal.returns-in-LuksCheck-clause-report
-returns-in-LuksCheck-clause-report g c = rw (c.report-in-LuksCheck.ensures, c.in-LuksCheck.is) (record { only = search rules; status = refl })
+returns-in-LuksCheck-clause-report g c =
+    rw (c.report-in-LuksCheck.ensures, c.in-LuksCheck.is)
+    (record { only = search rules; status = refl })
 
 pub returns-in-LuksCheck-clause-calls : goal.returns-in-LuksCheck-clause-calls
 returns-in-LuksCheck-clause-calls g c =
     rw (c.report-in-LuksCheck.ensures, c.in-LuksCheck.is)
-    (calls_of_image (result_message c.print-in-LuksCheck.result) _ _ _ _ _ _ c.print-in-LuksCheck.ensures.reads.1 c.print-in-LuksCheck.ensures.writes)
+    (calls_of_image (result_message c.print-in-LuksCheck.result) _ _ _ _ _ _ c.print-in-LuksCheck.ensures.reads.1
+    c.print-in-LuksCheck.ensures.writes)
 
 pub returns-in-TestPassphrase-clause-run : goal.returns-in-TestPassphrase-clause-run
-returns-in-TestPassphrase-clause-run g c = rw (c.report-in-TestPassphrase.ensures, c.in-TestPassphrase.is) (search rules)
+returns-in-TestPassphrase-clause-run g c =
+    rw (c.report-in-TestPassphrase.ensures, c.in-TestPassphrase.is)
+    (search rules)
 
 pub returns-in-TestPassphrase-clause-report : goal.returns-in-TestPassphrase-clause-report
-returns-in-TestPassphrase-clause-report g c = rw (c.report-in-TestPassphrase.ensures, c.in-TestPassphrase.is) (record { only = search rules; status = refl })
+returns-in-TestPassphrase-clause-report g c =
+    rw (c.report-in-TestPassphrase.ensures, c.in-TestPassphrase.is)
+    (record { only = search rules; status = refl })
 
 pub returns-in-TestPassphrase-clause-unneeded : goal.returns-in-TestPassphrase-clause-unneeded
 returns-in-TestPassphrase-clause-unneeded g c =
     rw c.in-TestPassphrase.is (λ needs. c.test_passphrase.ensures.unneeded needs.0 needs.1 needs.2)
 
 pub returns-in-TestPassphrase-clause-reads_first : goal.returns-in-TestPassphrase-clause-reads_first
-returns-in-TestPassphrase-clause-reads_first g c = rw (c.report-in-TestPassphrase.ensures, c.in-TestPassphrase.is) (search rules)
+returns-in-TestPassphrase-clause-reads_first g c =
+    rw (c.report-in-TestPassphrase.ensures, c.in-TestPassphrase.is)
+    (search rules)
 
 pub returns-in-TestPassphrase-clause-calls : goal.returns-in-TestPassphrase-clause-calls
 returns-in-TestPassphrase-clause-calls g c =
@@ -71,7 +87,9 @@ pub returns-in-LuksCat-clause-run : goal.returns-in-LuksCat-clause-run
 returns-in-LuksCat-clause-run g c = rw (c.report-in-LuksCat.ensures, c.in-LuksCat.is) (search rules)
 
 pub returns-in-LuksCat-clause-report : goal.returns-in-LuksCat-clause-report
-returns-in-LuksCat-clause-report g c = rw (c.report-in-LuksCat.ensures, c.in-LuksCat.is) (record { only = search rules; status = refl })
+returns-in-LuksCat-clause-report g c =
+    rw (c.report-in-LuksCat.ensures, c.in-LuksCat.is)
+    (record { only = search rules; status = refl })
 
 pub returns-in-LuksCat-clause-unneeded : goal.returns-in-LuksCat-clause-unneeded
 returns-in-LuksCat-clause-unneeded g c =
@@ -94,7 +112,9 @@ pub returns-in-AfSplit-clause-run : goal.returns-in-AfSplit-clause-run
 returns-in-AfSplit-clause-run g c = rw (c.report-in-AfSplit.ensures, c.in-AfSplit.is) (search rules)
 
 pub returns-in-AfSplit-clause-report : goal.returns-in-AfSplit-clause-report
-returns-in-AfSplit-clause-report g c = rw (c.report-in-AfSplit.ensures, c.in-AfSplit.is) (record { only = search rules; status = refl })
+returns-in-AfSplit-clause-report g c =
+    rw (c.report-in-AfSplit.ensures, c.in-AfSplit.is)
+    (record { only = search rules; status = refl })
 
 pub returns-in-AfSplit-clause-unneeded : goal.returns-in-AfSplit-clause-unneeded
 returns-in-AfSplit-clause-unneeded g c =
@@ -109,7 +129,9 @@ pub returns-in-AfMerge-clause-run : goal.returns-in-AfMerge-clause-run
 returns-in-AfMerge-clause-run g c = rw (c.report-in-AfMerge.ensures, c.in-AfMerge.is) (search rules)
 
 pub returns-in-AfMerge-clause-report : goal.returns-in-AfMerge-clause-report
-returns-in-AfMerge-clause-report g c = rw (c.report-in-AfMerge.ensures, c.in-AfMerge.is) (record { only = search rules; status = refl })
+returns-in-AfMerge-clause-report g c =
+    rw (c.report-in-AfMerge.ensures, c.in-AfMerge.is)
+    (record { only = search rules; status = refl })
 
 pub returns-in-AfMerge-clause-calls : goal.returns-in-AfMerge-clause-calls
 returns-in-AfMerge-clause-calls g c =

@@ -10,23 +10,31 @@ use Rattle.luks_cli.proofs.DetachedRuns.{runs_apart}
 use Rattle.luks_cli.proofs.execute.detached.execute_detached.Goals as goal
 
 pub returns-in-IsLuks-clause-run : goal.returns-in-IsLuks-clause-run
-returns-in-IsLuks-clause-run g c = rw (c.report.ensures, c.in-IsLuks.is) (λ file there known payload pass secret counted.
+returns-in-IsLuks-clause-run g c =
+    rw (c.report.ensures, c.in-IsLuks.is)
+    (λ file there known payload pass secret counted.
     runs_apart at_any_pace _ _ _ _ _ (no_payload_for_answer file) (c.is_luks.ensures.run _ file there))
 
 pub returns-in-LuksUuid-clause-run : goal.returns-in-LuksUuid-clause-run
-returns-in-LuksUuid-clause-run g c = rw (c.report-in-LuksUuid.ensures, c.in-LuksUuid.is) (λ file there known payload pass secret counted.
+returns-in-LuksUuid-clause-run g c =
+    rw (c.report-in-LuksUuid.ensures, c.in-LuksUuid.is)
+    (λ file there known payload pass secret counted.
     runs_apart at_any_pace _ _ _ _ _ (no_payload_for_text detached_header_of (printout_text Uuid)
     (printout_message Uuid) file)
     (c.print.ensures.run file there))
 
 pub returns-in-LuksDump-clause-run : goal.returns-in-LuksDump-clause-run
-returns-in-LuksDump-clause-run g c = rw (c.report-in-LuksDump.ensures, c.in-LuksDump.is) (λ file there known payload pass secret counted.
+returns-in-LuksDump-clause-run g c =
+    rw (c.report-in-LuksDump.ensures, c.in-LuksDump.is)
+    (λ file there known payload pass secret counted.
     runs_apart at_any_pace _ _ _ _ _ (no_payload_for_text detached_header_of (printout_text Dump)
     (printout_message Dump) file)
     (c.print-in-LuksDump.ensures.run file there))
 
 pub returns-in-LuksCheck-clause-run : goal.returns-in-LuksCheck-clause-run
-returns-in-LuksCheck-clause-run g c = rw (c.report-in-LuksCheck.ensures, c.in-LuksCheck.is) (λ file there known payload pass secret counted.
+returns-in-LuksCheck-clause-run g c =
+    rw (c.report-in-LuksCheck.ensures, c.in-LuksCheck.is)
+    (λ file there known payload pass secret counted.
     runs_apart at_any_pace _ _ _ _ _ (no_payload_for_text detached_header_of (printout_text Check)
     (printout_message Check) file)
     (c.print-in-LuksCheck.ensures.run file there))
@@ -38,7 +46,9 @@ returns-in-TestPassphrase-clause-run g c =
     (c.test_passphrase.ensures.run file there pass secret))
 
 pub returns-in-LuksCat-clause-run : goal.returns-in-LuksCat-clause-run
-returns-in-LuksCat-clause-run g c = rw (c.report-in-LuksCat.ensures, c.in-LuksCat.is) (λ file there known payload pass secret counted.
+returns-in-LuksCat-clause-run g c =
+    rw (c.report-in-LuksCat.ensures, c.in-LuksCat.is)
+    (λ file there known payload pass secret counted.
     c.cat_detached.ensures.run file there known payload pass secret counted)
 
 pub returns-in-IsLuks-clause-calls : goal.returns-in-IsLuks-clause-calls
@@ -73,22 +83,34 @@ pub returns-in-LuksCat-clause-calls : goal.returns-in-LuksCat-clause-calls
 returns-in-LuksCat-clause-calls g c = rw (c.report-in-LuksCat.ensures, c.in-LuksCat.is) c.cat_detached.ensures.calls
 
 pub returns-in-IsLuks-clause-report : goal.returns-in-IsLuks-clause-report
-returns-in-IsLuks-clause-report g c = rw (c.report.ensures, c.in-IsLuks.is) (record { only = c.is_luks.ensures.only; status = refl })
+returns-in-IsLuks-clause-report g c =
+    rw (c.report.ensures, c.in-IsLuks.is)
+    (record { only = c.is_luks.ensures.only; status = refl })
 
 pub returns-in-LuksUuid-clause-report : goal.returns-in-LuksUuid-clause-report
-returns-in-LuksUuid-clause-report g c = rw (c.report-in-LuksUuid.ensures, c.in-LuksUuid.is) (record { only = c.print.ensures.only; status = refl })
+returns-in-LuksUuid-clause-report g c =
+    rw (c.report-in-LuksUuid.ensures, c.in-LuksUuid.is)
+    (record { only = c.print.ensures.only; status = refl })
 
 pub returns-in-LuksDump-clause-report : goal.returns-in-LuksDump-clause-report
-returns-in-LuksDump-clause-report g c = rw (c.report-in-LuksDump.ensures, c.in-LuksDump.is) (record { only = c.print-in-LuksDump.ensures.only; status = refl })
+returns-in-LuksDump-clause-report g c =
+    rw (c.report-in-LuksDump.ensures, c.in-LuksDump.is)
+    (record { only = c.print-in-LuksDump.ensures.only; status = refl })
 
 pub returns-in-LuksCheck-clause-report : goal.returns-in-LuksCheck-clause-report
-returns-in-LuksCheck-clause-report g c = rw (c.report-in-LuksCheck.ensures, c.in-LuksCheck.is) (record { only = c.print-in-LuksCheck.ensures.only; status = refl })
+returns-in-LuksCheck-clause-report g c =
+    rw (c.report-in-LuksCheck.ensures, c.in-LuksCheck.is)
+    (record { only = c.print-in-LuksCheck.ensures.only; status = refl })
 
 pub returns-in-TestPassphrase-clause-report : goal.returns-in-TestPassphrase-clause-report
-returns-in-TestPassphrase-clause-report g c = rw (c.report-in-TestPassphrase.ensures, c.in-TestPassphrase.is) (record { only = c.test_passphrase.ensures.only; status = refl })
+returns-in-TestPassphrase-clause-report g c =
+    rw (c.report-in-TestPassphrase.ensures, c.in-TestPassphrase.is)
+    (record { only = c.test_passphrase.ensures.only; status = refl })
 
 pub returns-in-LuksCat-clause-report : goal.returns-in-LuksCat-clause-report
-returns-in-LuksCat-clause-report g c = rw (c.report-in-LuksCat.ensures, c.in-LuksCat.is) (record { only = c.cat_detached.ensures.only; status = refl })
+returns-in-LuksCat-clause-report g c =
+    rw (c.report-in-LuksCat.ensures, c.in-LuksCat.is)
+    (record { only = c.cat_detached.ensures.only; status = refl })
 
 pub returns-in-TestPassphrase-clause-unneeded : goal.returns-in-TestPassphrase-clause-unneeded
 returns-in-TestPassphrase-clause-unneeded g c =
@@ -99,16 +121,24 @@ returns-in-LuksCat-clause-unneeded g c =
     rw c.in-LuksCat.is (λ needs. c.cat_detached.ensures.unneeded needs.0 needs.1 needs.2)
 
 pub returns-in-LuksCat-clause-untouched : goal.returns-in-LuksCat-clause-untouched
-returns-in-LuksCat-clause-untouched g c = rw (c.report-in-LuksCat.ensures, c.in-LuksCat.is) c.cat_detached.ensures.before_key
+returns-in-LuksCat-clause-untouched g c =
+    rw (c.report-in-LuksCat.ensures, c.in-LuksCat.is)
+    c.cat_detached.ensures.before_key
 
 pub returns-in-LuksUuid-clause-reads_first : goal.returns-in-LuksUuid-clause-reads_first
-returns-in-LuksUuid-clause-reads_first g c = rw (c.report-in-LuksUuid.ensures, c.in-LuksUuid.is) (λ _. c.print.ensures.reads_first)
+returns-in-LuksUuid-clause-reads_first g c =
+    rw (c.report-in-LuksUuid.ensures, c.in-LuksUuid.is)
+    (λ _. c.print.ensures.reads_first)
 
 pub returns-in-LuksDump-clause-reads_first : goal.returns-in-LuksDump-clause-reads_first
-returns-in-LuksDump-clause-reads_first g c = rw (c.report-in-LuksDump.ensures, c.in-LuksDump.is) (λ _. c.print-in-LuksDump.ensures.reads_first)
+returns-in-LuksDump-clause-reads_first g c =
+    rw (c.report-in-LuksDump.ensures, c.in-LuksDump.is)
+    (λ _. c.print-in-LuksDump.ensures.reads_first)
 
 pub returns-in-LuksCheck-clause-reads_first : goal.returns-in-LuksCheck-clause-reads_first
-returns-in-LuksCheck-clause-reads_first g c = rw (c.report-in-LuksCheck.ensures, c.in-LuksCheck.is) (λ _. c.print-in-LuksCheck.ensures.reads_first)
+returns-in-LuksCheck-clause-reads_first g c =
+    rw (c.report-in-LuksCheck.ensures, c.in-LuksCheck.is)
+    (λ _. c.print-in-LuksCheck.ensures.reads_first)
 
 pub returns-in-TestPassphrase-clause-reads_first : goal.returns-in-TestPassphrase-clause-reads_first
 returns-in-TestPassphrase-clause-reads_first g c =
