@@ -13,7 +13,8 @@ use Rattle.luks_verdict.specs.declared.refusal.SegmentFault.TheVariants.{Hash as
 use Rattle.luks_verdict.specs.declared.segment.Segment.{Segment}
 use Rattle.luks_verdict.proofs.MadeLemmas.{digest_from-some, refused_or-fault, refused_or-none, refused_or-ok}
 use Rattle.luks_verdict.proofs.TableLemmas.{first_not}
-use Rattle.luks1_header.specs.Segment1.{fault1_of, is_key_length1, made1, segment1_of, segment_parts1_of, overlaps_header1}
+use Rattle.luks1_header.specs.Segment1.{fault1_of, is_key_length1, made1, segment1_of, segment_parts1_of}
+use Rattle.luks1_header.specs.Segment1.{overlaps_header1}
 use Rattle.luks1_header.specs.Slot1.{digest1_of, digest_parts1_of, hash1_of, mode1_of}
 use Rattle.luks1_header.specs.declared.header.Header1.{Header1}
 

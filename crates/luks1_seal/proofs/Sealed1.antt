@@ -26,7 +26,8 @@ use Rattle.luks_seal.specs.declared.parameters.Seal1.{Seal1}
 use Rattle.luks_seal.specs.declared.parameters.Slot1.{Slot1}
 use Rattle.luks_seal.proofs.MaterialLemmas.{gives_key}
 use Rattle.luks_seal.proofs.SectorLemmas.{sectors_stand}
-use Rattle.luks1_seal.specs.Layout1.{area_key1_of, area_sectors_of, image1_of, key_slot1_of, material1_of, payload1_bytes}
+use Rattle.luks1_seal.specs.Layout1.{area_key1_of, area_sectors_of, image1_of, key_slot1_of, material1_of}
+use Rattle.luks1_seal.specs.Layout1.{payload1_bytes}
 use Rattle.luks1_seal.specs.Layout1.{slot1_numbered, start1_of}
 use Rattle.luks1_seal.specs.Passphrases1.{passphrases1_of}
 use Rattle.luks1_seal.specs.Ranges1.{AreParameters, FitsSlot}

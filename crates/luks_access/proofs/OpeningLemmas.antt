@@ -28,12 +28,12 @@ use Rattle.luks_unlock.specs.Finding.{AbortsFinding}
 use Rattle.luks_unlock.specs.OpeningMessages.{OpeningMessage}
 use Rattle.luks_unlock.specs.Trying.{TriesSlots, opened_of}
 use Rattle.luks_unlock.specs.declared.unlocked.UnlockedVolume.{UnlockedVolume}
-use Rattle.luks_unlock.specs.Volume.{OnOpened, detached_payload_outcome, held_for, payload_outcome}
+use Rattle.luks_unlock.specs.Volume.{OnOpened, detached_payload_outcome, loaded_for, payload_outcome}
 use Rattle.luks_unlock.specs.Volume.{outcome_after, volume_by, volume_in_header, volume_in_segment}
 use Rattle.luks_unlock.specs.Volume.{volume_outcome_by}
 use Rattle.luks_verdict.specs.declared.refusal.SegmentFault.{SegmentFault}
 use Rattle.luks_verdict.specs.declared.segment.Segment.{Segment}
-use Rattle.luks_payload.specs.Plain.{ending_of, ending_within, payload_len, sector_len}
+use Rattle.luks_payload.specs.Plain.{ending_of, ending_of_len, payload_len, sector_len}
 use Rattle.luks_payload.specs.declared.fault.VolumeFault.{VolumeFault}
 use Rattle.luks_payload.specs.declared.fault.VolumeFault.TheVariants.{CutBeforePayload as IsCutBefore, Tail as HasTail}
 use Rattle.luks_payload.specs.declared.fault.VolumeFault.TheVariants.{Short as IsShort}
@@ -105,13 +105,13 @@ module _ (options : Options) (o : VolumeRequest) (image pass : List ℕ) (i : Op
       refused_by options o image pass message (header_read_len image) 0 has
       (λ on_opened. outcome_is options.location o image pass on_opened (Err message) stop.0)
 
-  module _ (header : Header) (segment : Segment) (tries : OrderModel)
+  module _ (header : Header) (segment : Segment) (order : OrderModel)
       (found : reader_for options.location image ≡ Ok header) (is_segment : segment_of header ≡ Ok segment)
-      (ordered : order_of header o.key_slot o.max_iterations ≡ Ok tries) (area area' : List ℕ)
+      (ordered : order_of header o.key_slot o.max_iterations ≡ Ok order) (area area' : List ℕ)
       (front : area ≡ take (header_read_len image) image) where
     -- the key slots were tried, and none of them opens
     refused_slots : (short : length pass ≤ max_key_file_len) (message : Message) → aborts message ≡ false
-        → TriesSlots o.key_slot segment tries pass area area' (drop (header_read_len image) image) i (Err message)
+        → TriesSlots o.key_slot segment order pass area area' (drop (header_read_len image) image) i (Err message)
         → Refuses options image pass message
     refused_slots short message never (inl (LostRead, is, lost)) = cc
     refused_slots short message never (inl (NoMemory, is, lost)) = cc
@@ -119,51 +119,51 @@ module _ (options : Options) (o : VolumeRequest) (image pass : List ℕ) (i : Op
     refused_slots short message never (inl (IsCut, is, lost)) = absurd lost
     refused_slots short message never (inl (NoJson, is, lost)) = absurd lost
     refused_slots short message never (inr (grows, inl (is, few))) =
-        let v = volume_with header segment tries in
-        let cut = area_cut image area area' i (key_areas_end tries.slots) front grows few in
+        let v = volume_with header segment order in
+        let cut = area_cut image area area' i (key_areas_end order.slots) front grows few in
         rw is (refused_by options o image pass _ (length image) (length pass) has
-        (λ on_opened. found_is options.location o image pass header segment tries found is_segment ordered on_opened
+        (λ on_opened. found_is options.location o image pass header segment order found is_segment ordered on_opened
         ∙ found_cut on_opened o.key_slot v image pass short cut.0))
     refused_slots short message never (inr (grows, inr (fault, is, enough, tried))) =
-        let v = volume_with header segment tries in
-        rw is (refused_by options o image pass _ (held_for image v) (length pass) has
-        (λ on_opened. tried_is options.location o image pass header segment tries found is_segment ordered short area
+        let v = volume_with header segment order in
+        rw is (refused_by options o image pass _ (loaded_for image v) (length pass) has
+        (λ on_opened. tried_is options.location o image pass header segment order found is_segment ordered short area
         area' i front grows enough (Err fault) tried on_opened))
 
     -- the volume was not opened
     pub refused_unopened : (message : Message) → aborts message ≡ false
-        → UnlocksVolume o.key_slot segment tries pass area area' (drop (header_read_len image) image) i (Err message)
+        → UnlocksVolume o.key_slot segment order pass area area' (drop (header_read_len image) image) i (Err message)
         → Refuses options image pass message
     refused_unopened message never (inl (short, tried)) = refused_slots short message never tried
     refused_unopened message never (inr (long, is)) =
-        let v = volume_with header segment tries in
+        let v = volume_with header segment order in
         let same : message ≡ KeyFileLength = cc in
         rw same (refused_by options o image pass KeyFileLength (header_read_len image) _ has
-        (λ on_opened. found_is options.location o image pass header segment tries found is_segment ordered on_opened
+        (λ on_opened. found_is options.location o image pass header segment order found is_segment ordered on_opened
         ∙ found_long on_opened o.key_slot v image pass long))
 
     -- the volume was opened
     pub opened_by : (opened : UnlockedVolume)
-        → UnlocksVolume o.key_slot segment tries pass area area' (drop (header_read_len image) image) i (Ok opened)
+        → UnlocksVolume o.key_slot segment order pass area area' (drop (header_read_len image) image) i (Ok opened)
         → Opens options image pass opened
     opened_by opened (inl (short, (grows, enough, same, tried))) =
-        let v = volume_with header segment tries in
+        let v = volume_with header segment order in
         record {
-          held = held_for image v;
+          loaded = loaded_for image v;
           outcome = λ p of_p on_opened.
               same_options options p o of_p has (reader_for options.location) on_opened image pass
-              ∙ tried_is options.location o image pass header segment tries found is_segment ordered short area area'
+              ∙ tried_is options.location o image pass header segment order found is_segment ordered short area area'
               i front grows enough (Ok (opened_of opened)) tried on_opened
-              ∙ ap (λ s. on_opened s (opened_of opened) (held_for image v)) (sym same);
+              ∙ ap (λ s. on_opened s (opened_of opened) (loaded_for image v)) (sym same);
         }
     opened_by opened (inr (long, is)) = cc
 
 -- ---- what an open volume means
 
-module _ (o : VolumeRequest) (header image pass : List ℕ) (v : UnlockedVolume) (held : ℕ) where
+module _ (o : VolumeRequest) (header image pass : List ℕ) (v : UnlockedVolume) (loaded : ℕ) where
   cat_by : (location : HeaderLocation)
       → ((on_opened : OnOpened) → volume_outcome_by (reader_for location) on_opened o header pass
-      ≡ on_opened v.segment (opened_of v) held)
+      ≡ on_opened v.segment (opened_of v) loaded)
       → ((cat_outcome_of location o header image pass).output ≡ plaintext_of v (payload_image_of location header image))
       × ((cat_outcome_of location o header image pass).message
       ≡ message_at_end (ending_of v.segment (payload_image_of location header image)))
@@ -178,7 +178,7 @@ module _ (o : VolumeRequest) (header image pass : List ℕ) (v : UnlockedVolume)
 pub cat_of : (options : Options) (header pass : List ℕ) (v : UnlockedVolume) → Opens options header pass v
     → IsCatOf options header pass v
 cat_of options header pass v opens o image has =
-    cat_by o header image pass v opens.held options.location (opens.outcome o has)
+    cat_by o header image pass v opens.loaded options.location (opens.outcome o has)
 
 -- a payload that is not found to end too soon ends well
 by_tail : (b : Bool) (n : ℕ) → message_at_end (if b then Ok End else Err (HasTail n)) ≡ Done
@@ -191,8 +191,8 @@ by_size : (b : Bool) (n : ℕ) → message_at_end (if b then Err (IsShort n) els
 by_size true n well = cc
 by_size false n well = refl
 
-ends_within : (size : Option ℕ) (sector len : ℕ) → message_at_end (ending_within size sector len) ≡ Done
-    → ending_within size sector len ≡ Ok End
+ends_within : (size : Option ℕ) (sector len : ℕ) → message_at_end (ending_of_len size sector len) ≡ Done
+    → ending_of_len size sector len ≡ Ok End
 ends_within None sector len well = by_tail (len % sector == 0) (len % sector) well
 ends_within (Some size) sector len well = by_size (nat_lt len size) (size - len) well
 
@@ -203,7 +203,7 @@ by_start false r ends well = ends well
 
 ends_whole : (s : Segment) (image : List ℕ) → message_at_end (ending_of s image) ≡ Done → ending_of s image ≡ Ok End
 ends_whole s image well =
-    by_start (nat_lt (length image) s.offset) (ending_within s.size (sector_len s) (payload_len s image))
+    by_start (nat_lt (length image) s.offset) (ending_of_len s.size (sector_len s) (payload_len s image))
     (ends_within s.size (sector_len s) (payload_len s image)) well
 
 -- of an honestly sealed volume it is the text that was sealed
@@ -211,9 +211,9 @@ pub plain_of_honest : (options : Options) (image pass : List ℕ) (v : UnlockedV
     → IsPlainOf options image pass v
 plain_of_honest options image pass v opens o plain attached has honest =
     let outcome : (on_opened : OnOpened) → volume_outcome_by (reader_for Attached) on_opened o image pass
-    ≡ on_opened v.segment (opened_of v) opens.held =
+    ≡ on_opened v.segment (opened_of v) opens.loaded =
     rw attached at (opens.outcome o has) in
-    let cat = cat_by o image image pass v opens.held Attached outcome in
+    let cat = cat_by o image image pass v opens.loaded Attached outcome in
     let sealed = unsealed o image pass plain honest in
     (sym cat.0 ∙ sealed.0, ends_whole v.segment image (sym cat.1 ∙ sealed.1))
 

@@ -14,7 +14,7 @@ use Rattle.luks_verdict.specs.declared.sector_size.SectorSize.{SectorSize}
 use Rattle.luks_verdict.specs.declared.sector_size.SectorSize.TheVariants.{B512, B1024, B2048, B4096}
 use Rattle.luks_verdict.specs.declared.segment.Segment.{Segment}
 use Rattle.luks_payload.specs.Plain.{payload_len, plain_of, sector_len, sector_plaintext, sector_start, sectors_of}
-use Rattle.luks_payload.specs.Plain.{unit_number, unit_plain, within_size}
+use Rattle.luks_payload.specs.Plain.{unit_number, unit_plain, payload_bytes}
 use Rattle.luks_access.specs.Sectors.{AreStored, plain_at, plain_in, sector_in}
 
 pub record IsSectorLen (z : ℕ) : Type 0 where
@@ -154,7 +154,7 @@ module _ (s : Segment) (cipher : Cipher) (first : ℕ) (stored : List ℕ) where
 
 -- ---- sectors of an image
 
-within_len : (size : Option ℕ) (len : ℕ) → within_size size len ≤ len
+within_len : (size : Option ℕ) (len : ℕ) → payload_bytes size len ≤ len
 within_len None len = omega arith
 within_len (Some size) len = omega arith
 
@@ -162,12 +162,12 @@ module _ (s : Segment) (cipher : Cipher) (image : List ℕ) where
   -- a sector of the payload has its length
   len_of : (j : ℕ) → j < sectors_of s image → length (sector_plaintext s cipher image j) ≡ sector_len s
   len_of j low =
-      let all = one_more_fits j (within_size s.size (payload_len s image)) (sector_len s) low in
+      let all = one_more_fits j (payload_bytes s.size (payload_len s image)) (sector_len s) low in
       let within = within_len s.size (payload_len s image) in
       let blocks = (sector_blocks s.sector_size).blocks in
       let piece : length (take (sector_len s) (drop (sector_start s j) image)) ≡ sector_len s =
       length-take-le (sector_len s) (drop (sector_start s j) image)
-      (there s.offset (j * sector_len s) (sector_len s) (within_size s.size (payload_len s image)) (length image)
+      (there s.offset (j * sector_len s) (sector_len s) (payload_bytes s.size (payload_len s image)) (length image)
       (length (drop (sector_start s j) image)) (sector_blocks s.sector_size).long all within
       (length-drop (sector_start s j) image)) in
       unit_len cipher (unit_number s j) (take (sector_len s) (drop (sector_start s j) image))

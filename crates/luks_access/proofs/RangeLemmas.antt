@@ -15,7 +15,7 @@ use Rattle.luks_verdict.specs.declared.sector_size.SectorSize.{SectorSize}
 use Rattle.luks_verdict.specs.declared.sector_size.SectorSize.TheVariants.{B512, B1024, B2048, B4096}
 use Rattle.luks_verdict.specs.declared.segment.Segment.{Segment}
 use Rattle.luks_cipher.specs.Sector.{Cipher}
-use Rattle.luks_payload.specs.Plain.{plain_of, sector_len, sectors_of, within_size}
+use Rattle.luks_payload.specs.Plain.{plain_of, sector_len, sectors_of, payload_bytes}
 use Rattle.luks_access.specs.Image.{IsAt}
 use Rattle.luks_access.specs.Range.{IsRangeOf, ReadsRange, text_len}
 use Rattle.luks_access.specs.declared.fault.RangeFault.{RangeFault}
@@ -131,17 +131,17 @@ module _ (s : Segment) (known : List ℕ) (len : ℕ) (all : text_len s known �
       }
 
 -- of so many bytes no more are the payload's
-within_least : (size : Option ℕ) (n : ℕ) → within_size size n ≤ n
+within_least : (size : Option ℕ) (n : ℕ) → payload_bytes size n ≤ n
 within_least None n = omega arith
 within_least (Some size) n = omega arith
 
 -- a plain text is no longer than the image behind its payload's start
 pub text_within : (s : Segment) (image_len : ℕ)
-    → within_size s.size (image_len - s.offset) / sector_len s * sector_len s ≤ image_len - s.offset
+    → payload_bytes s.size (image_len - s.offset) / sector_len s * sector_len s ≤ image_len - s.offset
 text_within s image_len =
     omega (
       arith,
-      div-mul-le_self (within_size s.size (image_len - s.offset)) (sector_len s),
+      div-mul-le_self (payload_bytes s.size (image_len - s.offset)) (sector_len s),
       within_least s.size (image_len - s.offset),
     )
 
@@ -196,10 +196,10 @@ part_read text unit bytes offset skip n whole before inside long are =
 
 -- a plain text is as long as its whole sectors
 pub text_is_long : (s : Segment) (cipher : Cipher) (image : List ℕ) (image_len len : ℕ) → length image ≡ image_len
-    → len ≡ within_size s.size (image_len - s.offset) / sector_len s * sector_len s
+    → len ≡ payload_bytes s.size (image_len - s.offset) / sector_len s * sector_len s
     → len ≡ length (plain_of s cipher image)
 text_is_long s cipher image image_len len long is =
-    is ∙ (ap (λ n. within_size s.size (n - s.offset) / sector_len s * sector_len s) (sym long)
+    is ∙ (ap (λ n. payload_bytes s.size (n - s.offset) / sector_len s * sector_len s) (sym long)
     ∙ sym (plain_len s image cipher))
 
 -- what was read of a range, if the length is that of the text

@@ -35,10 +35,10 @@ HasOptions o options = (o.key_slot ≡ option_map (λ slot. slot.number) options
 -- each command that opens a volume opens this one, with these options and this passphrase, from this image or detached
 -- header
 pub record Opens (options : Options) (header pass : List ℕ) (v : UnlockedVolume) : Type 0 where
-  pub held : ℕ
+  pub loaded : ℕ
   pub outcome : (o : VolumeRequest) → HasOptions o options → (on_opened : OnOpened)
       → volume_outcome_by (reader_for options.location) on_opened o header pass
-      ≡ on_opened v.segment (opened_of v) held
+      ≡ on_opened v.segment (opened_of v) loaded
 
 -- each such command ends with this message and no output
 pub record Refuses (options : Options) (header pass : List ℕ) (message : Message) : Type 0 where

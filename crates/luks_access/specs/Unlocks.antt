@@ -11,6 +11,6 @@ use Rattle.luks_verdict.specs.declared.segment.Segment.{Segment}
 -- the key slots were tried under a passphrase that is not too long, or it is
 abbrev pub UnlocksVolume : Option ℕ → Segment → OrderModel → List ℕ → List ℕ → List ℕ → List ℕ → Option (List ℕ)
     → Result UnlockedVolume Message → Type 0
-UnlocksVolume named segment tries pass area area' rest left result =
-    ((length pass ≤ max_key_file_len) × TriesSlots named segment tries pass area area' rest left result)
+UnlocksVolume named segment order pass area area' rest left result =
+    ((length pass ≤ max_key_file_len) × TriesSlots named segment order pass area area' rest left result)
     ⊎ ((max_key_file_len < length pass) × (result ≡ Err KeyFileLength))

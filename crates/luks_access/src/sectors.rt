@@ -3,7 +3,7 @@
 ghost use Rattle.std.specs.Prelude.{◌≡◌, ◌+◌, ◌*◌, ◌-◌, ◌/◌, ◌%◌, ◌<◌, ◌≤◌, ◌^◌, List, ℕ, Err};
 ghost use Rattle.std.specs.Prelude.{if◌then◌else◌, length, nat_lt};
 ghost use Rattle.luks_verdict.specs.SectorSize.{bytes_of};
-ghost use Rattle.luks_payload.specs.Plain.{ending_within, sector_len, unit_number, within_size};
+ghost use Rattle.luks_payload.specs.Plain.{ending_of_len, sector_len, unit_number, payload_bytes};
 ghost use Rattle.luks_access.specs.Sectors.{AreStored, plain_at, plain_in};
 
 use luks_cipher::SectorCipher;
@@ -23,7 +23,7 @@ fn unit_number(segment: &Segment, sector: u64) -> u64
 /// The length in bytes of the plaintext of a payload from `offset` on, whose size may be fixed, in
 /// an image of this length: all whole sectors.
 pub fn text_len(offset: u64, size: Option<u64>, sector_size: SectorSize, image_len: u64) -> u64
-    ensures value { result ≡ within_size size (image_len - offset) / bytes_of sector_size
+    ensures value { result ≡ payload_bytes size (image_len - offset) / bytes_of sector_size
         * bytes_of sector_size }
     ensures within { result ≤ image_len - offset }
     ensures counted { offset + result < 2 ^ 64 }
@@ -51,7 +51,7 @@ pub fn payload_ending(
     image_len: u64,
 ) -> Result<Step, VolumeFault>
     ensures { result ≡ (if nat_lt image_len offset then Err VolumeFault.CutBeforePayload
-        else ending_within size (bytes_of sector_size) (image_len - offset)) }
+        else ending_of_len size (bytes_of sector_size) (image_len - offset)) }
 {
     let Some(len) = image_len.checked_sub(offset) else {
         return Err(VolumeFault::CutBeforePayload);

@@ -8,6 +8,7 @@ ghost use Rattle.luks_request.specs.Request.{volume_request};
 ghost use Rattle.luks_runs.specs.Run.{aborts, is_run_read_failure, result_message};
 ghost use Rattle.luks_unlock.specs.Finding.{HasSlots};
 ghost use Rattle.luks_unlock.specs.OpeningMessages.{OpeningMessage};
+ghost use Rattle.luks_unlock.specs.Trying.{CountsTrials};
 ghost use Rattle.luks_payload.specs.Plain.{ending_of, sector_len};
 ghost use Rattle.luks_access.specs.Opens.{IsCatOf, IsOnlyAborted, IsPlainOf, Opens, Refuses};
 ghost use Rattle.luks_access.specs.Opens.{plaintext_of};
@@ -23,6 +24,7 @@ use crate::source::ImageSource;
 use luks_cipher::SectorCipher;
 use luks_header::segment::Segment;
 use luks_io::source::Source;
+use luks_kdf::Work;
 use luks_payload::fault::VolumeFault;
 use luks_payload::state::Step;
 use luks_report::message::Message;
@@ -61,12 +63,14 @@ fn unlock<S: Source>(
     found: &mut FoundVolume,
     source: &mut S,
     pass: &[u8],
+    work: &mut Work,
 ) -> Result<UnlockedVolume, Message>
     requires { HasSlots (volume_request opening.now) found.old }
     ensures run { IfKnown (S.to_come source.old) (λ rest.
         (found.old.area.ended ≡ true → rest ≡ [])
         → UnlocksVolume (volume_request opening.now).key_slot found.old.segment found.old.order
         pass.now found.old.area.bytes found.new.area.bytes rest (S.to_come source.new) result) }
+    ensures work { CountsTrials found.old.order found.new.area.bytes pass.now work.old work.new }
     ensures only { IfErr result OpeningMessage }
     ensures reads { (ended : Bool) × Reads (is_run_read_failure (result_message result)) ended
         (S.counts source.old) (S.counts source.new) }
@@ -75,7 +79,7 @@ fn unlock<S: Source>(
     if pass.len() > MAX_PASSPHRASE_LEN {
         return Err(Message::KeyFileLength);
     }
-    try_slots(opening, found, source, pass)
+    try_slots(opening, found, source, pass, work)
 }
 
 impl Volume {
@@ -106,7 +110,7 @@ impl Volume {
     {
         let opening = opening(options);
         let mut found = find_volume(alloc, options.location, &opening, source)?;
-        let unlocked = unlock(&opening, &mut found, source, pass)?;
+        let unlocked = unlock(&opening, &mut found, source, pass, &mut Work::new(0))?;
         let cipher = unlocked.cipher();
         Ok(Volume { unlocked, cipher })
     }

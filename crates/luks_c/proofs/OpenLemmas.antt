@@ -29,7 +29,7 @@ module _ (c : LuksrdOptions) (header pass : List ℕ) (message : LuksrdMessage) 
     opened = v;
     filled = filled;
     opens = λ image begins. record {
-      held = opens.held;
+      loaded = opens.loaded;
       outcome = λ o has on_opened. outcome_decided options.location o image header pass on_opened begins
           ∙ opens.outcome o has on_opened;
     };

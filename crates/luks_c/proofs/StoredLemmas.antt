@@ -21,7 +21,7 @@ use Rattle.luks_verdict.specs.declared.sector_size.SectorSize.{SectorSize}
 use Rattle.luks_verdict.specs.declared.sector_size.SectorSize.TheVariants.{B512, B1024, B2048, B4096}
 use Rattle.luks_verdict.specs.declared.segment.Segment.{Segment}
 use Rattle.luks_cipher.specs.Xts.{joined}
-use Rattle.luks_payload.specs.Plain.{ending_of, ending_within, sector_len, unit_plain, within_size}
+use Rattle.luks_payload.specs.Plain.{ending_of, ending_of_len, sector_len, unit_plain, payload_bytes}
 use Rattle.luks_payload.specs.declared.fault.VolumeFault.{VolumeFault}
 use Rattle.luks_payload.specs.declared.fault.VolumeFault.TheVariants.{CutBeforePayload}
 use Rattle.luks_payload.specs.declared.state.Step.{Step}
@@ -166,18 +166,18 @@ module _ (c : LuksrdVolume) (v : UnlockedVolume) (stored : Stores c v) (z : Sect
   size_is_its = fixed ∙ stored_size c v stored
 
   pub len_for : (len : ℕ)
-      → len ≡ within_size size (image_len - c.offset) / bytes_of z * bytes_of z → len ≡ length (plaintext_of v image)
+      → len ≡ payload_bytes size (image_len - c.offset) / bytes_of z * bytes_of z → len ≡ length (plaintext_of v image)
   len_for len is =
       text_is_long v.segment (cipher_of v) image image_len len long (rw (z_is, size_is_its, stored.offset) at is)
 
   pub ending_for : (r : Result Step VolumeFault)
       → r ≡ (if nat_lt image_len c.offset then Err CutBeforePayload
-      else ending_within size (bytes_of z) (image_len - c.offset))
+      else ending_of_len size (bytes_of z) (image_len - c.offset))
       → r ≡ ending_of v.segment image
   ending_for r is =
       let its = rw (z_is, size_is_its, stored.offset) at is in
       its ∙ ap (λ n. if nat_lt n v.segment.offset then Err CutBeforePayload
-      else ending_within v.segment.size (sector_len v.segment) (n - v.segment.offset)) (sym long)
+      else ending_of_len v.segment.size (sector_len v.segment) (n - v.segment.offset)) (sym long)
 
 -- a volume that C keeps has a sector size
 pub some_sector : (c : LuksrdVolume) (v : UnlockedVolume) → Stores c v → None ≡ sector_size_in c.sector_size → ⊥

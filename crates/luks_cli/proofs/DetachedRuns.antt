@@ -4,7 +4,7 @@ use Rattle.std.proofs.Common.{ap, sym, refl, subst, length, max, arith}
 use Rattle.std.proofs.Math.Nat.{mul-le-mul_right}
 use Rattle.luks_cli.proofs.OpenedRuns.{positioned_within}
 use Rattle.std.specs.Prelude.{MatchBool, if◌then◌else◌, nat_lt}
-use Rattle.luks_io.specs.Devices.{Appended, ConsumedExactly, counted, saturating_inc}
+use Rattle.luks_io.specs.Devices.{Appended, ConsumedExactly}
 use Rattle.luks_header.specs.Header.{header_read_len}
 use Rattle.luks_header.specs.declared.header.Header.{Header}
 use Rattle.luks_verdict.specs.declared.segment.Segment.{Segment}
@@ -24,21 +24,21 @@ use Rattle.luks_report.specs.declared.message.Message.TheVariants.{Done, Cut, Ke
 use Rattle.luks_report.specs.declared.message.Message.TheVariants.{Short, OutOfMemory, ReadFailed, WriteFailed}
 use Rattle.luks_runs.proofs.PayloadLemmas.{plain_len}
 use Rattle.luks_cli.proofs.PromptLemmas.{no_sectors_before, same_segment_by}
-use Rattle.luks_cli.specs.Detached.{CountsDetached, EndsWithoutKey}
+use Rattle.luks_cli.specs.Detached.{EndsWithoutKey}
 use Rattle.luks_runs.specs.Ending.{Outcome, no_output}
 use Rattle.luks_runs.specs.HeaderOutcome.{is_luks_outcome, print_outcome_by}
 use Rattle.luks_unlock.specs.OpeningMessages.{OpeningMessage}
 use Rattle.luks_runs.specs.RunMessages.{PayloadMessage}
 use Rattle.luks_runs.specs.HeaderReading.{HeaderReader, detached_header_of}
-use Rattle.luks_runs.specs.Run.{Aborted, Completed, Counts, Failures, Promptness, RunMatches, DetachedRunMatches}
+use Rattle.luks_runs.specs.Run.{Aborted, Completed, Promptness, RunMatches, DetachedRunMatches}
 use Rattle.luks_runs.specs.Run.{ConsumedNothing}
-use Rattle.luks_runs.specs.Run.{aborts, failures_of, is_run_read_failure, is_run_write_failure}
-use Rattle.luks_cli.specs.Unlocking.{Unlocks, opens_promptly}
+use Rattle.luks_runs.specs.Run.{aborts}
+use Rattle.luks_cli.specs.Unlocking.{Unlocks, PromptOpening}
 use Rattle.luks_unlock.specs.Volume.{OnOpened, Volume, detached_payload_outcome, found_outcome, opened_outcome}
 use Rattle.luks_unlock.specs.Volume.{outcome_after, slot_outcome, volume_by, volume_outcome_by}
 use Rattle.luks_runs.specs.KeyFile.{max_key_file_len}
 use Rattle.luks_runs.specs.Payload.{ForwardsPayload}
-use Rattle.luks_cli.specs.VolumeParts.{ConsumesHeld, detached_cat_promptly}
+use Rattle.luks_cli.specs.VolumeParts.{ConsumesLoaded, PromptDetachedCat}
 use Rattle.luks_runs.specs.declared.location.HeaderLocation.TheVariants.{Detached}
 
 -- ---- what is taken of the payload's image
@@ -46,7 +46,7 @@ use Rattle.luks_runs.specs.declared.location.HeaderLocation.TheVariants.{Detache
 -- what holds of each run that ends without a key, and of each with one, holds of all
 module _ (Q : Outcome → Type 0) (on_opened : OnOpened) (named : Option ℕ) (file pass : List ℕ)
     (none : (message : Message) (a b : ℕ) → Q (no_output message a b))
-    (some : (segment : Segment) (opened : Opened) (held : ℕ) → Q (on_opened segment opened held)) where
+    (some : (segment : Segment) (opened : Opened) (loaded : ℕ) → Q (on_opened segment opened loaded)) where
   either : (b : Bool) (x y : Outcome) → Q x → Q y → Q (if b then x else y)
   either true x y this that = this
   either false x y this that = that
@@ -58,13 +58,13 @@ module _ (Q : Outcome → Type 0) (on_opened : OnOpened) (named : Option ℕ) (f
   of_found : (v : Volume) → Q (found_outcome on_opened named v file pass)
   unfolding found_outcome
   of_found v =
-      let tried = opened_outcome on_opened named v file pass (opening_of v.tries file pass) in
+      let tried = opened_outcome on_opened named v file pass (opening_of v.order file pass) in
       let cut = no_output Cut (length file) (length pass) in
-      let is_cut = nat_lt (length file) (key_areas_end v.tries.slots) in
+      let is_cut = nat_lt (length file) (key_areas_end v.order.slots) in
       either (nat_lt max_key_file_len (length pass)) (no_output KeyFileLength (header_read_len file)
       (max_key_file_len + 1))
       (if is_cut then cut else tried) (none KeyFileLength (header_read_len file) (max_key_file_len + 1))
-      (either is_cut cut tried (none Cut (length file) (length pass)) (of_opened v (opening_of v.tries file pass)))
+      (either is_cut cut tried (none Cut (length file) (length pass)) (of_opened v (opening_of v.order file pass)))
 
   of_volume : (r : Result Volume Message) → Q (outcome_after on_opened named file pass r)
   of_volume (Ok v) = of_found v
@@ -74,19 +74,19 @@ pub no_payload_for_answer : (file : List ℕ) → (is_luks_outcome file).payload
 unfolding is_luks_outcome
 no_payload_for_answer file = refl
 
-pub no_payload_for_text : (read : HeaderReader) (text : Header → List ℕ) (told : Header → Message) (file : List ℕ)
-    → (print_outcome_by read text told file).payload_consumed ≡ 0
+pub no_payload_for_text : (read : HeaderReader) (text : Header → List ℕ) (reported : Header → Message) (file : List ℕ)
+    → (print_outcome_by read text reported file).payload_consumed ≡ 0
 unfolding print_outcome_by
-no_payload_for_text read text told file = refl
+no_payload_for_text read text reported file = refl
 
 pub no_payload_for_slot : (read : HeaderReader) (o : VolumeRequest) (file pass : List ℕ)
     → (volume_outcome_by read (slot_outcome pass) o file pass).payload_consumed ≡ 0
 unfolding volume_outcome_by
 no_payload_for_slot read o file pass =
     of_volume (λ (out : Outcome). out.payload_consumed ≡ 0) (slot_outcome pass) o.key_slot file pass
-    (λ message a b. refl) (λ segment opened held. refl) (volume_by read o file)
+    (λ message a b. refl) (λ segment opened loaded. refl) (volume_by read o file)
 
--- at the end of a payload nothing is told that opening may end with
+-- at the end of a payload nothing is reported that opening may end with
 at_end : (e : Result Step VolumeFault) → OpeningMessage (message_at_end e) → aborts (message_at_end e) ≡ false → ⊥
 at_end (Ok step) opening well = opening
 at_end (Err IsCutBefore) opening well = opening
@@ -105,13 +105,13 @@ no_payload_without_key o file image pass message opening well =
     of_volume (λ (out : Outcome). message ≡ out.message → out.payload_consumed ≡ 0)
     (detached_payload_outcome image pass)
     o.key_slot file pass (λ message a b same. refl)
-    (λ segment opened held same. absurd (at_end (ending_of segment image) (rw same at opening) (rw same at well)))
+    (λ segment opened loaded same. absurd (at_end (ending_of segment image) (rw same at opening) (rw same at well)))
     (volume_by detached_header_of o file)
 
--- what is done with a volume that is opened takes no less than is held, and the whole key file
-pub takes_detached_payload : (image pass : List ℕ) → ConsumesHeld pass (detached_payload_outcome image pass)
+-- what is done with a volume that is opened takes no less than is loaded, and the whole key file
+pub takes_detached_payload : (image pass : List ℕ) → ConsumesLoaded pass (detached_payload_outcome image pass)
 takes_detached_payload image pass =
-    record { held = λ segment opened held. omega arith; whole = λ segment opened held. refl }
+    record { loaded = λ segment opened loaded. omega arith; whole = λ segment opened loaded. refl }
 
 -- ---- runs that take nothing of it
 
@@ -128,7 +128,7 @@ runs_apart is_prompt out message ConsumedHeader ConsumedSecret Wrote none run =
     by false = sym none
 
 -- before anything is written or taken, a run is prompt
-prompt_at_first : (file : List ℕ) (message : Message) (a b : ℕ) → detached_cat_promptly file 0 message a b 0
+prompt_at_first : (file : List ℕ) (message : Message) (a b : ℕ) → PromptDetachedCat file 0 message a b 0
 prompt_at_first file ReadFailed a b segment has = λ passes. no_sectors_before segment 0 (omega arith)
 prompt_at_first file WriteFailed a b segment has = omega arith
 prompt_at_first file _ a b segment has = tt
@@ -137,15 +137,15 @@ prompt_at_first file _ a b segment has = tt
 unopened : (file : List ℕ) (out : Outcome) (message : Message)
     (ConsumedHeader ConsumedPayload ConsumedSecret : ℕ → Type 0)
     (Wrote : List ℕ → Type 0) → (aborts message ≡ false → message ≡ out.message → out.payload_consumed ≡ 0)
-    → ConsumedPayload 0 → RunMatches (opens_promptly Detached file) out message ConsumedHeader ConsumedSecret Wrote
-    → DetachedRunMatches (detached_cat_promptly file) out message ConsumedHeader ConsumedPayload ConsumedSecret Wrote
+    → ConsumedPayload 0 → RunMatches (PromptOpening Detached file) out message ConsumedHeader ConsumedSecret Wrote
+    → DetachedRunMatches (PromptDetachedCat file) out message ConsumedHeader ConsumedPayload ConsumedSecret Wrote
 unopened file out message ConsumedHeader ConsumedPayload ConsumedSecret Wrote none took run = by (aborts message) refl
   where
     by : (b : Bool) → aborts message ≡ b
-        → DetachedRunMatches (detached_cat_promptly file) out message ConsumedHeader ConsumedPayload ConsumedSecret
+        → DetachedRunMatches (PromptDetachedCat file) out message ConsumedHeader ConsumedPayload ConsumedSecret
         Wrote
     by true is =
-        let broken : Aborted (opens_promptly Detached file) out message ConsumedHeader ConsumedSecret Wrote =
+        let broken : Aborted (PromptOpening Detached file) out message ConsumedHeader ConsumedSecret Wrote =
         rw is at run in
         record {
           payload_consumed = 0;
@@ -159,7 +159,7 @@ unopened file out message ConsumedHeader ConsumedPayload ConsumedSecret Wrote no
             secret_within = broken.secret_within;
             output_within = broken.output_within;
             is_silent = broken.is_silent;
-            is_prompt = subst (detached_cat_promptly file 0 message broken.image_consumed broken.secret_consumed)
+            is_prompt = subst (PromptDetachedCat file 0 message broken.image_consumed broken.secret_consumed)
                 (sym broken.is_prompt) (prompt_at_first file message broken.image_consumed broken.secret_consumed);
             image = broken.image;
             secret = broken.secret;
@@ -184,10 +184,10 @@ unopened file out message ConsumedHeader ConsumedPayload ConsumedSecret Wrote no
 pub runs_unopened_apart : (o : VolumeRequest) (file image pass : List ℕ) (message : Message)
     (ConsumedHeader ConsumedPayload ConsumedSecret : ℕ → Type 0) (Wrote : List ℕ → Type 0) → OpeningMessage message
     → ConsumedPayload 0
-    → RunMatches (opens_promptly Detached file)
+    → RunMatches (PromptOpening Detached file)
     (volume_outcome_by detached_header_of (detached_payload_outcome image pass) o file pass) message ConsumedHeader
     ConsumedSecret Wrote
-    → DetachedRunMatches (detached_cat_promptly file)
+    → DetachedRunMatches (PromptDetachedCat file)
     (volume_outcome_by detached_header_of (detached_payload_outcome image pass) o file pass) message ConsumedHeader
     ConsumedPayload ConsumedSecret Wrote
 runs_unopened_apart o file image pass message ConsumedHeader ConsumedPayload ConsumedSecret Wrote opening took run =
@@ -196,16 +196,16 @@ runs_unopened_apart o file image pass message ConsumedHeader ConsumedPayload Con
 
 -- ---- the payload
 
-module _ (o : VolumeRequest) (file image pass : List ℕ) (segment : Segment) (opened : Opened) (held : List ℕ)
-    (h s : Option (List ℕ)) (u : Unlocks Detached o file pass segment opened held h s) (i' w w' : Option (List ℕ)) where
+module _ (o : VolumeRequest) (file image pass : List ℕ) (segment : Segment) (opened : Opened) (loaded : List ℕ)
+    (h s : Option (List ℕ)) (u : Unlocks Detached o file pass segment opened loaded h s) (i' w w' : Option (List ℕ)) where
   stated : volume_outcome_by detached_header_of (detached_payload_outcome image pass) o file pass
-      ≡ detached_payload_outcome image pass segment opened (length held)
+      ≡ detached_payload_outcome image pass segment opened (length loaded)
   stated = u.outcome (detached_payload_outcome image pass)
 
   -- the payload was passed on, to its end or not
   pub runs_passed_apart : (message : Message) → message ≢ OutOfMemory
       → ForwardsPayload segment (segment.mode, opened.key) image 0 i' w w' message
-      → DetachedRunMatches (detached_cat_promptly file)
+      → DetachedRunMatches (PromptDetachedCat file)
       (volume_outcome_by detached_header_of (detached_payload_outcome image pass) o file pass) message
       (ConsumedExactly file h)
       (ConsumedExactly image i') (ConsumedExactly pass s) (Appended w w')
@@ -220,7 +220,7 @@ module _ (o : VolumeRequest) (file image pass : List ℕ) (segment : Segment) (o
         payload_within = omega (arith, passed.4);
         payload = passed.5;
         run = record {
-          image_consumed = length held;
+          image_consumed = length loaded;
           secret_consumed = length pass;
           output_len = count * sector_len segment;
           image_within = omega arith;
@@ -244,7 +244,7 @@ module _ (o : VolumeRequest) (file image pass : List ℕ) (segment : Segment) (o
         payload_within = omega (arith, passed.4);
         payload = passed.5;
         run = record {
-          image_consumed = length held;
+          image_consumed = length loaded;
           secret_consumed = length pass;
           output_len = count * sector_len segment + written;
           image_within = omega arith;
@@ -281,40 +281,3 @@ with_key (Short n) passed without = absurd without
 with_key ReadFailed passed without = absurd without
 with_key WriteFailed passed without = absurd without
 with_key _ passed without = absurd passed
-
--- ---- counts of failures
-
--- of a run that asked nothing of the payload's image
-pub counts_apart : (message : Message) (header header' image secret secret' written written' : ℕ)
-    → Counts message (failures_of header secret written) (failures_of header' secret' written')
-    → CountsDetached message header header' (failures_of image secret written) (failures_of image secret' written')
-counts_apart ReadFailed header header' image secret secret' written written' (inl same) = inl (
-  ap (λ (f : Failures). f.image) same,
-  ap (λ (f : Failures). record f { image = image }) same,
-)
-counts_apart ReadFailed header header' image secret secret' written written' (inr same) = inr (
-  ap (λ (f : Failures). f.image) same,
-  inr (ap (λ (f : Failures). record f { image = image }) same),
-)
-counts_apart _ header header' image secret secret' written written' same = (
-  ap (λ (f : Failures). f.image) same,
-  ap (λ (f : Failures). record f { image = image }) same,
-)
-
--- of a run that passed on a payload, where nothing had failed before
-pub counts_passed_apart : (message : Message) (header header' image image' secret secret' written written' : ℕ)
-    → ((count : ℕ) → Counts Done (failures_of header secret count) (failures_of header' secret' count))
-    → image' ≡ counted (is_run_read_failure message) image → written' ≡ counted (is_run_write_failure message) written
-    → CountsDetached message header header' (failures_of image secret written) (failures_of image' secret' written')
-counts_passed_apart ReadFailed header header' image image' secret secret' written written' same reads writes = inr (
-  ap (λ (f : Failures). f.image) (same 0),
-  inl (rw (reads, writes) (ap (λ (f : Failures). record f { image = saturating_inc image }) (same written))),
-)
-counts_passed_apart WriteFailed header header' image image' secret secret' written written' same reads writes = (
-  ap (λ (f : Failures). f.image) (same 0),
-  rw (reads, writes) (ap (λ (f : Failures). record f { image = image }) (same (saturating_inc written))),
-)
-counts_passed_apart _ header header' image image' secret secret' written written' same reads writes = (
-  ap (λ (f : Failures). f.image) (same 0),
-  rw (reads, writes) (ap (λ (f : Failures). record f { image = image }) (same written)),
-)

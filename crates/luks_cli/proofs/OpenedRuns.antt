@@ -9,7 +9,7 @@ use Rattle.luks_header.specs.Header.{header_of}
 use Rattle.luks_verdict.specs.declared.segment.Segment.{Segment}
 use Rattle.luks_io.proofs.Consuming.{adds-none}
 use Rattle.luks_cipher.specs.Sector.{Cipher}
-use Rattle.luks_io.specs.Devices.{Appended, ConsumedExactly, counted, saturating_inc}
+use Rattle.luks_io.specs.Devices.{Appended, ConsumedExactly, counted}
 use Rattle.luks_open.specs.declared.opening.Opened.{Opened}
 use Rattle.luks_payload.specs.Plain.{sector_len, sector_start, sectors_of}
 use Rattle.luks_runs.proofs.PayloadLemmas.{plain_len}
@@ -20,36 +20,36 @@ use Rattle.luks_runs.specs.Location.{reader_for}
 use Rattle.luks_runs.specs.declared.location.HeaderLocation.{HeaderLocation}
 use Rattle.luks_runs.specs.declared.location.HeaderLocation.TheVariants.{Attached}
 use Rattle.luks_runs.specs.Payload.{ForwardsPayload}
-use Rattle.luks_cli.specs.VolumeParts.{cat_promptly}
+use Rattle.luks_cli.specs.VolumeParts.{PromptCat}
 use Rattle.luks_runs.specs.RunMessages.{PayloadMessage}
 use Rattle.luks_request.specs.Request.{VolumeRequest}
-use Rattle.luks_runs.specs.Run.{Aborted, Completed, Counts, Failures, Promptness, RunMatches, at_any_pace, aborts}
-use Rattle.luks_runs.specs.Run.{is_run_read_failure, is_run_write_failure}
-use Rattle.luks_cli.specs.VolumeParts.{ConsumesHeld}
+use Rattle.luks_runs.specs.Run.{Aborted, Completed, Promptness, RunMatches, AnyPace, aborts}
+use Rattle.luks_runs.specs.Run.{is_run_read_failure}
+use Rattle.luks_cli.specs.VolumeParts.{ConsumesLoaded}
 use Rattle.luks_unlock.specs.OpeningMessages.{OpeningMessage}
 use Rattle.luks_cli.specs.Unlocking.{ReportsSlot, Unlocks}
 use Rattle.luks_report.specs.Texts.{opened_line}
 use Rattle.luks_report.specs.declared.message.Message.{Message}
 use Rattle.luks_report.specs.declared.message.Message.TheVariants.{Done, OutOfMemory, ReadFailed, WriteFailed}
 
-pub takes_slot : (secret : List ℕ) → ConsumesHeld secret (slot_outcome secret)
-takes_slot secret = record { held = λ segment opened held. omega arith; whole = λ segment opened held. refl }
+pub takes_slot : (secret : List ℕ) → ConsumesLoaded secret (slot_outcome secret)
+takes_slot secret = record { loaded = λ segment opened loaded. omega arith; whole = λ segment opened loaded. refl }
 
-pub takes_payload : (image secret : List ℕ) → ConsumesHeld secret (payload_outcome image secret)
-takes_payload image secret = record { held = λ segment opened held. omega arith; whole = λ segment opened held. refl }
+pub takes_payload : (image secret : List ℕ) → ConsumesLoaded secret (payload_outcome image secret)
+takes_payload image secret = record { loaded = λ segment opened loaded. omega arith; whole = λ segment opened loaded. refl }
 
 -- a run that is prompt has the outcome that is stated
 pub runs_at_any_pace : (is_prompt : Promptness) (out : Outcome) (message : Message)
     (ConsumedImage ConsumedSecret : ℕ → Type 0)
     (Wrote : List ℕ → Type 0)
     → RunMatches is_prompt out message ConsumedImage ConsumedSecret Wrote
-    → RunMatches at_any_pace out message ConsumedImage ConsumedSecret Wrote
+    → RunMatches AnyPace out message ConsumedImage ConsumedSecret Wrote
 runs_at_any_pace is_prompt out message ConsumedImage ConsumedSecret Wrote = either (aborts message)
   where
     either : (b : Bool)
         → MatchBool b (Aborted is_prompt out message ConsumedImage ConsumedSecret Wrote)
         (Completed out message ConsumedImage ConsumedSecret Wrote)
-        → MatchBool b (Aborted at_any_pace out message ConsumedImage ConsumedSecret Wrote)
+        → MatchBool b (Aborted AnyPace out message ConsumedImage ConsumedSecret Wrote)
         (Completed out message ConsumedImage ConsumedSecret Wrote)
     either true run = record {
       image_consumed = run.image_consumed;
@@ -69,14 +69,14 @@ runs_at_any_pace is_prompt out message ConsumedImage ConsumedSecret Wrote = eith
 -- ---- `testPassphrase`
 
 module _ (location : HeaderLocation) (o : VolumeRequest) (image pass : List ℕ) (segment : Segment) (opened : Opened)
-    (held : List ℕ) (i s : Option (List ℕ)) (u : Unlocks location o image pass segment opened held i s) where
+    (loaded : List ℕ) (i s : Option (List ℕ)) (u : Unlocks location o image pass segment opened loaded i s) where
   -- memory was refused for the line
   runs_without_line : (w : Option (List ℕ))
-      → RunMatches at_any_pace (volume_outcome_by (reader_for location) (slot_outcome pass) o image pass) OutOfMemory
+      → RunMatches AnyPace (volume_outcome_by (reader_for location) (slot_outcome pass) o image pass) OutOfMemory
       (ConsumedExactly image i) (ConsumedExactly pass s)
       (Appended w w)
   runs_without_line w = rw (u.outcome (slot_outcome pass)) (record {
-    image_consumed = length held;
+    image_consumed = length loaded;
     secret_consumed = length pass;
     output_len = 0;
     image_within = omega arith;
@@ -92,7 +92,7 @@ module _ (location : HeaderLocation) (o : VolumeRequest) (image pass : List ℕ)
   module _ (line : List ℕ) (is : line ≡ opened_line opened.slot) (w w' : Option (List ℕ)) where
     -- the line was written
     runs_told : Appended w w' line
-        → RunMatches at_any_pace (volume_outcome_by (reader_for location) (slot_outcome pass) o image pass) Done
+        → RunMatches AnyPace (volume_outcome_by (reader_for location) (slot_outcome pass) o image pass) Done
         (ConsumedExactly image i) (ConsumedExactly pass s)
         (Appended w w')
     runs_told added =
@@ -103,11 +103,11 @@ module _ (location : HeaderLocation) (o : VolumeRequest) (image pass : List ℕ)
 
     -- a write failed within it
     runs_without_rest : (n : ℕ) → n < length line → Appended w w' (take n line)
-        → RunMatches at_any_pace (volume_outcome_by (reader_for location) (slot_outcome pass) o image pass) WriteFailed
+        → RunMatches AnyPace (volume_outcome_by (reader_for location) (slot_outcome pass) o image pass) WriteFailed
         (ConsumedExactly image i) (ConsumedExactly pass s)
         (Appended w w')
     runs_without_rest n within added = rw (u.outcome (slot_outcome pass), ← is) (record {
-      image_consumed = length held;
+      image_consumed = length loaded;
       secret_consumed = length pass;
       output_len = n;
       image_within = omega arith;
@@ -120,36 +120,36 @@ module _ (location : HeaderLocation) (o : VolumeRequest) (image pass : List ℕ)
       output = added;
     })
 
-  -- the key slot was told, or not all of its line
+  -- the key slot was reported, or not all of its line
   pub runs_slot : (w w' : Option (List ℕ)) (message : Message) → ReportsSlot opened.slot w w' message
-      → RunMatches at_any_pace (volume_outcome_by (reader_for location) (slot_outcome pass) o image pass) message
+      → RunMatches AnyPace (volume_outcome_by (reader_for location) (slot_outcome pass) o image pass) message
       (ConsumedExactly image i) (ConsumedExactly pass s)
       (Appended w w')
-  runs_slot w w' Done told = runs_told (opened_line opened.slot) refl w w' told
-  runs_slot w w' WriteFailed told = runs_without_rest (opened_line opened.slot) refl w w' told.0 told.1 told.2
-  runs_slot w w' OutOfMemory told = rw told (runs_without_line w)
-  runs_slot w w' _ told = absurd told
+  runs_slot w w' Done reported = runs_told (opened_line opened.slot) refl w w' reported
+  runs_slot w w' WriteFailed reported = runs_without_rest (opened_line opened.slot) refl w w' reported.0 reported.1 reported.2
+  runs_slot w w' OutOfMemory reported = rw reported (runs_without_line w)
+  runs_slot w w' _ reported = absurd reported
 
 -- a write failed within the line
-pub told_in_part : (slot : ℕ) (w w' : Option (List ℕ)) (line : List ℕ) → line ≡ opened_line slot
+pub reported_in_part : (slot : ℕ) (w w' : Option (List ℕ)) (line : List ℕ) → line ≡ opened_line slot
     → (n : ℕ) → n < length line → Appended w w' (take n line) → ReportsSlot slot w w' WriteFailed
-told_in_part slot w w' line is n within added = rw (← is) (n, within, added)
+reported_in_part slot w w' line is n within added = rw (← is) (n, within, added)
 
 -- telling the key slot ends with one of these messages
 pub slot_message : (slot : ℕ) (w w' : Option (List ℕ)) (message : Message) → ReportsSlot slot w w' message
     → OpeningMessage message ⊎ (message ≡ Done ⊎ message ≡ WriteFailed)
-slot_message slot w w' Done told = inr (inl refl)
-slot_message slot w w' WriteFailed told = inr (inr refl)
-slot_message slot w w' OutOfMemory told = inl tt
-slot_message slot w w' _ told = absurd told
+slot_message slot w w' Done reported = inr (inl refl)
+slot_message slot w w' WriteFailed reported = inr (inr refl)
+slot_message slot w w' OutOfMemory reported = inl tt
+slot_message slot w w' _ reported = absurd reported
 
 -- and reads nothing
 pub slot_reads_nothing : (slot : ℕ) (w w' : Option (List ℕ)) (message : Message)
     → ReportsSlot slot w w' message → is_run_read_failure message ≡ false
-slot_reads_nothing slot w w' Done told = refl
-slot_reads_nothing slot w w' WriteFailed told = refl
-slot_reads_nothing slot w w' OutOfMemory told = refl
-slot_reads_nothing slot w w' _ told = absurd told
+slot_reads_nothing slot w w' Done reported = refl
+slot_reads_nothing slot w w' WriteFailed reported = refl
+slot_reads_nothing slot w w' OutOfMemory reported = refl
+slot_reads_nothing slot w w' _ reported = absurd reported
 
 -- ---- `luksCat`
 
@@ -170,28 +170,28 @@ positioned_within segment image count written few less =
     }
 
 -- if all of an image is loaded, nothing more of it was consumed
-none_more : (image : List ℕ) (held count : ℕ) (left : Option (List ℕ)) → length image ≤ held → held ≤ count
+none_more : (image : List ℕ) (loaded count : ℕ) (left : Option (List ℕ)) → length image ≤ loaded → loaded ≤ count
     → ConsumedExactly image left count → ConsumedExactly image (Some []) count
-none_more image held count left all more took =
+none_more image loaded count left all more took =
     record { within = took.within; left = ap Some (sym (drop_all count image (omega arith))) }
 
-forwarded_all : (segment : Segment) (cipher : Cipher) (image : List ℕ) (held : ℕ) (left w w' : Option (List ℕ))
-    (message : Message) → length image ≤ held → message ≢ ReadFailed
-    → ForwardsPayload segment cipher image held left w w' message
-    → ForwardsPayload segment cipher image held (Some []) w w' message
-forwarded_all segment cipher image held left w w' ReadFailed all unread passed = absurd (unread refl)
-forwarded_all segment cipher image held left w w' WriteFailed all unread passed =
-    (passed.0, passed.1, passed.2, passed.3, passed.4, none_more image held _ left all (omega arith) passed.5, passed.6)
-forwarded_all segment cipher image held left w w' message all unread passed =
-    (passed.0, none_more image held _ left all (omega arith) passed.1, passed.2)
+forwarded_all : (segment : Segment) (cipher : Cipher) (image : List ℕ) (loaded : ℕ) (left w w' : Option (List ℕ))
+    (message : Message) → length image ≤ loaded → message ≢ ReadFailed
+    → ForwardsPayload segment cipher image loaded left w w' message
+    → ForwardsPayload segment cipher image loaded (Some []) w w' message
+forwarded_all segment cipher image loaded left w w' ReadFailed all unread passed = absurd (unread refl)
+forwarded_all segment cipher image loaded left w w' WriteFailed all unread passed =
+    (passed.0, passed.1, passed.2, passed.3, passed.4, none_more image loaded _ left all (omega arith) passed.5, passed.6)
+forwarded_all segment cipher image loaded left w w' message all unread passed =
+    (passed.0, none_more image loaded _ left all (omega arith) passed.1, passed.2)
 
-module _ (o : VolumeRequest) (image pass : List ℕ) (segment : Segment) (opened : Opened) (held : List ℕ)
-    (i s : Option (List ℕ)) (u : Unlocks Attached o image pass segment opened held i s) where
+module _ (o : VolumeRequest) (image pass : List ℕ) (segment : Segment) (opened : Opened) (loaded : List ℕ)
+    (i s : Option (List ℕ)) (u : Unlocks Attached o image pass segment opened loaded i s) where
   module _ (i' w w' : Option (List ℕ)) where
     -- the payload was passed on, to its end or not
     pub runs_passed : (message : Message) → message ≢ OutOfMemory
-        → ForwardsPayload segment (segment.mode, opened.key) image (length held) i' w w' message
-        → RunMatches (cat_promptly image) (volume_outcome (payload_outcome image pass) o image pass) message
+        → ForwardsPayload segment (segment.mode, opened.key) image (length loaded) i' w w' message
+        → RunMatches (PromptCat image) (volume_outcome (payload_outcome image pass) o image pass) message
         (ConsumedExactly image i')
         (ConsumedExactly pass s) (Appended w w')
     runs_passed OutOfMemory never passed = absurd (never refl)
@@ -220,7 +220,7 @@ module _ (o : VolumeRequest) (image pass : List ℕ) (segment : Segment) (opened
         let written = passed.1 in
         let within = positioned_within segment image count written passed.2 passed.3 in
         rw (u.outcome (payload_outcome image pass)) (record {
-          image_consumed = max (length held) (sector_start segment (count + 1));
+          image_consumed = max (length loaded) (sector_start segment (count + 1));
           secret_consumed = length pass;
           output_len = count * sector_len segment + written;
           image_within = omega (arith, passed.4);
@@ -228,7 +228,7 @@ module _ (o : VolumeRequest) (image pass : List ℕ) (segment : Segment) (opened
           output_within = omega (arith, plain_len segment image (segment.mode, opened.key), within.span);
           is_silent = tt;
           is_prompt = λ other is. rw (same_segment_by header_of image segment other u.has is, within.row)
-              (omega (arith, u.early refl));
+              (omega (arith, u.no_further refl));
           image = passed.5;
           secret = u.secret_consumed;
           output = passed.6;
@@ -240,41 +240,25 @@ module _ (o : VolumeRequest) (image pass : List ℕ) (segment : Segment) (opened
   -- all of the image is loaded, and its payload was forwarded from there
   pub runs_loaded : (left w w' : Option (List ℕ)) (message : Message) → i ≡ Some [] → message ≢ OutOfMemory
       → message ≢ ReadFailed
-      → (ConsumedExactly image (Some []) (length held)
-      → ForwardsPayload segment (segment.mode, opened.key) image (length held) left w w' message)
-      → RunMatches (cat_promptly image) (volume_outcome (payload_outcome image pass) o image pass) message
+      → (ConsumedExactly image (Some []) (length loaded)
+      → ForwardsPayload segment (segment.mode, opened.key) image (length loaded) left w w' message)
+      → RunMatches (PromptCat image) (volume_outcome (payload_outcome image pass) o image pass) message
       (ConsumedExactly image i)
       (ConsumedExactly pass s) (Appended w w')
   runs_loaded left w w' message none never unread forwards =
-      let consumed = subst (λ (rest : Option (List ℕ)). ConsumedExactly image rest (length held)) none
+      let consumed = subst (λ (rest : Option (List ℕ)). ConsumedExactly image rest (length loaded)) none
       u.image_consumed in
-      let rest : Some [] ≡ Some (drop (length held) image) = consumed.left in
-      let same : [] ≡ drop (length held) image = cc in
-      let all : length image ≤ length held = omega (arith, ap length same, length-drop (length held) image) in
+      let rest : Some [] ≡ Some (drop (length loaded) image) = consumed.left in
+      let same : [] ≡ drop (length loaded) image = cc in
+      let all : length image ≤ length loaded = omega (arith, ap length same, length-drop (length loaded) image) in
       subst
-      (λ (rest : Option (List ℕ)). RunMatches (cat_promptly image)
+      (λ (rest : Option (List ℕ)). RunMatches (PromptCat image)
       (volume_outcome (payload_outcome image pass) o image pass) message
       (ConsumedExactly image rest) (ConsumedExactly pass s) (Appended w w'))
       (sym none)
       (runs_passed (Some []) w w' message never
-      (forwarded_all segment (segment.mode, opened.key) image (length held) left w w' message all unread
+      (forwarded_all segment (segment.mode, opened.key) image (length loaded) left w w' message all unread
       (forwards consumed)))
-
--- ---- counts
-
--- the counts after a payload was passed on, where nothing had failed before
-pub counts_passed : (message : Message) (image image' image'' secret secret' written written' : ℕ)
-    → ((count : ℕ) → Counts Done (record { image = image; secret = secret; written = count })
-    (record { image = image'; secret = secret'; written = count }))
-    → image'' ≡ counted (is_run_read_failure message) image' → written' ≡ counted (is_run_write_failure message) written
-    → Counts message (record { image = image; secret = secret; written = written })
-    (record { image = image''; secret = secret'; written = written' })
-counts_passed ReadFailed image image' image'' secret secret' written written' same reads writes =
-    inl (rw (reads, writes) (ap (λ (f : Failures). record f { image = saturating_inc f.image }) (same written)))
-counts_passed WriteFailed image image' image'' secret secret' written written' same reads writes =
-    rw (reads, writes) (same (saturating_inc written))
-counts_passed _ image image' image'' secret secret' written written' same reads writes =
-    rw (reads, writes) (same written)
 
 -- forwarding a payload never ends with a refused allocation
 pub never_memory : (message : Message) → PayloadMessage message → message ≢ OutOfMemory

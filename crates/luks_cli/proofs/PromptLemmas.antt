@@ -14,9 +14,9 @@ use Rattle.luks_report.specs.declared.message.Message.{Message}
 use Rattle.luks_report.specs.declared.message.Message.TheVariants.{Cut, ReadFailed, WriteFailed}
 use Rattle.luks_runs.specs.HeaderReading.{HeaderReader}
 use Rattle.luks_runs.specs.Location.{reader_for}
-use Rattle.luks_cli.specs.Unlocking.{opens_promptly}
+use Rattle.luks_cli.specs.Unlocking.{PromptOpening}
 use Rattle.luks_unlock.specs.Finding.{HasSegment, HasSegmentBy}
-use Rattle.luks_cli.specs.VolumeParts.{cat_promptly}
+use Rattle.luks_cli.specs.VolumeParts.{PromptCat}
 use Rattle.luks_runs.specs.declared.location.HeaderLocation.{HeaderLocation}
 use Rattle.luks_runs.specs.declared.location.HeaderLocation.TheVariants.{Attached, Detached}
 
@@ -37,7 +37,7 @@ no_sectors_before segment a few =
 
 -- nothing past the header was taken
 cat_in_header : (image : List ℕ) (message : Message) (a b : ℕ) → a ≤ header_read_len image
-    → cat_promptly image message a b 0
+    → PromptCat image message a b 0
 cat_in_header image ReadFailed a b few segment has = λ passes.
     elim passes [
       | inl before ↦ no_sectors_before segment a (omega arith)
@@ -48,18 +48,18 @@ cat_in_header image _ a b few segment has = tt
 
 pub prompt_in_header : (location : HeaderLocation) (image : List ℕ) (message : Message) (a b : ℕ)
     → a ≤ header_read_len image
-    → opens_promptly location image message a b 0
+    → PromptOpening location image message a b 0
 prompt_in_header Attached image message a b few = cat_in_header image message a b few
 prompt_in_header Detached image message a b few = refl
 
 -- neither a read nor a write failed
-pub prompt_refused : (location : HeaderLocation) (image : List ℕ) (a b : ℕ) → opens_promptly location image Cut a b 0
+pub prompt_refused : (location : HeaderLocation) (image : List ℕ) (a b : ℕ) → PromptOpening location image Cut a b 0
 prompt_refused Attached image a b = λ segment has. tt
 prompt_refused Detached image a b = refl
 
 -- nothing past the payload's start was taken
 prompt_to_payload : (image : List ℕ) (message : Message) (a b : ℕ) (segment : Segment) → HasSegment image segment
-    → a ≤ segment.offset → cat_promptly image message a b 0
+    → a ≤ segment.offset → PromptCat image message a b 0
 prompt_to_payload image ReadFailed a b segment has few other is = λ passes.
     let same = same_segment_by header_of image segment other has is in
     no_sectors_before other a (rw same few)
@@ -74,7 +74,7 @@ pub prompt_before_payload : (location : HeaderLocation) (image : List ℕ) (mess
     (segment : Segment)
     → HasSegmentBy (reader_for location) image segment
     → (location ≡ Attached → a ≤ max (header_read_len image) segment.offset)
-    → opens_promptly location image message a b 0
+    → PromptOpening location image message a b 0
 prompt_before_payload Attached image message a b segment has early =
     let few = early refl in
     elim (cases_lt (header_read_len image) a) [
@@ -86,8 +86,8 @@ prompt_before_payload Detached image message a b segment has early = refl
 -- of a header in the payload's image no key material that is tried stands in the payload
 pub held_early : (location : HeaderLocation) (image : List ℕ) (header : Header) (segment : Segment)
     (named limit : Option ℕ)
-    (tries : OrderModel) → reader_for location image ≡ Ok header → segment_of header ≡ Ok segment
-    → order_of header named limit ≡ Ok tries → location ≡ Attached → key_areas_end tries.slots ≤ segment.offset
-held_early Attached image header segment named limit tries found is_segment ordered attached =
-    held_before_payload header segment named limit tries (is_attached image header found) is_segment ordered
-held_early Detached image header segment named limit tries found is_segment ordered attached = cc
+    (order : OrderModel) → reader_for location image ≡ Ok header → segment_of header ≡ Ok segment
+    → order_of header named limit ≡ Ok order → location ≡ Attached → key_areas_end order.slots ≤ segment.offset
+held_early Attached image header segment named limit order found is_segment ordered attached =
+    held_before_payload header segment named limit order (is_attached image header found) is_segment ordered
+held_early Detached image header segment named limit order found is_segment ordered attached = cc

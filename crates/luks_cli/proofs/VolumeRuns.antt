@@ -17,7 +17,8 @@ use Rattle.luks_open.specs.declared.fault.OpenFault.TheVariants.{NoSuchSlot as N
 use Rattle.luks_open.specs.declared.fault.OpenFault.TheVariants.{NothingTried as NoneTried, NoKey as NoneOpens, Memory}
 use Rattle.luks_open.specs.declared.opening.Opened.{Opened}
 use Rattle.luks_cli.proofs.PromptLemmas.{held_early, prompt_before_payload, prompt_in_header, prompt_refused}
-use Rattle.luks_unlock.proofs.OutcomeLemmas.{area_cut, area_held, area_more, found_cut, found_is, found_long, found_whole}
+use Rattle.luks_unlock.proofs.OutcomeLemmas.{area_cut, area_held, area_more, found_cut, found_is, found_long}
+use Rattle.luks_unlock.proofs.OutcomeLemmas.{found_whole}
 use Rattle.luks_unlock.proofs.OutcomeLemmas.{front_len, outcome_is, tried_is}
 use Rattle.luks_report.specs.Faults.{message_for_header}
 use Rattle.luks_unlock.specs.Volume.{OnOpened, found_outcome, opened_outcome, outcome_after, volume_outcome_by}
@@ -29,13 +30,13 @@ use Rattle.luks_io.specs.Devices.{Appended, ConsumedExactly}
 use Rattle.luks_runs.proofs.HeaderConsumption.{cost_there, consumed_header}
 use Rattle.luks_runs.specs.KeyFile.{NoKeyFileRead}
 use Rattle.luks_runs.specs.KeyFile.{max_key_file_len}
-use Rattle.luks_cli.specs.VolumeParts.{ConsumesHeld}
+use Rattle.luks_cli.specs.VolumeParts.{ConsumesLoaded}
 use Rattle.luks_unlock.specs.OpeningMessages.{OpeningMessage}
 use Rattle.luks_unlock.specs.Trying.{TriesSlots, opened_of}
 use Rattle.luks_unlock.specs.declared.unlocked.UnlockedVolume.{UnlockedVolume}
-use Rattle.luks_cli.specs.Unlocking.{OpensVolume, Unlocks, opens_promptly}
+use Rattle.luks_cli.specs.Unlocking.{OpensVolume, Unlocks, PromptOpening}
 use Rattle.luks_unlock.specs.Finding.{AbortsFinding}
-use Rattle.luks_unlock.specs.Volume.{Volume, held_for, volume_by}
+use Rattle.luks_unlock.specs.Volume.{Volume, loaded_for, volume_by}
 use Rattle.luks_runs.specs.Location.{reader_for}
 use Rattle.luks_runs.specs.declared.location.HeaderLocation.{HeaderLocation}
 use Rattle.luks_runs.specs.declared.location.HeaderLocation.TheVariants.{Attached}
@@ -50,9 +51,9 @@ use Rattle.luks_report.specs.declared.message.Message.TheVariants.{WriteFailed}
 early : (location : HeaderLocation) (out : Outcome) (image pass : List ℕ) (message : Message) (i s w : Option (List ℕ))
     (a b : ℕ)
     → IsSilent message 0 → IsPrefixLen message 0 (length out.output)
-    → opens_promptly location image message a b 0
+    → PromptOpening location image message a b 0
     → a ≤ out.image_consumed → b ≤ out.secret_consumed → ConsumedExactly image i a → ConsumedExactly pass s b
-    → Aborted (opens_promptly location image) out message (ConsumedExactly image i) (ConsumedExactly pass s)
+    → Aborted (PromptOpening location image) out message (ConsumedExactly image i) (ConsumedExactly pass s)
     (Appended w w)
 early location out image pass message i s w a b silent begins prompt few little consumed_image consumed_pass = record {
   image_consumed = a;
@@ -72,9 +73,9 @@ early location out image pass message i s w a b silent begins prompt few little 
 ends_unwritten : (location : HeaderLocation) (image pass : List ℕ) (message : Message) (i s w : Option (List ℕ))
     (a b : ℕ)
     → message ≢ WriteFailed
-    → opens_promptly location image message a b 0
+    → PromptOpening location image message a b 0
     → ConsumedExactly image i a → ConsumedExactly pass s b
-    → RunMatches (opens_promptly location image) (no_output message a b) message (ConsumedExactly image i)
+    → RunMatches (PromptOpening location image) (no_output message a b) message (ConsumedExactly image i)
     (ConsumedExactly pass s) (Appended w w)
 ends_unwritten location image pass OutOfMemory i s w a b other prompt ti ts =
     early location _ image pass OutOfMemory i s w a b refl (omega arith) prompt (omega arith) (omega arith) ti ts
@@ -84,7 +85,7 @@ ends_unwritten location image pass WriteFailed i s w a b other prompt ti ts = ab
 ends_unwritten location image pass _ i s w a b other prompt ti ts =
     record { as_stated = refl; image = ti; secret = ts; output = adds-none w }
 
--- of key slots no failed write is told
+-- of key slots no failed write is reported
 no_write_told : (named : Option ℕ) (fault : OpenFault) → message_for_opening named fault ≢ WriteFailed
 no_write_told named NotThere h = cc
 no_write_told named Disabled h = cc
@@ -100,22 +101,22 @@ never_written message only same = absurd (rw same at only)
 -- ---- how much is taken of a volume that was found
 
 module _ (on_opened : OnOpened) (named : Option ℕ) (v : Volume) (image secret : List ℕ)
-    (takes : ConsumesHeld secret on_opened) where
+    (takes : ConsumesLoaded secret on_opened) where
   opened_within : (r : Result Opened OpenFault)
-      → (held_for image v ≤ (opened_outcome on_opened named v image secret r).image_consumed)
+      → (loaded_for image v ≤ (opened_outcome on_opened named v image secret r).image_consumed)
       × (length secret ≤ (opened_outcome on_opened named v image secret r).secret_consumed)
   opened_within (Ok opened) =
-      (takes.held v.segment opened (held_for image v), omega (arith, takes.whole v.segment opened (held_for image v)))
+      (takes.loaded v.segment opened (loaded_for image v), omega (arith, takes.whole v.segment opened (loaded_for image v)))
   opened_within (Err fault) = (omega arith, omega arith)
 
-  -- a key file that is not too long is taken whole, and the image as far as it is held
+  -- a key file that is not too long is taken whole, and the image as far as it is loaded
   area_within : length secret ≤ max_key_file_len
-      → (min (length image) (held_for image v) ≤ (found_outcome on_opened named v image secret).image_consumed)
+      → (min (length image) (loaded_for image v) ≤ (found_outcome on_opened named v image secret).image_consumed)
       × (length secret ≤ (found_outcome on_opened named v image secret).secret_consumed)
-  area_within short = elim (cases_lt (length image) (key_areas_end v.tries.slots)) [
+  area_within short = elim (cases_lt (length image) (key_areas_end v.order.slots)) [
     | inl few ↦ rw (found_cut on_opened named v image secret short few) (omega arith, omega arith)
     | inr enough ↦
-        let all = opened_within (opening_of v.tries image secret) in
+        let all = opened_within (opening_of v.order image secret) in
         rw (found_whole on_opened named v image secret short enough) (omega (arith, all.0), all.1)
   ]
 
@@ -132,7 +133,7 @@ module _ (on_opened : OnOpened) (named : Option ℕ) (v : Volume) (image secret 
 -- ---- runs that open no volume
 
 module _ (location : HeaderLocation) (o : VolumeRequest) (image pass : List ℕ) (i s w : Option (List ℕ)) where
-  module _ (on_opened : OnOpened) (takes : ConsumesHeld pass on_opened) where
+  module _ (on_opened : OnOpened) (takes : ConsumesLoaded pass on_opened) where
     cost_consumed : header_read_len image
         ≤ (volume_outcome_by (reader_for location) on_opened o image pass).image_consumed
     unfolding volume_outcome_by
@@ -147,7 +148,7 @@ module _ (location : HeaderLocation) (o : VolumeRequest) (image pass : List ℕ)
     pub runs_without_volume : (message : Message) → OpeningMessage message
         → AbortsFinding (reader_for location) o image i message
         → s ≡ Some pass
-        → RunMatches (opens_promptly location image) (volume_outcome_by (reader_for location) on_opened o image pass)
+        → RunMatches (PromptOpening location image) (volume_outcome_by (reader_for location) on_opened o image pass)
         message
         (ConsumedExactly image i) (ConsumedExactly pass s)
         (Appended w w)
@@ -169,31 +170,31 @@ module _ (location : HeaderLocation) (o : VolumeRequest) (image pass : List ℕ)
         (took-none pass s whole))
 
   -- the header names this segment and these key slots to be tried
-  module _ (header : Header) (segment : Segment) (tries : OrderModel) (found : reader_for location image ≡ Ok header)
+  module _ (header : Header) (segment : Segment) (order : OrderModel) (found : reader_for location image ≡ Ok header)
       (is_segment : segment_of header ≡ Ok segment)
-      (ordered : order_of header o.key_slot o.max_iterations ≡ Ok tries) where
+      (ordered : order_of header o.key_slot o.max_iterations ≡ Ok order) where
     volume : Volume
-    volume = record { header = header; segment = segment; tries = tries }
+    volume = record { header = header; segment = segment; order = order }
 
     outcome_found : (on_opened : OnOpened)
         → volume_outcome_by (reader_for location) on_opened o image pass
         ≡ found_outcome on_opened o.key_slot volume image pass
     unfolding volume
     outcome_found on_opened =
-        found_is location o image pass header segment tries found is_segment ordered on_opened
+        found_is location o image pass header segment order found is_segment ordered on_opened
 
-    held_before : location ≡ Attached → held_for image volume ≤ max (header_read_len image) segment.offset
+    held_before : location ≡ Attached → loaded_for image volume ≤ max (header_read_len image) segment.offset
     unfolding volume
     held_before attached = omega (
       arith,
-      held_early location image header segment o.key_slot o.max_iterations tries found is_segment ordered attached,
+      held_early location image header segment o.key_slot o.max_iterations order found is_segment ordered attached,
     )
 
     -- the key file was not read
-    runs_without_secret : (on_opened : OnOpened) (takes : ConsumesHeld pass on_opened) (message : Message)
+    runs_without_secret : (on_opened : OnOpened) (takes : ConsumesLoaded pass on_opened) (message : Message)
         → NoKeyFileRead pass s message
         → ConsumedExactly image i (header_read_len image)
-        → RunMatches (opens_promptly location image) (volume_outcome_by (reader_for location) on_opened o image pass)
+        → RunMatches (PromptOpening location image) (volume_outcome_by (reader_for location) on_opened o image pass)
         message
         (ConsumedExactly image i) (ConsumedExactly pass s)
         (Appended w w)
@@ -221,18 +222,18 @@ module _ (location : HeaderLocation) (o : VolumeRequest) (image pass : List ℕ)
         (area area' : List ℕ)
         (front : area ≡ take (header_read_len image) image) where
       -- the key areas were not taken
-      runs_without_area : (on_opened : OnOpened) (takes : ConsumesHeld pass on_opened) (fault : HeaderFault)
-          → AbortsConsuming (key_areas_end tries.slots - length area) area area' (drop
+      runs_without_area : (on_opened : OnOpened) (takes : ConsumesLoaded pass on_opened) (fault : HeaderFault)
+          → AbortsConsuming (key_areas_end order.slots - length area) area area' (drop
           (header_read_len image) image) i fault
-          → RunMatches (opens_promptly location image) (volume_outcome_by (reader_for location) on_opened o image pass)
+          → RunMatches (PromptOpening location image) (volume_outcome_by (reader_for location) on_opened o image pass)
           (message_for_header fault) (ConsumedExactly image i)
           (ConsumedExactly pass s) (Appended w w)
       unfolding volume
       runs_without_area on_opened takes LostRead stop =
-          let more = area_more image area area' i (key_areas_end tries.slots) front stop.0 stop.2 in
+          let more = area_more image area area' i (key_areas_end order.slots) front stop.0 stop.2 in
           let few : header_read_len image + stop.0
-          ≤ held_for image volume =
-          omega (arith, stop.1, front_len image area area' i (key_areas_end tries.slots) front) in
+          ≤ loaded_for image volume =
+          omega (arith, stop.1, front_len image area area' i (key_areas_end order.slots) front) in
           let within = area_within on_opened o.key_slot volume image pass takes short in
           rw (outcome_found on_opened)
           (early location _ image pass ReadFailed i s w (header_read_len image + stop.0) (length pass) tt (omega arith)
@@ -249,77 +250,77 @@ module _ (location : HeaderLocation) (o : VolumeRequest) (image pass : List ℕ)
       runs_without_area on_opened takes _ stop = absurd stop
 
       module _ (grows : ConsumedOnto area area' (drop (header_read_len image) image) i
-          (min (key_areas_end tries.slots - length area) (length (drop (header_read_len image) image)))) where
+          (min (key_areas_end order.slots - length area) (length (drop (header_read_len image) image)))) where
         -- the image ended within them
-        runs_cut : (on_opened : OnOpened) → length area' < key_areas_end tries.slots
-            → RunMatches (opens_promptly location image)
+        runs_cut : (on_opened : OnOpened) → length area' < key_areas_end order.slots
+            → RunMatches (PromptOpening location image)
             (volume_outcome_by (reader_for location) on_opened o image pass) Cut
             (ConsumedExactly image i) (ConsumedExactly pass s)
             (Appended w w)
         unfolding volume
         runs_cut on_opened few =
-            let cut = area_cut image area area' i (key_areas_end tries.slots) front grows few in
+            let cut = area_cut image area area' i (key_areas_end order.slots) front grows few in
             rw (outcome_found on_opened, found_cut on_opened o.key_slot volume image pass short cut.0)
             (ends_unwritten location image pass Cut i s w (length image) (length pass) (λ h. cc)
             (prompt_refused location image (length image) (length pass)) cut.1 gone)
 
-        module _ (enough : key_areas_end tries.slots ≤ length area') (r : Result Opened OpenFault)
-            (tried : opening_of tries area' pass ≡ r) where
+        module _ (enough : key_areas_end order.slots ≤ length area') (r : Result Opened OpenFault)
+            (tried : opening_of order area' pass ≡ r) where
           outcome_tried : (on_opened : OnOpened)
               → volume_outcome_by (reader_for location) on_opened o image pass
               ≡ opened_outcome on_opened o.key_slot volume image pass r
           unfolding volume
           outcome_tried on_opened =
-              tried_is location o image pass header segment tries found is_segment ordered short area area' i front
+              tried_is location o image pass header segment order found is_segment ordered short area area' i front
               grows
               enough r tried on_opened
 
       -- no key slot opens
       runs_unopened : (grows : ConsumedOnto area area' (drop (header_read_len image) image) i
-          (min (key_areas_end tries.slots - length area) (length (drop (header_read_len image) image))))
-          → (enough : key_areas_end tries.slots ≤ length area') (fault : OpenFault)
-          (tried : opening_of tries area' pass ≡ Err fault) (on_opened : OnOpened)
-          → RunMatches (opens_promptly location image) (volume_outcome_by (reader_for location) on_opened o image pass)
+          (min (key_areas_end order.slots - length area) (length (drop (header_read_len image) image))))
+          → (enough : key_areas_end order.slots ≤ length area') (fault : OpenFault)
+          (tried : opening_of order area' pass ≡ Err fault) (on_opened : OnOpened)
+          → RunMatches (PromptOpening location image) (volume_outcome_by (reader_for location) on_opened o image pass)
           (message_for_opening o.key_slot fault)
           (ConsumedExactly image i) (ConsumedExactly pass s) (Appended w w)
       unfolding volume
       runs_unopened grows enough fault tried on_opened =
-          let held = area_held image area area' i (key_areas_end tries.slots) front grows enough in
+          let loaded = area_held image area area' i (key_areas_end order.slots) front grows enough in
           rw (outcome_tried grows enough (Err fault) tried on_opened)
-          (ends_unwritten location image pass (message_for_opening o.key_slot fault) i s w (held_for image volume)
+          (ends_unwritten location image pass (message_for_opening o.key_slot fault) i s w (loaded_for image volume)
           (length pass)
           (no_write_told o.key_slot fault)
-          (prompt_before_payload location image (message_for_opening o.key_slot fault) (held_for image volume)
+          (prompt_before_payload location image (message_for_opening o.key_slot fault) (loaded_for image volume)
           (length pass)
           segment (header, found, is_segment) held_before)
-          held.3 gone)
+          loaded.3 gone)
 
       -- a key slot opens
       unlocks : (grows : ConsumedOnto area area' (drop (header_read_len image) image) i
-          (min (key_areas_end tries.slots - length area) (length (drop (header_read_len image) image))))
-          → (enough : key_areas_end tries.slots ≤ length area') (opened : Opened)
-          (tried : opening_of tries area' pass ≡ Ok opened)
+          (min (key_areas_end order.slots - length area) (length (drop (header_read_len image) image))))
+          → (enough : key_areas_end order.slots ≤ length area') (opened : Opened)
+          (tried : opening_of order area' pass ≡ Ok opened)
           → Unlocks location o image pass segment opened area' i s
       unfolding volume
       unlocks grows enough opened tried =
-          let held = area_held image area area' i (key_areas_end tries.slots) front grows enough in
+          let loaded = area_held image area area' i (key_areas_end order.slots) front grows enough in
           record {
             outcome = λ on_opened. outcome_tried grows enough (Ok opened) tried on_opened
-                ∙ ap (on_opened segment opened) (sym held.1);
+                ∙ ap (on_opened segment opened) (sym loaded.1);
             has = (header, found, is_segment);
-            cost = omega (arith, held.1);
-            early = λ attached. omega (arith, held.1, held_before attached);
-            front = rw (← held.1) at held.2;
-            image_consumed = rw (← held.1) at held.3;
+            has_header = omega (arith, loaded.1);
+            no_further = λ attached. omega (arith, loaded.1, held_before attached);
+            front = rw (← loaded.1) at loaded.2;
+            image_consumed = rw (← loaded.1) at loaded.3;
             secret_consumed = gone;
           }
 
     -- the key slots were not tried, or none of them opens
     runs_without_slot : (short : length pass ≤ max_key_file_len) (gone : ConsumedExactly pass s (length pass))
         (area area' : List ℕ) (front : area ≡ take (header_read_len image) image) (on_opened : OnOpened)
-        (takes : ConsumesHeld pass on_opened) (message : Message)
-        → TriesSlots o.key_slot segment tries pass area area' (drop (header_read_len image) image) i (Err message)
-        → RunMatches (opens_promptly location image) (volume_outcome_by (reader_for location) on_opened o image pass)
+        (takes : ConsumesLoaded pass on_opened) (message : Message)
+        → TriesSlots o.key_slot segment order pass area area' (drop (header_read_len image) image) i (Err message)
+        → RunMatches (PromptOpening location image) (volume_outcome_by (reader_for location) on_opened o image pass)
         message
         (ConsumedExactly image i) (ConsumedExactly pass s) (Appended w w)
     runs_without_slot short gone area area' front on_opened takes message (inl lost) =
@@ -332,11 +333,11 @@ module _ (location : HeaderLocation) (o : VolumeRequest) (image pass : List ℕ)
     -- the volume was not opened
     pub runs_without_key : (area area' : List ℕ) (front : area
         ≡ take (header_read_len image) image) (on_opened : OnOpened)
-        (takes : ConsumesHeld pass on_opened) (left : ConsumedExactly image (Some (drop (header_read_len image) image))
+        (takes : ConsumesLoaded pass on_opened) (left : ConsumedExactly image (Some (drop (header_read_len image) image))
         (header_read_len image))
         (message : Message)
-        → OpensVolume o.key_slot segment tries pass area area' (drop (header_read_len image) image) i s (Err message)
-        → RunMatches (opens_promptly location image) (volume_outcome_by (reader_for location) on_opened o image pass)
+        → OpensVolume o.key_slot segment order pass area area' (drop (header_read_len image) image) i s (Err message)
+        → RunMatches (PromptOpening location image) (volume_outcome_by (reader_for location) on_opened o image pass)
         message
         (ConsumedExactly image i) (ConsumedExactly pass s) (Appended w w)
     runs_without_key area area' front on_opened takes left message (inl (short, gone, tried)) =
@@ -348,7 +349,7 @@ module _ (location : HeaderLocation) (o : VolumeRequest) (image pass : List ℕ)
     -- the volume was opened
     pub unlocks_volume : (area area' : List ℕ) (front : area ≡ take (header_read_len image) image)
         (opened : UnlockedVolume)
-        → OpensVolume o.key_slot segment tries pass area area' (drop (header_read_len image) image) i s (Ok opened)
+        → OpensVolume o.key_slot segment order pass area area' (drop (header_read_len image) image) i s (Ok opened)
         → Unlocks location o image pass opened.segment (opened_of opened) area' i s
     unlocks_volume area area' front opened (inl (short, gone, tried)) =
         rw tried.2 (unlocks short gone area area' front tried.0 tried.1 (opened_of opened) tried.3)

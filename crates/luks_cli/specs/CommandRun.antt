@@ -1,24 +1,28 @@
 -- How a run of a command is compared with the outcome that is specified for it.
-use Rattle.std.specs.Prelude.{◌≡◌, ℕ, ◌<◌, ◌^◌, List, length, Option, Some, Bool, true, ◌⊎◌, is_err}
+use Rattle.std.specs.Prelude.{◌≡◌, ℕ, ◌<◌, ◌^◌, max, List, length, Option, Some, Bool, true, ◌&&◌, not, ◌⊎◌, is_err}
 use Rattle.luks_io.specs.Counts.{Reads, Writes, with_ahead}
 use Rattle.luks_io.specs.declared.counts.ReadCounts.{ReadCounts}
 use Rattle.luks_io.specs.declared.counts.WriteCounts.{WriteCounts}
 use Rattle.luks_io.specs.Devices.{Appended, ConsumedExactly, IfKnown}
-use Rattle.luks_cli.specs.VolumeParts.{cat_promptly}
-use Rattle.luks_request.specs.Request.{Request, is_luks, luks_uuid, luks_dump, luks_check, test_passphrase, luks_cat}
-use Rattle.luks_request.specs.Request.{af_split, af_merge}
+use Rattle.luks_cli.specs.VolumeParts.{PromptCat}
+use Rattle.luks_request.specs.Request.{Request, VolumeRequest, is_luks, luks_uuid, luks_dump, luks_check}
+use Rattle.luks_request.specs.Request.{test_passphrase, luks_cat, af_split, af_merge}
 use Rattle.luks_cli.specs.Outcome.{outcome_of}
-use Rattle.luks_runs.specs.Run.{Counts, failures_of, Promptness, RunMatches, ConsumedNothing, at_any_pace}
+use Rattle.luks_runs.specs.Payload.{max_needed}
+use Rattle.luks_runs.specs.Run.{Promptness, RunMatches, ConsumedNothing, AnyPace}
+use Rattle.luks_runs.specs.Run.{is_run_read_failure, is_run_write_failure}
 use Rattle.luks_runs.specs.Stripe.{max_key_len}
-use Rattle.luks_runs.specs.StripeParts.{split_promptly}
-use Rattle.luks_unlock.specs.Volume.{volume_of}
+use Rattle.luks_runs.specs.StripeParts.{PromptSplit}
+use Rattle.luks_unlock.specs.Finding.{HasSegment}
+use Rattle.luks_unlock.specs.Volume.{slot_outcome, volume_of, volume_outcome}
+use Rattle.luks_verdict.specs.declared.segment.Segment.{Segment}
 use Rattle.luks_report.specs.declared.message.Message.{Message}
 
 -- how prompt a command is with this image
 abbrev pub promptness_of : Request → List ℕ → Promptness
-promptness_of (luks_cat o) image = cat_promptly image
-promptness_of (af_split s) image = split_promptly (length image)
-promptness_of _ image = at_any_pace
+promptness_of (luks_cat o) image = PromptCat image
+promptness_of (af_split s) image = PromptSplit (length image)
+promptness_of _ image = AnyPace
 
 -- the second input of a command knows its bytes, if there is one
 abbrev pub KnowsSecret : Request → Option (List ℕ) → List ℕ → Type 0
@@ -75,30 +79,40 @@ NeedsNoSecret (luks_cat o) image = Knows image (λ known. is_err (volume_of o kn
 NeedsNoSecret (af_split s) image = Knows image (λ known. (length known ≡ 0) ⊎ (max_key_len < length known))
 NeedsNoSecret _ image = Unit {0}
 
--- what a run adds to the counts of a source: a failure if a read failed, an end if one hit the end, each once at most,
+-- what a run adds to the counts of a source of which a read failed, or none did: an end if a read hit it, once at most,
 -- and nothing needless. No more is allowed to be read ahead than before
-abbrev pub ReadsOnce : ReadCounts → ReadCounts → Type 0
-ReadsOnce before after = (failed : Bool) × (ended : Bool) × Reads failed ended before after
+abbrev pub ReadsOnce : Bool → ReadCounts → ReadCounts → Type 0
+ReadsOnce failed before after = (ended : Bool) × Reads failed ended before after
 
 -- the same of the image of a payload, of which more may be allowed to be read ahead
-abbrev pub ReadsPayload : ReadCounts → ReadCounts → Type 0
-ReadsPayload before after = (most : ℕ) × ReadsOnce (with_ahead most before) after
+abbrev pub ReadsPayload : (ℕ → ℕ → Type 0) → Bool → ReadCounts → ReadCounts → Type 0
+ReadsPayload Allows failed before after =
+    (most : ℕ) × Allows before.ahead most × ReadsOnce failed (with_ahead most before) after
 
--- what a command adds to the counts of the image: `luksCat` alone reads a payload
-abbrev pub ReadsImage : Request → ReadCounts → ReadCounts → Type 0
-ReadsImage (luks_cat o) = ReadsPayload
-ReadsImage _ = ReadsOnce
+-- no more is allowed to be read ahead than before, or as much as is needed up to the end of the payload, if so many
+-- bytes of its image were consumed to open the volume
+abbrev pub AllowsPayload : (Segment → Type 0) → ℕ → ℕ → ℕ → Type 0
+AllowsPayload IsOf consumed ahead most = (most ≡ ahead)
+    ⊎ ((s : Segment) × IsOf s × (most ≡ max (max_needed s.size s.offset consumed) ahead))
 
--- what a run adds to the counts of a sink: a failure if a write failed, once at most, and nothing needless
-abbrev pub WritesOnce : WriteCounts → WriteCounts → Type 0
-WritesOnce before after = (failed : Bool) × Writes failed before after
+-- how much `luksCat` allows to be read ahead: `testPassphrase` consumes as much of the image to open the volume
+abbrev pub CatAllows : VolumeRequest → Option (List ℕ) → Option (List ℕ) → ℕ → ℕ → Type 0
+CatAllows o image secret ahead most =
+    IfKnown image
+    (λ known. IfKnown secret (λ passphrase.
+    AllowsPayload (HasSegment known) (volume_outcome (slot_outcome passphrase) o known passphrase).image_consumed
+    ahead most))
 
--- what a run that reads the image in this way adds to the counts of its devices: one failure if a read or a write
--- failed, at most one end of each input, and no needless call
-pub record CountsCalls (ReadsIt : ReadCounts → ReadCounts → Type 0) (message : Message)
+-- what a command adds to the counts of these inputs' image: `luksCat` alone reads a payload
+abbrev pub ReadsImage : Request → Option (List ℕ) → Option (List ℕ) → Bool → ReadCounts → ReadCounts → Type 0
+ReadsImage (luks_cat o) image secret = ReadsPayload (CatAllows o image secret)
+ReadsImage _ image secret = ReadsOnce
+
+-- what a run that reads the image in this way adds to the counts of its devices: a failure of the image or of the second
+-- input if a read failed, one of the output if a write failed, at most one end of each input, and no needless call
+pub record CountsCalls (ReadsIt : Bool → ReadCounts → ReadCounts → Type 0) (message : Message)
     (image image' secret secret' : ReadCounts) (out out' : WriteCounts) : Type 0 where
-  pub failures : Counts message (failures_of image.failures secret.failures out.failures)
-      (failures_of image'.failures secret'.failures out'.failures)
-  pub image_reads : ReadsIt image image'
-  pub secret_reads : ReadsOnce secret secret'
-  pub out_writes : WritesOnce out out'
+  pub in_image : Bool
+  pub image_reads : ReadsIt (in_image && is_run_read_failure message) image image'
+  pub secret_reads : ReadsOnce (not in_image && is_run_read_failure message) secret secret'
+  pub out_writes : Writes (is_run_write_failure message) out out'

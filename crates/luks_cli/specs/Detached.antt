@@ -1,9 +1,10 @@
 -- The headline for a header in a file of its own: header and key areas come from that file, and the payload from the
 -- image, at the segment's own place.
-use Rattle.std.specs.Prelude.{◌≡◌, ◌⊎◌, ℕ, List, Option, Some, is_err, true}
+use Rattle.std.specs.Prelude.{◌≡◌, ℕ, List, Option, Some, is_err, true, Bool, ◌&&◌, not}
+use Rattle.luks_io.specs.Counts.{Writes}
 use Rattle.luks_io.specs.declared.counts.ReadCounts.{ReadCounts}
 use Rattle.luks_io.specs.declared.counts.WriteCounts.{WriteCounts}
-use Rattle.luks_io.specs.Devices.{Appended, ConsumedExactly, IfKnown, saturating_inc}
+use Rattle.luks_io.specs.Devices.{Appended, ConsumedExactly, IfKnown}
 use Rattle.luks_request.specs.Request.{Request, is_luks, luks_uuid, luks_dump, luks_check, test_passphrase, luks_cat}
 use Rattle.luks_report.specs.CheckOutput.{check_of, message_for_check}
 use Rattle.luks_report.specs.Dump.{dump_of, uuid_of}
@@ -16,11 +17,13 @@ use Rattle.luks_runs.specs.Ending.{Outcome}
 use Rattle.luks_runs.specs.HeaderOutcome.{is_luks_outcome, print_outcome_by, always_done}
 use Rattle.luks_cli.specs.Outcome.{outcome_of}
 use Rattle.luks_runs.specs.HeaderReading.{detached_header_of}
-use Rattle.luks_runs.specs.Run.{Counts, Failures, failures_of, Promptness, DetachedRunMatches, ConsumedNothing}
-use Rattle.luks_runs.specs.Run.{at_any_pace}
-use Rattle.luks_cli.specs.CommandRun.{IsCounted, Knows, KnowsSecret, ConsumedSecret, ReadsOnce, WritesOnce}
+use Rattle.luks_runs.specs.Run.{Promptness, DetachedRunMatches, ConsumedNothing, AnyPace}
+use Rattle.luks_runs.specs.Run.{is_run_read_failure, is_run_write_failure}
+use Rattle.luks_cli.specs.CommandRun.{AllowsPayload, IsCounted, Knows, KnowsSecret, ConsumedSecret, ReadsOnce}
+use Rattle.luks_cli.specs.CommandRun.{ReadsPayload}
+use Rattle.luks_unlock.specs.Finding.{HasSegmentBy}
 use Rattle.luks_unlock.specs.Volume.{detached_payload_outcome, slot_outcome, volume_by, volume_outcome_by}
-use Rattle.luks_cli.specs.VolumeParts.{detached_cat_promptly}
+use Rattle.luks_cli.specs.VolumeParts.{PromptDetachedCat}
 
 -- what a command does with the bytes of the file with the header, of the image and of the second input
 abbrev pub detached_outcome_of : Request → List ℕ → List ℕ → List ℕ → Outcome
@@ -38,8 +41,8 @@ detached_outcome_of request file image secret = outcome_of request image secret
 
 -- how prompt a command is that consumed so many bytes of the image
 abbrev pub detached_promptness_of : Request → List ℕ → ℕ → Promptness
-detached_promptness_of (luks_cat o) file payload_consumed = detached_cat_promptly file payload_consumed
-detached_promptness_of request file payload_consumed = at_any_pace
+detached_promptness_of (luks_cat o) file payload_consumed = PromptDetachedCat file payload_consumed
+detached_promptness_of request file payload_consumed = AnyPace
 
 -- the image knows its bytes, if the command reads any of it
 abbrev pub KnowsPayload : Request → Option (List ℕ) → List ℕ → Type 0
@@ -92,21 +95,24 @@ abbrev pub NeedsNoPayload : Request → Message → Type 0
 NeedsNoPayload (luks_cat o) message = EndsWithoutKey message
 NeedsNoPayload request message = Unit {0}
 
--- the counts of failures after a run with this message, of the file with the header and of the other devices: one of
--- them rose by one if a read or a write failed, and otherwise none did
-abbrev pub CountsDetached : Message → ℕ → ℕ → Failures → Failures → Type 0
-CountsDetached ReadFailed header header' before after =
-    ((header' ≡ saturating_inc header) × (after ≡ before)) ⊎ ((header' ≡ header) × Counts ReadFailed before after)
-CountsDetached message header header' before after = (header' ≡ header) × Counts message before after
+-- how much `luksCat` allows its payload's image to be read ahead, of which nothing is consumed to open the volume
+abbrev pub DetachedCatAllows : Option (List ℕ) → Option (List ℕ) → ℕ → ℕ → Type 0
+DetachedCatAllows header secret ahead most =
+    IfKnown header
+    (λ file. IfKnown secret (λ passphrase. AllowsPayload (HasSegmentBy detached_header_of file) 0 ahead most))
 
--- what a run that reads the image in this way adds to the counts of its devices: one failure if a read or a write
--- failed, at most one end of each input, and no needless call
-pub record CountsCallsDetached (ReadsIt : ReadCounts → ReadCounts → Type 0) (message : Message)
+-- what a command adds to the counts of its payload's image, beside these inputs: `luksCat` alone reads one
+abbrev pub ReadsDetachedImage : Request → Option (List ℕ) → Option (List ℕ) → Bool → ReadCounts → ReadCounts → Type 0
+ReadsDetachedImage (luks_cat o) header secret = ReadsPayload (DetachedCatAllows header secret)
+ReadsDetachedImage request header secret = ReadsOnce
+
+-- what a run that reads the image in this way adds to the counts of its devices: a failure of one of its inputs if a
+-- read failed, one of the output if a write failed, at most one end of each input, and no needless call
+pub record CountsCallsDetached (ReadsIt : Bool → ReadCounts → ReadCounts → Type 0) (message : Message)
     (header header' image image' secret secret' : ReadCounts) (out out' : WriteCounts) : Type 0 where
-  pub failures : CountsDetached message header.failures header'.failures
-      (failures_of image.failures secret.failures out.failures)
-      (failures_of image'.failures secret'.failures out'.failures)
-  pub header_reads : ReadsOnce header header'
-  pub image_reads : ReadsIt image image'
-  pub secret_reads : ReadsOnce secret secret'
-  pub out_writes : WritesOnce out out'
+  pub in_image : Bool
+  pub in_header : Bool
+  pub header_reads : ReadsOnce (not in_image && (in_header && is_run_read_failure message)) header header'
+  pub image_reads : ReadsIt (in_image && is_run_read_failure message) image image'
+  pub secret_reads : ReadsOnce (not in_image && (not in_header && is_run_read_failure message)) secret secret'
+  pub out_writes : Writes (is_run_write_failure message) out out'

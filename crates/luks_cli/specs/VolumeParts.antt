@@ -13,10 +13,10 @@ use Rattle.luks_unlock.specs.Volume.{OnOpened}
 -- ---- opening
 
 -- whatever is done with a volume consumes at least the bytes of its image that are loaded, and the whole key file
-pub record ConsumesHeld (secret : List ℕ) (on_opened : OnOpened) : Type 0 where
-  pub held : (segment : Segment) (opened : Opened) (held : ℕ) → held ≤ (on_opened segment opened held).image_consumed
-  pub whole : (segment : Segment) (opened : Opened) (held : ℕ)
-      → (on_opened segment opened held).secret_consumed ≡ length secret
+pub record ConsumesLoaded (secret : List ℕ) (on_opened : OnOpened) : Type 0 where
+  pub loaded : (segment : Segment) (opened : Opened) (loaded : ℕ) → loaded ≤ (on_opened segment opened loaded).image_consumed
+  pub whole : (segment : Segment) (opened : Opened) (loaded : ℕ)
+      → (on_opened segment opened loaded).secret_consumed ≡ length secret
 
 -- ---- the payload
 
@@ -27,22 +27,22 @@ PassesHeader s header_len consumed = (header_len ≤ s.offset) ⊎ (header_len <
 
 -- forwarding a payload is aborted: if a write fails, no byte of the image past the sector of the last byte written was
 -- consumed, except for the header's; if a read fails, the output is the whole sectors that were consumed
-abbrev pub forwards_promptly : Segment → ℕ → Message → ℕ → ℕ → Type 0
-forwards_promptly s header_len WriteFailed consumed output =
+abbrev pub PromptForwarding : Segment → ℕ → Message → ℕ → ℕ → Type 0
+PromptForwarding s header_len WriteFailed consumed output =
     consumed ≤ max header_len (sector_start s (output / sector_len s + 1))
-forwards_promptly s header_len ReadFailed consumed output = PassesHeader s header_len consumed
+PromptForwarding s header_len ReadFailed consumed output = PassesHeader s header_len consumed
     → output ≡ (consumed - s.offset) / sector_len s * sector_len s
-forwards_promptly s header_len _ consumed output = Unit {0}
+PromptForwarding s header_len _ consumed output = Unit {0}
 
 -- `luksCat` is aborted: this holds of the image's payload
-abbrev pub cat_promptly : List ℕ → Message → ℕ → ℕ → ℕ → Type 0
-cat_promptly image message image_consumed secret_consumed output =
-    (segment : Segment) → HasSegment image segment → forwards_promptly segment
+abbrev pub PromptCat : List ℕ → Message → ℕ → ℕ → ℕ → Type 0
+PromptCat image message image_consumed secret_consumed output =
+    (segment : Segment) → HasSegment image segment → PromptForwarding segment
     (header_read_len image) message image_consumed output
 
 -- `luksCat` with a detached header is aborted: the same holds of the payload's image, of which nothing is consumed for
 -- a header
-abbrev pub detached_cat_promptly : List ℕ → ℕ → Message → ℕ → ℕ → ℕ → Type 0
-detached_cat_promptly file payload_consumed message header_consumed secret_consumed output =
+abbrev pub PromptDetachedCat : List ℕ → ℕ → Message → ℕ → ℕ → ℕ → Type 0
+PromptDetachedCat file payload_consumed message header_consumed secret_consumed output =
     (segment : Segment) → HasSegmentBy detached_header_of file segment
-    → forwards_promptly segment 0 message payload_consumed output
+    → PromptForwarding segment 0 message payload_consumed output

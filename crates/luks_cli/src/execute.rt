@@ -36,7 +36,8 @@ mod volumes;
 ///
 /// No device is called needlessly: no read goes into an empty buffer or follows one that failed or
 /// hit the end, and no write brings nothing or follows one that failed. The end of each input is
-/// hit at most once. No command but `luksCat` allows read-ahead.
+/// hit at most once. No command but `luksCat` allows read-ahead, which allows it up to the payload's
+/// end and no further, if both inputs know their bytes.
 ///
 /// `luksCat` writes the plaintext of an honestly sealed volume if the passphrase has at most
 /// 8,388,608 bytes and is that of a key slot which is tried, no slot tried before gives another
@@ -46,9 +47,8 @@ mod volumes;
 /// `luksCat` allows read-ahead for the bytes of the image that it will request, and writes each
 /// sector as it comes: if a write fails, nothing past the current sector was consumed, except for
 /// the header, and if a read fails, all whole sectors that were consumed are written, unless a
-/// damaged primary header reaches into the payload. How much read-ahead it allows is a clause of
-/// `write_payload` and not of this call. All this is said of images shorter than 2^64 bytes. Every
-/// other command consumes just what it requests, also of a pipe.
+/// damaged primary header reaches into the payload. All this is said of images shorter than 2^64
+/// bytes. Every other command consumes just what it requests, also of a pipe.
 pub fn execute<I: Source, K: Source, O: Sink>(
     alloc: Global,
     command: &Command<'_>,
@@ -68,9 +68,10 @@ pub fn execute<I: Source, K: Source, O: Sink>(
         → secret.new ≡ secret.old }
     ensures reads_first { ReadsFirst (request_of command.now) → result.message ≡ Message.ReadFailed
         → out.new ≡ out.old }
-    ensures calls { CountsCalls (ReadsImage (request_of command.now)) result.message
-        (I.counts image.old) (I.counts image.new) (K.counts secret.old) (K.counts secret.new)
-        (O.counts out.old) (O.counts out.new) }
+    ensures calls { CountsCalls
+        (ReadsImage (request_of command.now) (I.to_come image.old) (K.to_come secret.old))
+        result.message (I.counts image.old) (I.counts image.new) (K.counts secret.old)
+        (K.counts secret.new) (O.counts out.old) (O.counts out.new) }
 {
     let location = HeaderLocation::Attached;
     match command {

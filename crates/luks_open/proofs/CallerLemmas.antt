@@ -22,16 +22,16 @@ use Rattle.luks_open.specs.Opening.{first_opening, if_meets, slot_key, opened_or
 use Rattle.luks_open.specs.Order.{OrderModel, key_areas_end, order_of}
 use Rattle.luks_open.specs.declared.entry.Entry.{Entry}
 use Rattle.luks_open.specs.declared.opening.Opened.{Opened}
-use Rattle.luks_open.proofs.OrderLemmas.{All-key_areas_end, All-tries, IsOf, key_areas_end-le}
+use Rattle.luks_open.proofs.OrderLemmas.{All-key_areas_end, All-order, IsOf, key_areas_end-le}
 
 -- the key material of all key slots that are tried ends at or before the payload's start, if that is in the header's
 -- image
-pub held_before_payload : (header : Header) (segment : Segment) (named limit : Option ℕ) (tries : OrderModel)
+pub held_before_payload : (header : Header) (segment : Segment) (named limit : Option ℕ) (order : OrderModel)
     → is_detached header ≡ false
     → segment_of header ≡ Ok segment
-    → order_of header named limit ≡ Ok tries → key_areas_end tries.slots ≤ segment.offset
-held_before_payload header segment named limit tries attached is_segment is_order =
-    key_areas_end-le segment.offset tries.slots (of_entries tries.slots (All-tries header named limit tries is_order))
+    → order_of header named limit ≡ Ok order → key_areas_end order.slots ≤ segment.offset
+held_before_payload header segment named limit order attached is_segment is_order =
+    key_areas_end-le segment.offset order.slots (of_entries order.slots (All-order header named limit order is_order))
   where
     of_entries : (entries : List Entry) → AllByRecursion (IsOf header limit) entries
         → AllByRecursion (λ (entry : Entry). material_end entry.slot ≤ segment.offset) entries
@@ -90,12 +90,12 @@ key_beginning entry n image pass before =
     of_read None af mode = refl
 
 -- what a passphrase opens depends on no byte of the image behind the key material
-pub opening_beginning : (tries : OrderModel) (n : ℕ) (image pass : List ℕ) → key_areas_end tries.slots ≤ n
-    → opening_of tries (take n image) pass ≡ opening_of tries image pass
+pub opening_beginning : (order : OrderModel) (n : ℕ) (image pass : List ℕ) → key_areas_end order.slots ≤ n
+    → opening_of order (take n image) pass ≡ opening_of order image pass
 unfolding opening_of first_opening
-opening_beginning tries n image pass held =
-    ap (λ (first : Option Opened). answer_of first tries.skipped)
-    (of_entries tries.slots (All-key_areas_end n tries.slots held))
+opening_beginning order n image pass loaded =
+    ap (λ (first : Option Opened). answer_of first order.skipped)
+    (of_entries order.slots (All-key_areas_end n order.slots loaded))
   where
     of_entries : (entries : List Entry) → AllByRecursion (λ (entry : Entry). material_end entry.slot ≤ n) entries
         → first_opening entries (take n image) pass ≡ first_opening entries image pass

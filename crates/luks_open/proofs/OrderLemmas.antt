@@ -22,8 +22,9 @@ use Rattle.luks_header.specs.HeaderDigests.{digest_for}
 use Rattle.luks_header.specs.SlotVerdicts.{slot_at, verdict_at}
 use Rattle.luks_header.specs.declared.header.Header.{Header}
 use Rattle.luks_header.proofs.KnownLemmas.{digest_of_usable, slot_of_usable}
-use Rattle.luks_open.specs.Order.{IsOrMemory, OrderModel, entry_at, entry_of, key_areas_end, order_of, skipped_at, tried_alone}
-use Rattle.luks_open.specs.Order.{tries_of_all, tries_of_named, unless_none, usable_at, where_usable}
+use Rattle.luks_open.specs.Order.{IsOrMemory, OrderModel, entry_at, entry_of, key_areas_end, order_of, skipped_at}
+use Rattle.luks_open.specs.Order.{order_alone}
+use Rattle.luks_open.specs.Order.{order_of_all, order_of_named, unless_none, usable_at, where_usable}
 use Rattle.luks_open.specs.declared.entry.Entry.{Entry}
 use Rattle.luks_open.specs.declared.fault.OpenFault.{OpenFault}
 
@@ -87,37 +88,37 @@ usable_at-some header limit priority number entry is = of_verdict (verdict_at he
     of_verdict (Some (Usable slot)) v h = of_test slot v (slot.parts.priority == priority) h
 
 -- what is tried where no key slot is named
-tries-unless_none : (entries : List Entry) (skipped : List (ℕ × SkipReason)) (tries : OrderModel)
-    → unless_none entries skipped ≡ Ok tries → entries ≡ tries.slots
-tries-unless_none [] skipped tries is = absurd cc
-tries-unless_none (entry ∷ entries) skipped tries is =
+order-unless_none : (entries : List Entry) (skipped : List (ℕ × SkipReason)) (order : OrderModel)
+    → unless_none entries skipped ≡ Ok order → entries ≡ order.slots
+order-unless_none [] skipped order is = absurd cc
+order-unless_none (entry ∷ entries) skipped order is =
     let same : record { slots = entry ∷ entries; skipped = skipped }
-    ≡ tries = cc in ap (λ (t : OrderModel). t.slots) same
+    ≡ order = cc in ap (λ (t : OrderModel). t.slots) same
 
 -- all that is tried is of the header
-pub All-tries : (header : Header) (named limit : Option ℕ) (tries : OrderModel) → order_of header named limit ≡ Ok tries
-    → AllByRecursion (IsOf header limit) tries.slots
-unfolding order_of tries_of_all
-All-tries header None limit tries is =
+pub All-order : (header : Header) (named limit : Option ℕ) (order : OrderModel) → order_of header named limit ≡ Ok order
+    → AllByRecursion (IsOf header limit) order.slots
+unfolding order_of order_of_all
+All-order header None limit order is =
     subst (AllByRecursion (IsOf header limit))
-    (tries-unless_none _ (ascending (skipped_at header limit) max_slots) tries is)
+    (order-unless_none _ (ascending (skipped_at header limit) max_slots) order is)
     (AllByRecursion-append (IsOf header limit) _ _
     (All-ascending (IsOf header limit) (usable_at header limit 2) max_slots (usable_at-some header limit 2))
     (All-ascending (IsOf header limit) (usable_at header limit 1) max_slots (usable_at-some header limit 1)))
-All-tries header (Some number) limit tries is = of_verdict (verdict_at header limit number) refl is
+All-order header (Some number) limit order is = of_verdict (verdict_at header limit number) refl is
   where
     of_entry : (slot : Slot) → verdict_at header limit number ≡ Some (Usable slot) → (entry : Option Entry)
         → entry_at header number ≡ entry
-        → tried_alone entry ≡ Ok tries → AllByRecursion (IsOf header limit) tries.slots
+        → order_alone entry ≡ Ok order → AllByRecursion (IsOf header limit) order.slots
     of_entry slot v None e h = absurd cc
     of_entry slot v (Some entry) e h =
-        let same : record { slots = entry ∷ []; skipped = [] } ≡ tries = cc in
+        let same : record { slots = entry ∷ []; skipped = [] } ≡ order = cc in
         subst (λ (t : OrderModel). AllByRecursion (IsOf header limit) t.slots) same
         (usable_entry header limit number slot entry v e, tt)
 
     of_verdict : (verdict : Option Verdict) → verdict_at header limit number ≡ verdict
-        → tries_of_named (entry_at header number) verdict ≡ Ok tries
-        → AllByRecursion (IsOf header limit) tries.slots
+        → order_of_named (entry_at header number) verdict ≡ Ok order
+        → AllByRecursion (IsOf header limit) order.slots
     of_verdict None v h = absurd cc
     of_verdict (Some Disabled) v h = absurd cc
     of_verdict (Some (Skipped reason)) v h = absurd cc
@@ -143,7 +144,7 @@ usable_there header limit priority number is =
 -- where the one that is named can be tried, it is
 pub named_tried : (header : Header) (limit : Option ℕ) (number : ℕ) (slot : Slot)
     → verdict_at header limit number ≡ Some (Usable slot)
-    → IsOk (tries_of_named (entry_at header number) (verdict_at header limit number))
+    → IsOk (order_of_named (entry_at header number) (verdict_at header limit number))
 named_tried header limit number slot usable =
     let there = entry_there header limit number slot usable in
     rw (usable, there.1) refl
@@ -151,7 +152,7 @@ named_tried header limit number slot usable =
 -- the one that is named is judged one that can be tried
 pub named_open : (header : Header) (limit : Option ℕ) (priority number : ℕ)
     → option_map verdict_kind_of (verdict_at header limit number) ≡ Some (Open priority)
-    → IsOk (tries_of_named (entry_at header number) (verdict_at header limit number))
+    → IsOk (order_of_named (entry_at header number) (verdict_at header limit number))
 named_open header limit priority number is =
     let usable = usable_from_open (verdict_at header limit number) priority is in
     named_tried header limit number usable.0 usable.1
@@ -160,7 +161,7 @@ named_open header limit priority number is =
 pub named_alone : (entry : Option Entry) (verdict : Option Verdict) (priority : ℕ)
     (answer : Result OrderModel OpenFault)
     → option_map verdict_kind_of verdict ≡ Some (Open priority)
-    → IsOrMemory (tried_alone entry) answer → IsOrMemory (tries_of_named entry verdict) answer
+    → IsOrMemory (order_alone entry) answer → IsOrMemory (order_of_named entry verdict) answer
 named_alone entry verdict priority answer is alone =
     let usable = usable_from_open verdict priority is in
     rw usable.1 alone
@@ -180,7 +181,7 @@ unfolding key_areas_end
 All-key_areas_end most [] all = tt
 All-key_areas_end most (entry ∷ entries) all = (omega arith, All-key_areas_end most entries (omega arith))
 
--- key material that can be used ends within what can be held of an image
+-- key material that can be used ends within what can be loaded of an image
 pub key_areas_end-within : (entries : List Entry) → key_areas_end entries ≤ max_area_len
 unfolding key_areas_end
 key_areas_end-within [] = omega arith

@@ -12,18 +12,18 @@ use Rattle.luks_header.proofs.KnownLemmas.{known_usable}
 use Rattle.luks_open.specs.Order.{OrderModel, key_areas_end, order_of}
 use Rattle.luks_open.specs.Trial.{IsTriable}
 use Rattle.luks_open.specs.declared.entry.Entry.{Entry}
-use Rattle.luks_open.proofs.OrderLemmas.{All-key_areas_end, All-tries, IsOf}
+use Rattle.luks_open.proofs.OrderLemmas.{All-key_areas_end, All-order, IsOf}
 
--- the key slots that are tried can be, where their key material is held
-pub All-IsTriable : (header : Header) (segment : Segment) (named limit : Option ℕ) (tries : OrderModel) (held : ℕ)
+-- the key slots that are tried can be, where their key material is loaded
+pub All-IsTriable : (header : Header) (segment : Segment) (named limit : Option ℕ) (order : OrderModel) (loaded : ℕ)
     → segment_of header ≡ Ok segment
-    → order_of header named limit ≡ Ok tries → key_areas_end tries.slots ≤ held
-    → All (λ (entry : Entry). IsTriable held entry.slot) tries.slots
-All-IsTriable header segment named limit tries held is_segment is_order there =
-    All-from_recursion (λ (entry : Entry). IsTriable held entry.slot) tries.slots
-    (of_entries tries.slots (All-tries header named limit tries is_order) (All-key_areas_end held tries.slots there))
+    → order_of header named limit ≡ Ok order → key_areas_end order.slots ≤ loaded
+    → All (λ (entry : Entry). IsTriable loaded entry.slot) order.slots
+All-IsTriable header segment named limit order loaded is_segment is_order there =
+    All-from_recursion (λ (entry : Entry). IsTriable loaded entry.slot) order.slots
+    (of_entries order.slots (All-order header named limit order is_order) (All-key_areas_end loaded order.slots there))
   where
-    of_entry : (entry : Entry) → IsOf header limit entry → material_end entry.slot ≤ held → IsTriable held entry.slot
+    of_entry : (entry : Entry) → IsOf header limit entry → material_end entry.slot ≤ loaded → IsTriable loaded entry.slot
     of_entry entry is ends =
         let known = known_usable header segment limit entry.number entry.slot is_segment is.usable in
         record {
@@ -35,18 +35,18 @@ All-IsTriable header segment named limit tries held is_segment is_order there =
         }
 
     of_entries : (entries : List Entry) → AllByRecursion (IsOf header limit) entries
-        → AllByRecursion (λ (entry : Entry). material_end entry.slot ≤ held) entries
-        → AllByRecursion (λ (entry : Entry). IsTriable held entry.slot) entries
+        → AllByRecursion (λ (entry : Entry). material_end entry.slot ≤ loaded) entries
+        → AllByRecursion (λ (entry : Entry). IsTriable loaded entry.slot) entries
     of_entries [] all ends = tt
     of_entries (entry ∷ entries) all ends = (of_entry entry all.0 ends.0, of_entries entries all.1 ends.1)
 
 -- and their volume keys have lengths of the segment's mode
-pub All-volume_key : (header : Header) (segment : Segment) (named limit : Option ℕ) (tries : OrderModel)
-    → segment_of header ≡ Ok segment → order_of header named limit ≡ Ok tries
-    → All (λ (entry : Entry). is_mode_key_length segment.mode entry.slot.parts.key_bytes ≡ true) tries.slots
-All-volume_key header segment named limit tries is_segment is_order =
+pub All-volume_key : (header : Header) (segment : Segment) (named limit : Option ℕ) (order : OrderModel)
+    → segment_of header ≡ Ok segment → order_of header named limit ≡ Ok order
+    → All (λ (entry : Entry). is_mode_key_length segment.mode entry.slot.parts.key_bytes ≡ true) order.slots
+All-volume_key header segment named limit order is_segment is_order =
     All-from_recursion (λ (entry : Entry). is_mode_key_length segment.mode entry.slot.parts.key_bytes ≡ true)
-    tries.slots (of_entries tries.slots (All-tries header named limit tries is_order))
+    order.slots (of_entries order.slots (All-order header named limit order is_order))
   where
     of_entries : (entries : List Entry) → AllByRecursion (IsOf header limit) entries
         → AllByRecursion (λ (entry : Entry). is_mode_key_length segment.mode entry.slot.parts.key_bytes ≡ true) entries

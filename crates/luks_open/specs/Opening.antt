@@ -40,7 +40,7 @@ answer_of None skipped = Err (NoKey skipped)
 
 -- what a passphrase opens: the first of the key slots that are tried
 unfoldable pub opening_of : OrderModel → List ℕ → List ℕ → Result Opened OpenFault
-opening_of tries image pass = answer_of (first_opening tries.slots image pass) tries.skipped
+opening_of order image pass = answer_of (first_opening order.slots image pass) order.skipped
 
 -- the evaluations of HMAC by which PBKDF2 gives so many bytes
 abbrev pub evaluations : Option Hash → ℕ → ℕ → ℕ
@@ -61,4 +61,4 @@ tried_of (entry ∷ entries) image pass = entry
 
 -- the evaluations of HMAC that opening costs: those of all key slots that are tried
 unfoldable pub work_of : OrderModel → List ℕ → List ℕ → ℕ
-work_of tries image pass = sum_by evaluations_of (tried_of tries.slots image pass)
+work_of order image pass = sum_by evaluations_of (tried_of order.slots image pass)

@@ -62,27 +62,27 @@ unless_none [] skipped = Err (NothingTried skipped)
 unless_none (entry ∷ entries) skipped = Ok record { slots = entry ∷ entries; skipped = skipped }
 
 -- no key slot is named: those of priority 2 are tried, then those of priority 1, each by ascending number
-unfoldable pub tries_of_all : Header → Option ℕ → Result OrderModel OpenFault
-tries_of_all header limit =
+unfoldable pub order_of_all : Header → Option ℕ → Result OrderModel OpenFault
+order_of_all header limit =
     unless_none (ascending (usable_at header limit 2) max_slots ++ ascending (usable_at header limit 1) max_slots)
     (ascending (skipped_at header limit) max_slots)
 
 -- it is tried alone. (If it can be tried, there are a slot and a digest.)
-abbrev pub tried_alone : Option Entry → Result OrderModel OpenFault
-tried_alone (Some entry) = Ok record { slots = entry ∷ []; skipped = [] }
-tried_alone None = Err (NamedSkipped Digest)
+abbrev pub order_alone : Option Entry → Result OrderModel OpenFault
+order_alone (Some entry) = Ok record { slots = entry ∷ []; skipped = [] }
+order_alone None = Err (NamedSkipped Digest)
 
 -- a key slot is named, of which this became: it alone is tried, whatever its priority
-abbrev pub tries_of_named : Option Entry → Option Verdict → Result OrderModel OpenFault
-tries_of_named entry None = Err NoSuchSlot
-tries_of_named entry (Some (Usable slot)) = tried_alone entry
-tries_of_named entry (Some Unused) = Err Disabled
-tries_of_named entry (Some (Skipped reason)) = Err (NamedSkipped reason)
+abbrev pub order_of_named : Option Entry → Option Verdict → Result OrderModel OpenFault
+order_of_named entry None = Err NoSuchSlot
+order_of_named entry (Some (Usable slot)) = order_alone entry
+order_of_named entry (Some Unused) = Err Disabled
+order_of_named entry (Some (Skipped reason)) = Err (NamedSkipped reason)
 
 -- what is tried of a header's key slots, by the key slot that is named and the limit on iterations, or why nothing is
 unfoldable pub order_of : Header → Option ℕ → Option ℕ → Result OrderModel OpenFault
-order_of header None limit = tries_of_all header limit
-order_of header (Some named) limit = tries_of_named (entry_at header named) (verdict_at header limit named)
+order_of header None limit = order_of_all header limit
+order_of header (Some named) limit = order_of_named (entry_at header named) (verdict_at header limit named)
 
 -- an answer is the specified one, or memory ran out
 abbrev pub IsOrMemory : {T : Type 0} → Result T OpenFault → Result T OpenFault → Type 0

@@ -7,11 +7,11 @@ use Rattle.luks_verdict.specs.Slot.{material_end}
 use Rattle.luks_verdict.specs.declared.slot.Slot.{Slot}
 
 -- the hash functions and the mode of a key slot are known ones, its keys have lengths that there are, that of the key
--- material one of its mode, and the material ends within the first `held` bytes
-pub record IsTriable (held : ℕ) (slot : Slot) : Type 0 where
+-- material one of its mode, and the material ends within the first `loaded` bytes
+pub record IsTriable (loaded : ℕ) (slot : Slot) : Type 0 where
   pub kdf : (hash : Hash) × (slot.parts.kdf_hash ≡ Some hash)
   pub af : (hash : Hash) × (slot.parts.af_hash ≡ Some hash)
   pub volume_key : is_key_length slot.parts.key_bytes ≡ true
   pub area : (mode : Mode) × (slot.parts.area_mode ≡ Some mode)
       × (is_mode_key_length mode slot.parts.area_key_bytes ≡ true)
-  pub there : material_end slot ≤ held
+  pub there : material_end slot ≤ loaded

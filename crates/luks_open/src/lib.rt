@@ -1,7 +1,7 @@
 //! Opening a volume: which key slots are tried, in which order, and what key a passphrase gives.
 //!
 //! [`order`](order::order) says which key slots of a header are tried,
-//! [`held_end`](tries::held_end) how much of the image must be loaded for that, and
+//! [`held_end`](ordered::held_end) how much of the image must be loaded for that, and
 //! [`open`](opening::open) tries them.
 #![tactic(auto)]
 
@@ -12,5 +12,5 @@ pub mod key;
 mod material;
 pub mod opening;
 pub mod order;
+pub mod ordered;
 pub mod skipped;
-pub mod tries;

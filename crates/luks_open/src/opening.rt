@@ -17,7 +17,7 @@ use crate::digest::is_met;
 use crate::entry::Entry;
 use crate::fault::OpenFault;
 use crate::key::Key;
-use crate::tries::Order;
+use crate::ordered::Order;
 use luks_cipher::SectorCipher;
 use luks_header::area::HeaderArea;
 use luks_header::header::Header;
@@ -124,7 +124,7 @@ pub fn open(
     // material.
     requires order { (named limit : Option ℕ) × (order_of header.now named limit ≡ Ok order.now) }
     requires segment { (segment : Segment) × (segment_of header.now ≡ Ok segment) }
-    requires held { key_areas_end order.now.slots ≤ length area.now.bytes }
+    requires loaded { key_areas_end order.now.slots ≤ length area.now.bytes }
     ensures value { result ≡ opening_of order.now area.now.bytes pass.now }
     ensures work { work.new ≡ capped (work.old + work_of order.now area.now.bytes pass.now) }
     ensures key_length { (segment : Segment) → segment_of header.now ≡ Ok segment

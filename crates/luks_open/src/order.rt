@@ -4,14 +4,14 @@ ghost use Rattle.std.specs.Prelude.{◌≡◌, ◌++◌, Err, IfOk, IsOk, IsSome
 ghost use Rattle.std.specs.Prelude.{[], ◌∷◌, ◌≤◌, length};
 ghost use Rattle.luks_verdict.specs.Rule.{max_slots};
 ghost use Rattle.luks_verdict.specs.Table.{ascending};
-ghost use Rattle.luks_open.specs.Order.{IsOrMemory, order_of, skipped_at, entry_at, tried_alone};
-ghost use Rattle.luks_open.specs.Order.{tries_of_all, tries_of_named, usable_at};
+ghost use Rattle.luks_open.specs.Order.{IsOrMemory, order_of, skipped_at, entry_at, order_alone};
+ghost use Rattle.luks_open.specs.Order.{order_of_all, order_of_named, usable_at};
 ghost use Rattle.luks_header.specs.SlotVerdicts.{verdict_at};
 
 use crate::entry::{Entry, entry_at};
 use crate::fault::OpenFault;
+use crate::ordered::Order;
 use crate::skipped::SkippedSlots;
-use crate::tries::Order;
 use luks_header::header::Header;
 use luks_header::refusal::SkipReason;
 use luks_header::rule::MAX_SLOTS;
@@ -80,10 +80,10 @@ fn skipped(header: &Header, limit: Option<u32>) -> SkippedSlots
 }
 
 // No key slot is named.
-#[tactic(auto, unfolding(crate::specs::Order::tries_of_all))]
+#[tactic(auto, unfolding(crate::specs::Order::order_of_all))]
 fn order_all(alloc: Global, header: &Header, limit: Option<u32>) -> Result<Order, OpenFault>
-    ensures answer { IsOrMemory (tries_of_all header.now limit) result }
-    ensures memory { result ≡ Err OpenFault.Memory → IsOk (tries_of_all header.now limit) }
+    ensures answer { IsOrMemory (order_of_all header.now limit) result }
+    ensures memory { result ≡ Err OpenFault.Memory → IsOk (order_of_all header.now limit) }
 {
     let mut entries = Vec::new(alloc);
     push_usable(alloc, &mut entries, header, limit, 2)?;
@@ -105,7 +105,7 @@ fn order_one(alloc: Global, entry: Entry) -> Result<Order, AllocError>
 
 // A key slot that can be tried is named.
 fn order_usable(alloc: Global, header: &Header, named: u8) -> Result<Order, OpenFault>
-    ensures answer { IsOrMemory (tried_alone (entry_at header.now named)) result }
+    ensures answer { IsOrMemory (order_alone (entry_at header.now named)) result }
 {
     match entry_at(alloc, header, named)? {
         Some(entry) => Ok(order_one(alloc, entry)?),
@@ -121,9 +121,9 @@ fn order_named(
     named: u8,
 ) -> Result<Order, OpenFault>
     ensures answer { IsOrMemory
-        (tries_of_named (entry_at header.now named) (verdict_at header.now limit named)) result }
+        (order_of_named (entry_at header.now named) (verdict_at header.now limit named)) result }
     ensures memory { result ≡ Err OpenFault.Memory
-        → IsOk (tries_of_named (entry_at header.now named) (verdict_at header.now limit named)) }
+        → IsOk (order_of_named (entry_at header.now named) (verdict_at header.now limit named)) }
 {
     match verdict_kind(header, limit, named) {
         None => Err(OpenFault::NoSuchSlot),

@@ -10,8 +10,8 @@ use Rattle.std.proofs.Math.Nat.{mul-le-mul_left, zero-div}
 use Rattle.luks_verdict.specs.SectorSize.{bytes_of}
 use Rattle.luks_verdict.specs.declared.sector_size.SectorSize.{SectorSize}
 use Rattle.luks_verdict.specs.declared.sector_size.SectorSize.TheVariants.{B512, B1024, B2048, B4096}
-use Rattle.luks_payload.specs.SectorEffects.{limit_within}
-use Rattle.luks_payload.specs.Plain.{end_within, ending_within, within_size}
+use Rattle.luks_payload.specs.SectorEffects.{max_sectors_of}
+use Rattle.luks_payload.specs.Plain.{payload_end_in, ending_of_len, payload_bytes}
 use Rattle.luks_payload.specs.declared.fault.VolumeFault.{VolumeFault}
 use Rattle.luks_payload.specs.declared.fault.VolumeFault.TheVariants.{Tail, Short}
 use Rattle.luks_payload.specs.declared.state.Step.{Step}
@@ -48,24 +48,24 @@ exact_sectors size z n exact is =
 
 module _ (z : ℕ) (some : 0 < z) where
   -- sector n is one of the payload's where the limit is above it and its bytes are there
-  pub is_whole : (size : Option ℕ) (n len : ℕ) → n < limit_within size z → n * z + z ≤ len
-      → n < within_size size len / z
+  pub is_whole : (size : Option ℕ) (n len : ℕ) → n < max_sectors_of size z → n * z + z ≤ len
+      → n < payload_bytes size len / z
   is_whole None n len below there = omega (arith, fit (n + 1) len z some (omega arith))
   is_whole (Some size) n len below there =
       let whole = one_more_fits n size z below in
       omega (arith, fit (n + 1) (min size len) z some (omega arith))
 
   -- its bytes are before the payload's end
-  pub is_within : (size : Option ℕ) (n offset len place : ℕ) → n < limit_within size z → place < offset + (n * z + z)
-      → place ≤ len → place ≤ end_within size offset len
+  pub is_within : (size : Option ℕ) (n offset len place : ℕ) → n < max_sectors_of size z → place < offset + (n * z + z)
+      → place ≤ len → place ≤ payload_end_in size offset len
   is_within None n offset len place below before there = there
   is_within (Some size) n offset len place below before there =
       let whole = one_more_fits n size z below in
       omega arith
 
   -- where the next sector is torn, the sectors so far are all
-  pub all_whole : (size : Option ℕ) (n more : ℕ) → n < limit_within size z → more < z
-      → n ≡ within_size size (n * z + more) / z
+  pub all_whole : (size : Option ℕ) (n more : ℕ) → n < max_sectors_of size z → more < z
+      → n ≡ payload_bytes size (n * z + more) / z
   all_whole None n more below torn = sym (div-mul-add n z more torn)
   all_whole (Some size) n more below torn =
       let whole = one_more_fits n size z below in
@@ -73,8 +73,8 @@ module _ (z : ℕ) (some : 0 < z) where
       rw least (sym (div-mul-add n z more torn))
 
   -- and the payload ends with the image
-  pub ends_at_end : (size : Option ℕ) (n more offset : ℕ) → n < limit_within size z → more < z
-      → end_within size offset (offset + (n * z + more)) ≡ offset + (n * z + more)
+  pub ends_at_end : (size : Option ℕ) (n more offset : ℕ) → n < max_sectors_of size z → more < z
+      → payload_end_in size offset (offset + (n * z + more)) ≡ offset + (n * z + more)
   ends_at_end None n more offset below torn = refl
   ends_at_end (Some size) n more offset below torn =
       let whole = one_more_fits n size z below in
@@ -82,8 +82,8 @@ module _ (z : ℕ) (some : 0 < z) where
 
   -- at the limit of an image that can be, the payload has its fixed size and ends well
   pub at_limit : (size : Option ℕ) (n len : ℕ) → 512 ≤ z → ForSome size (λ bytes. bytes % z ≡ 0)
-      → n ≡ limit_within size z → n * z ≤ len → len < 2 ^ 64
-      → (n ≡ within_size size len / z) × (ending_within size z len ≡ Ok End)
+      → n ≡ max_sectors_of size z → n * z ≤ len → len < 2 ^ 64
+      → (n ≡ payload_bytes size len / z) × (ending_of_len size z len ≡ Ok End)
   at_limit None n len least whole is there few =
       let many : n * 512 ≤ n * z = mul-le-mul_left n least in
       absurd (omega arith)
@@ -95,8 +95,8 @@ module _ (z : ℕ) (some : 0 < z) where
 
   -- and at its fixed end
   pub at_limit_end : (size : Option ℕ) (n offset len : ℕ) → 512 ≤ z → ForSome size (λ bytes. bytes % z ≡ 0)
-      → n ≡ limit_within size z → offset + n * z ≤ len
-      → len < 2 ^ 64 → end_within size offset len ≡ offset + n * z
+      → n ≡ max_sectors_of size z → offset + n * z ≤ len
+      → len < 2 ^ 64 → payload_end_in size offset len ≡ offset + n * z
   at_limit_end None n offset len least whole is there few =
       let many : n * 512 ≤ n * z = mul-le-mul_left n least in
       absurd (omega arith)
@@ -105,19 +105,19 @@ module _ (z : ℕ) (some : 0 < z) where
       omega arith
 
 -- of an image that ends before its payload, no sector is there and no byte is left
-pub none_whole : (size : Option ℕ) (z : ℕ) → within_size size 0 / z ≡ 0
+pub none_whole : (size : Option ℕ) (z : ℕ) → payload_bytes size 0 / z ≡ 0
 none_whole None z = zero-div z
 none_whole (Some size) z =
     let none : min size 0 ≡ 0 = omega arith in
     rw none (zero-div z)
 
-pub ends_before : (size : Option ℕ) (offset len : ℕ) → len < offset → end_within size offset len ≡ len
+pub ends_before : (size : Option ℕ) (offset len : ℕ) → len < offset → payload_end_in size offset len ≡ len
 ends_before None offset len before = refl
 ends_before (Some size) offset len before = omega arith
 
 -- a place up to the payload's start is not behind its end
 pub before_end : (size : Option ℕ) (offset len place : ℕ) → place ≤ offset → place ≤ len
-    → place ≤ end_within size offset len
+    → place ≤ payload_end_in size offset len
 before_end None offset len place first there = there
 before_end (Some size) offset len place first there = omega arith
 
@@ -129,13 +129,13 @@ by_test P false x y p q = q
 
 -- what holds of each ending of a payload whose image reaches it
 pub by_ending : (P : Result Step VolumeFault → Type 0) → P (Ok End) → ((n : ℕ) → P (Err (Tail n)))
-    → ((n : ℕ) → P (Err (Short n))) → (size : Option ℕ) (z len : ℕ) → P (ending_within size z len)
+    → ((n : ℕ) → P (Err (Short n))) → (size : Option ℕ) (z len : ℕ) → P (ending_of_len size z len)
 by_ending P end tail short None z len =
     by_test P (len % z == 0) (Ok End) (Err (Tail (len % z))) end (tail (len % z))
 by_ending P end tail short (Some size) z len =
     by_test P (nat_lt len size) (Err (Short (size - len))) (Ok End) (short (size - len)) end
 
 -- a payload ends where its image does or before
-pub end_there : (size : Option ℕ) (offset len : ℕ) → end_within size offset len ≤ len
+pub end_there : (size : Option ℕ) (offset len : ℕ) → payload_end_in size offset len ≤ len
 end_there None offset len = omega arith
 end_there (Some size) offset len = omega arith

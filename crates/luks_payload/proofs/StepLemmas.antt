@@ -16,7 +16,8 @@ use Rattle.luks_io.proofs.Consuming.{consumed_behind, consumed_sum}
 use Rattle.luks_payload.specs.SectorEffects.{PositionedAt, AbortsDiscarding, AbortsInSector, is_pump_read_failure}
 use Rattle.luks_payload.specs.SectorEffects.{is_cut, is_pump_write_failure}
 use Rattle.luks_payload.specs.SectorEffects.{max_sectors}
-use Rattle.luks_payload.specs.Plain.{end_within, ending_within, payload_end_of, payload_len, sector_len, sector_plaintext}
+use Rattle.luks_payload.specs.Plain.{payload_end_in, ending_of_len, payload_end_of, payload_len, sector_len}
+use Rattle.luks_payload.specs.Plain.{sector_plaintext}
 use Rattle.luks_payload.specs.Plain.{sector_start, unit_number, unit_plain}
 use Rattle.luks_payload.specs.PumpEffects.{EndEffect, EndsAt, MayAnswer, PumpModel, SkipEffect, SkipsAgain}
 use Rattle.luks_payload.specs.PumpEffects.{PositionedIn, StepEffect, ConsumesSector}
@@ -34,7 +35,7 @@ use Rattle.luks_payload.proofs.SectorLemmas.{none_whole}
 module _ (s : Segment) (image : List ℕ) (count : ℕ) where
   -- a stated end is what a step did
   steps_from_end : (cipher : Cipher) (reach : ℕ) (left' before after : Option (List ℕ))
-      (answer : Result Step VolumeFault) (len : ℕ) → answer ≡ ending_within s.size (sector_len s) len
+      (answer : Result Step VolumeFault) (len : ℕ) → answer ≡ ending_of_len s.size (sector_len s) len
       → EndEffect image s count reach answer left' → StepEffect s cipher count reach image answer left' before after
   steps_from_end cipher reach l b a answer len is =
       rw is (by_ending (λ x. EndEffect image s count reach x l → StepEffect s cipher count reach image x l b a)
@@ -113,7 +114,7 @@ module _ (s : Segment) (image : List ℕ) (count : ℕ) where
         → count < max_sectors s
         → IfKnown left (λ rest. (got ≡ min (sector_len s) (length (front ++ rest)))
         × ConsumedExactly rest left' (got - length front)) → got < sector_len s
-        → answer ≡ ending_within s.size (sector_len s) (count * sector_len s + got)
+        → answer ≡ ending_of_len s.size (sector_len s) (count * sector_len s + got)
         → StepEffect s cipher count (sector_start s count + length front) image answer left' before after
     steps_torn cipher left' b a answer got below next torn is =
         let least = at_least_512 s.sector_size in
@@ -124,7 +125,7 @@ module _ (s : Segment) (image : List ℕ) (count : ℕ) where
         let len : payload_len s image ≡ count * sector_len s + got = omega arith in
         let behind : nat_lt (length image) s.offset ≡ false = le-ltb (length image) s.offset (omega arith) in
         let end : payload_end_of s image ≡ length image =
-        ap (λ n. end_within s.size s.offset n) whole
+        ap (λ n. payload_end_in s.size s.offset n) whole
         ∙ ends_at_end (sector_len s) some s.size count got s.offset below torn ∙ sym whole in
         let all : max (sector_start s count + length front) (length image) ≡ length image = omega (arith, there) in
         let more : sector_start s count + length front + (got - length front) ≡ length image =
@@ -160,7 +161,7 @@ module _ (s : Segment) (image : List ℕ) (count : ℕ) where
 
 -- the image ends in a sector: this is one of the answers that a step may give, and with it the end was hit
 module _ (s : Segment) (count more : ℕ) (answer : Result Step VolumeFault) (below : count < max_sectors s)
-    (is : answer ≡ ending_within s.size (sector_len s) (count * sector_len s + more)) where
+    (is : answer ≡ ending_of_len s.size (sector_len s) (count * sector_len s + more)) where
   pub may_be_torn : more < sector_len s → MayAnswer InPayload s count answer
   may_be_torn torn =
       let may : EndsAt s count answer → MayAnswer InPayload s count answer =
@@ -306,7 +307,7 @@ module _ (s : Segment) (count : ℕ) (fault : VolumeFault) (only : (fault ≡ Cu
   unskipped_writes a = elim only [ inl is ↦ rw is (no_writes a) | inr is ↦ rw is (no_writes a) ]
 
 -- an image that reaches a payload's start reaches its end
-start_in_end : (size : Option ℕ) (offset len : ℕ) → offset ≤ len → offset ≤ end_within size offset len
+start_in_end : (size : Option ℕ) (offset len : ℕ) → offset ≤ len → offset ≤ payload_end_in size offset len
 start_in_end None offset len whole = whole
 start_in_end (Some size) offset len whole = omega arith
 

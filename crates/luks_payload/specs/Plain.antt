@@ -36,34 +36,34 @@ abbrev pub payload_len : Segment → List ℕ → ℕ
 payload_len s image = length image - s.offset
 
 -- how many of these bytes are the payload's
-abbrev pub within_size : Option ℕ → ℕ → ℕ
-within_size None len = len
-within_size (Some size) len = min size len
+abbrev pub payload_bytes : Option ℕ → ℕ → ℕ
+payload_bytes None len = len
+payload_bytes (Some size) len = min size len
 
 -- how many whole sectors the payload has
 abbrev pub sectors_of : Segment → List ℕ → ℕ
-sectors_of s image = within_size s.size (payload_len s image) / sector_len s
+sectors_of s image = payload_bytes s.size (payload_len s image) / sector_len s
 
 -- the plain text: all whole sectors, joined
 abbrev pub plain_of : Segment → Cipher → List ℕ → List ℕ
 plain_of s cipher image = joined (sector_plaintext s cipher image) (sectors_of s image)
 
 -- how a payload ends whose image has so many bytes behind its start
-abbrev pub ending_within : Option ℕ → ℕ → ℕ → Result Step VolumeFault
-ending_within None sector len = if len % sector == 0 then Ok End else Err (Tail (len % sector))
-ending_within (Some size) sector len = if nat_lt len size then Err (Short (size - len)) else Ok End
+abbrev pub ending_of_len : Option ℕ → ℕ → ℕ → Result Step VolumeFault
+ending_of_len None sector len = if len % sector == 0 then Ok End else Err (Tail (len % sector))
+ending_of_len (Some size) sector len = if nat_lt len size then Err (Short (size - len)) else Ok End
 
 -- how the payload ends
 abbrev pub ending_of : Segment → List ℕ → Result Step VolumeFault
 ending_of s image =
-    if nat_lt (length image) s.offset then Err CutBeforePayload else ending_within s.size (sector_len s)
+    if nat_lt (length image) s.offset then Err CutBeforePayload else ending_of_len s.size (sector_len s)
     (payload_len s image)
 
 -- where a payload of this size from this offset on ends in an image of so many bytes
-abbrev pub end_within : Option ℕ → ℕ → ℕ → ℕ
-end_within None offset len = len
-end_within (Some size) offset len = min len (offset + size)
+abbrev pub payload_end_in : Option ℕ → ℕ → ℕ → ℕ
+payload_end_in None offset len = len
+payload_end_in (Some size) offset len = min len (offset + size)
 
 -- where the payload ends in the image
 abbrev pub payload_end_of : Segment → List ℕ → ℕ
-payload_end_of s image = end_within s.size s.offset (length image)
+payload_end_of s image = payload_end_in s.size s.offset (length image)

@@ -5,7 +5,8 @@ use Rattle.luks_cipher.specs.Sector.{Cipher}
 use Rattle.luks_io.specs.Devices.{Appended, ConsumedExactly, ConsumedBetween}
 use Rattle.luks_verdict.specs.declared.segment.Segment.{Segment}
 use Rattle.luks_payload.specs.SectorEffects.{PositionedAt, max_sectors}
-use Rattle.luks_payload.specs.Plain.{ending_of, ending_within, payload_end_of, sector_len, sector_plaintext, sector_start}
+use Rattle.luks_payload.specs.Plain.{ending_of, ending_of_len, payload_end_of, sector_len, sector_plaintext}
+use Rattle.luks_payload.specs.Plain.{sector_start}
 use Rattle.luks_payload.specs.Plain.{sectors_of}
 use Rattle.luks_payload.specs.declared.fault.VolumeFault.{VolumeFault}
 use Rattle.luks_payload.specs.declared.fault.VolumeFault.TheVariants.{CutBeforePayload, Tail, Short, Read, Write}
@@ -105,7 +106,7 @@ abbrev pub EndsAt : Segment → ℕ → Result Step VolumeFault → Type 0
 EndsAt s count answer = ((count ≡ max_sectors s) × (answer ≡ Ok End))
     ⊎ ((count < max_sectors s)
     × ((more : ℕ) × (more < sector_len s)
-    × (answer ≡ ending_within s.size (sector_len s) (count * sector_len s + more))))
+    × (answer ≡ ending_of_len s.size (sector_len s) (count * sector_len s + more))))
 
 -- the answers that a step may give, whatever its devices do
 abbrev pub MayAnswer : State → Segment → ℕ → Result Step VolumeFault → Type 0

@@ -91,9 +91,9 @@ SectorEffect cipher number len front answer left left' before after unwritten = 
     (λ fault. SectorAborted cipher number len front fault left left' before after unwritten)
 
 -- the most sectors that are forwarded: those of a fixed size, and otherwise the greatest count of 64 bits
-abbrev pub limit_within : Option ℕ → ℕ → ℕ
-limit_within None sector = 2 ^ 64 - 1
-limit_within (Some size) sector = size / sector
+abbrev pub max_sectors_of : Option ℕ → ℕ → ℕ
+max_sectors_of None sector = 2 ^ 64 - 1
+max_sectors_of (Some size) sector = size / sector
 
 abbrev pub max_sectors : Segment → ℕ
-max_sectors s = limit_within s.size (sector_len s)
+max_sectors s = max_sectors_of s.size (sector_len s)

@@ -2,7 +2,7 @@
 
 ghost use Rattle.std.specs.Prelude.{◌≡◌, ◌+◌, ◌*◌, ◌<◌};
 ghost use Rattle.luks_payload.specs.SectorEffects.{max_sectors};
-ghost use Rattle.luks_payload.specs.Plain.{ending_within, sector_len, unit_number};
+ghost use Rattle.luks_payload.specs.Plain.{ending_of_len, sector_len, unit_number};
 
 use crate::fault::VolumeFault;
 use crate::state::Step;
@@ -31,7 +31,7 @@ pub(crate) fn number(segment: &Segment, sector: u64) -> u64
 pub(crate) fn ending(segment: &Segment, sectors: u64, more: usize) -> Result<Step, VolumeFault>
     requires below { sectors < max_sectors segment.now }
     requires torn { more < sector_len segment.now }
-    ensures { result ≡ ending_within segment.now.size (sector_len segment.now)
+    ensures { result ≡ ending_of_len segment.now.size (sector_len segment.now)
         (sectors * sector_len segment.now + more) }
 {
     let sector = segment.sector_size.bytes() as u64;

@@ -24,14 +24,14 @@ use Rattle.luks_runs.proofs.HeaderConsumption.{reading_fault}
 use Rattle.luks_runs.specs.declared.headers.Printout.{Printout}
 use Rattle.luks_runs.specs.declared.headers.Printout.TheVariants.{Uuid, Dump, Check}
 use Rattle.luks_report.specs.CheckOutput.{check_of, findings_of, message_for_check}
-use Rattle.luks_runs.specs.Run.{IsPrefixLen, IsSilent, RunMatches, Aborted, ConsumedNothing, at_any_pace}
+use Rattle.luks_runs.specs.Run.{IsPrefixLen, IsSilent, RunMatches, Aborted, ConsumedNothing, AnyPace}
 use Rattle.luks_runs.specs.Run.{is_run_write_failure}
 
 -- a run that ended before any output
 early : (o : Outcome) (image : List ℕ) (message : Message) (i w : Option (List ℕ)) (count : ℕ) → IsSilent message 0
     → IsPrefixLen message 0 (length o.output) → count ≤ o.image_consumed
     → ConsumedExactly image i count
-    → Aborted at_any_pace o message (ConsumedExactly image i) ConsumedNothing (Appended w w)
+    → Aborted AnyPace o message (ConsumedExactly image i) ConsumedNothing (Appended w w)
 early o image message i w count silent begins few took = record {
   image_consumed = count;
   secret_consumed = 0;
@@ -98,7 +98,7 @@ module _ (location : HeaderLocation) (text : Header → List ℕ) (told : Header
     print_found = rw found refl
 
     -- memory was refused for its text
-    runs_without_text : RunMatches at_any_pace (print_outcome_by (reader_for location) text told image) OutOfMemory
+    runs_without_text : RunMatches AnyPace (print_outcome_by (reader_for location) text told image) OutOfMemory
         (ConsumedExactly image i) ConsumedNothing
         (Appended w w)
     runs_without_text =
@@ -107,7 +107,7 @@ module _ (location : HeaderLocation) (text : Header → List ℕ) (told : Header
 
     -- the page was printed, as far as it came
     pub runs_with_text : (message : Message) (w' : Option (List ℕ)) → Prints (text header) (told header) w w' message
-        → RunMatches at_any_pace (print_outcome_by (reader_for location) text told image) message
+        → RunMatches AnyPace (print_outcome_by (reader_for location) text told image) message
         (ConsumedExactly image i) ConsumedNothing
         (Appended w w')
     runs_with_text OutOfMemory w' same = rw same runs_without_text
@@ -140,7 +140,7 @@ module _ (location : HeaderLocation) (text : Header → List ℕ) (told : Header
 
   -- there was no header, or reading it failed
   pub runs_without_header : (ends ends' : ℕ) (fault : HeaderFault) → AbortsReading image i ends ends' fault
-      → RunMatches at_any_pace (print_outcome_by (reader_for location) text told image) (message_for_header fault)
+      → RunMatches AnyPace (print_outcome_by (reader_for location) text told image) (message_for_header fault)
       (ConsumedExactly image i) ConsumedNothing (Appended w w)
   runs_without_header ends ends' NoLuks stop =
       rw (print_none NoLuks stop.0) (record
@@ -171,14 +171,14 @@ module _ (image : List ℕ) (i w : Option (List ℕ)) where
 
   -- `isLuks` of an image with a header
   pub is_luks_found : (header : Header) → header_of image ≡ Ok header → ConsumedExactly image i (header_read_len image)
-      → RunMatches at_any_pace (is_luks_outcome image) Done (ConsumedExactly image i) ConsumedNothing (Appended w w)
+      → RunMatches AnyPace (is_luks_outcome image) Done (ConsumedExactly image i) ConsumedNothing (Appended w w)
   is_luks_found header found left =
       rw (asked (Ok header) found) (record
       { as_stated = refl; image = left; secret = refl; output = adds-none w })
 
   -- `isLuks` of one without a header that can be read
   pub is_luks_refused : (ends ends' : ℕ) (fault : HeaderFault) → AbortsReading image i ends ends' fault
-      → RunMatches at_any_pace (is_luks_outcome image) (answer_to_is_luks (Err fault))
+      → RunMatches AnyPace (is_luks_outcome image) (answer_to_is_luks (Err fault))
       (ConsumedExactly image i) ConsumedNothing (Appended w w)
   is_luks_refused ends ends' NoLuks stop =
       rw (asked (Err NoLuks) stop.0) (record

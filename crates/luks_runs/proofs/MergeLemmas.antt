@@ -14,7 +14,7 @@ use Rattle.luks_kdf.proofs.StripesLemmas.{chain_of-append, merged_by_number, str
 use Rattle.luks_report.specs.declared.message.Message.{Message}
 use Rattle.luks_report.specs.declared.message.Message.TheVariants.{Done, FewStripes, ReadFailed, WriteFailed}
 use Rattle.luks_runs.specs.Stripe.{merge_outcome}
-use Rattle.luks_runs.specs.Run.{RunMatches, Aborted, Completed, ConsumedNothing, at_any_pace}
+use Rattle.luks_runs.specs.Run.{RunMatches, Aborted, Completed, ConsumedNothing, AnyPace}
 use Rattle.luks_runs.specs.StripeParts.{AbortsReadingStripes}
 use Rattle.luks_runs.proofs.StripeLemmas.{is_stripe}
 
@@ -81,7 +81,7 @@ module _ (h : Hash) (count len : ℕ) (bytes : List ℕ) where
 -- the stripes were not all there, or a read of them failed
 pub runs_without_stripes : (h : Hash) (count len : ℕ) (bytes : List ℕ) (message : Message) (s w : Option (List ℕ))
     → AbortsReadingStripes count len bytes s message
-    → RunMatches at_any_pace (merge_outcome h count len bytes) message (ConsumedExactly bytes s) ConsumedNothing
+    → RunMatches AnyPace (merge_outcome h count len bytes) message (ConsumedExactly bytes s) ConsumedNothing
     (Appended w w)
 runs_without_stripes h count len bytes FewStripes s w stop =
     rw (stripes_few h count len bytes stop.0) (record
@@ -112,7 +112,7 @@ module _ (h : Hash) (count len : ℕ) (bytes : List ℕ) (s w w' : Option (List 
 
   -- a write failed within it
   pub runs_without_key : (n : ℕ) → n < length key → Appended w w' (take n key)
-      → Aborted at_any_pace (merge_outcome h count len bytes) WriteFailed (ConsumedExactly bytes s) ConsumedNothing
+      → Aborted AnyPace (merge_outcome h count len bytes) WriteFailed (ConsumedExactly bytes s) ConsumedNothing
       (Appended w w')
   runs_without_key n within a = rw (stripes_enough h count len bytes p.within, ← key_is) (record {
     image_consumed = count * len;

@@ -18,8 +18,8 @@ use Rattle.luks_io.proofs.Consuming.{adds-more, adds-none}
 use Rattle.luks_io.specs.Counts.{Reads, with_ahead}
 use Rattle.luks_io.specs.Devices.{Appended, ConsumedExactly}
 use Rattle.luks_io.specs.declared.counts.ReadCounts.{ReadCounts}
-use Rattle.luks_payload.specs.Plain.{end_within, ending_of, payload_end_of, plain_of, sector_len, sector_plaintext}
-use Rattle.luks_payload.specs.Plain.{sector_start, sectors_of, unit_plain, within_size}
+use Rattle.luks_payload.specs.Plain.{payload_end_in, ending_of, payload_end_of, plain_of, sector_len, sector_plaintext}
+use Rattle.luks_payload.specs.Plain.{sector_start, sectors_of, unit_plain, payload_bytes}
 use Rattle.luks_payload.specs.PumpEffects.{EndEffect, PumpModel, PositionedIn, StepEffect, WritesSectors, after_step}
 use Rattle.luks_payload.specs.PumpEffects.{next_offset, position}
 use Rattle.luks_payload.specs.PumpEffects.{consumed_by}
@@ -87,23 +87,23 @@ unit_len : (cipher : Cipher) (number : ℕ) (unit : List ℕ) → length unit % 
 unfolding unit_plain
 unit_len cipher number unit whole = length-sector_decrypted cipher number unit whole
 
-within_len : (size : Option ℕ) (len : ℕ) → within_size size len ≤ len
+within_len : (size : Option ℕ) (len : ℕ) → payload_bytes size len ≤ len
 within_len None len = omega arith
 within_len (Some size) len = omega arith
 
 -- so many bytes of a payload end with it or before
-within_end : (size : Option ℕ) (offset len n : ℕ) → 0 < n → n ≤ within_size size (len - offset)
-    → offset + n ≤ end_within size offset len
+within_end : (size : Option ℕ) (offset len n : ℕ) → 0 < n → n ≤ payload_bytes size (len - offset)
+    → offset + n ≤ payload_end_in size offset len
 within_end None offset len n some few = omega arith
 within_end (Some size) offset len n some few = omega arith
 
 -- a place within whole sectors of a payload is within the payload
-place_in_size : (size : Option ℕ) (offset len n place : ℕ) → place ≤ offset + n → n ≤ within_size size (len - offset)
-    → place ≤ len → place ≤ end_within size offset len
+place_in_size : (size : Option ℕ) (offset len n place : ℕ) → place ≤ offset + n → n ≤ payload_bytes size (len - offset)
+    → place ≤ len → place ≤ payload_end_in size offset len
 place_in_size None offset len n place few there within = within
 place_in_size (Some size) offset len n place few there within = omega arith
 
-end_there : (size : Option ℕ) (offset len : ℕ) → end_within size offset len ≤ len
+end_there : (size : Option ℕ) (offset len : ℕ) → payload_end_in size offset len ≤ len
 end_there None offset len = omega arith
 end_there (Some size) offset len = omega arith
 
@@ -112,7 +112,7 @@ module _ (s : Segment) (image : List ℕ) where
   sector_before_end : (i : ℕ) → i < sectors_of s image → sector_start s (i + 1) ≤ payload_end_of s image
   sector_before_end i below =
       let z = sector_blocks s.sector_size in
-      let whole = div-mul-le_self (within_size s.size (length image - s.offset)) (sector_len s) in
+      let whole = div-mul-le_self (payload_bytes s.size (length image - s.offset)) (sector_len s) in
       let more : (i + 1) * sector_len s
       ≤ sectors_of s image * sector_len s = mul-le-mul_right (sector_len s) (omega arith) in
       let some : 1 * sector_len s ≤ (i + 1) * sector_len s = mul-le-mul_right (sector_len s) (omega arith) in
@@ -127,7 +127,7 @@ module _ (s : Segment) (image : List ℕ) where
   few_sectors counted =
       let z = sector_blocks s.sector_size in
       let all = within_len s.size (length image - s.offset) in
-      let whole = div-mul-le_self (within_size s.size (length image - s.offset)) (sector_len s) in
+      let whole = div-mul-le_self (payload_bytes s.size (length image - s.offset)) (sector_len s) in
       let many : sectors_of s image * 512
       ≤ sectors_of s image * sector_len s = mul-le-mul_left (sectors_of s image) z.long in
       omega arith
@@ -170,21 +170,21 @@ place_le Ended consumed start few = omega arith
 place_le (Faulted _) consumed start few = omega arith
 
 -- a pump stands in an image of which so many bytes were taken before, and the sectors that it has passed on are written
-pub record Forwarding (p : PumpModel) (image : List ℕ) (held : ℕ) (left before after : Option (List ℕ)) : Type 0 where
+pub record Forwarding (p : PumpModel) (image : List ℕ) (loaded : ℕ) (left before after : Option (List ℕ)) : Type 0 where
   pub stands : PositionedIn image p left
   pub early : p.consumed ≤ p.segment.offset
   pub bare : ((p.count ≡ 0) × (p.front ≡ [])) ⊎ (p.state ≡ InPayload)
-  pub reach : consumed_by p ≡ max held (position p)
+  pub reach : consumed_by p ≡ max loaded (position p)
   pub few : p.count ≤ sectors_of p.segment image
   pub wrote : Appended before after (joined (sector_plaintext p.segment p.cipher image) p.count)
 
-pub forwarding_start : (p : PumpModel) (image : List ℕ) (held : ℕ) (left w : Option (List ℕ)) → p.count ≡ 0
+pub forwarding_start : (p : PumpModel) (image : List ℕ) (loaded : ℕ) (left w : Option (List ℕ)) → p.count ≡ 0
     → p.consumed ≤ p.segment.offset → ((p.state ≡ BeforePayload) × (p.front ≡ [])) ⊎ (p.state ≡ InPayload)
-    → consumed_by p ≡ held
+    → consumed_by p ≡ loaded
     → PositionedIn image p left
-    → Forwarding p image held left w w
+    → Forwarding p image loaded left w w
 unfolding joined
-forwarding_start p image held left w none early bare reach stands = record {
+forwarding_start p image loaded left w none early bare reach stands = record {
   stands = stands;
   early = early;
   bare = elim bare [ inl empty ↦ inl (none, empty.1) | inr is ↦ inr is ];
@@ -193,8 +193,8 @@ forwarding_start p image held left w none early bare reach stands = record {
   wrote = rw none (adds-none w);
 }
 
-module _ (p : PumpModel) (image : List ℕ) (held : ℕ) (l b w l' w' : Option (List ℕ))
-    (so_far : Forwarding p image held l b w)
+module _ (p : PumpModel) (image : List ℕ) (loaded : ℕ) (l b w l' w' : Option (List ℕ))
+    (so_far : Forwarding p image loaded l b w)
   where
     -- a pump does not stand behind its next sector
     place : position p ≤ sector_start p.segment p.count
@@ -207,7 +207,7 @@ module _ (p : PumpModel) (image : List ℕ) (held : ℕ) (l b w l' w' : Option (
 
     -- as many bytes were taken as before, or more: up to the end of the next sector
     reached : max (consumed_by p) (sector_start p.segment (p.count + 1))
-        ≡ max held (sector_start p.segment (p.count + 1))
+        ≡ max loaded (sector_start p.segment (p.count + 1))
     reached = omega (arith, so_far.reach, place, next_start)
 
     next_front : drop (sector_len p.segment) p.front
@@ -221,7 +221,7 @@ module _ (p : PumpModel) (image : List ℕ) (held : ℕ) (l b w l' w' : Option (
     ]
 
     next_reach : sector_start p.segment (p.count + 1) + length (drop (sector_len p.segment) p.front)
-        ≡ max held (sector_start p.segment (p.count + 1))
+        ≡ max loaded (sector_start p.segment (p.count + 1))
     next_reach =
         let less = length-drop (sector_len p.segment) p.front in
         elim so_far.bare [
@@ -230,12 +230,12 @@ module _ (p : PumpModel) (image : List ℕ) (held : ℕ) (l b w l' w' : Option (
               omega (arith, so_far.reach, place, next_start, less)
           | inr is ↦
               let from : sector_start p.segment p.count + length p.front
-              ≡ max held (sector_start p.segment p.count) = rw is at so_far.reach in
+              ≡ max loaded (sector_start p.segment p.count) = rw is at so_far.reach in
               omega (arith, next_start, less)
         ]
 
     pub forwarding_more : StepEffect p.segment p.cipher p.count (consumed_by p) image (Ok Sector) l' w w'
-        → Forwarding (after_step p (Ok Sector)) image held l' b w'
+        → Forwarding (after_step p (Ok Sector)) image loaded l' b w'
     unfolding joined
     forwarding_more step =
         let taken = step.0 in
@@ -259,27 +259,27 @@ module _ (p : PumpModel) (image : List ℕ) (held : ℕ) (l b w l' w' : Option (
         let z = sector_len p.segment in
         let within = so_far.stands.stands.took.within in
         let all : p.count * z ≤ sectors_of p.segment image * z = mul-le-mul_right z so_far.few in
-        let whole = div-mul-le_self (within_size p.segment.size (length image - p.segment.offset)) z in
+        let whole = div-mul-le_self (payload_bytes p.segment.size (length image - p.segment.offset)) z in
         place_in_size p.segment.size p.segment.offset (length image) (p.count * z) (position p)
         (omega (arith, place)) (omega arith) (omega arith)
 
     -- the payload came to its stated end
     ended : (answer : Result Step VolumeFault) → EndEffect image p.segment p.count (consumed_by p) answer l' → w' ≡ w
         → (message_at_end answer ≡ message_at_end (ending_of p.segment image))
-        × ConsumedExactly image l' (max held (payload_end_of p.segment image))
+        × ConsumedExactly image l' (max loaded (payload_end_of p.segment image))
         × Appended b w' (plain_of p.segment p.cipher image)
     ended answer end same =
-        let all : max (consumed_by p) (payload_end_of p.segment image) ≡ max held (payload_end_of p.segment image) =
+        let all : max (consumed_by p) (payload_end_of p.segment image) ≡ max loaded (payload_end_of p.segment image) =
         omega (arith, so_far.reach, place_in_end) in
         (ap message_at_end end.as_stated, rw all at end.took, rw (same, ← end.all) so_far.wrote)
 
     pub forwarding_ends : StepEffect p.segment p.cipher p.count (consumed_by p) image (Ok End) l' w w' → w' ≡ w
-        → ForwardsPayload p.segment p.cipher image held l' b w' Done
+        → ForwardsPayload p.segment p.cipher image loaded l' b w' Done
     forwarding_ends step same = ended (Ok End) step same
 
     -- a read failed within the next sector
     lost : StepEffect p.segment p.cipher p.count (consumed_by p) image (Err Read) l' w w' → w' ≡ w
-        → ForwardsPayload p.segment p.cipher image held l' b w' (message_for_payload Read)
+        → ForwardsPayload p.segment p.cipher image loaded l' b w' (message_for_payload Read)
     lost step same =
         let z = sector_blocks p.segment.sector_size in
         let end = step.0 in
@@ -305,7 +305,7 @@ module _ (p : PumpModel) (image : List ℕ) (held : ℕ) (l b w l' w' : Option (
 
     -- a write failed within it
     unwritten : StepEffect p.segment p.cipher p.count (consumed_by p) image (Err Write) l' w w'
-        → ForwardsPayload p.segment p.cipher image held l' b w' (message_for_payload Write)
+        → ForwardsPayload p.segment p.cipher image loaded l' b w' (message_for_payload Write)
     unwritten step =
         let taken = step.0 in
         let written = step.1 in
@@ -327,40 +327,40 @@ module _ (p : PumpModel) (image : List ℕ) (held : ℕ) (l b w l' w' : Option (
     pub forwarding_aborts : (fault : VolumeFault) (Wrote Same : Type 0) → (Same → w' ≡ w)
         → WritesSectors (Err fault) Wrote Same
         → StepEffect p.segment p.cipher p.count (consumed_by p) image (Err fault) l' w w'
-        → ForwardsPayload p.segment p.cipher image held l' b w' (message_for_payload fault)
+        → ForwardsPayload p.segment p.cipher image loaded l' b w' (message_for_payload fault)
     forwarding_aborts IsCutBefore _ Same same is step = ended (Err IsCutBefore) step (same is)
     forwarding_aborts (HasTail bytes) _ Same same is step = ended (Err (HasTail bytes)) step (same is)
     forwarding_aborts (IsShort bytes) _ Same same is step = ended (Err (IsShort bytes)) step (same is)
     forwarding_aborts Read _ Same same is step = lost step (same is)
     forwarding_aborts Write _ Same same is step = unwritten step
 
--- ---- a pump behind what is held
+-- ---- a pump behind what is loaded
 
 -- where that reaches into the payload, its bytes there come first
-module _ (held image : List ℕ) (offset : ℕ) (within : offset ≤ length held) where
-  front_len : length (take (length held - offset) (drop offset held)) ≡ length held - offset
-  front_len = length-take-le (length held - offset) (drop offset held) (omega (arith, length-drop offset held))
+module _ (loaded image : List ℕ) (offset : ℕ) (within : offset ≤ length loaded) where
+  front_len : length (take (length loaded - offset) (drop offset loaded)) ≡ length loaded - offset
+  front_len = length-take-le (length loaded - offset) (drop offset loaded) (omega (arith, length-drop offset loaded))
 
-  pub held_reach : offset + length (take (length held - offset) (drop offset held)) ≡ length held
+  pub held_reach : offset + length (take (length loaded - offset) (drop offset loaded)) ≡ length loaded
   held_reach = omega (arith, front_len)
 
-  pub positioned_within : held ≡ take (length held) image
-      → take (length held - offset) (drop offset held)
-      ≡ take (length (take (length held - offset) (drop offset held))) (drop offset image)
+  pub positioned_within : loaded ≡ take (length loaded) image
+      → take (length loaded - offset) (drop offset loaded)
+      ≡ take (length (take (length loaded - offset) (drop offset loaded))) (drop offset image)
   positioned_within front =
-      let more : length held ≡ offset + (length held - offset) = omega arith in
-      take_all (length held - offset) (drop offset held) (omega (arith, length-drop offset held))
+      let more : length loaded ≡ offset + (length loaded - offset) = omega arith in
+      take_all (length loaded - offset) (drop offset loaded) (omega (arith, length-drop offset loaded))
       ∙ ap (drop offset) front ∙ ap (λ n. drop offset (take n image)) more
-      ∙ drop-take offset (length held - offset) image
+      ∙ drop-take offset (length loaded - offset) image
       ∙ ap (λ n. take n (drop offset image)) (sym front_len)
 
 -- ---- read-ahead
 
 -- it was allowed for what the payload needs
-pub reads_announced : (s : Segment) (held : ℕ) (before after : ReadCounts) → after ≡ with_ahead after.ahead before
-    → after.ahead ≤ max (max_needed s.size s.offset held) before.ahead
-    → Reads false false (with_payload_ahead s held before) after
-reads_announced s held before after is few = record {
+pub reads_announced : (s : Segment) (loaded : ℕ) (before after : ReadCounts) → after ≡ with_ahead after.ahead before
+    → after.ahead ≤ max (max_needed s.size s.offset loaded) before.ahead
+    → Reads false false (with_payload_ahead s loaded before) after
+reads_announced s loaded before after is few = record {
   failures = ap (λ (c : ReadCounts). c.failures) is;
   ends = ap (λ (c : ReadCounts). c.ends) is;
   needed = λ live. ap (λ (c : ReadCounts). c.needless) is;

@@ -21,7 +21,7 @@ use Rattle.luks_report.specs.declared.message.Message.TheVariants.{WriteFailed}
 use Rattle.luks_runs.specs.Ending.{Outcome}
 use Rattle.luks_runs.specs.Stripe.{split_key_outcome, split_outcome, split_stripes}
 use Rattle.luks_runs.specs.Run.{IsPrefixLen, IsSilent, RunMatches, Aborted, Completed}
-use Rattle.luks_runs.specs.StripeParts.{NoKeyRead, ForwardedBytes, AbortsAtStripe, split_promptly}
+use Rattle.luks_runs.specs.StripeParts.{NoKeyRead, ForwardedBytes, AbortsAtStripe, PromptSplit}
 
 module _ (h : Hash) (count : ℕ) (key random : List ℕ) where
   -- a key of a length that is allowed
@@ -79,7 +79,7 @@ module _ (h : Hash) (count : ℕ) (key random : List ℕ) where
 -- the key was refused, or a read of it failed
 pub runs_without_key : (h : Hash) (count : ℕ) (key random : List ℕ) (message : Message) (k r w : Option (List ℕ))
     → NoKeyRead key k message → r ≡ Some random
-    → RunMatches (split_promptly (length key)) (split_outcome h count key random) message (ConsumedExactly key k)
+    → RunMatches (PromptSplit (length key)) (split_outcome h count key random) message (ConsumedExactly key k)
     (ConsumedExactly random r)
     (Appended w w)
 runs_without_key h count key random KeyLength k r w refused is =
@@ -150,8 +150,8 @@ module _ (h : Hash) (count : ℕ) (key random : List ℕ) (k r b w : Option (Lis
   broken : (message : Message) (taken written : ℕ) → IsSilent message written
       → MayForward (split_key_outcome h count key random) random taken written
       → IsPrefixLen message written (length (split_key_outcome h count key random).output)
-      → split_promptly (length key) message (length key) taken written → ForwardedBytes random r b w taken written
-      → Aborted (split_promptly (length key)) (split_outcome h count key random) message (ConsumedExactly key k)
+      → PromptSplit (length key) message (length key) taken written → ForwardedBytes random r b w taken written
+      → Aborted (PromptSplit (length key)) (split_outcome h count key random) message (ConsumedExactly key k)
       (ConsumedExactly random r)
       (Appended b w)
   broken message taken written silent may begins prompt p = rw (key_allowed h count key random some room) (record {
@@ -170,7 +170,7 @@ module _ (h : Hash) (count : ℕ) (key random : List ℕ) (k r b w : Option (Lis
 
   -- the random stripes could not be passed on
   pub runs_without_stripes : (message : Message) → AbortsAtStripe (count - 1) (length key) random r b w message
-      → RunMatches (split_promptly (length key)) (split_outcome h count key random) message (ConsumedExactly key k)
+      → RunMatches (PromptSplit (length key)) (split_outcome h count key random) message (ConsumedExactly key k)
       (ConsumedExactly random r)
       (Appended b w)
   runs_without_stripes FewRandomBytes stop =
@@ -221,7 +221,7 @@ module _ (h : Hash) (count : ℕ) (key random : List ℕ) (k r b w : Option (Lis
 
     -- a write failed within it
     pub runs_without_last : (n : ℕ) → n < length last → length last ≡ length key → Appended w w' (take n last)
-        → Aborted (split_promptly (length key)) (split_outcome h count key random) WriteFailed (ConsumedExactly key k)
+        → Aborted (PromptSplit (length key)) (split_outcome h count key random) WriteFailed (ConsumedExactly key k)
         (ConsumedExactly random r) (Appended b w')
     runs_without_last n within long a =
         let needed = (count - 1) * length key in

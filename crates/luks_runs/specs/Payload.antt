@@ -6,7 +6,7 @@ use Rattle.luks_io.specs.Counts.{with_ahead}
 use Rattle.luks_io.specs.Devices.{Appended, ConsumedExactly, max_count}
 use Rattle.luks_io.specs.declared.counts.ReadCounts.{ReadCounts}
 use Rattle.luks_verdict.specs.declared.segment.Segment.{Segment}
-use Rattle.luks_payload.specs.Plain.{end_within, ending_of, payload_end_of, plain_of, sector_len, sector_start}
+use Rattle.luks_payload.specs.Plain.{payload_end_in, ending_of, payload_end_of, plain_of, sector_len, sector_start}
 use Rattle.luks_payload.specs.Plain.{sectors_of}
 use Rattle.luks_report.specs.Faults.{message_at_end}
 use Rattle.luks_report.specs.declared.message.Message.{Message}
@@ -15,37 +15,37 @@ use Rattle.luks_report.specs.declared.message.Message.TheVariants.{Done, ReadFai
 -- how many bytes of an image, however long it is, are requested at most to forward a payload of this size from this
 -- offset on, if so many of the first ones are loaded: those behind them, up to the payload's end
 abbrev pub max_needed : Option ℕ → ℕ → ℕ → ℕ
-max_needed size offset held = end_within size offset max_count - held
+max_needed size offset loaded = payload_end_in size offset max_count - loaded
 
 -- the counts of the image, which is allowed to read ahead what forwarding its payload needs, if so many of its first
 -- bytes are loaded
 abbrev pub with_payload_ahead : Segment → ℕ → ReadCounts → ReadCounts
-with_payload_ahead s held counts = with_ahead (max (max_needed s.size s.offset held) counts.ahead) counts
+with_payload_ahead s loaded counts = with_ahead (max (max_needed s.size s.offset loaded) counts.ahead) counts
 
 -- forwarding the payload of an image, of which so many bytes were consumed before, ended with this message: all of it
 -- was written and consumed, or it was aborted within a sector
 abbrev pub ForwardsPayload : Segment → Cipher → List ℕ → ℕ → Option (List ℕ) → Option (List ℕ) → Option (List ℕ)
     → Message → Type 0
-ForwardsPayload s cipher image held left before after ReadFailed =
+ForwardsPayload s cipher image loaded left before after ReadFailed =
     (place : ℕ) × (count : ℕ) × (count ≡ (place - s.offset) / sector_len s) × (count ≤ sectors_of s image)
     × (place ≤ payload_end_of s image)
     × ConsumedExactly image left place × Appended before after (take (count * sector_len s) (plain_of s cipher image))
-ForwardsPayload s cipher image held left before after WriteFailed =
+ForwardsPayload s cipher image loaded left before after WriteFailed =
     (count : ℕ) × (written : ℕ) × (count < sectors_of s image) × (written < sector_len s)
     × (sector_start s (count + 1) ≤ payload_end_of s image)
-    × ConsumedExactly image left (max held (sector_start s (count + 1)))
+    × ConsumedExactly image left (max loaded (sector_start s (count + 1)))
     × Appended before after (take (count * sector_len s + written) (plain_of s cipher image))
-ForwardsPayload s cipher image held left before after message =
-    (message ≡ message_at_end (ending_of s image)) × ConsumedExactly image left (max held (payload_end_of s image))
+ForwardsPayload s cipher image loaded left before after message =
+    (message ≡ message_at_end (ending_of s image)) × ConsumedExactly image left (max loaded (payload_end_of s image))
     × Appended before after (plain_of s cipher image)
 
 -- the same for every image that starts with these bytes, which are loaded, and of which the source has the rest
-abbrev pub ForwardsHeld : Segment → Cipher → List ℕ → Option (List ℕ) → Option (List ℕ) → Option (List ℕ)
+abbrev pub ForwardsLoaded : Segment → Cipher → List ℕ → Option (List ℕ) → Option (List ℕ) → Option (List ℕ)
     → Option (List ℕ) → Message → Type 0
-ForwardsHeld s cipher held rest left before after message =
-    (image : List ℕ) → length image < 2 ^ 64 → held ≡ take (length held) image
-    → ConsumedExactly image rest (length held)
-    → ForwardsPayload s cipher image (length held) left before after message
+ForwardsLoaded s cipher loaded rest left before after message =
+    (image : List ℕ) → length image < 2 ^ 64 → loaded ≡ take (length loaded) image
+    → ConsumedExactly image rest (length loaded)
+    → ForwardsPayload s cipher image (length loaded) left before after message
 
 -- whether forwarding a payload hit the end of the image: it did if the message is that the image ended, and not if a
 -- read or a write failed; if the run succeeded, a payload of fixed size may have ended before its image

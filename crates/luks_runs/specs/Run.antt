@@ -2,7 +2,6 @@
 -- a run consumes so many bytes of the image and of the second input, and writes these; what that means for a device is
 -- a separate fact.
 use Rattle.std.specs.Prelude.{◌≡◌, ℕ, ◌<◌, ◌≤◌, List, length, take, Bool, true, false, MatchBool, ◌⊎◌, Result, Ok, Err}
-use Rattle.luks_io.specs.Devices.{saturating_inc}
 use Rattle.luks_runs.specs.Ending.{Outcome}
 use Rattle.luks_report.specs.declared.message.Message.{Message}
 use Rattle.luks_report.specs.declared.message.Message.TheVariants.{Done, OutOfMemory, ReadFailed, WriteFailed}
@@ -20,8 +19,8 @@ abbrev pub Promptness : Type 1
 Promptness = Message → ℕ → ℕ → ℕ → Type 0
 
 -- nothing is said of it
-abbrev pub at_any_pace : Promptness
-at_any_pace _ _ _ _ = Unit {0}
+abbrev pub AnyPace : Promptness
+AnyPace _ _ _ _ = Unit {0}
 
 -- a run that runs out of memory writes nothing
 abbrev pub IsSilent : Message → ℕ → Type 0
@@ -91,20 +90,3 @@ is_run_read_failure _ = false
 abbrev pub is_run_write_failure : Message → Bool
 is_run_write_failure WriteFailed = true
 is_run_write_failure _ = false
-
--- how many reads of the image and of the second input and how many writes have failed
-pub record Failures : Type 0 where
-  pub image : ℕ
-  pub secret : ℕ
-  pub written : ℕ
-
-abbrev pub failures_of : ℕ → ℕ → ℕ → Failures
-failures_of image secret written = record { image = image; secret = secret; written = written }
-
--- the counts after a run with this message: one of them rose by one if a read or a write failed, and otherwise none did
-abbrev pub Counts : Message → Failures → Failures → Type 0
-Counts ReadFailed before after =
-    (after ≡ record before { image = saturating_inc before.image }) ⊎ (after
-    ≡ record before { secret = saturating_inc before.secret })
-Counts WriteFailed before after = after ≡ record before { written = saturating_inc before.written }
-Counts _ before after = after ≡ before

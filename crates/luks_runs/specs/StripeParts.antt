@@ -57,10 +57,10 @@ AbortsReadingStripes count len known left _ = ⊥
 
 -- an aborted split: if a write fails, nothing past the stripe of the last byte written was consumed; if a read fails,
 -- the whole random stripes that were consumed are written
-abbrev pub split_promptly : ℕ → Message → ℕ → ℕ → ℕ → Type 0
-split_promptly len WriteFailed image secret output = secret ≤ (output / len + 1) * len
-split_promptly len ReadFailed image secret output = output ≡ secret / len * len
-split_promptly len _ image secret output = Unit {0}
+abbrev pub PromptSplit : ℕ → Message → ℕ → ℕ → ℕ → Type 0
+PromptSplit len WriteFailed image secret output = secret ≤ (output / len + 1) * len
+PromptSplit len ReadFailed image secret output = output ≡ secret / len * len
+PromptSplit len _ image secret output = Unit {0}
 
 -- there were too few bytes, and so the end of the stripes or of the random bytes was found
 abbrev pub is_few : Message → Bool

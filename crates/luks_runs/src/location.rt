@@ -36,7 +36,7 @@ pub fn read_header_at<S: Source>(
     ensures broken { IfErr result (λ fault. IfKnown (S.to_come source.old) (λ known.
         AbortsReading known (S.to_come source.new) (S.counts source.old).ends
         (S.counts source.new).ends fault)) }
-    ensures held { IfOk result (λ read. reader_for location read.1.bytes ≡ Ok read.0) }
+    ensures front { IfOk result (λ read. reader_for location read.1.bytes ≡ Ok read.0) }
     ensures only { IfOk result (λ read. length read.1.bytes ≡ header_read_len read.1.bytes) }
     ensures reads { (ended : Bool)
         × Reads (is_read result) ended (S.counts source.old) (S.counts source.new) }

@@ -2,7 +2,7 @@
 
 ghost use Rattle.std.specs.Prelude.{◌≡◌, ◌≤◌, ◌⊎◌, Bool, List, [], ℕ, Option};
 ghost use Rattle.std.specs.Prelude.{length, take};
-ghost use Rattle.luks_runs.specs.Payload.{HitsPayloadEof, ForwardsHeld, max_needed};
+ghost use Rattle.luks_runs.specs.Payload.{HitsPayloadEof, ForwardsLoaded, max_needed};
 ghost use Rattle.luks_runs.specs.Payload.{with_payload_ahead};
 ghost use Rattle.luks_runs.specs.RunMessages.{PayloadMessage};
 ghost use Rattle.luks_runs.specs.Run.{is_run_read_failure, is_run_write_failure, result_message};
@@ -20,35 +20,35 @@ use luks_report::message::Message;
 
 /// A pump of the payload of an image whose first bytes are loaded: those of the payload among them
 /// are forwarded first.
-fn pump_behind<'a>(segment: Segment, cipher: SectorCipher, held: &'a [u8]) -> Pump<'a>
+fn pump_behind<'a>(segment: Segment, cipher: SectorCipher, loaded: &'a [u8]) -> Pump<'a>
     ensures segment { result.segment ≡ segment }
     ensures cipher { result.cipher ≡ cipher }
     ensures count { result.count ≡ 0 }
     ensures early { result.consumed ≤ segment.offset }
     ensures state { ((result.state ≡ State.BeforePayload) × (result.front ≡ []))
         ⊎ (result.state ≡ State.InPayload) }
-    ensures reach { consumed_by result ≡ length held.now }
+    ensures reach { consumed_by result ≡ length loaded.now }
     ensures stands { (whole : List ℕ) (left : Option (List ℕ))
-        → held.now ≡ take (length held.now) whole → ConsumedExactly whole left (length held.now)
+        → loaded.now ≡ take (length loaded.now) whole → ConsumedExactly whole left (length loaded.now)
         → PositionedIn whole result left }
 {
-    let consumed = held.len() as u64;
+    let consumed = loaded.len() as u64;
     if consumed <= segment.offset {
         return Pump::new(segment, cipher, consumed);
     }
-    Pump::with_front(segment, cipher, &held[segment.offset as usize..])
+    Pump::with_front(segment, cipher, &loaded[segment.offset as usize..])
 }
 
-/// How many bytes of an image are still needed to forward its payload, if its first `held` bytes
+/// How many bytes of an image are still needed to forward its payload, if its first `loaded` bytes
 /// are loaded: those up to the payload's end, or as many as there can be if it ends with the image.
-fn bytes_needed(segment: &Segment, held: usize) -> u64
-    ensures { result ≡ max_needed segment.now.size segment.now.offset held }
+fn bytes_needed(segment: &Segment, loaded: usize) -> u64
+    ensures { result ≡ max_needed segment.now.size segment.now.offset loaded }
 {
     let end = match segment.size {
         Some(size) => segment.offset.saturating_add(size),
         None => u64::MAX,
     };
-    end.saturating_sub(held as u64)
+    end.saturating_sub(loaded as u64)
 }
 
 /// Writes the plaintext of the payload of an image, whose first bytes are loaded: each sector as it
@@ -56,22 +56,22 @@ fn bytes_needed(segment: &Segment, held: usize) -> u64
 pub fn write_payload<I: Source, O: Sink>(
     segment: Segment,
     cipher: SectorCipher,
-    held: &[u8],
+    loaded: &[u8],
     image: &mut I,
     out: &mut O,
 ) -> Result<(), Message>
-    ensures run { ForwardsHeld segment cipher held.now (I.to_come image.old) (I.to_come image.new)
+    ensures run { ForwardsLoaded segment cipher loaded.now (I.to_come image.old) (I.to_come image.new)
         (O.written out.old) (O.written out.new) (result_message result) }
     ensures only { PayloadMessage (result_message result) }
     ensures reads { (ended : Bool)
         × Reads (is_run_read_failure (result_message result)) ended
-        (with_payload_ahead segment (length held.now) (I.counts image.old)) (I.counts image.new)
+        (with_payload_ahead segment (length loaded.now) (I.counts image.old)) (I.counts image.new)
         × HitsPayloadEof (result_message result) ended }
     ensures writes { Writes (is_run_write_failure (result_message result))
         (O.counts out.old) (O.counts out.new) }
 {
-    image.announce(bytes_needed(&segment, held.len()));
-    let mut pump = pump_behind(segment, cipher, held);
+    image.announce(bytes_needed(&segment, loaded.len()));
+    let mut pump = pump_behind(segment, cipher, loaded);
     'sectors: for _ in 0..u64::MAX {
         match pump.step(image, out)? {
             Step::Sector => {}

@@ -5,13 +5,13 @@ ghost use Rattle.std.specs.Prelude.{Option, length, take};
 ghost use Rattle.luks_kdf.specs.Stripes.{chain_after, merged};
 ghost use Rattle.luks_io.specs.Devices.{Appended, ConsumedExactly, IfKnown};
 ghost use Rattle.luks_io.specs.Counts.{Reads, Writes};
-ghost use Rattle.luks_runs.specs.Run.{ConsumedNothing, RunMatches, at_any_pace, result_message};
+ghost use Rattle.luks_runs.specs.Run.{ConsumedNothing, RunMatches, AnyPace, result_message};
 ghost use Rattle.luks_runs.specs.Run.{is_run_read_failure, is_run_write_failure};
 ghost use Rattle.luks_runs.specs.RunMessages.{MergeMessage, SplitMessage};
 ghost use Rattle.luks_runs.specs.Stripe.{IsKeyLen, max_key_len, merge_outcome, split_outcome};
 ghost use Rattle.luks_runs.specs.StripeParts.{NoKeyRead, ForwardedBytes, AbortsAtStripe};
 ghost use Rattle.luks_runs.specs.StripeParts.{AbortsInStripe, AbortsReadingStripes};
-ghost use Rattle.luks_runs.specs.StripeParts.{ReadsForSplit, is_few, split_promptly};
+ghost use Rattle.luks_runs.specs.StripeParts.{ReadsForSplit, is_few, PromptSplit};
 
 use luks_io::sink::{Sink, put_all};
 use luks_io::source::{Source, fill};
@@ -113,7 +113,7 @@ pub fn split<K: Source, R: Source, O: Sink>(
 ) -> Result<(), Message>
     ensures run { IfKnown (K.to_come key.old)
         (λ known. IfKnown (R.to_come random.old) (λ bytes.
-        RunMatches (split_promptly (length known))
+        RunMatches (PromptSplit (length known))
         (split_outcome splitting.now.hash splitting.now.stripes.count known bytes)
         (result_message result)
         (ConsumedExactly known (K.to_come key.new)) (ConsumedExactly bytes (R.to_come random.new))
@@ -141,7 +141,7 @@ fn split_key<R: Source, O: Sink>(
     requires { IsKeyLen (length key.now) }
     ensures run { (left : Option (List ℕ)) → ConsumedExactly key.now left (length key.now)
         → IfKnown (R.to_come random.old) (λ bytes.
-        RunMatches (split_promptly (length key.now))
+        RunMatches (PromptSplit (length key.now))
         (split_outcome splitting.now.hash splitting.now.stripes.count key.now bytes)
         (result_message result) (ConsumedExactly key.now left) (ConsumedExactly bytes
         (R.to_come random.new))
@@ -247,7 +247,7 @@ pub fn merge<S: Source, O: Sink>(
     out: &mut O,
 ) -> Result<(), Message>
     ensures run { IfKnown (S.to_come stripes.old) (λ known. let m = merging.now in
-        RunMatches at_any_pace (merge_outcome m.hash m.stripes.count m.key_bytes.bytes known)
+        RunMatches AnyPace (merge_outcome m.hash m.stripes.count m.key_bytes.bytes known)
         (result_message result) (ConsumedExactly known (S.to_come stripes.new)) ConsumedNothing
         (Appended (O.written out.old) (O.written out.new))) }
     ensures only { MergeMessage (result_message result) }

@@ -176,7 +176,7 @@ module _ (location : HeaderLocation) (o : VolumeRequest) (image pass : List ℕ)
       → opened_outcome on_opened o.key_slot v (take n image) pass r
       ≡ opened_outcome on_opened o.key_slot v image pass r
   opened_front v (Ok opened) =
-      ap (λ cost. on_opened v.segment opened (max cost (key_areas_end v.tries.slots)))
+      ap (λ cost. on_opened v.segment opened (max cost (key_areas_end v.order.slots)))
       (header_front image n (omega arith)).1
   opened_front v (Err fault) = rw (header_front image n (omega arith)).1 refl
 
@@ -185,12 +185,12 @@ module _ (location : HeaderLocation) (o : VolumeRequest) (image pass : List ℕ)
   unfolding found_outcome
   found_front more v =
       let long = length-take-le n image more in
-      let within = key_areas_end-within v.tries.slots in
-      let all = le-ltb (length (take n image)) (key_areas_end v.tries.slots) (omega (arith, long)) in
-      let whole = le-ltb (length image) (key_areas_end v.tries.slots) (omega arith) in
-      let opening = opening_beginning v.tries n image pass (omega arith) in
+      let within = key_areas_end-within v.order.slots in
+      let all = le-ltb (length (take n image)) (key_areas_end v.order.slots) (omega (arith, long)) in
+      let whole = le-ltb (length image) (key_areas_end v.order.slots) (omega arith) in
+      let opening = opening_beginning v.order n image pass (omega arith) in
       let cost = (header_front image n (omega arith)).1 in
-      rw (all, whole, cost, opening, opened_front v (opening_of v.tries image pass)) refl
+      rw (all, whole, cost, opening, opened_front v (opening_of v.order image pass)) refl
 
   after_front : n ≤ length image → (r : Result Volume Message)
       → outcome_after on_opened o.key_slot (take n image) pass r ≡ outcome_after on_opened o.key_slot image pass r

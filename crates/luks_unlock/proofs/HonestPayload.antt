@@ -9,8 +9,8 @@ use Rattle.luks_verdict.specs.declared.sector_size.SectorSize.{SectorSize}
 use Rattle.luks_verdict.specs.declared.sector_size.SectorSize.TheVariants.{B512, B1024, B2048, B4096}
 use Rattle.luks_verdict.specs.declared.segment.Segment.{Segment}
 use Rattle.luks_seal.specs.Sealed.{EndsWith, SealsPlain}
-use Rattle.luks_payload.specs.Plain.{ending_of, ending_within, plain_of, sector_len, sector_plaintext}
-use Rattle.luks_payload.specs.Plain.{unit_number, unit_plain, within_size}
+use Rattle.luks_payload.specs.Plain.{ending_of, ending_of_len, plain_of, sector_len, sector_plaintext}
+use Rattle.luks_payload.specs.Plain.{unit_number, unit_plain, payload_bytes}
 use Rattle.luks_payload.specs.declared.state.Step.TheVariants.{End}
 use Rattle.luks_cipher.specs.Xts.{joined}
 use Rattle.luks_unlock.proofs.SealedUnits.{units_undone}
@@ -25,14 +25,14 @@ whole_blocks B4096 = refl
 module _ (offset : ℕ) (plain image : List ℕ) (there : offset + length plain ≤ length image) where
   -- as many bytes as the plain text has are the payload's
   all_plain : (size : Option ℕ) → EndsWith size plain (offset + length plain) image
-      → within_size size (length image - offset) ≡ length plain
+      → payload_bytes size (length image - offset) ≡ length plain
   all_plain None ends = omega arith
   all_plain (Some size) ends = omega arith
 
   -- they are whole sectors, so it ends well
   ends_well : (size : Option ℕ) (sector : ℕ) → EndsWith size plain (offset + length plain) image
       → length plain % sector ≡ 0
-      → ending_within size sector (length image - offset) ≡ Ok End
+      → ending_of_len size sector (length image - offset) ≡ Ok End
   ends_well None sector ends whole =
       let all : length image - offset ≡ length plain = omega arith in
       let none : (length image - offset) % sector ≡ 0 = ap (λ n. n % sector) all ∙ whole in

@@ -9,14 +9,14 @@ use Rattle.luks_open.specs.Order.{entry_at, key_areas_end, order_of}
 use Rattle.luks_open.specs.declared.entry.Entry.{Entry}
 use Rattle.luks_open.specs.declared.opening.Opened.{Opened}
 use Rattle.luks_open.proofs.CallerLemmas.{held_before_payload}
-use Rattle.luks_open.proofs.OrderLemmas.{All-tries, IsOf}
+use Rattle.luks_open.proofs.OrderLemmas.{All-order, IsOf}
 use Rattle.luks_seal.specs.Sealed.{Sealed, SealsKey}
 use Rattle.luks_request.specs.Request.{VolumeRequest}
 use Rattle.luks_report.specs.Faults.{message_at_end}
 use Rattle.luks_report.specs.declared.message.Message.TheVariants.{Done}
 use Rattle.luks_runs.specs.Ending.{Outcome}
 use Rattle.luks_unlock.specs.Honest.{GivesNoOther, IsHonest}
-use Rattle.luks_unlock.specs.Volume.{Volume, found_outcome, held_for, opened_outcome, payload_outcome, volume_by}
+use Rattle.luks_unlock.specs.Volume.{Volume, found_outcome, loaded_for, opened_outcome, payload_outcome, volume_by}
 use Rattle.luks_unlock.specs.Volume.{volume_outcome, volume_outcome_by}
 use Rattle.luks_runs.specs.KeyFile.{max_key_file_len}
 use Rattle.luks_unlock.proofs.HonestPayload.{ending_again, plain_again}
@@ -39,14 +39,14 @@ in_the_middle P (y ∷ before) x after all = in_the_middle P before x after all.
 
 module _ (o : VolumeRequest) (image passphrase plain : List ℕ) (honest : IsHonest o image passphrase plain) where
   abbrev volume : Volume
-  volume = record { header = honest.sealed.header; segment = honest.sealed.segment; tries = honest.tries }
+  volume = record { header = honest.sealed.header; segment = honest.sealed.segment; order = honest.order }
 
   -- its key slot gives the key
   gives_key : slot_key honest.first.entry image passphrase ≡ Some honest.key
   gives_key =
       let sealed = honest.sealed in
       let first = honest.first in
-      let tried = All-tries sealed.header o.key_slot o.max_iterations honest.tries honest.is_order in
+      let tried = All-order sealed.header o.key_slot o.max_iterations honest.order honest.is_order in
       let is = in_the_middle (IsOf sealed.header o.max_iterations) first.before first.entry first.after
       (subst (AllByRecursion (IsOf sealed.header o.max_iterations)) first.are tried) in
       let seals = sealed_with image honest.key plain passphrase honest.passphrases honest.number sealed
@@ -55,23 +55,23 @@ module _ (o : VolumeRequest) (image passphrase plain : List ℕ) (honest : IsHon
       is (subst (λ (n : ℕ). SealsKey sealed.header image honest.key n passphrase) (sym first.is_number) seals)
 
   -- so it is opened with it
-  opens : (number : ℕ) × (opening_of honest.tries image passphrase ≡ Ok (record { slot = number; key = honest.key }))
+  opens : (number : ℕ) × (opening_of honest.order image passphrase ≡ Ok (record { slot = number; key = honest.key }))
   unfolding opening_of
   opens =
       let first = honest.first in
       let found = first_again first.before first.entry first.after image passphrase honest.key
       (recursion_from_All (GivesNoOther image passphrase honest.key) first.before first.no_other) gives_key in (
         found.0,
-        ap (λ (entries : List Entry). answer_of (first_opening entries image passphrase) honest.tries.skipped)
+        ap (λ (entries : List Entry). answer_of (first_opening entries image passphrase) honest.order.skipped)
             first.are
-            ∙ ap (λ (opened : Option Opened). answer_of opened honest.tries.skipped) found.1,
+            ∙ ap (λ (opened : Option Opened). answer_of opened honest.order.skipped) found.1,
       )
 
   -- the key material that is tried is all there
-  held_there : key_areas_end honest.tries.slots ≤ length image
+  held_there : key_areas_end honest.order.slots ≤ length image
   held_there =
       let sealed = honest.sealed in
-      let before = held_before_payload sealed.header sealed.segment o.key_slot o.max_iterations honest.tries
+      let before = held_before_payload sealed.header sealed.segment o.key_slot o.max_iterations honest.order
       (is_attached image sealed.header sealed.is_header) sealed.is_segment honest.is_order in
       omega (arith, before, sealed.payload.stands.there)
 
@@ -83,7 +83,7 @@ module _ (o : VolumeRequest) (image passphrase plain : List ℕ) (honest : IsHon
 
   opened_is : (number : ℕ) × (volume_outcome (payload_outcome image passphrase) o image passphrase
       ≡ payload_outcome image passphrase honest.sealed.segment (record { slot = number; key = honest.key })
-      (held_for image volume))
+      (loaded_for image volume))
   opened_is = (
     opens.0,
     found
@@ -119,7 +119,7 @@ named_is_honest o image passphrase plain key passphrases number sealed is short 
       number = number;
       is_passphrase = is;
       short = short;
-      tries = record { slots = tried ∷ []; skipped = [] };
+      order = record { slots = tried ∷ []; skipped = [] };
       is_order = rw (named, unlimited, seals.usable, its_slot, seals.is_digest) refl;
       first = record {
         before = [];

@@ -37,31 +37,31 @@ module _ (on_opened : OnOpened) (named : Option ℕ) (v : Volume) (image secret 
   unfolding found_outcome
   found_long long = let yes : nat_lt max_key_file_len (length secret) ≡ true = grind (arith, nat_tests) in rw yes refl
 
-  pub found_cut : length secret ≤ max_key_file_len → length image < key_areas_end v.tries.slots
+  pub found_cut : length secret ≤ max_key_file_len → length image < key_areas_end v.order.slots
       → found_outcome on_opened named v image secret ≡ no_output Cut (length image) (length secret)
   unfolding found_outcome
   found_cut short few =
       let no : nat_lt max_key_file_len (length secret) ≡ false = grind (arith, nat_tests) in
-      let yes : nat_lt (length image) (key_areas_end v.tries.slots) ≡ true = grind (arith, nat_tests) in
+      let yes : nat_lt (length image) (key_areas_end v.order.slots) ≡ true = grind (arith, nat_tests) in
       rw (no, yes) refl
 
-  pub found_whole : length secret ≤ max_key_file_len → key_areas_end v.tries.slots ≤ length image
+  pub found_whole : length secret ≤ max_key_file_len → key_areas_end v.order.slots ≤ length image
       → found_outcome on_opened named v image secret
-      ≡ opened_outcome on_opened named v image secret (opening_of v.tries image secret)
+      ≡ opened_outcome on_opened named v image secret (opening_of v.order image secret)
   unfolding found_outcome
   found_whole short enough =
       let no : nat_lt max_key_file_len (length secret) ≡ false = grind (arith, nat_tests) in
-      let none : nat_lt (length image) (key_areas_end v.tries.slots) ≡ false = grind (arith, nat_tests) in
+      let none : nat_lt (length image) (key_areas_end v.order.slots) ≡ false = grind (arith, nat_tests) in
       rw (no, none) refl
 
--- ---- the area that is held
+-- ---- the area that is loaded
 
-module _ (image area area' : List ℕ) (i : Option (List ℕ)) (held : ℕ)
+module _ (image area area' : List ℕ) (i : Option (List ℕ)) (loaded : ℕ)
     (front : area ≡ take (header_read_len image) image) where
   pub front_len : length area ≡ header_read_len image
   front_len = cost_held image area front
 
-  -- so many bytes more are held
+  -- so many bytes more are loaded
   pub area_more : (n : ℕ) → ConsumedOnto area area' (drop (header_read_len image) image) i n
       → (area' ≡ take (header_read_len image + n) image) × ConsumedExactly image i (header_read_len image + n)
   area_more n grows = (
@@ -74,11 +74,11 @@ module _ (image area area' : List ℕ) (i : Option (List ℕ)) (held : ℕ)
   )
 
   module _ (grows : ConsumedOnto area area' (drop (header_read_len image) image) i
-      (min (held - length area) (length (drop (header_read_len image) image)))) where
+      (min (loaded - length area) (length (drop (header_read_len image) image)))) where
     reached : ℕ
-    reached = header_read_len image + min (held - length area) (length (drop (header_read_len image) image))
+    reached = header_read_len image + min (loaded - length area) (length (drop (header_read_len image) image))
 
-    grown : (length area' ≡ reached) × (reached ≡ max (header_read_len image) (min held (length image)))
+    grown : (length area' ≡ reached) × (reached ≡ max (header_read_len image) (min loaded (length image)))
     unfolding reached
     grown =
         let more = area_more _ grows in (
@@ -87,30 +87,30 @@ module _ (image area area' : List ℕ) (i : Option (List ℕ)) (held : ℕ)
           omega (arith, front_len, length-drop (header_read_len image) image, cost_there image),
         )
 
-    -- the image ended before the area was held
-    pub area_cut : length area' < held → (length image < held) × ConsumedExactly image i (length image)
+    -- the image ended before the area was loaded
+    pub area_cut : length area' < loaded → (length image < loaded) × ConsumedExactly image i (length image)
     unfolding reached
     area_cut short =
         let more = area_more _ grows in
         let all : reached ≡ length image = omega (arith, grown.0, grown.1, cost_there image) in
         (omega (arith, grown.0, grown.1, cost_there image), rw all at more.1)
 
-    -- the area is held
-    pub area_held : held ≤ length area' → (held ≤ length image) × (length area' ≡ max (header_read_len image) held)
-        × (area' ≡ take (max (header_read_len image) held) image)
-        × ConsumedExactly image i (max (header_read_len image) held)
+    -- the area is loaded
+    pub area_held : loaded ≤ length area' → (loaded ≤ length image) × (length area' ≡ max (header_read_len image) loaded)
+        × (area' ≡ take (max (header_read_len image) loaded) image)
+        × ConsumedExactly image i (max (header_read_len image) loaded)
     unfolding reached
     area_held enough =
         let more = area_more _ grows in
-        let there : held ≤ length image = omega (arith, grown.0, grown.1, cost_there image, more.1.within) in
-        let all : reached ≡ max (header_read_len image) held = omega (arith, grown.1) in
+        let there : loaded ≤ length image = omega (arith, grown.0, grown.1, cost_there image, more.1.within) in
+        let all : reached ≡ max (header_read_len image) loaded = omega (arith, grown.1) in
         (there, grown.0 ∙ all, rw all at more.0, rw all at more.1)
 
 -- ---- the outcome of an image
 
 -- the volume of these
 abbrev pub volume_with : Header → Segment → OrderModel → Volume
-volume_with header segment tries = record { header = header; segment = segment; tries = tries }
+volume_with header segment order = record { header = header; segment = segment; order = order }
 
 module _ (location : HeaderLocation) (o : VolumeRequest) (image pass : List ℕ) where
   pub outcome_is : (on_opened : OnOpened) (r : Result Volume Message) → volume_by (reader_for location) o image ≡ r
@@ -119,30 +119,30 @@ module _ (location : HeaderLocation) (o : VolumeRequest) (image pass : List ℕ)
   outcome_is on_opened r is = rw is refl
 
   -- the header names this segment and these key slots to be tried
-  module _ (header : Header) (segment : Segment) (tries : OrderModel) (found : reader_for location image ≡ Ok header)
+  module _ (header : Header) (segment : Segment) (order : OrderModel) (found : reader_for location image ≡ Ok header)
       (is_segment : segment_of header ≡ Ok segment)
-      (ordered : order_of header o.key_slot o.max_iterations ≡ Ok tries) where
+      (ordered : order_of header o.key_slot o.max_iterations ≡ Ok order) where
     pub found_is : (on_opened : OnOpened)
         → volume_outcome_by (reader_for location) on_opened o image pass
-        ≡ found_outcome on_opened o.key_slot (volume_with header segment tries) image pass
+        ≡ found_outcome on_opened o.key_slot (volume_with header segment order) image pass
     found_is on_opened =
-        outcome_is on_opened (Ok (volume_with header segment tries))
-        (volume_is location o image None header found segment is_segment tries ordered)
+        outcome_is on_opened (Ok (volume_with header segment order))
+        (volume_is location o image None header found segment is_segment order ordered)
 
-    -- the key areas are held, and the key slots answer so
+    -- the key areas are loaded, and the key slots answer so
     pub tried_is : (short : length pass ≤ max_key_file_len) (area area' : List ℕ) (i : Option (List ℕ))
         (front : area ≡ take (header_read_len image) image)
         (grows : ConsumedOnto area area' (drop (header_read_len image) image) i
-        (min (key_areas_end tries.slots - length area) (length (drop (header_read_len image) image))))
-        (enough : key_areas_end tries.slots ≤ length area') (r : Result Opened OpenFault)
-        (tried : opening_of tries area' pass ≡ r) (on_opened : OnOpened)
+        (min (key_areas_end order.slots - length area) (length (drop (header_read_len image) image))))
+        (enough : key_areas_end order.slots ≤ length area') (r : Result Opened OpenFault)
+        (tried : opening_of order area' pass ≡ r) (on_opened : OnOpened)
         → volume_outcome_by (reader_for location) on_opened o image pass
-        ≡ opened_outcome on_opened o.key_slot (volume_with header segment tries) image pass r
+        ≡ opened_outcome on_opened o.key_slot (volume_with header segment order) image pass r
     tried_is short area area' i front grows enough r tried on_opened =
-        let v = volume_with header segment tries in
-        let held = area_held image area area' i (key_areas_end tries.slots) front grows enough in
-        let whole : opening_of tries image pass ≡ r =
-        sym (opening_beginning tries (max (header_read_len image) (key_areas_end tries.slots)) image pass (omega arith))
-        ∙ ap (λ l. opening_of tries l pass) (sym held.2) ∙ tried in
-        found_is on_opened ∙ found_whole on_opened o.key_slot v image pass short held.0
+        let v = volume_with header segment order in
+        let loaded = area_held image area area' i (key_areas_end order.slots) front grows enough in
+        let whole : opening_of order image pass ≡ r =
+        sym (opening_beginning order (max (header_read_len image) (key_areas_end order.slots)) image pass (omega arith))
+        ∙ ap (λ l. opening_of order l pass) (sym loaded.2) ∙ tried in
+        found_is on_opened ∙ found_whole on_opened o.key_slot v image pass short loaded.0
         ∙ ap (opened_outcome on_opened o.key_slot v image pass) whole

@@ -36,7 +36,7 @@ use Rattle.luks_report.specs.Faults.{message_for_opening}
 use Rattle.luks_report.specs.declared.message.Message.{Message}
 use Rattle.luks_report.specs.declared.message.Message.TheVariants.{OutOfMemory, ReadFailed, SegmentRefused}
 
--- as much is held of the header as it costs
+-- as much is loaded of the header as it costs
 pub cost_held : (image area : List ℕ) → area ≡ take (header_read_len image) image → length area ≡ header_read_len image
 cost_held image area front = ap length front ∙ length-take-le (header_read_len image) image (cost_there image)
 
@@ -80,7 +80,7 @@ pub reads_within : (failed ended : Bool) (a b c : ReadCounts) → Reads false en
 reads_within failed true a b c first kept then = ends_for_good failed false a b c first (kept refl) then
 reads_within failed false a b c first kept then = reads_more failed false a b c first then
 
--- no fault of opening is told as a failed read, or as an image that ended
+-- no fault of opening is reported as a failed read, or as an image that ended
 pub opening_reads : (named : Option ℕ) (fault : OpenFault) (a b : ReadCounts) → Reads false false a b
     → (ended : Bool) × Reads (is_run_read_failure (message_for_opening named fault)) ended a b
     × HitsEndOfAreas (message_for_opening named fault) ended
@@ -120,14 +120,14 @@ module _ (location : HeaderLocation) (o : VolumeRequest) (image : List ℕ) (lef
 
   module _ (header : Header) (found : reader_for location image ≡ Ok header) (segment : Segment)
       (is : segment_of header ≡ Ok segment) where
-    pub volume_is : (tries : OrderModel) → order_of header o.key_slot o.max_iterations ≡ Ok tries
-        → volume_by (reader_for location) o image ≡ Ok (record { header = header; segment = segment; tries = tries })
+    pub volume_is : (order : OrderModel) → order_of header o.key_slot o.max_iterations ≡ Ok order
+        → volume_by (reader_for location) o image ≡ Ok (record { header = header; segment = segment; order = order })
     unfolding volume_by
-    volume_is tries ordered = rw (found, is, ordered) refl
+    volume_is order ordered = rw (found, is, ordered) refl
 
-    pub volume_found : (tries : OrderModel) → order_of header o.key_slot o.max_iterations ≡ Ok tries
+    pub volume_found : (order : OrderModel) → order_of header o.key_slot o.max_iterations ≡ Ok order
         → is_err (volume_by (reader_for location) o image) ≡ false
-    volume_found tries ordered = rw (volume_is tries ordered) refl
+    volume_found order ordered = rw (volume_is order ordered) refl
 
 -- an image in which a volume was found has one
 pub there_is_volume : (location : HeaderLocation) (o : VolumeRequest) (volume : FoundVolume)

@@ -29,6 +29,6 @@ pub record IsHonest (o : VolumeRequest) (image passphrase plain : List ℕ) : Ty
   pub number : ℕ
   pub is_passphrase : Contains passphrases (number, passphrase)
   pub short : length passphrase ≤ max_key_file_len
-  pub tries : OrderModel
-  pub is_order : order_of sealed.header o.key_slot o.max_iterations ≡ Ok tries
-  pub first : ComesFirst number tries.slots image passphrase key
+  pub order : OrderModel
+  pub is_order : order_of sealed.header o.key_slot o.max_iterations ≡ Ok order
+  pub first : ComesFirst number order.slots image passphrase key

@@ -1,8 +1,9 @@
 -- What trying the key slots of a volume leaves in its device.
-use Rattle.std.specs.Prelude.{◌≡◌, ℕ, ◌-◌, ◌<◌, ◌≤◌, ◌⊎◌, List, length, min, Option, Result, Ok, Err, Bool, false}
+use Rattle.std.specs.Prelude.{◌≡◌, ℕ, ◌+◌, ◌-◌, ◌<◌, ◌≤◌, ◌⊎◌, List, length, min, Option, Result, Ok, Err, Bool, false}
 use Rattle.luks_header.specs.Area.{AbortsConsuming, ConsumedOnto}
 use Rattle.luks_area.specs.declared.fault.HeaderFault.{HeaderFault}
-use Rattle.luks_open.specs.Opening.{opening_of}
+use Rattle.luks_kdf.specs.Pbkdf2.{capped}
+use Rattle.luks_open.specs.Opening.{opening_of, work_of}
 use Rattle.luks_open.specs.Order.{OrderModel, key_areas_end}
 use Rattle.luks_open.specs.declared.fault.OpenFault.{OpenFault}
 use Rattle.luks_open.specs.declared.opening.Opened.{Opened}
@@ -18,23 +19,27 @@ opened_of volume = record { slot = volume.slot; key = volume.key }
 
 -- the image was consumed up to the end of the key areas, or up to its own end if that comes first
 abbrev pub ConsumedAreas : OrderModel → List ℕ → List ℕ → List ℕ → Option (List ℕ) → Type 0
-ConsumedAreas tries area area' rest left =
-    ConsumedOnto area area' rest left (min (key_areas_end tries.slots - length area) (length rest))
+ConsumedAreas order area area' rest left =
+    ConsumedOnto area area' rest left (min (key_areas_end order.slots - length area) (length rest))
 
 -- the key slots of a volume whose header was read were tried: the key areas were consumed, and this is the volume of
 -- this segment that those slots open under this passphrase, or their fault. Otherwise a read of the key areas failed,
 -- or memory for them ran out, or the image ended within them
 abbrev pub TriesSlots : Option ℕ → Segment → OrderModel → List ℕ → List ℕ → List ℕ → List ℕ → Option (List ℕ)
     → Result UnlockedVolume Message → Type 0
-TriesSlots named segment tries pass area area' rest left (Ok volume) = ConsumedAreas tries area area' rest left
-    × (key_areas_end tries.slots ≤ length area') × (volume.segment ≡ segment)
-    × (opening_of tries area' pass ≡ Ok (opened_of volume))
-TriesSlots named segment tries pass area area' rest left (Err message) =
+TriesSlots named segment order pass area area' rest left (Ok volume) = ConsumedAreas order area area' rest left
+    × (key_areas_end order.slots ≤ length area') × (volume.segment ≡ segment)
+    × (opening_of order area' pass ≡ Ok (opened_of volume))
+TriesSlots named segment order pass area area' rest left (Err message) =
     ((fault : HeaderFault) × (message ≡ message_for_header fault)
-    × AbortsConsuming (key_areas_end tries.slots - length area) area area' rest left fault)
-    ⊎ (ConsumedAreas tries area area' rest left × ((message ≡ Cut × (length area' < key_areas_end tries.slots))
-    ⊎ ((fault : OpenFault) × (message ≡ message_for_opening named fault) × (key_areas_end tries.slots ≤ length area')
-    × (opening_of tries area' pass ≡ Err fault))))
+    × AbortsConsuming (key_areas_end order.slots - length area) area area' rest left fault)
+    ⊎ (ConsumedAreas order area area' rest left × ((message ≡ Cut × (length area' < key_areas_end order.slots))
+    ⊎ ((fault : OpenFault) × (message ≡ message_for_opening named fault) × (key_areas_end order.slots ≤ length area')
+    × (opening_of order area' pass ≡ Err fault))))
+
+-- the count of work was raised by the evaluations of HMAC that opening costs, once, or not at all
+abbrev pub CountsTrials : OrderModel → List ℕ → List ℕ → ℕ → ℕ → Type 0
+CountsTrials order area pass work work' = (work' ≡ work) ⊎ (work' ≡ capped (work + work_of order area pass))
 
 -- whether trying the key slots hit the image's end: only if the message is that the image ended
 abbrev pub HitsEndOfAreas : Message → Bool → Type 0

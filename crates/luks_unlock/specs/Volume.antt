@@ -27,11 +27,11 @@ use Rattle.luks_report.specs.declared.message.Message.TheVariants.{SegmentRefuse
 pub record Volume : Type 0 where
   pub header : Header
   pub segment : Segment
-  pub tries : OrderModel
+  pub order : OrderModel
 
 -- the volume with this order of key slots
 abbrev pub volume_in_order : Option ℕ → Header → Segment → Result OrderModel OpenFault → Result Volume Message
-volume_in_order named header segment (Ok tries) = Ok (record { header = header; segment = segment; tries = tries })
+volume_in_order named header segment (Ok order) = Ok (record { header = header; segment = segment; order = order })
 volume_in_order named header segment (Err fault) = Err (message_for_opening named fault)
 
 -- the volume with this segment
@@ -55,8 +55,8 @@ abbrev pub volume_of : VolumeRequest → List ℕ → Result Volume Message
 volume_of = volume_by header_of
 
 -- how many bytes of the image are consumed to open the volume: the header and the key areas of the slots that are tried
-abbrev pub held_for : List ℕ → Volume → ℕ
-held_for image volume = max (header_read_len image) (key_areas_end volume.tries.slots)
+abbrev pub loaded_for : List ℕ → Volume → ℕ
+loaded_for image volume = max (header_read_len image) (key_areas_end volume.order.slots)
 
 -- what a command does with a volume that is opened: with its segment, its key, and the bytes of its image that were
 -- consumed so far
@@ -65,39 +65,39 @@ OnOpened = Segment → Opened → ℕ → Outcome
 
 -- `testPassphrase`: the key slot that opens is reported
 abbrev pub slot_outcome : List ℕ → OnOpened
-slot_outcome secret segment opened held = record {
+slot_outcome secret segment opened loaded = record {
   output = opened_line opened.slot;
   message = Done;
-  image_consumed = held;
+  image_consumed = loaded;
   secret_consumed = length secret;
   payload_consumed = 0;
 }
 
 -- `luksCat`: the payload is written as plaintext
 abbrev pub payload_outcome : List ℕ → List ℕ → OnOpened
-payload_outcome image secret segment opened held = record {
+payload_outcome image secret segment opened loaded = record {
   output = plain_of segment (segment.mode, opened.key) image;
   message = message_at_end (ending_of segment image);
-  image_consumed = max held (payload_end_of segment image);
+  image_consumed = max loaded (payload_end_of segment image);
   secret_consumed = length secret;
   payload_consumed = 0;
 }
 
 -- `luksCat` with a detached header: the image holds the payload alone
 abbrev pub detached_payload_outcome : List ℕ → List ℕ → OnOpened
-detached_payload_outcome image secret segment opened held = record {
+detached_payload_outcome image secret segment opened loaded = record {
   output = plain_of segment (segment.mode, opened.key) image;
   message = message_at_end (ending_of segment image);
-  image_consumed = held;
+  image_consumed = loaded;
   secret_consumed = length secret;
   payload_consumed = payload_end_of segment image;
 }
 
 -- the key slots were tried
 abbrev pub opened_outcome : OnOpened → Option ℕ → Volume → List ℕ → List ℕ → Result Opened OpenFault → Outcome
-opened_outcome on_opened named volume image secret (Ok opened) = on_opened volume.segment opened (held_for image volume)
+opened_outcome on_opened named volume image secret (Ok opened) = on_opened volume.segment opened (loaded_for image volume)
 opened_outcome on_opened named volume image secret (Err fault) =
-    no_output (message_for_opening named fault) (held_for image volume) (length secret)
+    no_output (message_for_opening named fault) (loaded_for image volume) (length secret)
 
 -- a volume was found: the key file is read whole, then the image up to the end of the key areas, and the key slots are
 -- tried
@@ -105,8 +105,8 @@ unfoldable pub found_outcome : OnOpened → Option ℕ → Volume → List ℕ �
 found_outcome on_opened named volume image secret =
     if nat_lt max_key_file_len (length secret) then no_output KeyFileLength (header_read_len image)
     (max_key_file_len + 1)
-    else (if nat_lt (length image) (key_areas_end volume.tries.slots) then no_output Cut (length image) (length secret)
-    else opened_outcome on_opened named volume image secret (opening_of volume.tries image secret))
+    else (if nat_lt (length image) (key_areas_end volume.order.slots) then no_output Cut (length image) (length secret)
+    else opened_outcome on_opened named volume image secret (opening_of volume.order image secret))
 
 -- there is a volume or not
 abbrev pub outcome_after : OnOpened → Option ℕ → List ℕ → List ℕ → Result Volume Message → Outcome

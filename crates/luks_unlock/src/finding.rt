@@ -18,7 +18,7 @@ use luks_header::payload::segment;
 use luks_header::segment::Segment;
 use luks_io::source::Source;
 use luks_open::order::order;
-use luks_open::tries::Order;
+use luks_open::ordered::Order;
 use luks_report::message::Message;
 use luks_request::command::VolumeArgs;
 use luks_runs::location::{HeaderLocation, read_header_at};
@@ -48,7 +48,7 @@ pub(crate) fn named_slot(opening: &VolumeArgs<'_>) -> Option<u8>
 }
 
 /// The limit on iterations.
-fn limit(opening: &VolumeArgs<'_>) -> Option<u32>
+fn max_iterations(opening: &VolumeArgs<'_>) -> Option<u32>
     ensures { result ≡ (volume_request opening.now).max_iterations }
 {
     match opening.max_iterations {
@@ -73,7 +73,7 @@ fn find_slots(
 {
     let segment = segment(header)?;
     let named = named_slot(opening);
-    match order(alloc, header, named, limit(opening)) {
+    match order(alloc, header, named, max_iterations(opening)) {
         Ok(order) => Ok((segment, order)),
         Err(fault) => Err(Message::of_opening(named, fault)),
     }
@@ -96,13 +96,11 @@ pub fn find_volume<I: Source>(
         (I.counts image.old) (I.counts image.new) }
 {
     let (header, area) = read_header_at(alloc, location, image)?;
-    match find_slots(alloc, opening, &header) {
-        Ok((segment, order)) => Ok(FoundVolume {
-            header,
-            area,
-            segment,
-            order,
-        }),
-        Err(message) => Err(message),
-    }
+    let (segment, order) = find_slots(alloc, opening, &header)?;
+    Ok(FoundVolume {
+        header,
+        area,
+        segment,
+        order,
+    })
 }

@@ -7,30 +7,33 @@ ghost use Rattle.luks_request.specs.Request.{volume_request};
 ghost use Rattle.luks_runs.specs.Run.{is_run_read_failure, result_message};
 ghost use Rattle.luks_unlock.specs.Finding.{HasSlots};
 ghost use Rattle.luks_unlock.specs.OpeningMessages.{OpeningMessage};
-ghost use Rattle.luks_unlock.specs.Trying.{HitsEndOfAreas, TriesSlots};
+ghost use Rattle.luks_unlock.specs.Trying.{CountsTrials, HitsEndOfAreas, TriesSlots};
 
 use crate::finding::{FoundVolume, named_slot};
 use crate::unlocked::UnlockedVolume;
 use luks_io::source::Source;
 use luks_kdf::Work;
 use luks_open::opening::open;
-use luks_open::tries::held_end;
+use luks_open::ordered::held_end;
 use luks_report::message::Message;
 use luks_request::command::VolumeArgs;
 
 /// Tries the key slots of a volume under a passphrase, after reading the key areas behind its
-/// header. If the image's end was hit before, nothing is read.
+/// header. If the image's end was hit before, nothing is read. The count of work is raised as by
+/// one [`open`], or not at all.
 pub fn try_slots<I: Source>(
     opening: &VolumeArgs<'_>,
     volume: &mut FoundVolume,
     image: &mut I,
     pass: &[u8],
+    work: &mut Work,
 ) -> Result<UnlockedVolume, Message>
     requires { HasSlots (volume_request opening.now) volume.old }
     ensures run { IfKnown (I.to_come image.old) (λ rest.
         (volume.old.area.ended ≡ true → rest ≡ [])
         → TriesSlots (volume_request opening.now).key_slot volume.old.segment volume.old.order
         pass.now volume.old.area.bytes volume.new.area.bytes rest (I.to_come image.new) result) }
+    ensures work { CountsTrials volume.old.order volume.new.area.bytes pass.now work.old work.new }
     ensures kept { volume.new ≡ record volume.old { area = volume.new.area } }
     ensures only { IfErr result OpeningMessage }
     ensures reads { (ended : Bool)
@@ -54,8 +57,7 @@ pub fn try_slots<I: Source>(
         order,
         ..
     } = volume;
-    // Nobody asks how much work it was.
-    match open(header, area, order, pass, &mut Work::new(0)) {
+    match open(header, area, order, pass, work) {
         Ok(opened) => Ok(UnlockedVolume::new(segment, opened)),
         Err(fault) => Err(Message::of_opening(named_slot(opening), fault)),
     }

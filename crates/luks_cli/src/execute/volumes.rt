@@ -1,32 +1,33 @@
 //! `testPassphrase` and `luksCat`: volumes that a passphrase opens.
 
-ghost use Rattle.std.specs.Prelude.{◌≡◌, ◌<◌, ◌⊎◌, ◌^◌, List, [], ℕ, Bool, Option};
+ghost use Rattle.std.specs.Prelude.{◌≡◌, ◌<◌, ◌⊎◌, ◌^◌, [], Bool};
 ghost use Rattle.std.specs.Prelude.{IfOk, IfErr, false, is_err, length, true};
-ghost use Rattle.luks_io.specs.Counts.{Reads, Writes, with_ahead};
+ghost use Rattle.luks_io.specs.Counts.{Reads, Writes};
 ghost use Rattle.luks_io.specs.Devices.{Appended, ConsumedExactly, IfKnown};
 ghost use Rattle.luks_unlock.specs.Finding.{HasSlots};
 ghost use Rattle.luks_unlock.specs.OpeningMessages.{OpeningMessage};
-ghost use Rattle.luks_unlock.specs.Trying.{opened_of};
-ghost use Rattle.luks_unlock.specs.Volume.{OnOpened, detached_payload_outcome, payload_outcome};
+ghost use Rattle.luks_unlock.specs.Trying.{CountsTrials, opened_of};
+ghost use Rattle.luks_unlock.specs.Volume.{detached_payload_outcome, payload_outcome};
 ghost use Rattle.luks_unlock.specs.Volume.{slot_outcome, volume_by, volume_of};
 ghost use Rattle.luks_unlock.specs.Volume.{volume_outcome, volume_outcome_by};
 ghost use Rattle.luks_request.specs.Request.{volume_request};
 ghost use Rattle.luks_runs.specs.RunMessages.{PayloadMessage};
-ghost use Rattle.luks_runs.specs.Payload.{ForwardsHeld};
+ghost use Rattle.luks_runs.specs.Payload.{ForwardsLoaded, with_payload_ahead};
 ghost use Rattle.luks_runs.specs.HeaderReading.{detached_header_of};
-ghost use Rattle.luks_runs.specs.Run.{RunMatches, DetachedRunMatches, at_any_pace};
+ghost use Rattle.luks_runs.specs.Run.{RunMatches, DetachedRunMatches, AnyPace};
 ghost use Rattle.luks_runs.specs.Run.{is_run_read_failure, is_run_write_failure, result_message};
 ghost use Rattle.luks_runs.specs.Location.{LoadedFrom, reader_for};
-ghost use Rattle.luks_cli.specs.CommandRun.{CountsCalls, ReadsOnce, ReadsPayload};
-ghost use Rattle.luks_cli.specs.Detached.{CountsCallsDetached, EndsWithoutKey};
-ghost use Rattle.luks_cli.specs.Unlocking.{CountsReads, OpensVolume, ReportsSlot, Unlocks};
-ghost use Rattle.luks_cli.specs.Unlocking.{opens_promptly};
-ghost use Rattle.luks_cli.specs.VolumeParts.{ConsumesHeld, cat_promptly, detached_cat_promptly};
+ghost use Rattle.luks_cli.specs.CommandRun.{CatAllows, CountsCalls, ReadsOnce, ReadsPayload};
+ghost use Rattle.luks_cli.specs.Detached.{CountsCallsDetached, DetachedCatAllows, EndsWithoutKey};
+ghost use Rattle.luks_cli.specs.Unlocking.{CountsReads, EndsUnopened, OpensVolume};
+ghost use Rattle.luks_cli.specs.Unlocking.{ReportsSlot, Unlocks};
+ghost use Rattle.luks_cli.specs.VolumeParts.{PromptCat, PromptDetachedCat};
 
 use luks_header::area::HeaderArea;
 use luks_io::memory::MemSource;
 use luks_io::sink::{Sink, put_all};
 use luks_io::source::Source;
+use luks_kdf::Work;
 use luks_report::message::Message;
 use luks_report::opened::opened_text;
 use luks_request::command::VolumeArgs;
@@ -54,6 +55,7 @@ fn open_volume<I: Source, K: Source>(
     volume: &mut FoundVolume,
     image: &mut I,
     secret: &mut K,
+    work: &mut Work,
 ) -> Result<UnlockedVolume, Message>
     requires { HasSlots (volume_request opening.now) volume.old }
     ensures run { IfKnown (I.to_come image.old) (λ rest. IfKnown (K.to_come secret.old)
@@ -64,12 +66,14 @@ fn open_volume<I: Source, K: Source>(
     ensures only { IfErr result OpeningMessage }
     ensures counts { CountsReads (result_message result) (I.counts image.old) (I.counts image.new)
         (K.counts secret.old) (K.counts secret.new) }
+    ensures work { IfKnown (K.to_come secret.old) (λ passphrase. CountsTrials volume.old.order
+        volume.new.area.bytes passphrase work.old work.new) }
     ensures ended { volume.old.area.ended ≡ true → image.new ≡ image.old }
     ensures still { IfOk result (λ _. (volume.new.area.ended ≡ volume.old.area.ended)
         × Reads false false (I.counts image.old) (I.counts image.new)) }
 {
     let passphrase = read_key_file(alloc, secret)?;
-    try_slots(opening, volume, image, &passphrase)
+    try_slots(opening, volume, image, &passphrase, work)
 }
 
 /// The bytes that are loaded of the image of a volume. The rest of the found volume is dropped.
@@ -93,14 +97,10 @@ fn unlock<I: Source, K: Source>(
         Unlocks location (volume_request opening.now) known passphrase unlocked.volume.segment
         (opened_of unlocked.volume) unlocked.area.bytes (I.to_come image.new)
         (K.to_come secret.new)))) }
-    ensures err { IfErr result
-        (λ message. (written : Option (List ℕ)) → IfKnown (I.to_come image.old) (λ known.
+    ensures err { IfErr result (λ message. IfKnown (I.to_come image.old) (λ known.
         IfKnown (K.to_come secret.old) (λ passphrase.
-        (on_opened : OnOpened) → ConsumesHeld passphrase on_opened
-        → RunMatches (opens_promptly location known)
-        (volume_outcome_by (reader_for location) on_opened (volume_request opening.now) known
-        passphrase) message (ConsumedExactly known (I.to_come image.new))
-        (ConsumedExactly passphrase (K.to_come secret.new)) (Appended written written)))) }
+        EndsUnopened location (volume_request opening.now) known passphrase message
+        (I.to_come image.new) (K.to_come secret.new)))) }
     ensures unneeded { IfKnown (I.to_come image.old) (λ known.
         is_err (volume_by (reader_for location) (volume_request opening.now) known) ≡ true
         → secret.new ≡ secret.old) }
@@ -111,7 +111,9 @@ fn unlock<I: Source, K: Source>(
         (I.to_come image.new) (I.counts image.old) (I.counts image.new)) }
 {
     let mut volume = find_volume(alloc, location, opening, image)?;
-    let opened = open_volume(alloc, opening, &mut volume, image, secret);
+    // Nobody asks how much work it was.
+    let work = &mut Work::new(0);
+    let opened = open_volume(alloc, opening, &mut volume, image, secret, work);
     // All but the loaded bytes is dropped here, whether or not a slot opened.
     let area = area_of(volume);
     Ok(Unlocked {
@@ -122,7 +124,7 @@ fn unlock<I: Source, K: Source>(
 
 /// Reports the key slot that opened a volume.
 fn report_slot<O: Sink>(alloc: Global, slot: u8, out: &mut O) -> Result<(), Message>
-    ensures told { ReportsSlot slot (O.written out.old) (O.written out.new)
+    ensures reported { ReportsSlot slot (O.written out.old) (O.written out.new)
         (result_message result) }
     ensures writes { Writes (is_run_write_failure (result_message result))
         (O.counts out.old) (O.counts out.new) }
@@ -143,7 +145,7 @@ pub(super) fn test_passphrase<I: Source, K: Source, O: Sink>(
 ) -> Result<(), Message>
     ensures run { IfKnown (I.to_come image.old)
         (λ known. IfKnown (K.to_come secret.old) (λ passphrase.
-        RunMatches at_any_pace (volume_outcome_by (reader_for location) (slot_outcome passphrase)
+        RunMatches AnyPace (volume_outcome_by (reader_for location) (slot_outcome passphrase)
         (volume_request opening.now) known passphrase)
         (result_message result) (ConsumedExactly known (I.to_come image.new))
         (ConsumedExactly passphrase (K.to_come secret.new))
@@ -173,13 +175,13 @@ fn write_plain<I: Source, O: Sink>(
     image: &mut I,
     out: &mut O,
 ) -> Result<(), Message>
-    ensures run { ForwardsHeld volume.now.segment (volume.now.segment.mode, volume.now.key)
+    ensures run { ForwardsLoaded volume.now.segment (volume.now.segment.mode, volume.now.key)
         loaded.now (I.to_come image.old) (I.to_come image.new) (O.written out.old)
         (O.written out.new) (result_message result) }
     ensures only { PayloadMessage (result_message result) }
-    ensures reads { (most : ℕ) × (ended : Bool)
-        × Reads (is_run_read_failure (result_message result)) ended
-        (with_ahead most (I.counts image.old)) (I.counts image.new) }
+    ensures reads { (ended : Bool) × Reads (is_run_read_failure (result_message result)) ended
+        (with_payload_ahead volume.now.segment (length loaded.now) (I.counts image.old))
+        (I.counts image.new) }
     ensures writes { Writes (is_run_write_failure (result_message result))
         (O.counts out.old) (O.counts out.new) }
 {
@@ -197,7 +199,7 @@ pub(super) fn cat<I: Source, K: Source, O: Sink>(
     ensures only { OpeningMessage (result_message result) ⊎ PayloadMessage (result_message result) }
     ensures run { IfKnown (I.to_come image.old)
         (λ known. IfKnown (K.to_come secret.old) (λ passphrase.
-        length known < 2 ^ 64 → RunMatches (cat_promptly known)
+        length known < 2 ^ 64 → RunMatches (PromptCat known)
         (volume_outcome (payload_outcome known passphrase) (volume_request opening.now) known
         passphrase)
         (result_message result) (ConsumedExactly known (I.to_come image.new))
@@ -205,7 +207,8 @@ pub(super) fn cat<I: Source, K: Source, O: Sink>(
         (Appended (O.written out.old) (O.written out.new)))) }
     ensures unneeded { IfKnown (I.to_come image.old) (λ known.
         is_err (volume_of (volume_request opening.now) known) ≡ true → secret.new ≡ secret.old) }
-    ensures calls { CountsCalls ReadsPayload (result_message result)
+    ensures calls { CountsCalls (ReadsPayload (CatAllows (volume_request opening.now)
+        (I.to_come image.old) (K.to_come secret.old))) (result_message result)
         (I.counts image.old) (I.counts image.new) (K.counts secret.old) (K.counts secret.new)
         (O.counts out.old) (O.counts out.new) }
 {
@@ -230,7 +233,7 @@ pub(super) fn cat_detached<H: Source, I: Source, K: Source, O: Sink>(
     ensures only { OpeningMessage (result_message result) ⊎ PayloadMessage (result_message result) }
     ensures run { IfKnown (H.to_come header.old)
         (λ file. IfKnown (I.to_come image.old) (λ known. IfKnown (K.to_come secret.old)
-        (λ passphrase. length known < 2 ^ 64 → DetachedRunMatches (detached_cat_promptly file)
+        (λ passphrase. length known < 2 ^ 64 → DetachedRunMatches (PromptDetachedCat file)
         (volume_outcome_by detached_header_of (detached_payload_outcome known passphrase)
         (volume_request opening.now) file passphrase) (result_message result)
         (ConsumedExactly file (H.to_come header.new)) (ConsumedExactly known (I.to_come image.new))
@@ -240,8 +243,9 @@ pub(super) fn cat_detached<H: Source, I: Source, K: Source, O: Sink>(
         is_err (volume_by detached_header_of (volume_request opening.now) file) ≡ true
         → secret.new ≡ secret.old) }
     ensures before_key { EndsWithoutKey (result_message result) → image.new ≡ image.old }
-    ensures calls { CountsCallsDetached ReadsPayload (result_message result)
-        (H.counts header.old) (H.counts header.new) (I.counts image.old) (I.counts image.new)
+    ensures calls { CountsCallsDetached
+        (ReadsPayload (DetachedCatAllows (H.to_come header.old) (K.to_come secret.old)))
+        (result_message result) (H.counts header.old) (H.counts header.new) (I.counts image.old) (I.counts image.new)
         (K.counts secret.old) (K.counts secret.new) (O.counts out.old) (O.counts out.new) }
 {
     let unlocked = unlock(alloc, HeaderLocation::Detached, opening, header, secret)?;

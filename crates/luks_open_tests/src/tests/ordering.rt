@@ -6,7 +6,7 @@ use luks_header::refusal::SkipReason;
 use luks_io::memory::MemSource;
 use luks_open::fault::OpenFault;
 use luks_open::order::order;
-use luks_open::tries::{Order, held_end};
+use luks_open::ordered::{Order, held_end};
 use luks_test_support::scarce::Scarcity;
 use std::alloc::Global;
 use std::process::Abort;

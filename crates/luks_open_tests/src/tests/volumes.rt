@@ -16,7 +16,7 @@ use luks_kdf::Work;
 use luks_open::fault::OpenFault;
 use luks_open::opening::{Opened, open};
 use luks_open::order::order;
-use luks_open::tries::held_end;
+use luks_open::ordered::held_end;
 use std::process::Abort;
 
 /// An image: its length, and rows of bytes, each with its place before it.

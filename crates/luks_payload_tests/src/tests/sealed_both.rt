@@ -12,7 +12,7 @@ use luks_kdf::{Hash, Work};
 use luks_open::fault::OpenFault;
 use luks_open::opening::{Opened, open};
 use luks_open::order::order;
-use luks_open::tries::held_end;
+use luks_open::ordered::held_end;
 use luks_payload::pump::Pump;
 use luks_payload::state::Step;
 use luks_seal::parameters::{Seal1, Seal2, Slot1, Slot2};

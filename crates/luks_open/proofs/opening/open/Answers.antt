@@ -9,7 +9,7 @@ first_opening-requires c =
     let segment = c.requires.segment in
     rw (c.entries.ensures, c.as_slice.ensures.value)
     (All-IsTriable c.args.header.now segment.0 order.0 order.1 c.args.order.now (length c.args.area.now.bytes) segment.1
-    order.2 c.requires.held)
+    order.2 c.requires.loaded)
 
 pub returns-in-Some-clause-key_length : goal.returns-in-Some-clause-key_length
 returns-in-Some-clause-key_length c segment is_segment =

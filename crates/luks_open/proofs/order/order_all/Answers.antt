@@ -1,12 +1,12 @@
 use Rattle.std.proofs.Common.{rules, arith, length-append}
 use Rattle.luks_verdict.specs.Rule.{max_slots}
 use Rattle.luks_verdict.specs.Table.{ascending}
-use Rattle.luks_open.specs.Order.{tries_of_all, usable_at}
+use Rattle.luks_open.specs.Order.{order_of_all, usable_at}
 use Rattle.luks_open.proofs.OrderLemmas.{some_tried}
 use Rattle.luks_open.proofs.order.order_all.Goals as goal
 
 pub returns-in_err-push_usable-clause-memory : goal.returns-in_err-push_usable-clause-memory
-unfolding tries_of_all
+unfolding order_of_all
 returns-in_err-push_usable-clause-memory c = λ memory.
     let entries = usable_at c.args.header.now c.args.limit in
     some_tried _ _
@@ -17,7 +17,7 @@ returns-in_err-push_usable-clause-memory c = λ memory.
     ))
 
 pub returns-in_err-push_usable-2-clause-memory : goal.returns-in_err-push_usable-2-clause-memory
-unfolding tries_of_all
+unfolding order_of_all
 returns-in_err-push_usable-2-clause-memory c = λ memory.
     let entries = usable_at c.args.header.now c.args.limit in
     some_tried _ _
@@ -28,14 +28,14 @@ returns-in_err-push_usable-2-clause-memory c = λ memory.
     ))
 
 pub returns-then-is_empty-clause-answer : goal.returns-then-is_empty-clause-answer
-unfolding tries_of_all
+unfolding order_of_all
 returns-then-is_empty-clause-answer c = search rules
 
 pub returns-then-is_empty-clause-memory : goal.returns-then-is_empty-clause-memory
 returns-then-is_empty-clause-memory c = λ memory. absurd cc
 
 pub returns-clause-answer : goal.returns-clause-answer
-unfolding tries_of_all
+unfolding order_of_all
 returns-clause-answer c = search rules
 
 pub returns-clause-memory : goal.returns-clause-memory

@@ -1,17 +1,17 @@
 use Rattle.std.proofs.Common.{◌∙◌, Some, ap, sym, inr}
 use Rattle.luks_verdict.proofs.VerdictLemmas.{none_from_none, skipped_from_shut, unused_from_unused}
-use Rattle.luks_open.specs.Order.{entry_at, tries_of_named}
+use Rattle.luks_open.specs.Order.{entry_at, order_of_named}
 use Rattle.luks_open.proofs.OrderLemmas.{named_alone, named_open}
 use Rattle.luks_open.proofs.order.order_named.Goals as goal
 
 pub returns-in-None-clause-answer : goal.returns-in-None-clause-answer
 returns-in-None-clause-answer c =
-    inr (ap (tries_of_named (entry_at c.args.header.now c.args.named))
+    inr (ap (order_of_named (entry_at c.args.header.now c.args.named))
     (none_from_none _ (sym c.verdict_kind.ensures ∙ c.in-None.is)))
 
 pub returns-in-Some-Disabled-clause-answer : goal.returns-in-Some-Disabled-clause-answer
 returns-in-Some-Disabled-clause-answer c =
-    inr (ap (tries_of_named (entry_at c.args.header.now c.args.named))
+    inr (ap (order_of_named (entry_at c.args.header.now c.args.named))
     (unused_from_unused _
     (sym c.verdict_kind.ensures ∙ (c.in-Some-Disabled.is ∙ ap Some c.in-Some-Disabled.field-0-is))))
 
@@ -20,7 +20,7 @@ returns-in-Some-Disabled-clause-memory c = λ memory. absurd cc
 
 pub returns-in-Some-Skipped-clause-answer : goal.returns-in-Some-Skipped-clause-answer
 returns-in-Some-Skipped-clause-answer c =
-    inr (ap (tries_of_named (entry_at c.args.header.now c.args.named))
+    inr (ap (order_of_named (entry_at c.args.header.now c.args.named))
     (skipped_from_shut _ _
     (sym c.verdict_kind.ensures ∙ (c.in-Some-Skipped.is ∙ ap Some c.in-Some-Skipped.field-0-is))))
 

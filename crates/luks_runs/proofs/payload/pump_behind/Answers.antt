@@ -6,19 +6,19 @@ use Rattle.luks_runs.proofs.payload.pump_behind.Goals as goal
 
 pub returns-clause-stands : goal.returns-clause-stands
 returns-clause-stands c whole left front took =
-    let held = c.args.held.now in
+    let loaded = c.args.loaded.now in
     let offset = c.args.segment.offset in
-    let within : offset ≤ length held = omega arith in
-    let all : length held
-    ≡ sector_start c.args.segment 0 + length (take (length held - offset) (drop offset held)) =
-    omega (arith, held_reach held whole offset within) in
+    let within : offset ≤ length loaded = omega arith in
+    let all : length loaded
+    ≡ sector_start c.args.segment 0 + length (take (length loaded - offset) (drop offset loaded)) =
+    omega (arith, held_reach loaded whole offset within) in
     let start : offset ≡ sector_start c.args.segment 0 = omega arith in
     rw c.with_front.ensures (record {
       running = refl;
       stands = record {
-        next = subst (λ n. take (length held - offset) (drop offset held)
-            ≡ take (length (take (length held - offset) (drop offset held))) (drop n whole)) start
-            (positioned_within held whole offset within front);
+        next = subst (λ n. take (length loaded - offset) (drop offset loaded)
+            ≡ take (length (take (length loaded - offset) (drop offset loaded))) (drop n whole)) start
+            (positioned_within loaded whole offset within front);
         took = subst (ConsumedExactly whole left) all took;
       };
     })

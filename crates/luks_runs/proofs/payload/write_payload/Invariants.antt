@@ -13,11 +13,11 @@ invariant-sectors g l = record {
   cipher : l.pump.cipher ≡ l.fn.cipher;
   count : l.pump.count ≡ l.counter;
   running : is_running l.pump.state ≡ true;
-  reads : Reads false false (with_payload_ahead l.fn.segment (length l.fn.held) (g.I.Source.counts l.fn.image))
+  reads : Reads false false (with_payload_ahead l.fn.segment (length l.fn.loaded) (g.I.Source.counts l.fn.image))
       (g.I.Source.counts l.image);
   writes : Writes false (g.O.Sink.counts l.initial.out) (g.O.Sink.counts l.out);
-  forwarding : (whole : List ℕ) → length whole < 2 ^ 64 → l.fn.held ≡ take (length l.fn.held) whole
-      → ConsumedExactly whole (g.I.Source.to_come l.initial.image) (length l.fn.held)
-      → Forwarding l.pump whole (length l.fn.held) (g.I.Source.to_come l.image) (g.O.Sink.written l.initial.out)
+  forwarding : (whole : List ℕ) → length whole < 2 ^ 64 → l.fn.loaded ≡ take (length l.fn.loaded) whole
+      → ConsumedExactly whole (g.I.Source.to_come l.initial.image) (length l.fn.loaded)
+      → Forwarding l.pump whole (length l.fn.loaded) (g.I.Source.to_come l.image) (g.O.Sink.written l.initial.out)
       (g.O.Sink.written l.out);
 }

@@ -14,4 +14,4 @@ pub returns-in-Err-clause-err : goal.returns-in-Err-clause-err
 returns-in-Err-clause-err c =
     rw (c.of_opening.ensures, c.named_slot-named.ensures) (no_order (volume_request c.args.opening.now)
     c.args.header.now _ (sym c.in_ok-segment.ensures) _
-    (rw (c.named_slot-named.ensures, c.limit.ensures) at c.in-Err.ensures.answer))
+    (rw (c.named_slot-named.ensures, c.max_iterations.ensures) at c.in-Err.ensures.answer))

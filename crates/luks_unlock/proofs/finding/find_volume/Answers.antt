@@ -10,18 +10,20 @@ returns-in_err-header-clause-err g c =
     aborts_without_header c.args.location _ known _ _ _ c.in_err-header.field-0.0
     (c.in_err-header.ensures.broken known is))
 
-pub returns-in-Err-clause-err : goal.returns-in-Err-clause-err
-returns-in-Err-clause-err g c known is =
+pub returns-in_err-segment-clause-err : goal.returns-in_err-segment-clause-err
+returns-in_err-segment-clause-err g c =
+    let p = err_from_is_err_and c.from_residual-in_err-segment.result c.from_residual-in_err-segment.ensures.1 in
+    rw (p.1, p.2) (λ known is.
     let read = c.in_ok-header.ensures.taken known is in
     aborts_without_slots c.args.location (volume_request c.args.opening.now) known _ c.in_ok-header.header read.0 read.2
-    c.in-Err.message c.in-Err.ensures.err
+    _ c.in_err-segment.ensures.err)
 
-pub returns-in-Ok-clause-found : goal.returns-in-Ok-clause-found
-returns-in-Ok-clause-found g c =
+pub returns-clause-found : goal.returns-clause-found
+returns-clause-found g c =
     let read = c.in_ok-header.ensures in
     record {
-      slots = record { segment = c.in-Ok.ensures.segment; order = c.in-Ok.ensures.order };
-      front = read.held;
+      slots = record { segment = c.in_ok-segment.ensures.segment; order = c.in_ok-segment.ensures.order };
+      front = read.front;
       area = read.only;
       header = read.taken;
       loaded = read.loaded;

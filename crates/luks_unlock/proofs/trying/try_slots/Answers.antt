@@ -24,8 +24,8 @@ returns-then-not-branch-clause-run g c rest there nothing =
     let few = short_from_not_whole c.in_ok-extend_to.field-0 _ _ whole c.if-not-branch.true in
     inr (rw end at (c.in_ok-extend_to.ensures.taken rest there), inl (refl, rw end at few))
 
-pub open-requires-clause-held : goal.open-requires-clause-held
-open-requires-clause-held g c =
+pub open-requires-clause-loaded : goal.open-requires-clause-loaded
+open-requires-clause-loaded g c =
     rw c.held_end-end.ensures.value at (c.in_ok-extend_to.ensures.loads.whole.0 c.if-not-branch.false)
 
 pub returns-in-Ok-clause-run : goal.returns-in-Ok-clause-run
@@ -33,8 +33,8 @@ returns-in-Ok-clause-run g c rest there nothing =
     let end = c.held_end-end.ensures.value in (
       rw end at (c.in_ok-extend_to.ensures.taken rest there),
       rw end at (c.in_ok-extend_to.ensures.loads.whole.0 c.if-not-branch.false),
-      c.new-in-Ok.ensures.segment,
-      rw (c.new-in-Ok.ensures.slot, c.new-in-Ok.ensures.key) (sym c.in-Ok.ensures.value),
+      c.new.ensures.segment,
+      rw (c.new.ensures.slot, c.new.ensures.key) (sym c.in-Ok.ensures.value),
     )
 
 pub returns-in-Err-clause-run : goal.returns-in-Err-clause-run

@@ -1,7 +1,7 @@
 use Rattle.std.proofs.Common.{refl}
 use Rattle.luks_runs.specs.HeaderOutcome.{printout_text, printout_message}
 use Rattle.luks_runs.specs.HeaderReading.{detached_header_of}
-use Rattle.luks_runs.specs.Run.{at_any_pace, result_message}
+use Rattle.luks_runs.specs.Run.{AnyPace, result_message}
 use Rattle.luks_runs.specs.declared.headers.Printout.TheVariants.{Uuid, Dump, Check}
 use Rattle.luks_cli.proofs.CallLemmas.{calls_apart, calls_of_image, calls_of_is_luks, none_read}
 use Rattle.luks_cli.specs.CommandRun.{ReadsOnce}
@@ -13,13 +13,13 @@ pub returns-in-IsLuks-clause-run : goal.returns-in-IsLuks-clause-run
 returns-in-IsLuks-clause-run g c =
     rw (c.report.ensures, c.in-IsLuks.is)
     (λ file there known payload pass secret counted.
-    runs_apart at_any_pace _ _ _ _ _ (no_payload_for_answer file) (c.is_luks.ensures.run _ file there))
+    runs_apart AnyPace _ _ _ _ _ (no_payload_for_answer file) (c.is_luks.ensures.run _ file there))
 
 pub returns-in-LuksUuid-clause-run : goal.returns-in-LuksUuid-clause-run
 returns-in-LuksUuid-clause-run g c =
     rw (c.report-in-LuksUuid.ensures, c.in-LuksUuid.is)
     (λ file there known payload pass secret counted.
-    runs_apart at_any_pace _ _ _ _ _ (no_payload_for_text detached_header_of (printout_text Uuid)
+    runs_apart AnyPace _ _ _ _ _ (no_payload_for_text detached_header_of (printout_text Uuid)
     (printout_message Uuid) file)
     (c.print.ensures.run file there))
 
@@ -27,7 +27,7 @@ pub returns-in-LuksDump-clause-run : goal.returns-in-LuksDump-clause-run
 returns-in-LuksDump-clause-run g c =
     rw (c.report-in-LuksDump.ensures, c.in-LuksDump.is)
     (λ file there known payload pass secret counted.
-    runs_apart at_any_pace _ _ _ _ _ (no_payload_for_text detached_header_of (printout_text Dump)
+    runs_apart AnyPace _ _ _ _ _ (no_payload_for_text detached_header_of (printout_text Dump)
     (printout_message Dump) file)
     (c.print-in-LuksDump.ensures.run file there))
 
@@ -35,14 +35,14 @@ pub returns-in-LuksCheck-clause-run : goal.returns-in-LuksCheck-clause-run
 returns-in-LuksCheck-clause-run g c =
     rw (c.report-in-LuksCheck.ensures, c.in-LuksCheck.is)
     (λ file there known payload pass secret counted.
-    runs_apart at_any_pace _ _ _ _ _ (no_payload_for_text detached_header_of (printout_text Check)
+    runs_apart AnyPace _ _ _ _ _ (no_payload_for_text detached_header_of (printout_text Check)
     (printout_message Check) file)
     (c.print-in-LuksCheck.ensures.run file there))
 
 pub returns-in-TestPassphrase-clause-run : goal.returns-in-TestPassphrase-clause-run
 returns-in-TestPassphrase-clause-run g c =
     rw (c.report-in-TestPassphrase.ensures, c.in-TestPassphrase.is) (λ file there known payload pass secret counted.
-    runs_apart at_any_pace _ _ _ _ _ (no_payload_for_slot detached_header_of _ file pass)
+    runs_apart AnyPace _ _ _ _ _ (no_payload_for_slot detached_header_of _ file pass)
     (c.test_passphrase.ensures.run file there pass secret))
 
 pub returns-in-LuksCat-clause-run : goal.returns-in-LuksCat-clause-run

@@ -1,9 +1,12 @@
 use Rattle.std.proofs.lemmas.Result.{err_from_is_err_and}
-use Rattle.std.proofs.Common.{◌∙◌, Some, ap, refl, sym}
+use Rattle.std.proofs.Common.{◌∙◌, Some, ap, inr, max, refl, sym, true}
 use Rattle.luks_io.specs.Memory.{MemSourceModel}
+use Rattle.luks_runs.specs.Ending.{Outcome}
+use Rattle.luks_runs.specs.Payload.{max_needed}
 use Rattle.luks_runs.specs.Run.{result_message}
-use Rattle.luks_cli.proofs.CallLemmas.{calls_unopened, calls_without_payload, no_more_ahead, payload_after}
-use Rattle.luks_cli.proofs.OpenedRuns.{counts_passed, never_memory, never_read, runs_loaded, runs_passed, unread_is}
+use Rattle.luks_unlock.specs.Volume.{slot_outcome}
+use Rattle.luks_cli.proofs.CallLemmas.{calls_unopened, calls_without_payload, no_more_ahead, none_failed, payload_after}
+use Rattle.luks_cli.proofs.OpenedRuns.{never_memory, never_read, runs_loaded, runs_passed, unread_is}
 use Rattle.luks_cli.proofs.execute.volumes.cat.Goals as goal
 
 pub returns-clause-run : goal.returns-clause-run
@@ -16,22 +19,32 @@ returns-clause-run g c known is pass has counted =
 pub returns-clause-calls : goal.returns-clause-calls
 returns-clause-calls g c =
     let unlocked = c.in_ok-unlocked.ensures in
+    let segment = c.in_ok-unlocked.unlocked.volume.segment in
     let goes = sym c.has_ended.ensures ∙ c.if-has_ended.false in
-    let reads = c.write_plain-2.ensures.reads in
-    let writes = c.write_plain-2.ensures.writes in
+    let reads = rw c.as_slice-loaded.ensures.value at c.write_plain-2.ensures.reads in
     record {
-      failures = counts_passed (result_message c.write_plain-2.result) _ _ _ _ _ _ _ unlocked.counts.failures
-          reads.2.failures writes.failures;
-      image_reads = payload_after _ _ _ (rw goes at unlocked.loaded.reads) (reads.0, (_, reads.1, reads.2));
-      secret_reads = unlocked.counts.secret_reads;
-      out_writes = (_, writes);
+      in_image = true;
+      image_reads = (
+        _,
+        (λ known is pass has. let u = unlocked.ok known is pass has in inr (
+          segment,
+          u.has,
+          ap (λ (o : Outcome). max (max_needed segment.size segment.offset o.image_consumed)
+              (g.I.Source.counts c.args.image.now).ahead)
+              (sym (u.outcome (slot_outcome pass))),
+        )),
+        (reads.0, payload_after _ _ segment _ _ _ _ (rw goes at unlocked.loaded.reads) reads.1),
+      );
+      secret_reads = none_failed _ _ _ unlocked.counts.secret_reads;
+      out_writes = c.write_plain-2.ensures.writes;
     }
 
 pub returns-in_err-unlocked-clause-calls : goal.returns-in_err-unlocked-clause-calls
 returns-in_err-unlocked-clause-calls g c =
     let p = err_from_is_err_and c.from_residual.result c.from_residual.ensures.1 in
+    let stop = c.in_err-unlocked.ensures in
     rw (p.1, p.2)
-    (calls_without_payload _ _ _ _ _ _ _ (calls_unopened _ _ _ _ _ _ c.in_err-unlocked.ensures.counts))
+    (calls_without_payload _ _ _ _ _ _ _ _ _ _ (calls_unopened _ _ _ _ _ _ stop.only stop.counts))
 
 -- ---- the image's end was hit: it is forwarded from memory
 
@@ -40,7 +53,7 @@ returns-then-has_ended-clause-run g c known is pass has counted =
     let unlocked = c.in_ok-unlocked.ensures in
     let u = unlocked.ok known is pass has in
     let ended = sym c.has_ended.ensures ∙ c.if-has_ended.true in
-    let unread = never_read (result_message c.write_plain.result) c.write_plain.ensures.reads.2.failures in
+    let unread = never_read (result_message c.write_plain.result) c.write_plain.ensures.reads.1.failures in
     let passed = rw c.as_slice-loaded.ensures.value at (c.write_plain.ensures.run known counted) in
     let source = ap (λ (m : MemSourceModel). Some m.left) c.new.ensures in
     runs_loaded _ known pass _ _ _ _ _ u _ _ _ (result_message c.write_plain.result)
@@ -50,12 +63,10 @@ returns-then-has_ended-clause-run g c known is pass has counted =
 pub returns-then-has_ended-clause-calls : goal.returns-then-has_ended-clause-calls
 returns-then-has_ended-clause-calls g c =
     let counts = c.in_ok-unlocked.ensures.counts in
-    let unread = never_read (result_message c.write_plain.result) c.write_plain.ensures.reads.2.failures in
-    let writes = c.write_plain.ensures.writes in
+    let unread = never_read (result_message c.write_plain.result) c.write_plain.ensures.reads.1.failures in
     record {
-      failures = counts_passed (result_message c.write_plain.result) _ _ _ _ _ _ _ counts.failures (rw unread refl)
-          writes.failures;
-      image_reads = no_more_ahead _ _ counts.image_reads;
-      secret_reads = counts.secret_reads;
-      out_writes = (_, writes);
+      in_image = true;
+      image_reads = rw unread (no_more_ahead _ _ _ _ _ _ (none_failed _ _ _ counts.image_reads));
+      secret_reads = none_failed _ _ _ counts.secret_reads;
+      out_writes = c.write_plain.ensures.writes;
     }

@@ -1,12 +1,11 @@
 use Rattle.std.proofs.lemmas.Result.{err_from_is_err_and}
-use Rattle.std.proofs.Common.{refl}
+use Rattle.std.proofs.Common.{inl, inr, refl, true, false}
 use Rattle.luks_io.proofs.Consuming.{took-none}
 use Rattle.luks_request.specs.Request.{volume_request}
 use Rattle.luks_runs.specs.Run.{result_message}
 use Rattle.luks_unlock.specs.Volume.{detached_payload_outcome}
-use Rattle.luks_cli.proofs.CallLemmas.{calls_apart, calls_unopened, no_more_ahead, none_read}
-use Rattle.luks_cli.specs.CommandRun.{ReadsPayload}
-use Rattle.luks_cli.proofs.DetachedRuns.{counts_passed_apart, runs_passed_apart, runs_unopened_apart}
+use Rattle.luks_cli.proofs.CallLemmas.{calls_apart, calls_unopened, none_failed, none_read}
+use Rattle.luks_cli.proofs.DetachedRuns.{runs_passed_apart, runs_unopened_apart}
 use Rattle.luks_cli.proofs.DetachedRuns.{takes_detached_payload, with_key}
 use Rattle.luks_cli.proofs.OpenedRuns.{never_memory}
 use Rattle.luks_cli.proofs.execute.volumes.cat_detached.Goals as goal
@@ -17,8 +16,8 @@ returns-in_err-unlocked-clause-run g c =
     let stop = c.in_err-unlocked.ensures in
     rw (p.1, p.2) (λ file there known is pass has counted.
     runs_unopened_apart (volume_request c.args.opening.now) file known pass _ _ _ _ _ stop.only
-    (took-none known _ is) (stop.err _ file there pass has (detached_payload_outcome known pass)
-    (takes_detached_payload known pass)))
+    (took-none known _ is) (stop.err file there pass has (detached_payload_outcome known pass)
+    (takes_detached_payload known pass) _))
 
 pub returns-clause-run : goal.returns-clause-run
 returns-clause-run g c file there known is pass has counted =
@@ -33,20 +32,22 @@ returns-clause-before_key g c without = absurd (with_key _ c.write_plain.ensures
 pub returns-in_err-unlocked-clause-calls : goal.returns-in_err-unlocked-clause-calls
 returns-in_err-unlocked-clause-calls g c =
     let p = err_from_is_err_and c.from_residual.result c.from_residual.ensures.1 in
-    let image = g.I.Source.counts c.args.image.now in
-    rw (p.1, p.2) (calls_apart ReadsPayload _ _ _ _ _ _ _ _ (no_more_ahead image image (none_read image))
-    (calls_unopened _ _ _ _ _ _ c.in_err-unlocked.ensures.counts))
+    let stop = c.in_err-unlocked.ensures in
+    rw (p.1, p.2) (calls_apart _ _ _ _ _ _ _ _ _ (_, (λ file there pass has. inl refl), none_read _)
+    (calls_unopened _ _ _ _ _ _ stop.only stop.counts))
 
 pub returns-clause-calls : goal.returns-clause-calls
 returns-clause-calls g c =
-    let counts = c.in_ok-unlocked.ensures.counts in
-    let reads = c.write_plain.ensures.reads in
-    let writes = c.write_plain.ensures.writes in
+    let unlocked = c.in_ok-unlocked.ensures in
     record {
-      failures = counts_passed_apart (result_message c.write_plain.result) _ _ _ _ _ _ _ _ counts.failures
-          reads.2.failures writes.failures;
-      header_reads = counts.image_reads;
-      image_reads = (reads.0, (_, reads.1, reads.2));
-      secret_reads = counts.secret_reads;
-      out_writes = (_, writes);
+      in_image = true;
+      in_header = false;
+      header_reads = none_failed _ _ _ unlocked.counts.image_reads;
+      image_reads = (
+        _,
+        (λ file there pass has. inr (_, (unlocked.ok file there pass has).has, refl)),
+        c.write_plain.ensures.reads,
+      );
+      secret_reads = none_failed _ _ _ unlocked.counts.secret_reads;
+      out_writes = c.write_plain.ensures.writes;
     }

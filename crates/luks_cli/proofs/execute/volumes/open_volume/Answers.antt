@@ -1,9 +1,8 @@
 use Rattle.std.proofs.lemmas.Result.{err_from_is_err_and}
-use Rattle.std.proofs.Common.{◌≡◌, ◌≤◌, ap, arith, inl, inr, length, refl}
+use Rattle.std.proofs.Common.{◌≡◌, ◌≤◌, ap, arith, inl, inr, length, refl, true}
 use Rattle.luks_runs.specs.KeyFile.{max_key_file_len}
 use Rattle.luks_runs.specs.Run.{result_message}
-use Rattle.luks_cli.proofs.CallLemmas.{key_file_message, reads_of_both, reads_of_secret, unwritten, unwritten_by}
-use Rattle.luks_cli.proofs.CallLemmas.{within_areas}
+use Rattle.luks_cli.proofs.CallLemmas.{reads_of_secret, within_areas}
 use Rattle.luks_cli.proofs.execute.volumes.open_volume.Goals as goal
 
 pub returns-in_err-passphrase-clause-run : goal.returns-in_err-passphrase-clause-run
@@ -14,9 +13,7 @@ returns-in_err-passphrase-clause-run g c =
 pub returns-in_err-passphrase-clause-counts : goal.returns-in_err-passphrase-clause-counts
 returns-in_err-passphrase-clause-counts g c =
     let p = err_from_is_err_and c.from_residual.result c.from_residual.ensures.1 in
-    let failed = c.in_err-passphrase.ensures in
-    rw (p.1, p.2)
-    (reads_of_secret _ failed.reads.0 _ _ _ (unwritten _ (key_file_message _ failed.only)) failed.reads.1)
+    rw (p.1, p.2) (reads_of_secret _ _ _ _ _ c.in_err-passphrase.ensures.reads.1)
 
 pub returns-clause-run : goal.returns-clause-run
 returns-clause-run g c rest there pass has nothing =
@@ -32,10 +29,17 @@ returns-clause-run g c rest there pass has nothing =
 
 pub returns-clause-counts : goal.returns-clause-counts
 returns-clause-counts g c =
-    let first = c.in_ok-passphrase.ensures.reads in
-    let then = c.try_slots.ensures.reads in
-    reads_of_both (result_message c.try_slots.result) first.0 then.0 _ _ _ _
-    (unwritten_by c.try_slots.result c.try_slots.ensures.only) first.1 then.1
+    let passphrase = c.in_ok-passphrase.ensures.reads in
+    record {
+      in_image = true;
+      image_reads = (_, c.try_slots.ensures.reads.1);
+      secret_reads = (passphrase.0, passphrase.1);
+    }
+
+pub returns-clause-work : goal.returns-clause-work
+returns-clause-work g c pass has =
+    let whole = c.in_ok-passphrase.ensures.ok pass has in
+    rw (c.deref.ensures.value, whole.0) at c.try_slots.ensures.work
 
 pub returns-clause-still : goal.returns-clause-still
 returns-clause-still g c =

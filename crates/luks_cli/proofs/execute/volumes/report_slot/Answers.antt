@@ -1,11 +1,11 @@
 use Rattle.std.proofs.lemmas.Result.{err_from_is_err_and}
 use Rattle.std.proofs.Common.{◌∙◌}
-use Rattle.luks_cli.proofs.OpenedRuns.{told_in_part}
+use Rattle.luks_cli.proofs.OpenedRuns.{reported_in_part}
 use Rattle.luks_cli.proofs.execute.volumes.report_slot.Goals as goal
 
-pub returns-in_err-put_all-clause-told : goal.returns-in_err-put_all-clause-told
-returns-in_err-put_all-clause-told g c =
+pub returns-in_err-put_all-clause-reported : goal.returns-in_err-put_all-clause-reported
+returns-in_err-put_all-clause-reported g c =
     let p = err_from_is_err_and c.from_residual-in_err-put_all.result c.from_residual-in_err-put_all.ensures.1 in
     let failed = c.in_err-put_all.ensures.err in
-    rw (p.1, p.2) (told_in_part c.args.slot _ _ c.as_bytes.result.now
+    rw (p.1, p.2) (reported_in_part c.args.slot _ _ c.as_bytes.result.now
     (c.as_bytes.ensures.value ∙ c.in_ok-line.ensures) _ failed.0 failed.1)

@@ -1,9 +1,9 @@
 use Rattle.std.proofs.lemmas.Result.{err_from_is_err_and}
-use Rattle.std.proofs.Common.{refl}
+use Rattle.std.proofs.Common.{refl, true}
 use Rattle.luks_unlock.specs.Volume.{slot_outcome}
 use Rattle.luks_runs.specs.Run.{result_message}
-use Rattle.luks_cli.proofs.CallLemmas.{calls_unopened}
-use Rattle.luks_cli.proofs.OpenedRuns.{counts_passed, runs_at_any_pace, runs_slot, slot_message, slot_reads_nothing}
+use Rattle.luks_cli.proofs.CallLemmas.{calls_unopened, none_failed}
+use Rattle.luks_cli.proofs.OpenedRuns.{runs_at_any_pace, runs_slot, slot_message, slot_reads_nothing}
 use Rattle.luks_cli.proofs.OpenedRuns.{takes_slot}
 use Rattle.luks_cli.proofs.execute.volumes.test_passphrase.Goals as goal
 
@@ -12,38 +12,38 @@ returns-in_err-unlocked-clause-run g c =
     let p = err_from_is_err_and c.from_residual.result c.from_residual.ensures.1 in
     rw (p.1, p.2) (λ known is pass has.
     runs_at_any_pace _ _ _ _ _ _
-    (c.in_err-unlocked.ensures.err _ known is pass has (slot_outcome pass) (takes_slot pass)))
+    (c.in_err-unlocked.ensures.err known is pass has (slot_outcome pass) (takes_slot pass) _))
 
 pub returns-clause-run : goal.returns-clause-run
 returns-clause-run g c known is pass has =
     runs_slot c.args.location _ known pass _ _ _ _ _ (c.in_ok-unlocked.ensures.ok known is pass has) _ _
-    (result_message c.report_slot.result) c.report_slot.ensures.told
+    (result_message c.report_slot.result) c.report_slot.ensures.reported
 
 pub returns-clause-only : goal.returns-clause-only
 returns-clause-only g c =
     slot_message c.in_ok-unlocked.unlocked.volume.slot _ _ (result_message c.report_slot.result)
-    c.report_slot.ensures.told
+    c.report_slot.ensures.reported
 
 pub returns-clause-reads_first : goal.returns-clause-reads_first
 returns-clause-reads_first g c failed =
-    let told = slot_reads_nothing c.in_ok-unlocked.unlocked.volume.slot _ _ (result_message c.report_slot.result)
-    c.report_slot.ensures.told in
-    absurd (cc (rw failed at told))
+    let reported = slot_reads_nothing c.in_ok-unlocked.unlocked.volume.slot _ _ (result_message c.report_slot.result)
+    c.report_slot.ensures.reported in
+    absurd (cc (rw failed at reported))
 
 pub returns-in_err-unlocked-clause-calls : goal.returns-in_err-unlocked-clause-calls
 returns-in_err-unlocked-clause-calls g c =
     let p = err_from_is_err_and c.from_residual.result c.from_residual.ensures.1 in
-    rw (p.1, p.2) (calls_unopened _ _ _ _ _ _ c.in_err-unlocked.ensures.counts)
+    let stop = c.in_err-unlocked.ensures in
+    rw (p.1, p.2) (calls_unopened _ _ _ _ _ _ stop.only stop.counts)
 
 pub returns-clause-calls : goal.returns-clause-calls
 returns-clause-calls g c =
     let not_read = slot_reads_nothing c.in_ok-unlocked.unlocked.volume.slot _ _ (result_message c.report_slot.result)
-    c.report_slot.ensures.told in
+    c.report_slot.ensures.reported in
     let counts = c.in_ok-unlocked.ensures.counts in
     record {
-      failures = counts_passed (result_message c.report_slot.result) _ _ _ _ _ _ _ counts.failures
-          (rw not_read refl) c.report_slot.ensures.writes.failures;
-      image_reads = counts.image_reads;
-      secret_reads = counts.secret_reads;
-      out_writes = (_, c.report_slot.ensures.writes);
+      in_image = true;
+      image_reads = rw not_read (none_failed _ _ _ counts.image_reads);
+      secret_reads = none_failed _ _ _ counts.secret_reads;
+      out_writes = c.report_slot.ensures.writes;
     }

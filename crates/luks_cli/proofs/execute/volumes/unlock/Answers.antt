@@ -2,27 +2,26 @@ use Rattle.std.proofs.lemmas.Result.{err_from_is_err_and}
 use Rattle.std.proofs.Common.{◌∙◌, [], Some, ap, false, refl}
 use Rattle.luks_request.specs.Request.{volume_request}
 use Rattle.luks_unlock.proofs.VolumeLemmas.{nothing_left, reads_within, there_is_volume}
-use Rattle.luks_cli.proofs.CallLemmas.{once_on, reads_before, reads_of_image, unwritten}
+use Rattle.luks_cli.proofs.CallLemmas.{reads_before, reads_of_image}
 use Rattle.luks_cli.proofs.VolumeRuns.{runs_without_key, runs_without_volume, unlocks_volume}
 use Rattle.luks_cli.proofs.execute.volumes.unlock.Goals as goal
 
 pub returns-in_err-volume-clause-err : goal.returns-in_err-volume-clause-err
 returns-in_err-volume-clause-err g c =
     let p = err_from_is_err_and c.from_residual.result c.from_residual.ensures.1 in
-    rw (p.1, p.2) (λ written known is pass has on_opened takes.
+    rw (p.1, p.2) (λ known is pass has on_opened takes written.
     runs_without_volume c.args.location _ known pass _ _ _ on_opened takes _ c.in_err-volume.ensures.only
     (c.in_err-volume.ensures.err known is) has)
 
 pub returns-in_err-volume-clause-counts : goal.returns-in_err-volume-clause-counts
 returns-in_err-volume-clause-counts g c =
     let p = err_from_is_err_and c.from_residual.result c.from_residual.ensures.1 in
-    let failed = c.in_err-volume.ensures in
-    rw (p.1, p.2) (reads_of_image _ failed.reads.0 _ _ _ (unwritten _ failed.only) failed.reads.1)
+    rw (p.1, p.2) (reads_of_image _ _ _ _ _ c.in_err-volume.ensures.reads.1)
 
 pub returns-in_err-opened-clause-err : goal.returns-in_err-opened-clause-err
 returns-in_err-opened-clause-err g c =
     let p = err_from_is_err_and c.from_residual-in_err-opened.result c.from_residual-in_err-opened.ensures.1 in
-    rw (p.1, p.2) (λ written known is pass has on_opened takes.
+    rw (p.1, p.2) (λ known is pass has on_opened takes written.
     let found = c.in_ok-volume.ensures.found in
     let read = found.header known is in
     runs_without_key c.args.location (volume_request c.args.opening.now) known pass _ _ _ _ _ _ read.0
@@ -41,8 +40,8 @@ returns-in_err-opened-clause-counts g c =
     let p = err_from_is_err_and c.from_residual-in_err-opened.result c.from_residual-in_err-opened.ensures.1 in
     let first = c.in_ok-volume.ensures.found.loaded.reads in
     let then = c.in_err-opened.ensures.counts in
-    rw (p.1, p.2) (reads_before _ _ _ _ _ _ first.failures (once_on _ _ _ _ first
-    (λ ended. ap g.I.Source.counts (c.open_volume-opened.ensures.ended ended)) then.image_reads) then)
+    rw (p.1, p.2) (reads_before _ _ _ _ _ _ _ first
+    (λ ended. ap g.I.Source.counts (c.open_volume-opened.ensures.ended ended)) then)
 
 pub returns-clause-ok : goal.returns-clause-ok
 returns-clause-ok g c known is pass has =
@@ -61,8 +60,7 @@ pub returns-clause-counts : goal.returns-clause-counts
 returns-clause-counts g c =
     let first = c.in_ok-volume.ensures.found.loaded.reads in
     let then = c.in_ok-opened.ensures.counts in
-    reads_before _ _ _ _ _ _ first.failures (once_on _ _ _ _ first
-    (λ ended. ap g.I.Source.counts (c.open_volume-opened.ensures.ended ended)) then.image_reads) then
+    reads_before _ _ _ _ _ _ _ first (λ ended. ap g.I.Source.counts (c.open_volume-opened.ensures.ended ended)) then
 
 pub returns-clause-loaded : goal.returns-clause-loaded
 returns-clause-loaded g c =

@@ -1,4 +1,4 @@
-//! What is tried.
+//! The key slots that are tried, in their order.
 
 ghost use Rattle.std.specs.Prelude.{◌≡◌, ◌≤◌};
 ghost use Rattle.luks_area.specs.Area.{max_area_len};

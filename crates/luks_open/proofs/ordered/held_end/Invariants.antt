@@ -1,6 +1,6 @@
 use Rattle.std.proofs.Common.{◌≡◌, max, drop}
 use Rattle.luks_open.specs.Order.{key_areas_end}
-use Rattle.luks_open.proofs.tries.held_end.Given as goal
+use Rattle.luks_open.proofs.ordered.held_end.Given as goal
 
 -- the end so far, and that of the key slots that are left
 abbrev pub invariant-loop-entry : goal.invariant-loop-entry

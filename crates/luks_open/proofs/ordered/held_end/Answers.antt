@@ -2,7 +2,7 @@ use Rattle.std.proofs.Common.{ap, arith}
 use Rattle.std.proofs.lemmas.List.{drop_all}
 use Rattle.luks_open.specs.Order.{key_areas_end}
 use Rattle.luks_open.proofs.OrderLemmas.{key_areas_end-drop, key_areas_end-nil, key_areas_end-within}
-use Rattle.luks_open.proofs.tries.held_end.Goals as goal
+use Rattle.luks_open.proofs.ordered.held_end.Goals as goal
 
 pub overflow_add-slot : goal.overflow_add-slot
 overflow_add-slot c =
