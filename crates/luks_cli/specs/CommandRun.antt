@@ -5,8 +5,7 @@ use Rattle.luks_io.specs.declared.counts.ReadCounts.{ReadCounts}
 use Rattle.luks_io.specs.declared.counts.WriteCounts.{WriteCounts}
 use Rattle.luks_io.specs.Devices.{Appended, ConsumedExactly, IfKnown}
 use Rattle.luks_cli.specs.VolumeParts.{PromptCat}
-use Rattle.luks_request.specs.Request.{Request, VolumeRequest, is_luks, luks_uuid, luks_dump, luks_check}
-use Rattle.luks_request.specs.Request.{test_passphrase, luks_cat, af_split, af_merge}
+use Rattle.luks_request.specs.Request.{Request, VolumeRequest, test_passphrase, luks_cat, af_split}
 use Rattle.luks_cli.specs.Outcome.{outcome_of}
 use Rattle.luks_runs.specs.Payload.{max_needed}
 use Rattle.luks_runs.specs.Run.{Promptness, RunMatches, ConsumedNothing, AnyPace}
@@ -26,25 +25,17 @@ promptness_of _ image = AnyPace
 
 -- the second input of a command knows its bytes, if there is one
 abbrev pub KnowsSecret : Request → Option (List ℕ) → List ℕ → Type 0
-KnowsSecret (is_luks _) device secret = Unit {0}
-KnowsSecret (luks_uuid _) device secret = Unit {0}
-KnowsSecret (luks_dump _) device secret = Unit {0}
-KnowsSecret (luks_check _) device secret = Unit {0}
 KnowsSecret (test_passphrase o) device secret = device ≡ Some secret
 KnowsSecret (luks_cat o) device secret = device ≡ Some secret
 KnowsSecret (af_split s) device secret = device ≡ Some secret
-KnowsSecret (af_merge m) device secret = Unit {0}
+KnowsSecret _ device secret = Unit {0}
 
 -- what was consumed of it
-abbrev pub ConsumedSecret : Request → List ℕ → Option (List ℕ) → ℕ → Type 0
-ConsumedSecret (is_luks _) secret left = ConsumedNothing
-ConsumedSecret (luks_uuid _) secret left = ConsumedNothing
-ConsumedSecret (luks_dump _) secret left = ConsumedNothing
-ConsumedSecret (luks_check _) secret left = ConsumedNothing
-ConsumedSecret (test_passphrase o) secret left = ConsumedExactly secret left
-ConsumedSecret (luks_cat o) secret left = ConsumedExactly secret left
-ConsumedSecret (af_split s) secret left = ConsumedExactly secret left
-ConsumedSecret (af_merge m) secret left = ConsumedNothing
+abbrev pub ConsumedOfSecret : Request → List ℕ → Option (List ℕ) → ℕ → Type 0
+ConsumedOfSecret (test_passphrase o) secret left = ConsumedExactly secret left
+ConsumedOfSecret (luks_cat o) secret left = ConsumedExactly secret left
+ConsumedOfSecret (af_split s) secret left = ConsumedExactly secret left
+ConsumedOfSecret _ secret left = ConsumedNothing
 
 -- the image is not longer than the command can count: `luksCat` counts its bytes in 64 bits
 abbrev pub IsCounted : Request → List ℕ → Type 0
@@ -59,7 +50,7 @@ RunsAsStated request message image image' secret secret' written written' =
     IfKnown image
     (λ known. (known_secret : List ℕ) → KnowsSecret request secret known_secret → IsCounted request known
     → RunMatches (promptness_of request known) (outcome_of request known known_secret) message
-    (ConsumedExactly known image') (ConsumedSecret request known_secret secret') (Appended written written'))
+    (ConsumedExactly known image') (ConsumedOfSecret request known_secret secret') (Appended written written'))
 
 -- a command that writes nothing before its last read
 abbrev pub ReadsFirst : Request → Type 0

@@ -19,7 +19,7 @@ use Rattle.luks_cli.specs.Outcome.{outcome_of}
 use Rattle.luks_runs.specs.HeaderReading.{detached_header_of}
 use Rattle.luks_runs.specs.Run.{Promptness, DetachedRunMatches, ConsumedNothing, AnyPace}
 use Rattle.luks_runs.specs.Run.{is_run_read_failure, is_run_write_failure}
-use Rattle.luks_cli.specs.CommandRun.{AllowsPayload, IsCounted, Knows, KnowsSecret, ConsumedSecret, ReadsOnce}
+use Rattle.luks_cli.specs.CommandRun.{AllowsPayload, IsCounted, Knows, KnowsSecret, ConsumedOfSecret, ReadsOnce}
 use Rattle.luks_cli.specs.CommandRun.{ReadsPayload}
 use Rattle.luks_unlock.specs.Finding.{HasSegmentBy}
 use Rattle.luks_unlock.specs.Volume.{detached_payload_outcome, slot_outcome, volume_by, volume_outcome_by}
@@ -50,9 +50,9 @@ KnowsPayload (luks_cat o) device image = device ≡ Some image
 KnowsPayload request device image = Unit {0}
 
 -- what was consumed of it
-abbrev pub ConsumedPayload : Request → List ℕ → Option (List ℕ) → ℕ → Type 0
-ConsumedPayload (luks_cat o) image left = ConsumedExactly image left
-ConsumedPayload request image left = ConsumedNothing
+abbrev pub ConsumedOfPayload : Request → List ℕ → Option (List ℕ) → ℕ → Type 0
+ConsumedOfPayload (luks_cat o) image left = ConsumedExactly image left
+ConsumedOfPayload request image left = ConsumedNothing
 
 -- if the inputs of a command know their bytes, its run has the outcome that is specified for these
 abbrev pub RunsDetached : Request → Message → Option (List ℕ) → Option (List ℕ) → Option (List ℕ) → Option (List ℕ)
@@ -63,7 +63,7 @@ RunsDetached request message header header' image image' secret secret' written 
     → KnowsSecret request secret known_secret → IsCounted request known
     → DetachedRunMatches (detached_promptness_of request file)
     (detached_outcome_of request file known known_secret) message
-    (ConsumedExactly file header') (ConsumedPayload request known image') (ConsumedSecret request known_secret secret')
+    (ConsumedExactly file header') (ConsumedOfPayload request known image') (ConsumedOfSecret request known_secret secret')
     (Appended written written'))
 
 -- the command has no second input, or needs none of it: the header, the segment or the order of the key slots ends the
