@@ -1,7 +1,7 @@
 -- The effects of a run on its devices, and what it still satisfies if it is aborted. Each device is treated by itself:
 -- a run consumes so many bytes of the image and of the second input, and writes these; what that means for a device is
 -- a separate fact.
-use Rattle.std.specs.Prelude.{◌≡◌, ℕ, ◌<◌, ◌≤◌, List, length, take, Bool, true, false, MatchBool, ◌⊎◌, Result, Ok, Err}
+use Rattle.std.specs.Prelude.{◌≡◌, ℕ, ◌<◌, ◌≤◌, List, length, take, Bool, true, false, MatchBool, Result, Ok, Err}
 use Rattle.luks_runs.specs.Ending.{Outcome}
 use Rattle.luks_report.specs.declared.message.Message.{Message}
 use Rattle.luks_report.specs.declared.message.Message.TheVariants.{Done, OutOfMemory, ReadFailed, WriteFailed}

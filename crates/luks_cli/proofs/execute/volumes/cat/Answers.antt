@@ -1,5 +1,5 @@
 use Rattle.std.proofs.lemmas.Result.{err_from_is_err_and}
-use Rattle.std.proofs.Common.{◌∙◌, Some, ap, inr, max, refl, sym, true}
+use Rattle.std.proofs.Common.{◌∙◌, Some, ap, inr, max, sym, true}
 use Rattle.luks_io.specs.Memory.{MemSourceModel}
 use Rattle.luks_runs.specs.Ending.{Outcome}
 use Rattle.luks_runs.specs.Payload.{max_needed}

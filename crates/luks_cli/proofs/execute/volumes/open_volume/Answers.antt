@@ -1,7 +1,6 @@
 use Rattle.std.proofs.lemmas.Result.{err_from_is_err_and}
 use Rattle.std.proofs.Common.{◌≡◌, ◌≤◌, ap, arith, inl, inr, length, refl, true}
 use Rattle.luks_runs.specs.KeyFile.{max_key_file_len}
-use Rattle.luks_runs.specs.Run.{result_message}
 use Rattle.luks_cli.proofs.CallLemmas.{reads_of_secret, within_areas}
 use Rattle.luks_cli.proofs.execute.volumes.open_volume.Goals as goal
 

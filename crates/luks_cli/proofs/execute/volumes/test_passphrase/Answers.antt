@@ -1,5 +1,5 @@
 use Rattle.std.proofs.lemmas.Result.{err_from_is_err_and}
-use Rattle.std.proofs.Common.{refl, true}
+use Rattle.std.proofs.Common.{true}
 use Rattle.luks_unlock.specs.Volume.{slot_outcome}
 use Rattle.luks_runs.specs.Run.{result_message}
 use Rattle.luks_cli.proofs.CallLemmas.{calls_unopened, none_failed}
