@@ -1,5 +1,5 @@
 //! Whole runs of commands: over memory, over devices that move a few bytes a call or fail, and with
-//! memory refused. Each test is a table of rows; what the tables share is in `same`, `runs`,
+//! memory refused. Each test is a table of rows; what the tables share is in `same`, `runs`, `rows`,
 //! `devices`, `scarce` and `volume`.
 
 mod ahead;
@@ -13,6 +13,7 @@ mod headers2;
 mod honest;
 mod modes;
 mod passphrases;
+mod rows;
 mod runs;
 mod same;
 mod scarce;

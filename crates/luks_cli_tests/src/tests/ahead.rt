@@ -1,15 +1,13 @@
 //! `luksCat` over an image that is read ahead: it announces what it needs and no more, so what lies
 //! behind the payload is left to the next reader.
 
-use super::runs::{
-    CAT, CAT_DETACHED, DONE, Ends, Inputs, WRITE_FAILED, check_told, report_of, sink, words_of,
-};
+use super::runs::{CAT, CAT_DETACHED, DONE, WRITE_FAILED, check_told, report_of, sink, words_of};
 use super::same::{assert_in, assert_same_in};
 use super::volume::{
-    NAMES_64_KIB, PASSPHRASE, PLAIN_LEN, changed, front2, payload_of, plain_of, sealed2,
+    NAMES_64_KIB, PASSPHRASE, PLAIN, PLAIN_LEN, changed, front2, payload_of, sealed2,
 };
 use luks_io::ahead::AheadSource;
-use luks_io::memory::MemSource;
+use luks_io::memory::{MemSink, MemSource};
 use luks_report::message::Message;
 use luks_report::report::Report;
 use luks_seal_fixtures::bytes::at;
@@ -26,131 +24,232 @@ fn ahead<'a>(
     AheadSource::new(rt.alloc(), room, below).expect(rt, "room for what is read ahead")
 }
 
-// A run whose image is taken ahead up to `room` bytes reports this, writes what begins with these
-// plain bytes as far as there is space, and leaves so many bytes of the image; answers how often
-// the image was asked.
-fn check_ahead(
+// What a run over this image reports.
+fn report_ahead(
     rt: &(impl Abort + AllocGlobal),
     line: &str,
-    [header, image, secret]: Inputs<'_>,
-    (room, space): (usize, usize),
-    (plain, told): Ends<'_>,
-    left: usize,
-) -> u64 {
-    let case = (line, room, image.len(), left);
-    let mut header = MemSource::new(header);
-    let mut image = ahead(rt, image, room);
-    let mut secret = MemSource::new(secret);
-    let mut out = sink(rt, space);
+    (header, secret): (&[u8], &[u8]),
+    image: &mut AheadSource<Flaky<'_>>,
+    out: &mut MemSink,
+) -> Report {
     let words = words_of(rt, line);
-    let report = report_of(rt, &words, &mut header, &mut image, &mut secret, &mut out);
-    check_told(rt, &case, &report, told);
-    assert_same_in(rt, &case, at(out.as_slice(), 0, PLAIN_LEN), plain);
-    assert_same_in(rt, &case, image.get_ref().left(), left);
+    let mut header = MemSource::new(header);
+    let mut secret = MemSource::new(secret);
+    report_of(rt, &words, &mut header, image, &mut secret, out)
+}
+
+/// A run whose image is taken ahead.
+struct Taken {
+    line: &'static str,
+    /// How many bytes are taken ahead, and for how many there is space in the output.
+    room: usize,
+    space: usize,
+    /// How many plain bytes are written.
+    written: usize,
+    /// The status and the message.
+    told: &'static str,
+    /// How many bytes of the image are left.
+    left: usize,
+}
+
+/// The same image, of which so many bytes are taken ahead.
+struct Rooms {
+    none: Taken,
+    all: Taken,
+    others: &'static [Taken],
+}
+
+// A run with so much room.
+macro_rules! taken {
+    ($room:literal, $written:expr, $left:expr) => {
+        Taken {
+            line: CAT,
+            room: $room,
+            space: 65_536,
+            written: $written,
+            told: DONE,
+            left: $left,
+        }
+    };
+}
+
+// So many plain bytes are written, and so many bytes of the image left, in each room.
+macro_rules! rooms {
+    ($written:expr, $left:expr) => {
+        Rooms {
+            none: taken!(0, $written, $left),
+            all: taken!(65_536, $written, $left),
+            others: &[
+                taken!(1, $written, $left),
+                taken!(511, $written, $left),
+                taken!(512, $written, $left),
+                taken!(513, $written, $left),
+                taken!(1023, $written, $left),
+                taken!(4096, $written, $left),
+            ],
+        }
+    };
+}
+
+// The run reports this, writes what begins with the plain bytes as far as there is space, and
+// leaves so many bytes of the image; answers how often the image was asked.
+fn check_ahead(rt: &(impl Abort + AllocGlobal), header: &[u8], image: &[u8], row: &Taken) -> u64 {
+    let case = (row.line, row.room, image.len(), row.left);
+    let mut image = ahead(rt, image, row.room);
+    let mut out = sink(rt, row.space);
+    let report = report_ahead(rt, row.line, (header, PASSPHRASE), &mut image, &mut out);
+    check_told(rt, &case, &report, row.told);
+    let written = at(out.as_slice(), 0, PLAIN_LEN);
+    assert_same_in(rt, &case, written, at(&PLAIN, 0, row.written));
+    assert_same_in(rt, &case, image.get_ref().left(), row.left);
     image.get_ref().calls()
 }
 
 // How many bytes are taken ahead changes nothing but the number of calls; answers how many there
 // are if none are taken ahead, and if all are.
-fn check_rooms(
-    rt: &(impl Abort + AllocGlobal),
-    image: &[u8],
-    plain: &[u8],
-    left: usize,
-) -> (u64, u64) {
-    let inputs: Inputs<'_> = [&[], image, PASSPHRASE];
-    let ends = (plain, DONE);
-    for room in [1, 511, 512, 513, 1023, 4096] {
-        check_ahead(rt, CAT, inputs, (room, 65_536), ends, left);
+fn check_rooms(rt: &(impl Abort + AllocGlobal), image: &[u8], rooms: &Rooms) -> (u64, u64) {
+    for row in rooms.others {
+        check_ahead(rt, &[], image, row);
     }
-    let most = check_ahead(rt, CAT, inputs, (0, 65_536), ends, left);
-    let least = check_ahead(rt, CAT, inputs, (65_536, 65_536), ends, left);
+    let most = check_ahead(rt, &[], image, &rooms.none);
+    let least = check_ahead(rt, &[], image, &rooms.all);
     (most, least)
 }
 
-// A volume of 80,000 bytes with a payload of this size. Its damaged primary header names 65,536
-// bytes, so as many are read before the payload is.
-fn searched(rt: &(impl Abort + AllocGlobal), size: &str) -> Vec<u8> {
-    let sealed = sealed2(rt, size);
-    changed(rt, &sealed, 80_000, NAMES_64_KIB)
+// The same of a volume with a payload of this size.
+fn check_size(rt: &(impl Abort + AllocGlobal), size: &str, rooms: &Rooms) -> (u64, u64) {
+    check_rooms(rt, &sealed2(rt, size), rooms)
 }
+
+// The same of one of 80,000 bytes. Its damaged primary header names 65,536 bytes, so as many are
+// read before the payload is.
+fn check_searched(rt: &(impl Abort + AllocGlobal), size: &str, rooms: &Rooms) {
+    let image = changed(rt, &sealed2(rt, size), 80_000, NAMES_64_KIB);
+    check_rooms(rt, &image, rooms);
+}
+
+static OF_ALL: Rooms = rooms!(PLAIN_LEN, 0);
+
+static OF_ONE: Rooms = rooms!(512, 1024);
+
+static OF_TWO: Rooms = rooms!(1024, 512);
+
+static OF_SEARCHED: Rooms = rooms!(1024, 80_000 - 65_536);
+
+static OF_BEHIND: Rooms = rooms!(PLAIN_LEN, 80_000 - 36_864 - 33_792);
 
 // The payload starts at byte 36,864 of an image of 38,400 bytes, and each sector is a call of its
 // own if nothing is taken ahead. A payload ends within what a search has read, and one of 66
 // sectors ends behind it.
 #[test]
 fn no_more_is_taken_than_the_payload(rt: HostRuntime) {
-    let plain = plain_of(&rt, PLAIN_LEN);
-    check_rooms(&rt, &sealed2(&rt, "dynamic"), &plain, 0);
-    let one = check_rooms(&rt, &sealed2(&rt, "512"), at(&plain, 0, 512), 1024);
-    let two = check_rooms(&rt, &sealed2(&rt, "1024"), at(&plain, 0, 1024), 512);
+    check_size(&rt, "dynamic", &OF_ALL);
+    let one = check_size(&rt, "512", &OF_ONE);
+    let two = check_size(&rt, "1024", &OF_TWO);
     assert_same_in(&rt, &"each by itself", two.0.saturating_sub(one.0), 1);
     assert_same_in(&rt, &"all at once", one.1, two.1);
-    let sectors = at(&plain, 0, 1024);
-    check_rooms(&rt, &searched(&rt, "1024"), sectors, 80_000 - 65_536);
-    let behind = 80_000 - 36_864 - 33_792;
-    check_rooms(&rt, &searched(&rt, "33792"), &plain, behind);
+    check_searched(&rt, "1024", &OF_SEARCHED);
+    check_searched(&rt, "33792", &OF_BEHIND);
+}
+
+// A run beside a detached header with so much room.
+macro_rules! beside {
+    ($room:literal) => {
+        Taken {
+            line: CAT_DETACHED,
+            room: $room,
+            space: 4096,
+            written: 1024,
+            told: DONE,
+            left: 512,
+        }
+    };
+}
+
+// How often the image is asked.
+static ASKED: [(Taken, u64); 5] = [
+    (beside!(0), 2),
+    (beside!(1), 2),
+    (beside!(512), 2),
+    (beside!(1024), 1),
+    (beside!(65_536), 1),
+];
+
+fn check_beside(rt: &(impl Abort + AllocGlobal), header: &[u8], image: &[u8]) {
+    for (row, calls) in &ASKED {
+        let asked = check_ahead(rt, header, image, row);
+        assert_same_in(rt, &row.room, asked, *calls);
+    }
 }
 
 // Beside a detached header the payload starts at the image's first byte, and is one call if it is
 // taken ahead.
 #[test]
 fn no_more_is_taken_beside_a_header(rt: HostRuntime) {
-    let (image, header) = (sealed2(&rt, "dynamic"), front2(&rt, "0", "1024"));
-    let plain = plain_of(&rt, 1024);
-    let inputs: Inputs<'_> = [header.as_slice(), payload_of(image.as_slice()), PASSPHRASE];
-    for (room, calls) in [(0, 2), (1, 2), (512, 2), (1024, 1), (65_536, 1)] {
-        let ends = (plain.as_slice(), DONE);
-        let asked = check_ahead(&rt, CAT_DETACHED, inputs, (room, 4096), ends, 512);
-        assert_same_in(&rt, &room, asked, calls);
-    }
+    let image = sealed2(&rt, "dynamic");
+    check_beside(&rt, &front2(&rt, "0", "1024"), payload_of(&image))
 }
+
+// A run without space for what is written.
+macro_rules! full {
+    ($room:literal, $left:literal) => {
+        Taken {
+            line: CAT,
+            room: $room,
+            space: 0,
+            written: 0,
+            told: WRITE_FAILED,
+            left: $left,
+        }
+    };
+}
+
+static FULL: [Taken; 3] = [full!(0, 1024), full!(512, 1024), full!(65_536, 512)];
 
 // If a write fails, what was taken ahead is lost, and still nothing behind the payload is.
 #[test]
 fn no_more_is_taken_if_a_write_fails(rt: HostRuntime) {
     let image = sealed2(&rt, "1024");
-    let inputs: Inputs<'_> = [&[], image.as_slice(), PASSPHRASE];
-    for (room, left) in [(0, 1024), (512, 1024), (65_536, 512)] {
-        check_ahead(&rt, CAT, inputs, (room, 0), (&[], WRITE_FAILED), left);
+    for row in &FULL {
+        check_ahead(&rt, &[], &image, row);
     }
 }
 
 // A run of which this call of the image fails, if there are as many. Whole sectors that were
 // consumed are written, and the image was asked no more.
-fn check_failed_read(
-    rt: &(impl Abort + AllocGlobal),
-    image: &[u8],
-    plain: &[u8],
-    call: u64,
-) -> Report {
+fn check_failed_read(rt: &(impl Abort + AllocGlobal), image: &[u8], call: u64) -> Report {
     let below = Flaky::new(image, 700, call);
     let mut source = AheadSource::new(rt.alloc(), 1024, below).expect(rt, "room");
     let mut out = sink(rt, 4096);
-    let words = words_of(rt, CAT);
-    let mut secret = MemSource::new(PASSPHRASE);
-    let mut header = MemSource::new(&[]);
-    let report = report_of(rt, &words, &mut header, &mut source, &mut secret, &mut out);
-    let consumed = image.len() - source.get_ref().left().min(image.len());
-    let sectors = consumed.saturating_sub(36_864) / 512;
-    let whole = at(plain, 0, sectors.saturating_mul(512));
-    assert_same_in(rt, &call, out.as_slice(), whole);
-    assert_same_in(rt, &call, source.get_ref().counts.needless, 0);
-    let asked = source.get_ref().calls();
-    assert_in(rt, &call, asked <= call.saturating_add(1));
+    let report = report_ahead(rt, CAT, (&[], PASSPHRASE), &mut source, &mut out);
+    check_consumed(rt, call, image.len(), source.get_ref(), &out);
     report
+}
+
+// So many bytes were in the image.
+fn check_consumed(rt: &impl Abort, call: u64, len: usize, image: &Flaky<'_>, out: &MemSink) {
+    let consumed = len - image.left().min(len);
+    let sectors = consumed.saturating_sub(36_864) / 512;
+    let whole = at(&PLAIN, 0, sectors.saturating_mul(512));
+    assert_same_in(rt, &call, out.as_slice(), whole);
+    assert_same_in(rt, &call, image.counts.needless, 0);
+    assert_in(rt, &call, image.calls() <= call.saturating_add(1));
+}
+
+// Runs until one has no failed read. None of the first fifty is such a one.
+fn check_failed_reads(rt: &(impl Abort + AllocGlobal), image: &[u8]) {
+    for call in 0..1000 {
+        let report = check_failed_read(rt, image, call);
+        if report.status == 0 {
+            assert_in(rt, &call, call > 50);
+            return;
+        }
+        assert_same_in(rt, &call, report, Report::of(Message::ReadFailed));
+    }
+    rt.panic("no run without a failed read")
 }
 
 #[test]
 fn what_came_before_a_failed_read_is_written(rt: HostRuntime) {
-    let (image, plain) = (sealed2(&rt, "dynamic"), plain_of(&rt, PLAIN_LEN));
-    for call in 0..1000 {
-        let report = check_failed_read(&rt, &image, &plain, call);
-        if report.status == 0 {
-            assert_in(&rt, &call, call > 50);
-            return;
-        }
-        assert_same_in(&rt, &call, report, Report::of(Message::ReadFailed));
-    }
-    rt.panic("no run without a failed read")
+    check_failed_reads(&rt, &sealed2(&rt, "dynamic"))
 }

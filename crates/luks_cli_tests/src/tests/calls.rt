@@ -1,23 +1,28 @@
 //! The commands over devices that move a few bytes a call, of which one call fails, and with memory
 //! refused.
 
-use super::devices::{Pieces, Trial, check_failures, check_pieces};
+use super::devices::{Pieces, Trial, check_failures, check_pieces, check_truncated};
 use super::headers::{self, FIELDS, Page};
 use super::headers2::{self, image2};
-use super::runs::{CAT, CAT_DETACHED, Inputs, OPENS, TEST, TEST_DETACHED};
+use super::runs::{CAT, CAT_DETACHED, OPENS, TEST, TEST_DETACHED, words_of};
 use super::scarce::check_refusals;
-use super::stripes::{FF, LAST, MERGE_2, SPLIT_2, ZEROS, joined};
+use super::stripes::{self, FF, MERGE_2, SPLIT_2, ZEROS};
 use super::volume::{
-    AT_START, NEWEST, PASSPHRASE, PLAIN_LEN, SMALL, SMALL_LEN, changed, front2, payload_of,
-    plain_of, sealed, sealed2, text_of,
+    AT_START, PASSPHRASE, PLAIN, PLAIN_LEN, SMALL_LEN, changed, front2, payload_of, sealed2, small,
 };
+use luks_args::planning::plan;
+use luks_request::command::Command;
 use std::process::Abort;
 
 /// What is done with a run.
 #[derive(Clone, Copy)]
-enum Hardship {
+pub(super) enum Hardship {
     /// The devices move in pieces of each length.
     Pieces,
+    /// The devices move in the pieces that are given.
+    Given,
+    /// The devices move in the pieces that are given, and the image ends before its key areas.
+    Truncated,
     /// Each call of each device fails.
     Failures,
     /// Memory is refused: so many bytes come back at a time, and so many runs are refused at least.
@@ -42,24 +47,39 @@ static WAYS: [Pieces; 15] = [
     (0, 32_768, 0, 4096),
 ];
 
-fn check_all_pieces(rt: &(impl Abort + AllocGlobal), trial: &Trial<'_>) {
+fn check_all_pieces(rt: &(impl Abort + AllocGlobal), command: &Command<'_>, trial: &Trial<'_>) {
     for pieces in &WAYS {
-        check_pieces(rt, trial, *pieces);
+        check_pieces(rt, command, trial, *pieces);
     }
 }
 
 // If a call is to fail, the devices move in these pieces.
-fn check_trial(
+fn check_command(
+    rt: &(impl Abort + AllocGlobal),
+    hardship: Hardship,
+    command: &Command<'_>,
+    trial: &Trial<'_>,
+    pieces: Pieces,
+) {
+    match hardship {
+        Hardship::Pieces => check_all_pieces(rt, command, trial),
+        Hardship::Given => check_pieces(rt, command, trial, pieces),
+        Hardship::Truncated => check_truncated(rt, command, trial, pieces),
+        Hardship::Failures => check_failures(rt, command, trial, pieces),
+        Hardship::Refusals(piece, least) => check_refusals(rt, command, trial, (piece, least)),
+    }
+}
+
+/// The same of the trial's line, which is a command.
+pub(super) fn check_trial(
     rt: &(impl Abort + AllocGlobal),
     hardship: Hardship,
     trial: &Trial<'_>,
     pieces: Pieces,
 ) {
-    match hardship {
-        Hardship::Pieces => check_all_pieces(rt, trial),
-        Hardship::Failures => check_failures(rt, trial, pieces),
-        Hardship::Refusals(piece, least) => check_refusals(rt, trial, (piece, least)),
-    }
+    let words = words_of(rt, trial.line);
+    let command = plan(rt.alloc(), &words).expect(rt, "a command");
+    check_command(rt, hardship, &command, trial, pieces)
 }
 
 // The lines print these pages of an image, of which so many bytes are left.
@@ -67,10 +87,9 @@ fn check_pages(
     rt: &(impl Abort + AllocGlobal),
     hardship: Hardship,
     (image, piece, left): (&[u8], usize, usize),
-    rows: &[(&'static str, Page, bool)],
+    rows: &[Page],
 ) {
     for (line, page, has_findings) in rows {
-        let page = text_of(rt, page);
         let trial = Trial {
             line,
             header: &[],
@@ -99,58 +118,58 @@ const DETACHED: Pieces = (500, 100, 5, 300);
 
 const STRIPES: Pieces = (0, 5, 5, 3);
 
-// The line writes the whole. The payload starts at this byte of the image, of which so many bytes
-// are left.
-fn check_line(
+/// How both commands that open a volume move: their lines, where the payload starts in the image,
+/// how many bytes of it `testPassphrase` leaves, and in which pieces the devices move.
+type Moves = ([&'static str; 2], usize, usize, Pieces);
+
+// Their payload starts at byte 36,864, and their key material ends at byte 4,608 and at 33,280.
+const FIRST: Moves = ([CAT, TEST], 36_864, SMALL_LEN - 4608, ATTACHED);
+
+const SECOND: Moves = ([CAT, TEST], 36_864, SMALL_LEN - 33_280, ATTACHED);
+
+const BESIDE: Moves = ([CAT_DETACHED, TEST_DETACHED], 0, PLAIN_LEN, DETACHED);
+
+// Both commands, over this detached header, if the lines name one, and this image.
+fn check_both(
     rt: &(impl Abort + AllocGlobal),
-    (hardship, pieces): (Hardship, Pieces),
-    line: &str,
-    [header, image, secret]: Inputs<'_>,
-    whole: &[u8],
-    (start, left): (usize, usize),
+    hardship: Hardship,
+    header: &[u8],
+    image: &[u8],
+    ([cat, test], start, left, pieces): Moves,
 ) {
-    let trial = Trial {
-        line,
+    let written = Trial {
+        line: cat,
         header,
         image,
-        secret,
+        secret: PASSPHRASE,
         start,
-        whole,
+        whole: &PLAIN,
         has_findings: false,
-        left,
+        left: 0,
     };
-    check_trial(rt, hardship, &trial, pieces)
+    check_trial(rt, hardship, &written, pieces);
+    let opened = Trial {
+        line: test,
+        whole: OPENS,
+        left,
+        ..written
+    };
+    check_trial(rt, hardship, &opened, pieces)
 }
 
 // Volumes of both formats.
 fn check_attached(rt: &(impl Abort + AllocGlobal), first: Hardship, second: Hardship) {
-    let plain = plain_of(rt, PLAIN_LEN);
-    let image = sealed(rt, NEWEST, SMALL, PASSPHRASE);
-    let inputs: Inputs<'_> = [&[], image.as_slice(), PASSPHRASE];
-    let way = (first, ATTACHED);
-    check_line(rt, way, CAT, inputs, &plain, (36_864, 0));
-    check_line(rt, way, TEST, inputs, OPENS, (36_864, SMALL_LEN - 4608));
-    let image = sealed2(rt, "dynamic");
-    let inputs: Inputs<'_> = [&[], image.as_slice(), PASSPHRASE];
-    let way = (second, ATTACHED);
-    check_line(rt, way, CAT, inputs, &plain, (36_864, 0));
-    check_line(rt, way, TEST, inputs, OPENS, (36_864, SMALL_LEN - 33_280))
+    check_both(rt, first, &[], &small(rt), FIRST);
+    check_both(rt, second, &[], &sealed2(rt, "dynamic"), SECOND)
 }
 
 // The same with detached headers.
 fn check_detached(rt: &(impl Abort + AllocGlobal), first: Hardship, second: Hardship) {
-    let plain = plain_of(rt, PLAIN_LEN);
-    let volume = sealed(rt, NEWEST, SMALL, PASSPHRASE);
+    let volume = small(rt);
+    let payload = payload_of(&volume);
     let header = changed(rt, &volume, 4608, AT_START);
-    let inputs: Inputs<'_> = [header.as_slice(), payload_of(&volume), PASSPHRASE];
-    let way = (first, DETACHED);
-    check_line(rt, way, CAT_DETACHED, inputs, &plain, (0, 0));
-    check_line(rt, way, TEST_DETACHED, inputs, OPENS, (0, PLAIN_LEN));
-    let header = front2(rt, "0", "dynamic");
-    let inputs: Inputs<'_> = [header.as_slice(), payload_of(&volume), PASSPHRASE];
-    let way = (second, DETACHED);
-    check_line(rt, way, CAT_DETACHED, inputs, &plain, (0, 0));
-    check_line(rt, way, TEST_DETACHED, inputs, OPENS, (0, PLAIN_LEN))
+    check_both(rt, first, &header, payload, BESIDE);
+    check_both(rt, second, &front2(rt, "0", "dynamic"), payload, BESIDE)
 }
 
 #[test]
@@ -175,12 +194,32 @@ fn refused_memory_is_reported(rt: HostRuntime) {
     check_detached(&rt, first, second)
 }
 
+static OF_STRIPES: [Trial<'static>; 2] = [
+    Trial {
+        line: SPLIT_2,
+        header: &[],
+        image: FF,
+        secret: ZEROS,
+        start: usize::MAX,
+        whole: stripes::STRIPES,
+        has_findings: false,
+        left: 0,
+    },
+    Trial {
+        line: MERGE_2,
+        header: &[],
+        image: stripes::STRIPES,
+        secret: &[],
+        start: usize::MAX,
+        whole: FF,
+        has_findings: false,
+        left: 0,
+    },
+];
+
 #[test]
 fn each_failed_call_of_stripes_is_reported(rt: HostRuntime) {
-    let stripes = joined(&rt, &[ZEROS, LAST]);
-    let way = (Hardship::Failures, STRIPES);
-    let split: Inputs<'_> = [&[], FF, ZEROS];
-    check_line(&rt, way, SPLIT_2, split, &stripes, (usize::MAX, 0));
-    let merged: Inputs<'_> = [&[], stripes.as_slice(), &[]];
-    check_line(&rt, way, MERGE_2, merged, FF, (usize::MAX, 0))
+    for trial in &OF_STRIPES {
+        check_trial(&rt, Hardship::Failures, trial, STRIPES);
+    }
 }

@@ -1,13 +1,12 @@
 //! Detached headers.
 
-use super::passphrases::NOT_OPENED;
+use super::rows::Output;
 use super::runs::{
-    BEFORE, CAT, CAT_DETACHED, CUT, DONE, Ends, FINDINGS, Inputs, Left, NOT_LUKS, OFFSET,
+    BEFORE, CAT, CAT_DETACHED, CUT, DONE, Ends, FINDINGS, Inputs, Left, NO_KEY, NOT_LUKS, OFFSET,
     TEST_DETACHED, TORN_511, check,
 };
 use super::volume::{
-    AT_START, NEWEST, PASSPHRASE, PLAIN_LEN, USUAL, USUAL_LEN, changed, followed, front2,
-    payload_of, plain_of, sealed,
+    AT_START, Changes, PASSPHRASE, PLAIN, USUAL_LEN, changed, front2, payload_of, usual,
 };
 use luks_seal_fixtures::bytes::at;
 use std::process::Abort;
@@ -37,83 +36,198 @@ Slot 6: DISABLED
 Slot 7: DISABLED
 ";
 
-const OPENS: &str = "Key slot 0 opens the volume.\n";
+/// A part of a volume that a run is given.
+#[derive(Clone, Copy)]
+enum Part {
+    Nothing,
+    /// The header and the key material, 260,096 bytes, with the payload at byte 0.
+    Header,
+    /// The payload, 1,536 bytes.
+    Payload,
+    /// The volume as it is, whose payload is not where the header ends.
+    Volume,
+}
 
-/// A line, how many bytes there are of the detached header and of the image, what the run prints
-/// and reports, and how many bytes it leaves.
-type Row = (
-    &'static str,
-    (usize, usize),
-    (&'static str, &'static str),
+/// A volume, and its header for the payload alone.
+#[derive(Clone, Copy)]
+struct Parts<'a> {
+    volume: &'a [u8],
+    header: &'a [u8],
+}
+
+impl<'a> Parts<'a> {
+    // So many bytes of this part.
+    fn of(&self, (part, len): (Part, usize)) -> &'a [u8] {
+        match part {
+            Part::Nothing => &[],
+            Part::Header => at(self.header, 0, len),
+            Part::Payload => at(payload_of(self.volume), 0, len),
+            Part::Volume => at(self.volume, 0, len),
+        }
+    }
+}
+
+/// A line, the detached header and the image, the key file, what the run prints and reports, and
+/// how many bytes it leaves.
+type Row<'a> = (
+    &'a str,
+    [(Part, usize); 2],
+    &'a [u8],
+    (Output, &'a str),
     Left,
 );
 
-const WHOLE: (usize, usize) = (260_096, 1536);
+const NOTHING: (Part, usize) = (Part::Nothing, 0);
+
+const HEADER: (Part, usize) = (Part::Header, 260_096);
+
+const PAYLOAD: (Part, usize) = (Part::Payload, 1536);
+
+const VOLUME: (Part, usize) = (Part::Volume, USUAL_LEN);
+
+const WHOLE: [(Part, usize); 2] = [HEADER, PAYLOAD];
 
 const UNREAD: Left = (259_504, 1536, 13);
 
-// Lines that write nothing of the payload. The header and the key material have 260,096 bytes, and
-// the payload has 1,536.
-static ROWS: [Row; 8] = [
-    ("isLuks --header h i", WHOLE, ("", DONE), UNREAD),
-    ("luksUUID --header h i", WHOLE, ("a-uuid\n", DONE), UNREAD),
-    ("luksDump --header h i", WHOLE, (DUMP, DONE), UNREAD),
-    ("luksCheck --header h i", WHOLE, ("clean\n", DONE), UNREAD),
-    (TEST_DETACHED, WHOLE, (OPENS, DONE), (0, 1536, 0)),
-    (CAT_1, WHOLE, ("", DISABLED), UNREAD),
-    (CAT_DETACHED, (260_095, 1536), ("", CUT), (0, 1536, 0)),
-    (CAT_DETACHED, (260_096, 0), ("", DONE), (0, 0, 0)),
+// The header and the key material have 260,096 bytes, and the payload has 1,536.
+static ROWS: [Row<'static>; 15] = [
+    // Lines that write nothing of the payload.
+    (
+        "isLuks --header h i",
+        WHOLE,
+        PASSPHRASE,
+        (Output::Text(""), DONE),
+        UNREAD,
+    ),
+    (
+        "luksUUID --header h i",
+        WHOLE,
+        PASSPHRASE,
+        (Output::Text("a-uuid\n"), DONE),
+        UNREAD,
+    ),
+    (
+        "luksDump --header h i",
+        WHOLE,
+        PASSPHRASE,
+        (Output::Text(DUMP), DONE),
+        UNREAD,
+    ),
+    (
+        "luksCheck --header h i",
+        WHOLE,
+        PASSPHRASE,
+        (Output::Text("clean\n"), DONE),
+        UNREAD,
+    ),
+    (
+        TEST_DETACHED,
+        WHOLE,
+        PASSPHRASE,
+        (Output::Text("Key slot 0 opens the volume.\n"), DONE),
+        (0, 1536, 0),
+    ),
+    (
+        CAT_1,
+        WHOLE,
+        PASSPHRASE,
+        (Output::Text(""), DISABLED),
+        UNREAD,
+    ),
+    (
+        CAT_DETACHED,
+        [(Part::Header, 260_095), PAYLOAD],
+        PASSPHRASE,
+        (Output::Text(""), CUT),
+        (0, 1536, 0),
+    ),
+    (
+        CAT_DETACHED,
+        [HEADER, (Part::Payload, 0)],
+        PASSPHRASE,
+        (Output::Text(""), DONE),
+        (0, 0, 0),
+    ),
+    // The image is left as it is until the key is found, and none of it is needed to refuse what is
+    // no header.
+    (
+        CAT_DETACHED,
+        WHOLE,
+        b"wrong",
+        (Output::Text(""), NO_KEY),
+        (0, 1536, 0),
+    ),
+    (
+        CAT_DETACHED,
+        [PAYLOAD, HEADER],
+        PASSPHRASE,
+        (Output::Text(""), NOT_LUKS),
+        (0, 260_096, 13),
+    ),
+    // As an attached header, it is refused.
+    (
+        CAT,
+        [NOTHING, HEADER],
+        PASSPHRASE,
+        (Output::Text(""), OFFSET),
+        (0, 259_504, 13),
+    ),
+    (
+        "luksCheck i",
+        [NOTHING, HEADER],
+        PASSPHRASE,
+        (Output::Text("segment: offset\nslot 0: area\n"), FINDINGS),
+        (0, 259_504, 13),
+    ),
+    // The payload is written, as far as there are whole sectors.
+    (
+        CAT_DETACHED,
+        WHOLE,
+        PASSPHRASE,
+        (Output::Plain(1536), DONE),
+        (0, 0, 0),
+    ),
+    (
+        CAT_DETACHED,
+        [HEADER, (Part::Payload, 1535)],
+        PASSPHRASE,
+        (Output::Plain(1024), TORN_511),
+        (0, 0, 0),
+    ),
+    // A volume is its own header too.
+    (
+        CAT_DETACHED,
+        [VOLUME, VOLUME],
+        PASSPHRASE,
+        (Output::Plain(1536), DONE),
+        (USUAL_LEN - 260_096, 0, 0),
+    ),
 ];
 
-fn check_row(
+fn check_row<'a>(
     rt: &(impl Abort + AllocGlobal),
-    (header, payload): (&[u8], &[u8]),
-    (line, (of_header, of_image), (page, told), left): Row,
+    parts: &Parts<'a>,
+    (line, [header, image], secret, (output, told), left): Row<'a>,
 ) {
-    let inputs: Inputs<'_> = [
-        at(header, 0, of_header),
-        at(payload, 0, of_image),
-        PASSPHRASE,
-    ];
-    check(rt, line, inputs, (page.as_bytes(), told), left)
+    let inputs: Inputs<'_> = [parts.of(header), parts.of(image), secret];
+    check(rt, line, inputs, (output.bytes(), told), left)
 }
 
-// The image is left as it is until the key is found, and none of it is needed to refuse what is no
-// header. As an attached header, it is refused.
-fn check_unread(rt: &(impl Abort + AllocGlobal), header: &[u8], payload: &[u8]) {
-    let wrong: Inputs<'_> = [header, payload, b"wrong"];
-    check(rt, CAT_DETACHED, wrong, NOT_OPENED, (0, 1536, 0));
-    let turned: Inputs<'_> = [payload, header, PASSPHRASE];
-    check(rt, CAT_DETACHED, turned, (b"", NOT_LUKS), (0, 260_096, 13));
-    let front: Inputs<'_> = [&[], header, PASSPHRASE];
-    check(rt, CAT, front, (b"", OFFSET), (0, 259_504, 13));
-    let amiss: Ends<'_> = (b"segment: offset\nslot 0: area\n", FINDINGS);
-    check(rt, "luksCheck i", front, amiss, (0, 259_504, 13))
-}
-
-// A volume is its own header too, whose payload is not where the header ends.
-fn check_written(rt: &(impl Abort + AllocGlobal), image: &[u8], header: &[u8], plain: &[u8]) {
-    let payload = payload_of(image);
-    let whole: Inputs<'_> = [header, payload, PASSPHRASE];
-    check(rt, CAT_DETACHED, whole, (plain, DONE), (0, 0, 0));
-    let torn: Inputs<'_> = [header, at(payload, 0, 1535), PASSPHRASE];
-    let ends = (at(plain, 0, 1024), TORN_511);
-    check(rt, CAT_DETACHED, torn, ends, (0, 0, 0));
-    let itself: Inputs<'_> = [image, image, PASSPHRASE];
-    let left = (USUAL_LEN - 260_096, 0, 0);
-    check(rt, CAT_DETACHED, itself, (plain, DONE), left)
+fn check_parts(rt: &(impl Abort + AllocGlobal), parts: &Parts<'_>) {
+    for row in &ROWS {
+        check_row(rt, parts, *row);
+    }
 }
 
 #[test]
 fn a_header_may_be_detached(rt: HostRuntime) {
-    let image = sealed(&rt, NEWEST, USUAL, PASSPHRASE);
-    let header = changed(&rt, &image, 260_096, AT_START);
-    let payload = payload_of(&image);
-    for row in &ROWS {
-        check_row(&rt, (&header, payload), *row);
-    }
-    check_unread(&rt, &header, payload);
-    check_written(&rt, &image, &header, &plain_of(&rt, PLAIN_LEN))
+    let volume = usual(&rt);
+    let header = changed(&rt, &volume, 260_096, AT_START);
+    let parts = Parts {
+        volume: &volume,
+        header: &header,
+    };
+    check_parts(&rt, &parts)
 }
 
 const SHORT: &str = "4 luksrd: image ends 512 bytes before the segment does\n";
@@ -145,37 +259,26 @@ static PLACES: [Place; 6] = [
 // The image has 1,024 bytes before the payload, of which the first may be left out.
 fn check_place(
     rt: &(impl Abort + AllocGlobal),
-    (image, plain): (&[u8], &[u8]),
+    image: &[u8],
     ((offset, size), before, (written, told), left, found): Place,
 ) {
     let header = front2(rt, offset, size);
     let image = at(image, 1024usize.saturating_sub(before), 2560);
     let inputs: Inputs<'_> = [header.as_slice(), image, PASSPHRASE];
-    check(
-        rt,
-        CAT_DETACHED,
-        inputs,
-        (at(plain, 0, written), told),
-        left,
-    );
-    check(
-        rt,
-        "luksCheck --header h i",
-        inputs,
-        found,
-        (512, image.len(), 13),
-    )
+    let ends = (at(&PLAIN, 0, written), told);
+    check(rt, CAT_DETACHED, inputs, ends, left);
+    let left = (512, image.len(), 13);
+    check(rt, "luksCheck --header h i", inputs, found, left)
 }
 
-static FILLER: [u8; 1024] = [0xee; 1024];
+// In place of the 1,024 bytes before the payload, which starts at byte 2,097,152.
+const FILLER: Changes = &[(2_096_128, &[0xee; 1024])];
 
 #[test]
 fn a_header_of_luks2_may_be_detached(rt: HostRuntime) {
-    let volume = sealed(&rt, NEWEST, USUAL, PASSPHRASE);
-    let filler = changed(&rt, &FILLER, 1024, &[]);
-    let image = followed(&rt, filler, 1024, payload_of(&volume));
-    let plain = plain_of(&rt, PLAIN_LEN);
+    let volume = usual(&rt);
+    let volume = changed(&rt, &volume, USUAL_LEN, FILLER);
     for row in &PLACES {
-        check_place(&rt, (&image, &plain), *row);
+        check_place(&rt, at(&volume, 2_096_128, 2560), *row);
     }
 }

@@ -1,8 +1,7 @@
 //! Runs over devices that move a few bytes a call, of which one call may fail.
 
-use super::runs::{report_over, words_of};
+use super::runs::report_over;
 use super::same::{assert_in, assert_same_in};
-use luks_args::planning::plan;
 use luks_report::message::Message;
 use luks_report::report::Report;
 use luks_request::command::Command;
@@ -41,15 +40,16 @@ impl Trial<'_> {
 /// For an input, 0 means all that are requested.
 pub(super) type Pieces = (usize, usize, usize, usize);
 
-/// A call that fails: which device's (the image is 0, the second input 1, the output 2, the
-/// detached header 3), and which one of its calls.
+/// How the devices of a run move, and which call fails: which device's (the image is 0, the second
+/// input 1, the output 2, the detached header 3, none 4), and which one of its calls.
 #[derive(Clone, Copy, Debug)]
-struct Failing {
+struct Way {
+    pieces: Pieces,
     device: u32,
     call: u64,
 }
 
-impl Failing {
+impl Way {
     // Which call of this device fails.
     fn call_of(self, device: u32) -> u64 {
         if device == self.device {
@@ -60,57 +60,28 @@ impl Failing {
     }
 }
 
-// The source was asked for nothing in vain: for no bytes, nor once more after its end, nor again
-// after the call that failed.
-fn check_asked(rt: &impl Abort, failing: Failing, source: &Flaky<'_>) {
-    assert_in(
-        rt,
-        &failing,
-        source.counts.ends <= 1 && source.counts.needless == 0,
-    );
-    let last = source.counts.failures == 0 || source.calls() == failing.call.saturating_add(1);
-    assert_in(rt, &failing, last);
+/// A run that has ended: what it reports, and its devices.
+#[derive(Drop)]
+struct Ended<'a> {
+    report: Report,
+    header: Flaky<'a>,
+    image: Flaky<'a>,
+    secret: Flaky<'a>,
+    out: Leaky,
 }
 
-// The output was brought nothing in vain: no bytes, nor any after the call that failed.
-fn check_brought(rt: &impl Abort, failing: Failing, out: &Leaky) {
-    assert_in(rt, &failing, out.counts.needless == 0);
-    let last = out.failures() == 0 || out.calls() == failing.call.saturating_add(1);
-    assert_in(rt, &failing, last);
-}
-
-// What was written, and how many bytes of the payload were consumed.
-type Moved<'a> = (&'a [u8], usize);
-
-// The failed call is reported. After a read of the image all whole sectors that were consumed are
-// written, and after another read nothing. After a write, no byte past the current sector was
-// consumed.
-fn check_failed(rt: &impl Abort, failing: Failing, report: Report, (written, consumed): Moved<'_>) {
-    let told = if failing.device == 2 {
-        Message::WriteFailed
-    } else {
-        Message::ReadFailed
-    };
-    assert_in(rt, &failing, report == Report::of(told));
-    match failing.device {
-        0 => assert_same_in(rt, &failing, written.len(), consumed / 512 * 512),
-        2 => assert_in(rt, &failing, consumed <= (written.len() / 512 + 1) * 512),
-        _ => assert_same_in(rt, &failing, (written.len(), consumed), (0, 0)),
-    }
-}
-
-// One run; whether the call was made and failed.
-fn run_failing(
+// A run of this command.
+fn run<'a>(
     rt: &(impl Abort + AllocGlobal),
     command: &Command<'_>,
-    trial: &Trial<'_>,
-    pieces: Pieces,
-    failing: Failing,
-) -> bool {
-    let mut out = Leaky::new(rt.alloc(), 4096, pieces.3, failing.call_of(2)).expect(rt, "room");
-    let mut header = Flaky::new(trial.header, pieces.0, failing.call_of(3));
-    let mut image = Flaky::new(trial.image, pieces.1, failing.call_of(0));
-    let mut secret = Flaky::new(trial.secret, pieces.2, failing.call_of(1));
+    trial: &Trial<'a>,
+    way: Way,
+) -> Ended<'a> {
+    let (of_header, of_image, of_secret, of_out) = way.pieces;
+    let mut out = Leaky::new(rt.alloc(), 4096, of_out, way.call_of(2)).expect(rt, "room");
+    let mut header = Flaky::new(trial.header, of_header, way.call_of(3));
+    let mut image = Flaky::new(trial.image, of_image, way.call_of(0));
+    let mut secret = Flaky::new(trial.secret, of_secret, way.call_of(1));
     let report = report_over(
         rt.alloc(),
         command,
@@ -119,23 +90,87 @@ fn run_failing(
         &mut secret,
         &mut out,
     );
-    check_asked(rt, failing, &header);
-    check_asked(rt, failing, &image);
-    check_asked(rt, failing, &secret);
-    check_brought(rt, failing, &out);
-    let of_input = header.counts.failures != 0
-        || image.counts.failures != 0
-        || secret.counts.failures != 0;
-    let failed = of_input || out.failures() != 0;
-    let consumed = trial.image.len() - image.left().min(trial.image.len());
-    let moved = (out.as_slice(), consumed.saturating_sub(trial.start));
-    assert_in(rt, &failing, trial.whole.starts_with(out.as_slice()));
-    if failed {
-        check_failed(rt, failing, report, moved);
+    Ended {
+        report,
+        header,
+        image,
+        secret,
+        out,
+    }
+}
+
+// The source was asked for nothing in vain: for no bytes, nor once more after its end, nor again
+// after the call that failed.
+fn is_asked_rightly(way: Way, source: &Flaky<'_>) -> bool {
+    let last = source.counts.failures == 0 || source.calls() == way.call.saturating_add(1);
+    last && source.counts.ends <= 1 && source.counts.needless == 0
+}
+
+// The output was brought nothing in vain: no bytes, nor any after the call that failed.
+fn is_brought_rightly(way: Way, out: &Leaky) -> bool {
+    let last = out.failures() == 0 || out.calls() == way.call.saturating_add(1);
+    last && out.counts.needless == 0
+}
+
+impl Ended<'_> {
+    // No device was called in vain.
+    fn is_sparing(&self, way: Way) -> bool {
+        is_asked_rightly(way, &self.header)
+            && is_asked_rightly(way, &self.image)
+            && is_asked_rightly(way, &self.secret)
+            && is_brought_rightly(way, &self.out)
+    }
+
+    // Whether a call failed.
+    fn has_failed(&self) -> bool {
+        self.header.counts.failures != 0
+            || self.image.counts.failures != 0
+            || self.secret.counts.failures != 0
+            || self.out.failures() != 0
+    }
+}
+
+// What was written, and how many bytes of the payload were consumed.
+type Moved<'a> = (&'a [u8], usize);
+
+// The failed call is reported. After a read of the image all whole sectors that were consumed are
+// written, and after another read nothing. After a write, no byte past the current sector was
+// consumed.
+fn check_failed(rt: &impl Abort, way: Way, report: Report, (written, consumed): Moved<'_>) {
+    let told = if way.device == 2 {
+        Message::WriteFailed
+    } else {
+        Message::ReadFailed
+    };
+    assert_in(rt, &way, report == Report::of(told));
+    match way.device {
+        0 => assert_same_in(rt, &way, written.len(), consumed / 512 * 512),
+        2 => assert_in(rt, &way, consumed <= (written.len() / 512 + 1) * 512),
+        _ => assert_same_in(rt, &way, (written.len(), consumed), (0, 0)),
+    }
+}
+
+// The run ends as stated.
+fn check_whole(rt: &impl Abort, way: Way, trial: &Trial<'_>, ended: &Ended<'_>) {
+    assert_same_in(rt, &way, ended.report, Report::of(trial.message()));
+    assert_same_in(rt, &way, ended.out.as_slice(), trial.whole);
+    let lefts = (ended.header.left(), ended.image.left(), ended.secret.left());
+    assert_same_in(rt, &way, lefts, (0, trial.left, 0));
+}
+
+// The run called no device in vain and wrote a prefix of the whole. It ends as stated unless the
+// call was made and failed; whether it did.
+fn check_ended(rt: &impl Abort, way: Way, trial: &Trial<'_>, ended: &Ended<'_>) -> bool {
+    let written = ended.out.as_slice();
+    assert_in(rt, &way, ended.is_sparing(way));
+    assert_in(rt, &way, trial.whole.starts_with(written));
+    if ended.has_failed() {
+        let consumed = trial.image.len() - ended.image.left().min(trial.image.len());
+        let moved = (written, consumed.saturating_sub(trial.start));
+        check_failed(rt, way, ended.report, moved);
         return true;
     }
-    assert_in(rt, &failing, report == Report::of(trial.message()));
-    assert_same_in(rt, &failing, out.as_slice(), trial.whole);
+    check_whole(rt, way, trial, ended);
     false
 }
 
@@ -148,7 +183,12 @@ fn check_device(
     device: u32,
 ) {
     for call in 0..900 {
-        if !run_failing(rt, command, trial, pieces, Failing { device, call }) {
+        let way = Way {
+            pieces,
+            device,
+            call,
+        };
+        if !check_ended(rt, way, trial, &run(rt, command, trial, way)) {
             return;
         }
     }
@@ -157,62 +197,47 @@ fn check_device(
 
 /// Runs with one failing call each, of each device in turn. Each reports what failed, and what it
 /// wrote is a prefix of the whole.
-pub(super) fn check_failures(rt: &(impl Abort + AllocGlobal), trial: &Trial<'_>, pieces: Pieces) {
-    let words = words_of(rt, trial.line);
-    let command = plan(rt.alloc(), &words).expect(rt, "a command");
+pub(super) fn check_failures(
+    rt: &(impl Abort + AllocGlobal),
+    command: &Command<'_>,
+    trial: &Trial<'_>,
+    pieces: Pieces,
+) {
     for device in 0..4 {
-        check_device(rt, &command, trial, pieces, device);
+        check_device(rt, command, trial, pieces, device);
     }
 }
 
 /// A run whose devices move in these pieces ends as stated.
-pub(super) fn check_pieces(rt: &(impl Abort + AllocGlobal), trial: &Trial<'_>, pieces: Pieces) {
-    let words = words_of(rt, trial.line);
-    let command = plan(rt.alloc(), &words).expect(rt, "a command");
-    let mut out = Leaky::new(rt.alloc(), 4096, pieces.3, u64::MAX).expect(rt, "room");
-    let mut header = Flaky::new(trial.header, pieces.0, u64::MAX);
-    let mut image = Flaky::new(trial.image, pieces.1, u64::MAX);
-    let mut secret = Flaky::new(trial.secret, pieces.2, u64::MAX);
-    let report = report_over(
-        rt.alloc(),
-        &command,
-        &mut header,
-        &mut image,
-        &mut secret,
-        &mut out,
-    );
-    assert_same_in(rt, &pieces, report, Report::of(trial.message()));
-    assert_same_in(rt, &pieces, out.as_slice(), trial.whole);
-    let lefts = (header.left(), image.left(), secret.left());
-    assert_same_in(rt, &pieces, lefts, (0, trial.left, 0));
+pub(super) fn check_pieces(
+    rt: &(impl Abort + AllocGlobal),
+    command: &Command<'_>,
+    trial: &Trial<'_>,
+    pieces: Pieces,
+) {
+    let way = Way {
+        pieces,
+        device: 4,
+        call: 0,
+    };
+    check_whole(rt, way, trial, &run(rt, command, trial, way))
 }
 
 /// The image ends before its key areas. That is reported, and its end was hit once.
 pub(super) fn check_truncated(
     rt: &(impl Abort + AllocGlobal),
-    line: &str,
-    image: &[u8],
-    secret: &[u8],
+    command: &Command<'_>,
+    trial: &Trial<'_>,
+    pieces: Pieces,
 ) {
-    let words = words_of(rt, line);
-    let command = plan(rt.alloc(), &words).expect(rt, "a command");
-    let mut out = Leaky::new(rt.alloc(), 4096, 0, u64::MAX).expect(rt, "room");
-    let mut header = Flaky::new(&[], 0, u64::MAX);
-    let mut image = Flaky::new(image, 0, u64::MAX);
-    let mut secret = Flaky::new(secret, 0, u64::MAX);
-    let report = report_over(
-        rt.alloc(),
-        &command,
-        &mut header,
-        &mut image,
-        &mut secret,
-        &mut out,
-    );
-    assert_same_in(rt, &line, report, Report::of(Message::Cut));
-    assert_in(
-        rt,
-        &line,
-        image.counts.ends == 1 && image.counts.needless == 0,
-    );
-    assert_in(rt, &line, out.as_slice().is_empty());
+    let way = Way {
+        pieces,
+        device: 4,
+        call: 0,
+    };
+    let ended = run(rt, command, trial, way);
+    let counts = &ended.image.counts;
+    assert_same_in(rt, &way, ended.report, Report::of(Message::Cut));
+    assert_in(rt, &way, counts.ends == 1 && counts.needless == 0);
+    assert_in(rt, &way, ended.out.as_slice().is_empty());
 }

@@ -1,8 +1,8 @@
 //! The commands on headers, over LUKS1 and over what is no header.
 
-use super::runs::{ALL, CUT, DONE, FINDINGS, Inputs, NOT_LUKS, WRITE_FAILED, check, check_within};
-use super::volume::{Changes, changed, text_of};
-use std::process::Abort;
+use super::rows::{CAT_ROW, HEADER_ROW, Output, Row, check_rows};
+use super::runs::{ALL, CUT, DONE, FINDINGS, NOT_LUKS, WRITE_FAILED};
+use super::volume::{Changes, changed};
 
 // The state of a key slot that is not in use.
 const DISABLED: &[u8] = &[0, 0, 0xde, 0xad];
@@ -38,38 +38,39 @@ pub(super) static FIELDS: [(usize, &[u8]); 20] = [
     (544, DISABLED),
 ];
 
-const TOP: &str = "Version: 1\nUUID: 0123456789012345678901234567890123456789\n\
-    Cipher: aes-xts-plain64\nHash: sha256\nPayload offset: 4096\n";
+// A dump that begins so.
+macro_rules! dump {
+    ($top:literal) => {
+        concat!(
+            $top,
+            "Key bytes: 64\nMK digest: 000102030405060708090a0b0c0d0e0f10111213\n",
+            "MK salt: aaaaaaaaaaaaaaaaaaaaaaaaaaaaaaaaaaaaaaaaaaaaaaaaaaaaaaaaaaaaaaaa\n",
+            "MK iterations: 1000\nSlot 0: ENABLED iterations=2000 ",
+            "salt=0101010101010101010101010101010101010101010101010101010101010101 ",
+            "offset=8 stripes=4000\nSlot 1: DISABLED\nSlot 2: DAMAGED state=00000001\n",
+            "Slot 3: DISABLED\nSlot 4: DISABLED\nSlot 5: DISABLED\nSlot 6: DISABLED\n",
+            "Slot 7: DISABLED\n",
+        )
+    };
+}
 
-const REST: &str = "\
-Key bytes: 64
-MK digest: 000102030405060708090a0b0c0d0e0f10111213
-MK salt: aaaaaaaaaaaaaaaaaaaaaaaaaaaaaaaaaaaaaaaaaaaaaaaaaaaaaaaaaaaaaaaa
-MK iterations: 1000
-Slot 0: ENABLED iterations=2000 salt=0101010101010101010101010101010101010101010101010101010101010101 offset=8 stripes=4000
-Slot 1: DISABLED
-Slot 2: DAMAGED state=00000001
-Slot 3: DISABLED
-Slot 4: DISABLED
-Slot 5: DISABLED
-Slot 6: DISABLED
-Slot 7: DISABLED
-";
+const DUMP: &str = dump!(
+    "Version: 1\nUUID: 0123456789012345678901234567890123456789\n\
+    Cipher: aes-xts-plain64\nHash: sha256\nPayload offset: 4096\n"
+);
 
-/// Parts of a page.
-pub(super) type Page = &'static [&'static str];
-
-const DUMP: Page = &[TOP, REST];
-
-const UUID: Page = &["0123456789012345678901234567890123456789\n"];
+const UUID: &str = "0123456789012345678901234567890123456789\n";
 
 // What is wrong with that header: one of its slots is damaged.
-const AMISS: Page = &["slot 2: state\n"];
+const AMISS: &str = "slot 2: state\n";
 
-const EMPTY: Page = &[];
+const EMPTY: &str = "";
 
-/// What each command prints of that header, and whether it has findings.
-pub(super) static PAGES: [(&str, Page, bool); 4] = [
+/// A line, the page that it prints, and whether it has findings.
+pub(super) type Page = (&'static str, &'static str, bool);
+
+/// What each command prints of that header.
+pub(super) static PAGES: [Page; 4] = [
     ("isLuks i", EMPTY, false),
     ("luksUUID i", UUID, false),
     ("luksDump i", DUMP, false),
@@ -86,11 +87,10 @@ const ODD: Changes = &[
 
 const ODD_UUID: &str = "a\\x5cb\\x1f ~\\x7f\\x80\\xff\\x0a\n";
 
-const ODD_DUMP: Page = &[
+const ODD_DUMP: &str = dump!(
     "Version: 1\nUUID: a\\x5cb\\x1f ~\\x7f\\x80\\xff\\x0a\nCipher: -c\\xc3\nHash: \n\
-    Payload offset: 4096\n",
-    REST,
-];
+    Payload offset: 4096\n"
+);
 
 /// Lines.
 type Lines = &'static [&'static str];
@@ -110,75 +110,92 @@ const BOTH: Lines = &["luksUUID i", "luksDump i"];
 // Not LUKS by the status alone.
 const NO: &str = "1 ";
 
-/// Lines, what is changed in the header and how many bytes of it there are, and what each of them
-/// prints and reports.
-static ROWS: [(Lines, Changes, usize, Page, &str); 25] = [
-    (DUMPS, &[], 592, DUMP, DONE),
-    (UUIDS, &[], 592, UUID, DONE),
-    (IS, &[], 592, EMPTY, DONE),
-    (IS, &[], 593, EMPTY, DONE),
-    (DUMPS, ODD, 592, ODD_DUMP, DONE),
-    (UUIDS, ODD, 592, &[ODD_UUID], DONE),
-    (CHECKS, &[], 592, AMISS, FINDINGS),
-    (CHECKS, &[(304, DISABLED)], 592, &["clean\n"], DONE),
-    (IS, &[], 0, EMPTY, NO),
-    (BOTH, &[], 0, EMPTY, NOT_LUKS),
-    (IS, &[], 7, EMPTY, NO),
-    (BOTH, &[], 7, EMPTY, NOT_LUKS),
-    (ALL_THREE, &[], 8, EMPTY, CUT),
-    (ALL_THREE, &[], 20, EMPTY, CUT),
-    (ALL_THREE, &[], 591, EMPTY, CUT),
-    (IS, &[(0, b"l")], 592, EMPTY, NO),
-    (DUMPS, &[(0, b"l")], 592, EMPTY, NOT_LUKS),
-    (IS, &[(5, b"\xbf")], 592, EMPTY, NO),
-    (DUMPS, &[(5, b"\xbf")], 592, EMPTY, NOT_LUKS),
-    (IS, &[(6, b"\x01")], 592, EMPTY, NO),
-    (DUMPS, &[(6, b"\x01")], 592, EMPTY, NOT_LUKS),
-    (IS, &[(7, b"\x00")], 592, EMPTY, NO),
-    (DUMPS, &[(7, b"\x00")], 592, EMPTY, NOT_LUKS),
-    (IS, &[(7, b"\x03")], 592, EMPTY, NO),
-    (DUMPS, &[(7, b"\x03")], 592, EMPTY, NOT_LUKS),
-];
-
-// Each line prints and reports this. A command on a header reads no second input.
-fn check_lines(
-    rt: &(impl Abort + AllocGlobal),
-    lines: &[&str],
-    image: &[u8],
-    (page, told): (Page, &str),
-) {
-    let page = text_of(rt, page);
-    let inputs: Inputs<'_> = [&[], image, b"secret"];
-    let left = (0, image.len().saturating_sub(592), 6);
-    for line in lines {
-        check(rt, line, inputs, (page.as_bytes(), told), left);
-    }
+// Lines, what is changed in the header and how many bytes of it there are, and what each of them
+// prints and reports. A command on a header reads no second input.
+macro_rules! printed {
+    ($lines:ident, $changes:expr, $len:literal, $page:expr, $told:ident) => {
+        Row {
+            lines: $lines,
+            len: $len,
+            changes: $changes,
+            secret: b"secret",
+            output: Output::Text($page),
+            told: $told,
+            consumed: 592,
+            unread: 6,
+            ..CAT_ROW
+        }
+    };
 }
+
+static ROWS: [Row<'static>; 25] = [
+    printed!(DUMPS, &[], 592, DUMP, DONE),
+    printed!(UUIDS, &[], 592, UUID, DONE),
+    printed!(IS, &[], 592, EMPTY, DONE),
+    printed!(IS, &[], 593, EMPTY, DONE),
+    printed!(DUMPS, ODD, 592, ODD_DUMP, DONE),
+    printed!(UUIDS, ODD, 592, ODD_UUID, DONE),
+    printed!(CHECKS, &[], 592, AMISS, FINDINGS),
+    printed!(CHECKS, &[(304, DISABLED)], 592, "clean\n", DONE),
+    printed!(IS, &[], 0, EMPTY, NO),
+    printed!(BOTH, &[], 0, EMPTY, NOT_LUKS),
+    printed!(IS, &[], 7, EMPTY, NO),
+    printed!(BOTH, &[], 7, EMPTY, NOT_LUKS),
+    printed!(ALL_THREE, &[], 8, EMPTY, CUT),
+    printed!(ALL_THREE, &[], 20, EMPTY, CUT),
+    printed!(ALL_THREE, &[], 591, EMPTY, CUT),
+    printed!(IS, &[(0, b"l")], 592, EMPTY, NO),
+    printed!(DUMPS, &[(0, b"l")], 592, EMPTY, NOT_LUKS),
+    printed!(IS, &[(5, b"\xbf")], 592, EMPTY, NO),
+    printed!(DUMPS, &[(5, b"\xbf")], 592, EMPTY, NOT_LUKS),
+    printed!(IS, &[(6, b"\x01")], 592, EMPTY, NO),
+    printed!(DUMPS, &[(6, b"\x01")], 592, EMPTY, NOT_LUKS),
+    printed!(IS, &[(7, b"\x00")], 592, EMPTY, NO),
+    printed!(DUMPS, &[(7, b"\x00")], 592, EMPTY, NOT_LUKS),
+    printed!(IS, &[(7, b"\x03")], 592, EMPTY, NO),
+    printed!(DUMPS, &[(7, b"\x03")], 592, EMPTY, NOT_LUKS),
+];
 
 #[test]
 fn headers_are_printed_and_reported(rt: HostRuntime) {
-    let header = changed(&rt, &[], 592, &FIELDS);
-    for (lines, changes, len, page, told) in &ROWS {
-        let image = changed(&rt, &header, *len, changes);
-        check_lines(&rt, lines, &image, (*page, *told));
-    }
+    check_rows(&rt, &changed(&rt, &[], 592, &FIELDS), &ROWS)
 }
 
 // The first ten bytes of a dump are written.
+static OF_10: [Row<'static>; 1] = [Row {
+    lines: DUMPS,
+    limits: (ALL, ALL, 10),
+    output: Output::Text("Version: 1"),
+    told: WRITE_FAILED,
+    ..HEADER_ROW
+}];
+
 #[test]
 fn a_dump_is_written_as_far_as_there_is_room(rt: HostRuntime) {
-    let header = changed(&rt, &[], 592, &FIELDS);
-    let inputs: Inputs<'_> = [&[], header.as_slice(), &[]];
-    let ends: (&[u8], &str) = (b"Version: 1", WRITE_FAILED);
-    check_within(&rt, (ALL, ALL, 10), "luksDump i", inputs, ends, (0, 0, 0))
+    check_rows(&rt, &changed(&rt, &[], 592, &FIELDS), &OF_10)
+}
+
+// A row of so many zeros, of which so many are consumed.
+macro_rules! sought {
+    ($len:literal, $consumed:literal) => {
+        Row {
+            lines: IS,
+            len: $len,
+            told: NO,
+            consumed: $consumed,
+            ..HEADER_ROW
+        }
+    };
 }
 
 // A header of LUKS2 is sought at nine places, and 4,096 bytes are read at the last of them.
+static SOUGHT: [Row<'static>; 3] = [
+    sought!(1000, 1000),
+    sought!(4_198_400, 4_198_400),
+    sought!(4_200_000, 4_198_400),
+];
+
 #[test]
 fn a_header_is_sought_so_far(rt: HostRuntime) {
-    for (len, left) in [(1000, 0), (4_198_400, 0), (4_200_000, 1600)] {
-        let zeros = changed(&rt, &[], len, &[]);
-        let inputs: Inputs<'_> = [&[], zeros.as_slice(), &[]];
-        check(&rt, "isLuks i", inputs, (&[], NO), (0, left, 0));
-    }
+    check_rows(&rt, &changed(&rt, &[], 4_200_000, &[]), &SOUGHT)
 }

@@ -1,8 +1,8 @@
 //! The commands on headers, over LUKS2.
 
 use super::headers::Page;
-use super::runs::{Ends, FINDINGS, Inputs, NOT_LUKS, check};
-use luks_seal_fixtures::bytes::at;
+use super::rows::{HEADER_ROW, Output, Row, check_rows};
+use super::runs::{FINDINGS, NOT_LUKS};
 use luks_test_support::header2::{SIZE, image_of};
 use std::process::Abort;
 
@@ -29,12 +29,12 @@ const DUMP: &str = "Version: 2\nHeader: primary\nSequence: 258\nHeader size: 163
     Segment 0: offset=16777216 size=dynamic iv=0 encryption=aes-xts-plain64 sector=512\n\
     Digest 0: USABLE hash=sha256 iterations=1500 bytes=32 keyslots=7 segments=0\n";
 
-/// What each command prints of the image below, and whether it has findings.
-pub(super) static PAGES: [(&str, Page, bool); 4] = [
-    ("isLuks i", &[], false),
-    ("luksUUID i", &[UUID], false),
-    ("luksDump i", &[DUMP], false),
-    ("luksCheck i", &["clean\n"], false),
+/// What each command prints of the image below.
+pub(super) static PAGES: [Page; 4] = [
+    ("isLuks i", "", false),
+    ("luksUUID i", UUID, false),
+    ("luksDump i", DUMP, false),
+    ("luksCheck i", "clean\n", false),
 ];
 
 /// An image with both headers and ten bytes behind them.
@@ -46,27 +46,46 @@ pub(super) fn image2(rt: &(impl Abort + AllocGlobal)) -> Vec<u8> {
     image
 }
 
-const ONE_HEADER: Ends<'static> = (b"secondary header: not valid\n", FINDINGS);
+// A row of so many bytes of the image, all of which are consumed, and how it ends.
+macro_rules! cut {
+    ($line:literal, $len:expr, $output:literal, $told:ident) => {
+        Row {
+            lines: &[$line],
+            len: $len,
+            output: Output::Text($output),
+            told: $told,
+            ..HEADER_ROW
+        }
+    };
+}
 
-const NO_HEADER: Ends<'static> = (b"", NOT_LUKS);
-
-/// A line, how many bytes of the image there are, and how it ends.
-static CUTS: [(&str, usize, Ends<'static>); 7] = [
-    ("luksCheck i", SIZE, ONE_HEADER),
-    ("luksCheck i", SIZE + 4096, ONE_HEADER),
-    ("luksCheck i", 2 * SIZE - 1, ONE_HEADER),
-    ("luksUUID i", 591, NO_HEADER),
-    ("luksUUID i", 4095, NO_HEADER),
-    ("luksUUID i", 4096, NO_HEADER),
-    ("luksUUID i", SIZE - 1, NO_HEADER),
+static CUTS: [Row<'static>; 7] = [
+    cut!(
+        "luksCheck i",
+        SIZE,
+        "secondary header: not valid\n",
+        FINDINGS
+    ),
+    cut!(
+        "luksCheck i",
+        SIZE + 4096,
+        "secondary header: not valid\n",
+        FINDINGS
+    ),
+    cut!(
+        "luksCheck i",
+        2 * SIZE - 1,
+        "secondary header: not valid\n",
+        FINDINGS
+    ),
+    cut!("luksUUID i", 591, "", NOT_LUKS),
+    cut!("luksUUID i", 4095, "", NOT_LUKS),
+    cut!("luksUUID i", 4096, "", NOT_LUKS),
+    cut!("luksUUID i", SIZE - 1, "", NOT_LUKS),
 ];
 
 // Truncated behind the primary header, the image still has it; within it, it has none.
 #[test]
 fn a_truncated_image_has_what_is_whole(rt: HostRuntime) {
-    let image = image2(&rt);
-    for (line, len, ends) in &CUTS {
-        let inputs: Inputs<'_> = [&[], at(image.as_slice(), 0, *len), &[]];
-        check(&rt, line, inputs, *ends, (0, 0, 0));
-    }
+    check_rows(&rt, &image2(&rt), &CUTS)
 }

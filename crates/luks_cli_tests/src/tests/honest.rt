@@ -3,12 +3,12 @@
 
 use super::runs::{CAT, DONE, Inputs, check};
 use super::volume::{KEY, plain_of};
-use super::volumes2::{RANDOM, slot};
+use super::volumes2::slot;
 use luks_cipher::Mode;
 use luks_kdf::Hash;
 use luks_seal::parameters::{Seal1, Seal2, Slot1, Slot2};
 use luks_seal_fixtures::bytes::at;
-use luks_seal_fixtures::parameters::{parameters1, parameters2, slot1};
+use luks_seal_fixtures::parameters::{parameters1, parameters2};
 use luks_verdict::sector_size::SectorSize;
 use luks1_seal::seal1;
 use luks2_seal::seal2;
@@ -18,12 +18,50 @@ const ONE: &[u8] = b"one";
 
 const OTHER: &[u8] = b"another";
 
-/// The modes, and how many bytes of key each is tried with.
-static MODES: [(Mode, usize); 4] = [
-    (Mode::XtsPlain64, 64),
-    (Mode::XtsPlain, 32),
-    (Mode::CbcEssivSha256, 32),
-    (Mode::CbcPlain64, 16),
+/// A mode, how many bytes of key it is tried with, and the key slots of both formats.
+type InMode = (
+    Mode,
+    usize,
+    &'static [Slot1<'static>],
+    &'static [Slot2<'static>],
+);
+
+// A key slot of LUKS1 with this number and this passphrase, and random stripes of so many bytes.
+macro_rules! slot1 {
+    ($number:literal, $passphrase:ident, $random_len:literal) => {
+        Slot1 {
+            number: $number,
+            iterations: 2,
+            salt: [0x51; 32],
+            passphrase: $passphrase,
+            random: &[0x5a; $random_len],
+        }
+    };
+}
+
+// Two key slots of each format.
+macro_rules! in_mode {
+    ($mode:ident, $key_len:literal, $random_len:literal) => {
+        (
+            Mode::$mode,
+            $key_len,
+            &[
+                slot1!(2, ONE, $random_len),
+                slot1!(5, OTHER, $random_len),
+            ],
+            &[
+                slot!(7, 1, ONE, $random_len),
+                slot!(31, 1, OTHER, $random_len),
+            ],
+        )
+    };
+}
+
+static MODES: [InMode; 4] = [
+    in_mode!(XtsPlain64, 64, 192),
+    in_mode!(XtsPlain, 32, 96),
+    in_mode!(CbcEssivSha256, 32, 96),
+    in_mode!(CbcPlain64, 16, 48),
 ];
 
 static SECTOR_SIZES: [SectorSize; 4] = [
@@ -33,44 +71,27 @@ static SECTOR_SIZES: [SectorSize; 4] = [
     SectorSize::B4096,
 ];
 
-fn first(rt: &(impl Abort + AllocGlobal), (mode, key): (Mode, &[u8]), plain: &[u8]) -> Vec<u8> {
-    let random = &RANDOM[..3 * key.len().min(64)];
-    let slots = [
-        Slot1 {
-            random,
-            ..slot1(2, [0x51; 32], ONE)
-        },
-        Slot1 {
-            random,
-            ..slot1(5, [0x51; 32], OTHER)
-        },
-    ];
+fn first<'a>(
+    rt: &(impl Abort + AllocGlobal),
+    (mode, key): (Mode, &'a [u8]),
+    slots: &'a [Slot1<'a>],
+    plain: &'a [u8],
+) -> Vec<u8> {
     let volume = Seal1 {
         hash: Hash::Sha1,
         mode,
         key,
-        ..parameters1(&slots, plain)
+        ..parameters1(slots, plain)
     };
     seal1(rt.alloc(), &volume).expect(rt, "a volume")
 }
 
-fn second(
+fn second<'a>(
     rt: &(impl Abort + AllocGlobal),
-    (mode, key): (Mode, &[u8]),
-    sector_size: SectorSize,
-    plain: &[u8],
+    (mode, key, sector_size): (Mode, &'a [u8], SectorSize),
+    slots: &'a [Slot2<'a>],
+    plain: &'a [u8],
 ) -> Vec<u8> {
-    let random = &RANDOM[..3 * key.len().min(64)];
-    let slots = [
-        Slot2 {
-            random,
-            ..slot(7, 1, ONE)
-        },
-        Slot2 {
-            random,
-            ..slot(31, 1, OTHER)
-        },
-    ];
     let volume = Seal2 {
         mode,
         key,
@@ -78,31 +99,47 @@ fn second(
         iv_tweak: 18_446_744_073_709_551_612,
         area_mode: Mode::CbcPlain64,
         area_key_size: 32,
-        ..parameters2(&slots, plain)
+        ..parameters2(slots, plain)
     };
     seal2(rt.alloc(), &volume).expect(rt, "a volume")
 }
 
 // Either passphrase gives the plain bytes.
 fn check_written(rt: &(impl Abort + AllocGlobal), image: &[u8], plain: &[u8]) {
-    let inputs: Inputs<'_> = [&[], image, ONE];
-    check(rt, CAT, inputs, (plain, DONE), (0, 0, 0));
-    let inputs: Inputs<'_> = [&[], image, OTHER];
-    check(rt, CAT, inputs, (plain, DONE), (0, 0, 0))
+    for passphrase in [ONE, OTHER] {
+        let inputs: Inputs<'_> = [&[], image, passphrase];
+        check(rt, CAT, inputs, (plain, DONE), (0, 0, 0));
+    }
+}
+
+// Volumes of LUKS2 with these key slots and sectors of each length are written out.
+fn check_sectors<'a>(
+    rt: &(impl Abort + AllocGlobal),
+    (mode, key): (Mode, &'a [u8]),
+    slots: &'a [Slot2<'a>],
+    plain: &'a [u8],
+) {
+    for sector_size in &SECTOR_SIZES {
+        let image = second(rt, (mode, key, *sector_size), slots, plain);
+        check_written(rt, &image, plain);
+    }
 }
 
 // A volume in this mode is written out; of LUKS2, with sectors of each length.
-fn check_mode(rt: &(impl Abort + AllocGlobal), cipher: (Mode, &[u8]), plain: &[u8]) {
-    check_written(rt, &first(rt, cipher, plain), plain);
-    for sector_size in &SECTOR_SIZES {
-        check_written(rt, &second(rt, cipher, *sector_size, plain), plain);
-    }
+fn check_mode(
+    rt: &(impl Abort + AllocGlobal),
+    (mode, key_len, slots1, slots2): InMode,
+    plain: &[u8],
+) {
+    let cipher = (mode, at(KEY, 0, key_len));
+    check_written(rt, &first(rt, cipher, slots1, plain), plain);
+    check_sectors(rt, cipher, slots2, plain)
 }
 
 #[test]
 fn volumes_of_both_formats_are_written_out(rt: HostRuntime) {
     let plain = plain_of(&rt, 8192);
-    for (mode, len) in &MODES {
-        check_mode(&rt, (*mode, at(KEY, 0, *len)), &plain);
+    for row in &MODES {
+        check_mode(&rt, *row, &plain);
     }
 }

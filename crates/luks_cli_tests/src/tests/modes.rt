@@ -1,43 +1,62 @@
 //! Volumes in each mode, with the header in front and detached.
 
-use super::passphrases::{NOT_OPENED, OPENED, check_opening};
-use super::runs::{CAT_DETACHED, DONE, Inputs, check};
+use super::rows::{CAT_ROW, Output, Row, check_rows, opened, refused, written};
+use super::runs::{CAT_DETACHED, DONE, Inputs, NO_KEY, check};
 use super::volume::{
-    AT_START, Changes, KEY, NEWEST, PASSPHRASE, PLAIN_LEN, USUAL, changed, payload_of, plain_of,
-    sealed,
+    AT_START, KEY, PASSPHRASE, PLAIN, PLAIN_LEN, USUAL, changed, payload_of, sealed, usual,
 };
 use luks_cipher::Mode;
 use luks_seal_fixtures::bytes::at;
 use std::process::Abort;
 
-/// A mode, how many bytes of key there are, and where the key material ends.
-static MODES: [(Mode, usize, usize); 7] = [
-    (Mode::XtsPlain64, 32, 132_096),
-    (Mode::XtsPlain, 32, 132_096),
-    (Mode::XtsPlain, 64, 260_096),
-    (Mode::CbcEssivSha256, 16, 68_096),
-    (Mode::CbcEssivSha256, 32, 132_096),
-    (Mode::CbcPlain64, 16, 68_096),
-    (Mode::CbcPlain64, 32, 132_096),
+/// A mode, how many bytes of key there are, where the key material ends, and runs.
+type InMode = (Mode, usize, usize, &'static [Row<'static>]);
+
+// The volume opens once so many bytes are consumed, and is written out.
+macro_rules! in_mode {
+    ($mode:ident, $key_len:literal, $held:literal) => {
+        (
+            Mode::$mode,
+            $key_len,
+            $held,
+            &[
+                opened!("", PASSPHRASE, 0, $held),
+                written!("", PASSPHRASE, Output::Plain(PLAIN_LEN), DONE),
+                refused!("", b"wrong", NO_KEY, $held, 0),
+            ],
+        )
+    };
+}
+
+static MODES: [InMode; 7] = [
+    in_mode!(XtsPlain64, 32, 132_096),
+    in_mode!(XtsPlain, 32, 132_096),
+    in_mode!(XtsPlain, 64, 260_096),
+    in_mode!(CbcEssivSha256, 16, 68_096),
+    in_mode!(CbcEssivSha256, 32, 132_096),
+    in_mode!(CbcPlain64, 16, 68_096),
+    in_mode!(CbcPlain64, 32, 132_096),
 ];
 
-// A volume in this mode opens once so many bytes are consumed, and is written out; and so is its
-// payload under its first bytes as a detached header, whose payload starts at byte 0.
-fn check_mode(rt: &(impl Abort + AllocGlobal), (mode, key_len, held): (Mode, usize, usize)) {
-    let image = sealed(rt, (mode, at(KEY, 0, key_len)), USUAL, PASSPHRASE);
-    let plain = plain_of(rt, PLAIN_LEN);
-    let written = (plain.as_slice(), DONE);
-    check_opening(rt, &image, written, ("", PASSPHRASE, OPENED, (held, 0)));
-    check_opening(rt, &image, written, ("", b"wrong", NOT_OPENED, (held, 0)));
-    let header = changed(rt, &image, held, AT_START);
-    let inputs: Inputs<'_> = [header.as_slice(), payload_of(image.as_slice()), PASSPHRASE];
-    check(rt, CAT_DETACHED, inputs, written, (0, 0, 0))
+// The payload is written out under the first bytes as a detached header, whose payload starts at
+// byte 0.
+fn check_detached(rt: &(impl Abort + AllocGlobal), image: &[u8], held: usize) {
+    let header = changed(rt, image, held, AT_START);
+    let inputs: Inputs<'_> = [header.as_slice(), payload_of(image), PASSPHRASE];
+    check(rt, CAT_DETACHED, inputs, (&PLAIN, DONE), (0, 0, 0))
+}
+
+// A volume in this mode.
+fn check_mode(rt: &(impl Abort + AllocGlobal), (mode, key_len, held, rows): &InMode) {
+    let image = sealed(rt, (*mode, at(KEY, 0, *key_len)), USUAL, PASSPHRASE);
+    check_rows(rt, &image, rows);
+    check_detached(rt, &image, *held)
 }
 
 #[test]
 fn volumes_are_written_out_in_each_mode(rt: HostRuntime) {
     for row in &MODES {
-        check_mode(&rt, *row);
+        check_mode(&rt, row);
     }
 }
 
@@ -47,38 +66,37 @@ const ENCRYPTION: &str = "1 luksrd: segment refused: encryption\n";
 
 const HASH: &str = "1 luksrd: segment refused: hash\n";
 
-/// What is at offsets of a header, and what is reported: the cipher's name at 8, its mode at 40,
-/// the hash at 72, and the length of the key at 111.
-type Texts = (Changes, &'static str);
+// What is at offsets of a header, and what is reported: the cipher's name at 8, its mode at 40, the
+// hash at 72, and the length of the key at 111.
+macro_rules! texts {
+    ($changes:expr, $told:ident) => {
+        Row {
+            changes: $changes,
+            ..refused!("", PASSPHRASE, $told, 592, 13)
+        }
+    };
+}
 
 // In place of `cbc-essiv:sha256` and 32 bytes of key.
-static OF_CBC: [Texts; 7] = [
-    (&[(111, &[24])], KEY_BYTES),
-    (&[(111, &[64])], KEY_BYTES),
-    (&[(40, b"cbc-plain64\0"), (111, &[64])], KEY_BYTES),
-    (&[(40, b"xts-plain\0"), (111, &[16])], KEY_BYTES),
-    (&[(40, b"cbc-essiv:sha1\0")], ENCRYPTION),
-    (&[(40, b"cbc-plain\0")], ENCRYPTION),
-    (&[(40, b"ecb\0")], ENCRYPTION),
+static OF_CBC: [Row<'static>; 7] = [
+    texts!(&[(111, &[24])], KEY_BYTES),
+    texts!(&[(111, &[64])], KEY_BYTES),
+    texts!(&[(40, b"cbc-plain64\0"), (111, &[64])], KEY_BYTES),
+    texts!(&[(40, b"xts-plain\0"), (111, &[16])], KEY_BYTES),
+    texts!(&[(40, b"cbc-essiv:sha1\0")], ENCRYPTION),
+    texts!(&[(40, b"cbc-plain\0")], ENCRYPTION),
+    texts!(&[(40, b"ecb\0")], ENCRYPTION),
 ];
 
 // In place of `aes`, `xts-plain64`, `sha256` and 64 bytes of key.
-static OF_XTS: [Texts; 2] = [
-    (&[(72, b"ripemd160\0")], HASH),
-    (&[(8, b"serpent\0"), (72, b"ripemd160\0")], ENCRYPTION),
+static OF_XTS: [Row<'static>; 2] = [
+    texts!(&[(72, b"ripemd160\0")], HASH),
+    texts!(&[(8, b"serpent\0"), (72, b"ripemd160\0")], ENCRYPTION),
 ];
-
-fn check_texts(rt: &(impl Abort + AllocGlobal), image: &[u8], rows: &[Texts]) {
-    for (changes, told) in rows {
-        let other = changed(rt, image, image.len(), changes);
-        let row = ("", PASSPHRASE, (b"".as_slice(), *told), (592, 13));
-        check_opening(rt, &other, (b"", DONE), row);
-    }
-}
 
 #[test]
 fn other_texts_and_lengths_are_refused(rt: HostRuntime) {
     let key = (Mode::CbcEssivSha256, at(KEY, 0, 32));
-    check_texts(&rt, &sealed(&rt, key, USUAL, PASSPHRASE), &OF_CBC);
-    check_texts(&rt, &sealed(&rt, NEWEST, USUAL, PASSPHRASE), &OF_XTS)
+    check_rows(&rt, &sealed(&rt, key, USUAL, PASSPHRASE), &OF_CBC);
+    check_rows(&rt, &usual(&rt), &OF_XTS)
 }

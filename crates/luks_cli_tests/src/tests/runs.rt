@@ -60,6 +60,9 @@ pub(super) type Limits = (usize, usize, usize);
 /// As many bytes as there are.
 pub(super) const ALL: usize = usize::MAX;
 
+/// The limits of devices of which no call fails.
+pub(super) const NO_FAULT: Limits = (ALL, ALL, 8192);
+
 /// The words of a line, which single spaces part.
 pub(super) fn words_of<'a>(rt: &(impl Abort + AllocGlobal), line: &'a str) -> Vec<&'a str> {
     line.split(' ')
@@ -159,5 +162,5 @@ pub(super) fn check(
     ends: Ends<'_>,
     left: Left,
 ) {
-    check_within(rt, (ALL, ALL, 8192), line, inputs, ends, left)
+    check_within(rt, NO_FAULT, line, inputs, ends, left)
 }

@@ -1,9 +1,8 @@
 //! Runs with less and less memory refused, until one meets no refusal.
 
 use super::devices::Trial;
-use super::runs::{report_over, sink, words_of};
+use super::runs::{report_over, sink};
 use super::same::{assert_in, assert_same_in};
-use luks_args::planning::plan;
 use luks_io::memory::{MemSink, MemSource};
 use luks_report::message::Message;
 use luks_report::report::Report;
@@ -29,6 +28,12 @@ fn run_once(
     (report, image.left().len())
 }
 
+// The run ends as stated.
+fn check_done(rt: &impl Abort, trial: &Trial<'_>, report: Report, out: &MemSink) {
+    assert_in(rt, &trial.line, report == Report::of(trial.message()));
+    assert_same_in(rt, &trial.line, out.as_slice(), trial.whole);
+}
+
 // If there is a second input, a run with all memory ends as it should. The stack grows in it, since
 // it cannot once all memory is taken.
 fn check_first(rt: &(impl Abort + AllocGlobal), command: &Command<'_>, trial: &Trial<'_>) {
@@ -37,8 +42,7 @@ fn check_first(rt: &(impl Abort + AllocGlobal), command: &Command<'_>, trial: &T
     }
     let mut out = sink(rt, 4096);
     let (report, _) = run_once(rt.alloc(), command, trial, &mut out);
-    assert_in(rt, &trial.line, report == Report::of(trial.message()));
-    assert_same_in(rt, &trial.line, out.as_slice(), trial.whole);
+    check_done(rt, trial, report, &out)
 }
 
 // Runs with one more piece of memory each time, until a run does not report that it is out of
@@ -64,24 +68,31 @@ fn run_until_done(
     (Report::of(Message::OutOfMemory), MOST, sound)
 }
 
-/// Runs a line with less and less memory refused, until a run meets no refusal. So many bytes come
-/// back at a time, and so many runs are refused at least. Each of them reports that it is out of
-/// memory, writes nothing and leaves the image of a detached header as it was; the last run ends as
-/// stated.
+// The same while so many bytes come back at a time.
+fn run_scarce(
+    rt: &(impl Abort + AllocGlobal),
+    command: &Command<'_>,
+    trial: &Trial<'_>,
+    piece: usize,
+    out: &mut MemSink,
+) -> (Report, usize, bool) {
+    let mut scarcity = Scarcity::new(rt.alloc(), MOST, piece).expect(rt, "pieces");
+    run_until_done(rt.alloc(), command, trial, &mut scarcity, out)
+}
+
+/// Runs a command with less and less memory refused, until a run meets no refusal. So many bytes
+/// come back at a time, and so many runs are refused at least. Each of them reports that it is out
+/// of memory, writes nothing and leaves the image of a detached header as it was; the last run ends
+/// as stated.
 pub(super) fn check_refusals(
     rt: &(impl Abort + AllocGlobal),
+    command: &Command<'_>,
     trial: &Trial<'_>,
     (piece, least): (usize, usize),
 ) {
-    let words = words_of(rt, trial.line);
-    let command = plan(rt.alloc(), &words).expect(rt, "a command");
-    check_first(rt, &command, trial);
+    check_first(rt, command, trial);
     let mut out = sink(rt, 4096);
-    let (report, refused, sound) = {
-        let mut scarcity = Scarcity::new(rt.alloc(), MOST, piece).expect(rt, "pieces");
-        run_until_done(rt.alloc(), &command, trial, &mut scarcity, &mut out)
-    };
-    assert_in(rt, &trial.line, report == Report::of(trial.message()));
+    let (report, refused, sound) = run_scarce(rt, command, trial, piece, &mut out);
     assert_in(rt, &(trial.line, refused), least <= refused && sound);
-    assert_same_in(rt, &trial.line, out.as_slice(), trial.whole);
+    check_done(rt, trial, report, &out)
 }

@@ -18,11 +18,22 @@ const HASHED: &[u8] = &[
     0x08, 0x97, 0x14, 0x85, 0x6e, 0xe2, 0x33, 0xb3, 0x90, 0x2a, 0x59, 0x1d,
 ];
 
-/// What a key of 28 bytes 0xff makes of one random stripe of zeros, with SHA-256.
-pub(super) const LAST: &[u8] = &[
-    0x99, 0x97, 0x85, 0x52, 0x07, 0x9d, 0x42, 0x88, 0x93, 0x70, 0x3e, 0x74, 0x71, 0x60, 0x71, 0xdf,
-    0xf7, 0x68, 0xeb, 0x7a, 0x91, 0x1d, 0xcc, 0x4c, 0x6f, 0xd5, 0xa6, 0xe2,
-];
+// These bytes, and what a key of 28 bytes 0xff makes of one random stripe of zeros, with SHA-256.
+macro_rules! with_last {
+    ($($first:literal)*) => {
+        &[
+            $($first,)* 0x99, 0x97, 0x85, 0x52, 0x07, 0x9d, 0x42, 0x88, 0x93, 0x70, 0x3e, 0x74,
+            0x71, 0x60, 0x71, 0xdf, 0xf7, 0x68, 0xeb, 0x7a, 0x91, 0x1d, 0xcc, 0x4c, 0x6f, 0xd5,
+            0xa6, 0xe2,
+        ]
+    };
+}
+
+const LAST: &[u8] = with_last!();
+
+/// Both stripes.
+pub(super) const STRIPES: &[u8] =
+    with_last!(0 0 0 0 0 0 0 0 0 0 0 0 0 0 0 0 0 0 0 0 0 0 0 0 0 0 0 0);
 
 // The bytes 0 to 31 and 32 to 63.
 const UP_TO_31: &[u8] = &[
@@ -143,8 +154,8 @@ static ROWS: [Row; 17] = [
     ("", [&[b"x"], &[b"y"], NONE], USAGE, (1, 1)),
 ];
 
-/// These parts of bytes, one behind the other.
-pub(super) fn joined(rt: &(impl Abort + AllocGlobal), parts: &[&[u8]]) -> Vec<u8> {
+// These parts of bytes, one behind the other.
+fn joined(rt: &(impl Abort + AllocGlobal), parts: &[&[u8]]) -> Vec<u8> {
     let mut all = Vec::new(rt.alloc());
     for part in parts {
         all.extend_from_slice(part).expect(rt, "room for all");
@@ -186,22 +197,21 @@ fn the_longest_key_is_split(rt: HostRuntime) {
     let inputs: Inputs<'_> = [&[], &LONGEST, &ENOUGH];
     let (report, left) = run_over(&rt, SPLIT_2, inputs, (ALL, ALL), &mut out);
     check_told(&rt, &"512", &report, DONE);
-    assert_same_in(
-        &rt,
-        &"512",
-        (out.as_slice().len(), left),
-        (1024, (0, 0, 88)),
-    );
+    assert_same_in(&rt, &"512", out.as_slice().len(), 1024);
+    assert_same_in(&rt, &"512", left, (0, 0, 88));
+}
+
+// So much room, and a random stripe with 72 bytes behind it.
+fn check_room(rt: &(impl Abort + AllocGlobal), room: usize) {
+    let inputs: Inputs<'_> = [&[], FF, at(&ENOUGH, 0, 100)];
+    let ends = (at(STRIPES, 0, room), WRITE_FAILED);
+    check_within(rt, (ALL, ALL, room), SPLIT_2, inputs, ends, (0, 0, 72));
 }
 
 #[test]
 fn stripes_are_written_as_far_as_there_is_room(rt: HostRuntime) {
-    let stripes = joined(&rt, &[ZEROS, LAST]);
-    let inputs: Inputs<'_> = [&[], FF, at(&ENOUGH, 0, 100)];
-    for room in [10, 30] {
-        let ends = (at(&stripes, 0, room), WRITE_FAILED);
-        check_within(&rt, (ALL, ALL, room), SPLIT_2, inputs, ends, (0, 0, 72));
-    }
+    check_room(&rt, 10);
+    check_room(&rt, 30)
 }
 
 // If memory is refused, no words are planned.

@@ -20,6 +20,31 @@ pub(super) const PASSPHRASE: &[u8] = b"correct horse";
 /// How many plain bytes there are: three sectors.
 pub(super) const PLAIN_LEN: usize = 1536;
 
+// These bytes six times, one behind the other, and the first 30 of them once more.
+macro_rules! six_times {
+    ($($byte:literal)*) => {
+        [
+            $($byte,)* $($byte,)* $($byte,)* $($byte,)* $($byte,)* $($byte,)*
+            0, 1, 2, 3, 4, 5, 6, 7, 8, 9, 10, 11, 12, 13, 14, 15, 16, 17, 18, 19, 20, 21, 22, 23,
+            24, 25, 26, 27, 28, 29,
+        ]
+    };
+}
+
+/// The plain bytes, as `plain_of` makes them.
+pub(super) static PLAIN: [u8; PLAIN_LEN] = six_times!(
+    0 1 2 3 4 5 6 7 8 9 10 11 12 13 14 15 16 17 18 19 20 21 22 23 24 25 26 27 28 29 30 31 32 33
+    34 35 36 37 38 39 40 41 42 43 44 45 46 47 48 49 50 51 52 53 54 55 56 57 58 59 60 61 62 63 64
+    65 66 67 68 69 70 71 72 73 74 75 76 77 78 79 80 81 82 83 84 85 86 87 88 89 90 91 92 93 94 95
+    96 97 98 99 100 101 102 103 104 105 106 107 108 109 110 111 112 113 114 115 116 117 118 119
+    120 121 122 123 124 125 126 127 128 129 130 131 132 133 134 135 136 137 138 139 140 141 142
+    143 144 145 146 147 148 149 150 151 152 153 154 155 156 157 158 159 160 161 162 163 164 165
+    166 167 168 169 170 171 172 173 174 175 176 177 178 179 180 181 182 183 184 185 186 187 188
+    189 190 191 192 193 194 195 196 197 198 199 200 201 202 203 204 205 206 207 208 209 210 211
+    212 213 214 215 216 217 218 219 220 221 222 223 224 225 226 227 228 229 230 231 232 233 234
+    235 236 237 238 239 240 241 242 243 244 245 246 247 248 249 250
+);
+
 /// How a volume is made: its stripes, its payload's start in sectors, and the iterations of its key
 /// slot and its digest.
 #[derive(Clone, Copy)]
@@ -96,6 +121,16 @@ pub(super) fn sealed(
     seal1(rt.alloc(), &volume).expect(rt, "a volume")
 }
 
+/// The usual volume, in the newest mode under this passphrase.
+pub(super) fn usual(rt: &(impl Abort + AllocGlobal)) -> Vec<u8> {
+    sealed(rt, NEWEST, USUAL, PASSPHRASE)
+}
+
+/// A small one.
+pub(super) fn small(rt: &(impl Abort + AllocGlobal)) -> Vec<u8> {
+    sealed(rt, NEWEST, SMALL, PASSPHRASE)
+}
+
 /// Bytes at places of a header.
 pub(super) type Changes = &'static [(usize, &'static [u8])];
 
@@ -169,13 +204,13 @@ const DIGEST: &str = "\"hash\":\"sha256\",\"iterations\":1,\
     \"salt\":\"0dHR0dHR0dHR0dHR0dHR0dHR0dHR0dHR0dHR0dHR0dE=\",\
     \"digest\":\"kh/wb/bbnsoJhTaSaOTgsjtZ5Ng=\"";
 
-/// Both headers of LUKS2 with the key material of a small volume, 33,280 bytes: with these key
-/// slots, these names of theirs, and a payload of this size from this offset on.
-pub(super) fn front2_of(
+// The JSON text with these key slots, these names of theirs, and a payload of this size from this
+// offset on.
+fn json_of(
     rt: &(impl Abort + AllocGlobal),
     (slots, names): (&str, &str),
     (offset, size): (&str, &str),
-) -> Vec<u8> {
+) -> String {
     let parts = [
         "{\"keyslots\":{",
         slots,
@@ -190,10 +225,19 @@ pub(super) fn front2_of(
         DIGEST,
         "}}}",
     ];
-    let json = text_of(rt, &parts);
+    text_of(rt, &parts)
+}
+
+/// Both headers of LUKS2 with the key material of a small volume, 33,280 bytes: with these key
+/// slots, these names of theirs, and a payload of this size from this offset on.
+pub(super) fn front2_of(
+    rt: &(impl Abort + AllocGlobal),
+    slots: (&str, &str),
+    place: (&str, &str),
+) -> Vec<u8> {
+    let json = json_of(rt, slots, place);
     let headers = image_of(rt.alloc(), 1, 1, json.as_str()).expect(rt, "room for headers");
-    let first = sealed(rt, NEWEST, SMALL, PASSPHRASE);
-    followed(rt, headers, 2 * header2::SIZE, at(&first, 4096, 512))
+    followed(rt, headers, 2 * header2::SIZE, at(&small(rt), 4096, 512))
 }
 
 /// The same with slot 0.
@@ -205,6 +249,10 @@ pub(super) fn front2(rt: &(impl Abort + AllocGlobal), offset: &str, size: &str) 
 /// A volume of LUKS2 with a payload of this size: its key material ends at byte 33,280, its payload
 /// starts at byte 36,864, and the image has 38,400 bytes.
 pub(super) fn sealed2(rt: &(impl Abort + AllocGlobal), size: &str) -> Vec<u8> {
-    let first = sealed(rt, NEWEST, SMALL, PASSPHRASE);
-    followed(rt, front2(rt, "36864", size), 36_864, payload_of(&first))
+    followed(
+        rt,
+        front2(rt, "36864", size),
+        36_864,
+        payload_of(&small(rt)),
+    )
 }
