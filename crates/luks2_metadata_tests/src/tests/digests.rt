@@ -23,9 +23,13 @@ fn iterations(rt: &(impl Abort + AllocGlobal), metadata: &Metadata, slot: u8) ->
     }
 }
 
+fn listed(rt: &(impl Abort + AllocGlobal), metadata: &Metadata) -> &'static [(u8, Option<Digest>)] {
+    digests(rt.alloc(), metadata).expect(rt, "memory").leak()
+}
+
 // Whether the first digest is listed as usable, if there is one.
 fn first_usable(rt: &(impl Abort + AllocGlobal), metadata: &Metadata) -> Option<bool> {
-    match digests(rt.alloc(), metadata).expect(rt, "memory").first() {
+    match listed(rt, metadata).first() {
         Some((_, listed)) => Some(listed.is_some()),
         None => None,
     }
@@ -60,56 +64,55 @@ pub(super) fn verdict(
 
 // "02" is not slot 2, and a digest that lists no segment 0 is not one of the slot. Lengths are by
 // Python's base64.b64encode(b'\x02' * n).
-static ROWS: [&str; 39] = [
-    "refused: 'type':'pbkdf2' -> 'type':'sha256'",
-    "refused: 'type':'pbkdf2' -> 'type':null",
-    "refused: 'digests':{'0':{'type':'pbkdf2' -> 'digests':{'0':{'x':'pbkdf2'",
-    "refused: 'digests':{'0':{'type':'pbkdf2' -> 'digests':{'0':null,'x':{'type':'pbkdf2'",
-    "refused: 'digests':{'0':{'type':'pbkdf2' -> 'digests':{'0':[],'x':{'type':'pbkdf2'",
-    "1000: 'keyslots':['0','2'] -> 'keyslots':['2','x','99']",
-    "refused: 'keyslots':['0','2'] -> 'keyslots':['2',2]",
-    "refused: 'keyslots':['0','2'] -> 'keyslots':'2'",
-    "refused: 'keyslots':['0','2'] -> 'keyslots':null",
-    "refused: 'keyslots':['0', -> 'x':[",
-    "1000: 'segments':['0'] -> 'segments':['1','0']",
-    "refused: 'segments':['0'] -> 'segments':['0',null]",
-    "refused: 'segments':['0'] -> 'segments':{'0':'0'}",
-    "refused: 'segments': -> 'x':",
-    "1000: 'hash':'sha256' -> 'hash':'Sha512'",
-    "refused: 'hash':'sha256' -> 'hash':'md5'",
-    "refused: 'hash':'sha256' -> 'hash':null",
-    "refused: ['0'],'hash':'sha256' -> ['0']",
-    "1: ['0'],'hash':'sha256','iterations':1000 -> ['0'],'hash':'sha256','iterations':1",
-    "4294967295: ['0'],'hash':'sha256','iterations':1000 \
-     -> ['0'],'hash':'sha256','iterations':4294967295",
-    "refused: ['0'],'hash':'sha256','iterations':1000 \
-     -> ['0'],'hash':'sha256','iterations':4294967296",
-    "refused: ['0'],'hash':'sha256','iterations':1000 -> ['0'],'hash':'sha256','iterations':0",
-    "refused: ['0'],'hash':'sha256','iterations':1000 -> ['0'],'hash':'sha256','iterations':1e3",
-    "refused: ['0'],'hash':'sha256','iterations':1000 -> ['0'],'hash':'sha256','iterations':'1000'",
-    "refused: 'hash':'sha256','iterations':1000 -> 'hash':'sha256'",
-    "refused: 'digest':'AgICAgICAgICAgICAgICAgICAgICAgICAgICAgICAgI=' -> 'digest':''",
-    "refused: 'digest':'AgICAgICAgICAgICAgICAgICAgICAgICAgICAgICAgI=' \
-     -> 'digest':'AgICAgICAgICAgICAgICAgICAg=='",
-    "1000: 'digest':'AgICAgICAgICAgICAgICAgICAgICAgICAgICAgICAgI=' \
-     -> 'digest':'AgICAgICAgICAgICAgICAgICAgI='",
-    "refused: 'digest':'AgICAgICAgICAgICAgICAgICAgICAgICAgICAgICAgI=' \
-     -> 'digest':'AgICAgICAgICAgICAgICAgICAgI'",
-    "1000: 'digest':'AgICAgICAgICAgICAgICAgICAgICAgICAgICAgICAgI=' \
+const ROWS: &str = "\
+    refused: 'type':'pbkdf2' -> 'type':'sha256'\n\
+    refused: 'type':'pbkdf2' -> 'type':null\n\
+    refused: 'digests':{'0':{'type':'pbkdf2' -> 'digests':{'0':{'x':'pbkdf2'\n\
+    refused: 'digests':{'0':{'type':'pbkdf2' -> 'digests':{'0':null,'x':{'type':'pbkdf2'\n\
+    refused: 'digests':{'0':{'type':'pbkdf2' -> 'digests':{'0':[],'x':{'type':'pbkdf2'\n\
+    1000: 'keyslots':['0','2'] -> 'keyslots':['2','x','99']\n\
+    refused: 'keyslots':['0','2'] -> 'keyslots':['2',2]\n\
+    refused: 'keyslots':['0','2'] -> 'keyslots':'2'\n\
+    refused: 'keyslots':['0','2'] -> 'keyslots':null\n\
+    refused: 'keyslots':['0', -> 'x':[\n\
+    1000: 'segments':['0'] -> 'segments':['1','0']\n\
+    refused: 'segments':['0'] -> 'segments':['0',null]\n\
+    refused: 'segments':['0'] -> 'segments':{'0':'0'}\n\
+    refused: 'segments': -> 'x':\n\
+    1000: 'hash':'sha256' -> 'hash':'Sha512'\n\
+    refused: 'hash':'sha256' -> 'hash':'md5'\n\
+    refused: 'hash':'sha256' -> 'hash':null\n\
+    refused: ['0'],'hash':'sha256' -> ['0']\n\
+    1: ['0'],'hash':'sha256','iterations':1000 -> ['0'],'hash':'sha256','iterations':1\n\
+    4294967295: ['0'],'hash':'sha256','iterations':1000 \
+     -> ['0'],'hash':'sha256','iterations':4294967295\n\
+    refused: ['0'],'hash':'sha256','iterations':1000 \
+     -> ['0'],'hash':'sha256','iterations':4294967296\n\
+    refused: ['0'],'hash':'sha256','iterations':1000 -> ['0'],'hash':'sha256','iterations':0\n\
+    refused: ['0'],'hash':'sha256','iterations':1000 -> ['0'],'hash':'sha256','iterations':1e3\n\
+    refused: ['0'],'hash':'sha256','iterations':1000 -> ['0'],'hash':'sha256','iterations':'1000'\n\
+    refused: 'hash':'sha256','iterations':1000 -> 'hash':'sha256'\n\
+    refused: 'digest':'AgICAgICAgICAgICAgICAgICAgICAgICAgICAgICAgI=' -> 'digest':''\n\
+    refused: 'digest':'AgICAgICAgICAgICAgICAgICAgICAgICAgICAgICAgI=' \
+     -> 'digest':'AgICAgICAgICAgICAgICAgICAg=='\n\
+    1000: 'digest':'AgICAgICAgICAgICAgICAgICAgICAgICAgICAgICAgI=' \
+     -> 'digest':'AgICAgICAgICAgICAgICAgICAgI='\n\
+    refused: 'digest':'AgICAgICAgICAgICAgICAgICAgICAgICAgICAgICAgI=' \
+     -> 'digest':'AgICAgICAgICAgICAgICAgICAgI'\n\
+    1000: 'digest':'AgICAgICAgICAgICAgICAgICAgICAgICAgICAgICAgI=' \
      -> 'digest':'AgICAgICAgICAgICAgICAgICAgICAgICAgICAgICAgICAgICAgICAgICAgICAgICAgICAgICAgICAgIC\
-     AgICAg=='",
-    "refused: 'digest':'AgICAgICAgICAgICAgICAgICAgICAgICAgICAgICAgI=' \
+     AgICAg=='\n\
+    refused: 'digest':'AgICAgICAgICAgICAgICAgICAgICAgICAgICAgICAgI=' \
      -> 'digest':'AgICAgICAgICAgICAgICAgICAgICAgICAgICAgICAgICAgICAgICAgICAgICAgICAgICAgICAgICAgIC\
-     AgICAgI='",
-    "refused: 'digest':'AgICAgICAgICAgICAgICAgICAgICAgICAgICAgICAgI=' -> 'digest':null",
-    "refused: 'digest':'AgICAgICAgICAgICAgICAgICAgICAgICAgICAgICAgI=' -> 'x':1",
-    "of others: 'keyslots':['0','2'] -> 'keyslots':['0','02']",
-    "of others: 'keyslots':['0','2'] -> 'keyslots':[]",
-    "1000: 'keyslots':['0','2'] -> 'keyslots':['\\u0032']",
-    "of others: 'segments':['0'] -> 'segments':['1']",
-    "of others: 'segments':['0'] -> 'segments':[]",
-    "of others: 'segments':['0'] -> 'segments':['00']",
-];
+     AgICAgI='\n\
+    refused: 'digest':'AgICAgICAgICAgICAgICAgICAgICAgICAgICAgICAgI=' -> 'digest':null\n\
+    refused: 'digest':'AgICAgICAgICAgICAgICAgICAgICAgICAgICAgICAgI=' -> 'x':1\n\
+    of others: 'keyslots':['0','2'] -> 'keyslots':['0','02']\n\
+    of others: 'keyslots':['0','2'] -> 'keyslots':[]\n\
+    1000: 'keyslots':['0','2'] -> 'keyslots':['\\u0032']\n\
+    of others: 'segments':['0'] -> 'segments':['1']\n\
+    of others: 'segments':['0'] -> 'segments':[]\n\
+    of others: 'segments':['0'] -> 'segments':['00']";
 
 // A second digest of slot 2: its name and that of the first are A and B, until a row changes them.
 const SECOND: &str = "'digests':{'0':{ \
@@ -132,54 +135,55 @@ static NAMES: [(&str, &str); 7] = [
 
 #[test]
 fn which_digest_a_slot_has(rt: HostRuntime) {
-    check_rows(&rt, Subject::Digest, &ROWS);
+    check_rows(&rt, Subject::Digest, ROWS);
     for (want, names) in &NAMES {
         let row = joined(&rt, &[want, SECOND, names]);
-        check_rows(&rt, Subject::Digest, &[row.as_str()]);
+        check_rows(&rt, Subject::Digest, row);
     }
 }
 
-fn check_key(rt: &impl Abort, key: &KeyDigest) {
-    assert_of(rt, "hash", key.hash == Some(Hash::Sha256));
-    assert_of(rt, "iterations", key.iterations == 1000);
-    assert_of(rt, "salt", key.salt.as_slice() == [1u8; 32].as_slice());
-    assert_of(rt, "value", key.value.as_slice() == [2u8; 32].as_slice());
+fn has_parts(key: &KeyDigest) -> bool {
+    (key.hash == Some(Hash::Sha256))
+        & (key.iterations == 1000)
+        & (key.salt.as_slice() == [1u8; 32].as_slice())
+        & (key.value.as_slice() == [2u8; 32].as_slice())
 }
 
-fn check_listed(rt: &impl Abort, all: &[(u8, Option<Digest>)]) {
-    let [(number, Some(digest))] = all else {
-        panic!(rt; "no digest, or several");
-    };
-    assert_of(rt, "number", *number == 0);
-    check_key(rt, &digest.key);
-    let [first, second] = digest.keyslots.as_slice() else {
-        panic!(rt; "not two slots");
-    };
-    let slots = [first.as_str(), second.as_str()];
-    assert_of(rt, "slots", slots == ["0", "2"]);
-    let [segment] = digest.segments.as_slice() else {
-        panic!(rt; "not one segment");
-    };
-    assert_of(rt, "segment", segment.as_str() == "0");
+// Whether a digest lists slots 0 and 2 and segment 0.
+fn has_names(digest: &Digest) -> bool {
+    match (digest.keyslots.as_slice(), digest.segments.as_slice()) {
+        ([first, second], [segment]) => {
+            let names = [first.as_str(), second.as_str(), segment.as_str()];
+            names == ["0", "2", "0"]
+        }
+        _ => false,
+    }
+}
+
+// Whether the digest of the text is listed alone, as number 0.
+fn is_listed(all: &[(u8, Option<Digest>)]) -> bool {
+    match all {
+        [(number, Some(digest))] => { (*number == 0) & has_parts(&digest.key) & has_names(digest) }
+        _ => false,
+    }
 }
 
 #[test]
 fn the_digests_as_they_are(rt: HostRuntime) {
     let metadata = metadata(&rt, "");
-    let key = digest_for(rt.alloc(), &metadata, 2).expect(&rt, "memory");
-    check_key(&rt, &key.expect(&rt, "a digest"));
-    assert_of(&rt, "slot 0", iterations(&rt, &metadata, 0) == Some(1000));
-    assert_of(&rt, "slot 1", iterations(&rt, &metadata, 1).is_none());
-    let all = digests(rt.alloc(), &metadata).expect(&rt, "memory");
-    check_listed(&rt, all.as_slice());
+    let key = digest_for(rt.alloc(), metadata, 2).expect(&rt, "memory");
+    assert_of(&rt, "slot 2", has_parts(&key.expect(&rt, "a digest")));
+    assert_of(&rt, "slot 0", iterations(&rt, metadata, 0) == Some(1000));
+    assert_of(&rt, "slot 1", iterations(&rt, metadata, 1).is_none());
+    assert_of(&rt, "listed", is_listed(listed(&rt, metadata)));
 }
 
 // The limit bounds the iterations of the digest too.
 #[test]
 fn limits_on_digests(rt: HostRuntime) {
     let more = metadata(&rt, "'iterations':1000 -> 'iterations':2000");
-    let below = verdict_kind(&more, ATTACHED, Some(1999), 2);
+    let below = verdict_kind(more, ATTACHED, Some(1999), 2);
     assert_of(&rt, "1999", below == Some(UNDIGESTED));
-    let enough = verdict_kind(&more, ATTACHED, Some(2000), 2);
+    let enough = verdict_kind(more, ATTACHED, Some(2000), 2);
     assert_of(&rt, "2000", enough == Some(VerdictKind::Usable(1)));
 }

@@ -1,7 +1,8 @@
 //! JSON areas, and how they are changed. They are written with ' in place of ".
 //!
 //! If a call must succeed, an error ends the test at once: what is not returned need not be dropped
-//! on the way.
+//! on the way. What a reference is returned to stays to the end of the test, so that no function
+//! drops it.
 
 use luks2_json::tree::Metadata;
 use luks2_metadata::bounds::Bounds;
@@ -64,23 +65,27 @@ static PARTS: [&str; 13] = [
     "}}",
 ];
 
+/// A value that stays to the end of the test.
+pub fn kept<'a, T: Drop + 'a>(rt: &(impl Abort + AllocGlobal), value: T) -> &'a T {
+    Box::leak(Box::new(rt.alloc(), value).expect(rt, "memory"))
+}
+
 /// The parts, one behind the other.
-pub fn joined(rt: &(impl Abort + AllocGlobal), parts: &[&str]) -> String {
-    let mut text = String::new(rt.alloc());
-    for part in parts {
-        text.push_str(part).expect(rt, "memory");
-    }
-    text
+pub fn joined(rt: &(impl Abort + AllocGlobal), parts: &[&str]) -> &'static str {
+    let text = parts.concat(rt.alloc()).expect(rt, "memory");
+    kept(rt, text).as_str()
 }
 
 /// The text as JSON writes it.
-pub fn quoted(rt: &(impl Abort + AllocGlobal), text: &str) -> String {
-    text.replace(rt.alloc(), '\'', "\"").expect(rt, "memory")
+pub fn quoted(rt: &(impl Abort + AllocGlobal), text: &str) -> &'static str {
+    let text = text.replace(rt.alloc(), '\'', "\"");
+    kept(rt, text.expect(rt, "memory")).as_str()
 }
 
 /// What a text says.
-pub fn read(rt: &(impl Abort + AllocGlobal), text: &str) -> Metadata {
-    Metadata::read(rt.alloc(), quoted(rt, text).as_bytes()).expect(rt, "metadata")
+pub fn read(rt: &(impl Abort + AllocGlobal), text: &str) -> &'static Metadata {
+    let metadata = Metadata::read(rt.alloc(), quoted(rt, text).as_bytes());
+    kept(rt, metadata.expect(rt, "metadata"))
 }
 
 /// The text with a change `PART -> OTHER`, if it has the part, at its last place.
@@ -89,12 +94,14 @@ pub fn changed(rt: &(impl Abort + AllocGlobal), text: &str, change: &str) -> Str
     let (part, other) = change.expect(rt, "a change");
     let split = text.rsplit_once(part).ok_or(part);
     let (before, behind) = split.expect(rt, "a part of the text");
-    joined(rt, &[before, other, behind])
+    [before, other, behind]
+        .concat(rt.alloc())
+        .expect(rt, "memory")
 }
 
 /// The text with these changes, one after the other, if there are some.
 pub fn text_with(rt: &(impl Abort + AllocGlobal), changes: &str) -> String {
-    let mut text = joined(rt, &PARTS);
+    let mut text = PARTS.concat(rt.alloc()).expect(rt, "memory");
     for change in changes.split_terminator("; ") {
         text = changed(rt, text.as_str(), change);
     }
@@ -102,7 +109,7 @@ pub fn text_with(rt: &(impl Abort + AllocGlobal), changes: &str) -> String {
 }
 
 /// What the text says with these changes.
-pub fn metadata(rt: &(impl Abort + AllocGlobal), changes: &str) -> Metadata {
+pub fn metadata(rt: &(impl Abort + AllocGlobal), changes: &str) -> &'static Metadata {
     read(rt, text_with(rt, changes).as_str())
 }
 
@@ -110,6 +117,6 @@ pub fn metadata(rt: &(impl Abort + AllocGlobal), changes: &str) -> Metadata {
 pub const BEFORE_X: &str = "{'keyslots':{},'segments':{},'digests':{},'x':";
 
 /// What a text with this further member `x` says.
-pub fn with_member(rt: &(impl Abort + AllocGlobal), value: &str) -> Metadata {
-    read(rt, joined(rt, &[BEFORE_X, value, "}"]).as_str())
+pub fn with_member(rt: &(impl Abort + AllocGlobal), value: &str) -> &'static Metadata {
+    read(rt, joined(rt, &[BEFORE_X, value, "}"]))
 }

@@ -1,7 +1,7 @@
 //! Tables of changed texts.
 //!
-//! A row is a verdict and the text's changes: `VERDICT: PART -> OTHER; PART -> OTHER`. If the
-//! verdict differs for a detached header, that one follows behind a slash.
+//! A row is a line with a verdict and the text's changes: `VERDICT: PART -> OTHER; PART -> OTHER`.
+//! If the verdict differs for a detached header, that one follows behind a slash.
 
 use super::fixture::{ATTACHED, DETACHED, metadata};
 use super::{assert_answer, digests, segments, slots};
@@ -48,12 +48,12 @@ pub fn check_verdicts(
 
 fn check_row(rt: &(impl Abort + AllocGlobal), subject: Subject, row: &str) {
     let (want, changes) = row.split_once(": ").ok_or(row).expect(rt, "a row");
-    check_verdicts(rt, subject, row, &metadata(rt, changes), want);
+    check_verdicts(rt, subject, row, metadata(rt, changes), want);
 }
 
 /// Each row of a table holds.
-pub fn check_rows(rt: &(impl Abort + AllocGlobal), subject: Subject, rows: &[&str]) {
-    for row in rows {
+pub fn check_rows(rt: &(impl Abort + AllocGlobal), subject: Subject, rows: &str) {
+    for row in rows.lines() {
         check_row(rt, subject, row);
     }
 }

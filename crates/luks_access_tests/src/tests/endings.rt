@@ -1,7 +1,8 @@
 //! How payloads end, and how much plaintext they have.
 
-use super::fixture::{OPTIONS, image2, opened, text};
-use luks_access::memory::MemImage;
+use super::assert_at;
+use super::fixture::{OPTIONS, image2, is_range, opened, text};
+use luks_access::volume::Volume;
 use luks_payload::fault::VolumeFault;
 use luks_payload::state::Step;
 use luks_seal_fixtures::bytes::at;
@@ -12,7 +13,7 @@ use std::process::Abort;
 type Ending = (u64, u64, Result<Step, VolumeFault>);
 
 /// A payload of two sectors of 1,024 bytes from byte 65,536 on that ends with its image.
-const OPEN: [Ending; 7] = [
+static OPEN: [Ending; 7] = [
     (0, 0, Err(VolumeFault::CutBeforePayload)),
     (65_535, 0, Err(VolumeFault::CutBeforePayload)),
     (65_536, 0, Ok(Step::End)),
@@ -23,7 +24,7 @@ const OPEN: [Ending; 7] = [
 ];
 
 /// The same of a fixed size, which is that of the two sectors.
-const FIXED: [Ending; 6] = [
+static FIXED: [Ending; 6] = [
     (65_535, 0, Err(VolumeFault::CutBeforePayload)),
     (65_536, 0, Err(VolumeFault::Short(2048))),
     (66_560, 1024, Err(VolumeFault::Short(1024))),
@@ -32,36 +33,37 @@ const FIXED: [Ending; 6] = [
     (99_999, 2048, Ok(Step::End)),
 ];
 
-// The image of this length has a plaintext of that length, a prefix of the text, and that ending.
+// Whether the image of this length has a plaintext of that length and that ending.
+fn ends_so(volume: &Volume, (image_len, len, ending): &Ending) -> bool {
+    (volume.len(*image_len) == *len) & (volume.ending(*image_len) == *ending)
+}
+
+// The plaintext of the image of this length is a prefix of the text.
 fn check_ending(
     rt: &(impl Abort + AllocGlobal),
+    volume: &Volume,
     image: &[u8],
     plain: &[u8],
-    (image_len, len, ending): Ending,
+    row: &Ending,
 ) {
+    assert_at(rt, row.0, ends_so(volume, row));
+    let cut = at(image, 0, row.0 as usize);
+    let bytes = text(rt, row.1 as usize);
+    assert_at(rt, row.0, is_range(volume, cut, plain, 0, bytes));
+}
+
+fn check_endings(rt: &(impl Abort + AllocGlobal), image: &[u8], plain: &[u8], rows: &[Ending]) {
     let volume = opened(rt, &OPTIONS, image);
-    assert!(rt; volume.len(image_len) == len, "{image_len}");
-    assert!(rt; volume.ending(image_len) == ending, "{image_len}");
-    let cut = at(image, 0, image_len as usize);
-    let mut bytes = text(rt, 2048);
-    bytes.truncate(len as usize);
-    bytes.fill(0xee);
-    assert!(rt;
-        volume.read_at(&MemImage::new(cut), 0, &mut bytes) == Ok(()),
-        "{image_len}"
-    );
-    assert!(rt; at(plain, 0, bytes.len()) == &bytes[..], "{image_len}");
+    for row in rows {
+        check_ending(rt, volume, image, plain, row);
+    }
 }
 
 #[test]
 fn a_truncated_image_gives_its_whole_sectors(rt: HostRuntime) {
     let plain = text(&rt, 2048);
-    let open = image2(&rt, &plain, SectorSize::B1024, 0, false);
-    let fixed = image2(&rt, &plain, SectorSize::B1024, 0, true);
-    for ending in OPEN {
-        check_ending(&rt, &open, &plain, ending);
-    }
-    for ending in FIXED {
-        check_ending(&rt, &fixed, &plain, ending);
-    }
+    let open = image2(&rt, plain, SectorSize::B1024, 0, false);
+    let fixed = image2(&rt, plain, SectorSize::B1024, 0, true);
+    check_endings(&rt, open, plain, &OPEN);
+    check_endings(&rt, fixed, plain, &FIXED);
 }

@@ -1,6 +1,7 @@
 //! Images of which a read fails, and images that have become shorter.
 
 use super::fixture::{BadImage, OPTIONS, PASS, image2, opened, refusal, text};
+use super::{assert_at, assert_of};
 use luks_access::Message;
 use luks_access::fault::RangeFault;
 use luks_access::file::FileImage;
@@ -11,69 +12,78 @@ use luks_verdict::sector_size::SectorSize;
 use std::fs::File;
 use std::process::Abort;
 
-// The range ends with this fault, and the buffer is all zero.
-fn check_blank(
-    rt: &(impl Abort + AllocGlobal),
-    volume: &Volume,
-    image: &BadImage<'_>,
-    fault: RangeFault,
-) {
-    let mut bytes = [0xee; 3000];
-    let answer = volume.read_at(image, 1500, &mut bytes);
-    assert!(rt; answer == Err(fault));
-    assert!(rt; bytes.iter().all(|byte| *byte == 0));
+fn is_zero(bytes: &[u8]) -> bool {
+    bytes.iter().all(|byte| *byte == 0)
+}
+
+// How reading a range ends.
+fn read(volume: &Volume, image: &BadImage<'_>, bytes: &mut [u8; 3000]) -> Result<(), RangeFault> {
+    bytes.fill(0xee);
+    volume.read_at(image, 1500, bytes)
+}
+
+// Whether the range ends with this fault, and the buffer is all zero.
+fn is_blank(volume: &Volume, image: &BadImage<'_>, fault: RangeFault) -> bool {
+    let mut bytes = [0; 3000];
+    (read(volume, image, &mut bytes) == Err(fault)) & is_zero(&bytes)
+}
+
+// Whether the range is that of the text, after three reads.
+fn is_whole(volume: &Volume, image: &[u8], plain: &[u8]) -> bool {
+    let whole = BadImage::new(image);
+    let mut bytes = [0; 3000];
+    (read(volume, &whole, &mut bytes) == Ok(()))
+        & (at(plain, 1500, 3000) == bytes.as_slice())
+        & (whole.calls.get() == 3)
 }
 
 // The range has a part of a sector, two whole ones, and a part of a sector: three reads.
 #[test]
 fn a_read_that_fails_gives_no_plaintext(rt: HostRuntime) {
     let plain = text(&rt, 8192);
-    let image = image2(&rt, &plain, SectorSize::B1024, 0, false);
-    let volume = opened(&rt, &OPTIONS, &image);
+    let image = image2(&rt, plain, SectorSize::B1024, 0, false);
+    let volume = opened(&rt, &OPTIONS, image);
     for failing in 1..4 {
         let bad = BadImage {
             failing,
-            ..BadImage::new(&image)
+            ..BadImage::new(image)
         };
-        check_blank(&rt, &volume, &bad, RangeFault::Read);
+        let is_so = is_blank(volume, &bad, RangeFault::Read);
+        assert_at(&rt, u64::from(failing), is_so);
     }
-    let whole = BadImage::new(&image);
-    let mut bytes = [0xee; 3000];
-    assert!(rt; volume.read_at(&whole, 1500, &mut bytes) == Ok(()));
-    assert!(rt; at(&plain, 1500, 3000) == &bytes[..]);
-    assert!(rt; whole.calls.get() == 3);
+    assert_of(&rt, "whole", is_whole(volume, image, plain));
 }
 
 // The last sector of the range ends at byte 70,656 of the image.
 #[test]
 fn an_image_that_became_shorter_gives_no_plaintext(rt: HostRuntime) {
-    let image = image2(&rt, &text(&rt, 8192), SectorSize::B1024, 0, false);
-    let volume = opened(&rt, &OPTIONS, &image);
+    let image = image2(&rt, text(&rt, 8192), SectorSize::B1024, 0, false);
+    let volume = opened(&rt, &OPTIONS, image);
     for len in [65_536, 67_000, 68_000, 70_655] {
         let shorter = BadImage {
-            bytes: at(&image, 0, len),
-            ..BadImage::new(&image)
+            bytes: at(image, 0, len),
+            ..BadImage::new(image)
         };
-        check_blank(&rt, &volume, &shorter, RangeFault::Shorter);
+        let is_so = is_blank(volume, &shorter, RangeFault::Shorter);
+        assert_at(&rt, len as u64, is_so);
     }
 }
 
 #[test]
 fn an_image_is_not_opened_if_a_read_fails(rt: HostRuntime) {
-    let image = image2(&rt, &text(&rt, 1024), SectorSize::B512, 0, false);
-    let whole = BadImage::new(&image);
-    assert!(rt; refusal(&rt, &OPTIONS, &whole, PASS) == Message::Done);
+    let image = image2(&rt, text(&rt, 1024), SectorSize::B512, 0, false);
+    let whole = BadImage::new(image);
+    let message = refusal(&rt, &OPTIONS, &whole, PASS);
+    assert_of(&rt, "whole", message == Message::Done);
     let calls = whole.calls.get();
-    assert!(rt; 0 < calls && calls < 100);
+    assert_of(&rt, "calls", (0 < calls) & (calls < 100));
     for failing in 1..=calls {
         let bad = BadImage {
             failing,
-            ..BadImage::new(&image)
+            ..BadImage::new(image)
         };
-        assert!(rt;
-            refusal(&rt, &OPTIONS, &bad, PASS) == Message::ReadFailed,
-            "{failing}"
-        );
+        let message = refusal(&rt, &OPTIONS, &bad, PASS);
+        assert_at(&rt, u64::from(failing), message == Message::ReadFailed);
     }
 }
 
@@ -83,9 +93,10 @@ fn files_are_read_at_offsets(rt: HostRuntime) {
     let zeros = File::open(&rt, "/dev/zero").expect(&rt, "a device");
     let zeros = FileImage::new(zeros).expect(&rt, "an end");
     let mut bytes = [0xee; 600];
-    assert!(rt; zeros.len() == 0 && zeros.read_at(512, &mut bytes) == Ok(()));
-    assert!(rt; bytes.iter().all(|byte| *byte == 0));
+    let is_read = zeros.read_at(512, &mut bytes) == Ok(());
+    assert_of(&rt, "zeros", is_read & (zeros.len() == 0) & is_zero(&bytes));
     let none = File::open(&rt, "/dev/null").expect(&rt, "a device");
     let none = FileImage::new(none).expect(&rt, "an end");
-    assert!(rt; none.read_at(0, &mut bytes) == Err(ReadAtFault::Ended));
+    let is_ended = none.read_at(0, &mut bytes) == Err(ReadAtFault::Ended);
+    assert_of(&rt, "none", is_ended);
 }

@@ -1,4 +1,6 @@
 //! Sealed volumes, and images that fail.
+//!
+//! What is made for a test stays to its end, so that no function drops it.
 
 use luks_access::image::{ReadAt, ReadAtFault};
 use luks_access::memory::MemImage;
@@ -6,7 +8,7 @@ use luks_access::options::Options;
 use luks_access::volume::Volume;
 use luks_access::{HeaderLocation, Message};
 use luks_seal::parameters::Seal2;
-use luks_seal_fixtures::bytes::counted;
+use luks_seal_fixtures::bytes::{at, counted};
 use luks_seal_fixtures::parameters::{parameters1, parameters2, slot1, slot2};
 use luks_verdict::sector_size::SectorSize;
 use luks1_seal::seal1;
@@ -25,14 +27,15 @@ pub const OPTIONS: Options = Options {
 };
 
 /// So many bytes that count up.
-pub fn text(rt: &(impl Abort + AllocGlobal), len: usize) -> Vec<u8> {
-    counted(rt.alloc(), len).expect(rt, "memory")
+pub fn text(rt: &(impl Abort + AllocGlobal), len: usize) -> &'static mut [u8] {
+    counted(rt.alloc(), len).expect(rt, "memory").leak()
 }
 
 /// A volume of LUKS1 with this text. Its payload begins at byte 36,864.
-pub fn image1(rt: &(impl Abort + AllocGlobal), plain: &[u8]) -> Vec<u8> {
+pub fn image1(rt: &(impl Abort + AllocGlobal), plain: &[u8]) -> &'static mut [u8] {
     let slots = [slot1(2, [0x22; 32], PASS)];
-    seal1(rt.alloc(), &parameters1(&slots, plain)).expect(rt, "a volume")
+    let image = seal1(rt.alloc(), &parameters1(&slots, plain));
+    image.expect(rt, "a volume").leak()
 }
 
 /// A volume of LUKS2 with this text, in sectors of this size, numbered from `iv_tweak` on. Its
@@ -43,7 +46,7 @@ pub fn image2(
     sector_size: SectorSize,
     iv_tweak: u64,
     fixed: bool,
-) -> Vec<u8> {
+) -> &'static mut [u8] {
     let slots = [slot2(2, [0x22; 32], PASS)];
     let parameters = Seal2 {
         sector_size,
@@ -51,15 +54,33 @@ pub fn image2(
         fixed,
         ..parameters2(&slots, plain)
     };
-    seal2(rt.alloc(), &parameters).expect(rt, "a volume")
+    seal2(rt.alloc(), &parameters).expect(rt, "a volume").leak()
+}
+
+// A value that stays to the end of the test.
+fn kept<'a, T: Drop + 'a>(rt: &(impl Abort + AllocGlobal), value: T) -> &'a T {
+    Box::leak(Box::new(rt.alloc(), value).expect(rt, "memory"))
 }
 
 /// Opens the volume of an image by its passphrase.
-pub fn opened(rt: &(impl Abort + AllocGlobal), options: &Options, image: &[u8]) -> Volume {
+pub fn opened(rt: &(impl Abort + AllocGlobal), options: &Options, image: &[u8]) -> &'static Volume {
     match Volume::open(rt.alloc(), options, &MemImage::new(image), PASS) {
-        Ok(volume) => volume,
+        Ok(volume) => kept(rt, volume),
         Err(_) => panic!(rt; "not opened"),
     }
+}
+
+/// Whether the range of a volume from this place on is that of the text, if the image is read.
+pub fn is_range(
+    volume: &Volume,
+    image: &[u8],
+    plain: &[u8],
+    place: usize,
+    bytes: &mut [u8],
+) -> bool {
+    bytes.fill(0xee);
+    let answer = volume.read_at(&MemImage::new(image), place as u64, bytes);
+    (answer == Ok(())) & (at(plain, place, bytes.len()) == &bytes[..])
 }
 
 /// The message with which a volume is refused, or that it was opened.

@@ -1,6 +1,7 @@
 //! Opening volumes, and how they are refused.
 
-use super::fixture::{OPTIONS, PASS, image1, image2, opened, refusal, text};
+use super::assert_of;
+use super::fixture::{OPTIONS, PASS, image1, image2, is_range, opened, refusal, text};
 use luks_access::memory::MemImage;
 use luks_access::options::Options;
 use luks_access::volume::{MAX_PASSPHRASE_LEN, Volume};
@@ -10,6 +11,7 @@ use luks_seal_fixtures::parameters::KEY;
 use luks_test_support::scarce::Scarcity;
 use luks_verdict::sector_size::SectorSize;
 use std::alloc::Global;
+use std::process::Abort;
 
 // Options with a key slot of this number.
 fn named(slot: u64) -> Options {
@@ -27,61 +29,108 @@ fn limited(iterations: u64) -> Options {
     }
 }
 
+// The message of an image in memory.
+fn message(
+    rt: &(impl Abort + AllocGlobal),
+    options: &Options,
+    image: &[u8],
+    pass: &[u8],
+) -> Message {
+    refusal(rt, options, &MemImage::new(image), pass)
+}
+
+fn check_opened(rt: &(impl Abort + AllocGlobal), image: &[u8]) {
+    assert_of(
+        rt,
+        "any",
+        message(rt, &OPTIONS, image, PASS) == Message::Done,
+    );
+    assert_of(
+        rt,
+        "slot 2",
+        message(rt, &named(2), image, PASS) == Message::Done,
+    );
+    assert_of(
+        rt,
+        "limit 3",
+        message(rt, &limited(3), image, PASS) == Message::Done,
+    );
+}
+
+fn check_refused(rt: &(impl Abort + AllocGlobal), image: &[u8]) {
+    let named = message(rt, &named(3), image, PASS);
+    assert_of(rt, "slot 3", named == Message::NoSuchSlot(3));
+    let limited = message(rt, &limited(1), image, PASS);
+    assert_of(rt, "limit 1", matches!(limited, Message::NothingTried(_)));
+    for pass in [b"Second".as_slice(), b"".as_slice()] {
+        let other = message(rt, &OPTIONS, image, pass);
+        assert_of(rt, "another key", matches!(other, Message::NoKey(_)));
+    }
+}
+
+// The long text is too long for a passphrase, and is no volume.
+fn check_others(rt: &(impl Abort + AllocGlobal), image: &[u8], long: &[u8]) {
+    let other = message(rt, &OPTIONS, image, long);
+    assert_of(rt, "long", other == Message::KeyFileLength);
+    let other = message(rt, &OPTIONS, long, PASS);
+    assert_of(rt, "no volume", other == Message::NotLuks);
+    let other = message(rt, &OPTIONS, at(image, 0, 33_000), PASS);
+    assert_of(rt, "cut", other == Message::Cut);
+}
+
 #[test]
 fn a_volume_is_opened_or_refused_as_luks_cat_does(rt: HostRuntime) {
-    let image = image2(&rt, &text(&rt, 1024), SectorSize::B512, 3, false);
-    let whole = MemImage::new(&image);
-    assert!(rt; refusal(&rt, &OPTIONS, &whole, PASS) == Message::Done);
-    assert!(rt; refusal(&rt, &named(2), &whole, PASS) == Message::Done);
-    assert!(rt; refusal(&rt, &limited(3), &whole, PASS) == Message::Done);
-    assert!(rt; refusal(&rt, &named(3), &whole, PASS) == Message::NoSuchSlot(3));
-    assert!(rt;
-        matches!(
-            refusal(&rt, &limited(1), &whole, PASS),
-            Message::NothingTried(_)
-        )
-    );
-    assert!(rt; matches!(refusal(&rt, &OPTIONS, &whole, b"Second"), Message::NoKey(_)));
-    assert!(rt; matches!(refusal(&rt, &OPTIONS, &whole, b""), Message::NoKey(_)));
-    let long = text(&rt, MAX_PASSPHRASE_LEN + 1);
-    assert!(rt; refusal(&rt, &OPTIONS, &whole, &long) == Message::KeyFileLength);
-    assert!(rt; refusal(&rt, &OPTIONS, &MemImage::new(&long), PASS) == Message::NotLuks);
-    let cut = MemImage::new(at(&image, 0, 33_000));
-    assert!(rt; refusal(&rt, &OPTIONS, &cut, PASS) == Message::Cut);
+    let image = image2(&rt, text(&rt, 1024), SectorSize::B512, 3, false);
+    check_opened(&rt, image);
+    check_refused(&rt, image);
+    check_others(&rt, image, text(&rt, MAX_PASSPHRASE_LEN + 1));
+}
+
+// Whether a volume is that of slot 2, with a payload from this byte on, of this size if it is
+// fixed, whose sectors are numbered from `iv_tweak` on.
+fn is_volume(volume: &Volume, offset: u64, size: Option<u64>, iv_tweak: u64) -> bool {
+    let segment = volume.segment();
+    (volume.slot() == 2)
+        & (volume.key() == KEY)
+        & (segment.offset == offset)
+        & (segment.size == size)
+        & (segment.iv_tweak == iv_tweak)
+}
+
+fn check_volume(
+    rt: &(impl Abort + AllocGlobal),
+    image: &[u8],
+    offset: u64,
+    size: Option<u64>,
+    iv_tweak: u64,
+) {
+    let volume = opened(rt, &OPTIONS, image);
+    assert_of(rt, "volume", is_volume(volume, offset, size, iv_tweak));
 }
 
 #[test]
 fn a_volume_has_its_segment_slot_and_key(rt: HostRuntime) {
     let plain = text(&rt, 1024);
-    let volume = opened(
-        &rt,
-        &OPTIONS,
-        &image2(&rt, &plain, SectorSize::B512, 3, true),
-    );
-    assert!(rt; volume.slot() == 2 && volume.key() == KEY);
-    let segment = volume.segment();
-    assert!(rt; segment.offset == 65_536 && segment.size == Some(1024) && segment.iv_tweak == 3);
-    let volume = opened(&rt, &OPTIONS, &image1(&rt, &plain));
-    assert!(rt; volume.slot() == 2 && volume.key() == KEY);
-    assert!(rt; volume.segment().offset == 36_864 && volume.segment().size == None);
+    let second = image2(&rt, plain, SectorSize::B512, 3, true);
+    check_volume(&rt, second, 65_536, Some(1024), 3);
+    check_volume(&rt, image1(&rt, plain), 36_864, None, 0);
 }
 
 // The image of the payload has zeros in place of its header.
 #[test]
 fn a_detached_header_opens_another_image(rt: HostRuntime) {
     let plain = text(&rt, 2048);
-    let header = image2(&rt, &plain, SectorSize::B512, 0, false);
-    let mut image = image2(&rt, &plain, SectorSize::B512, 0, false);
+    let header = image2(&rt, plain, SectorSize::B512, 0, false);
+    let image = image2(&rt, plain, SectorSize::B512, 0, false);
     let end = image.len().min(65_536);
     image[..end].fill(0);
     let options = Options {
         location: HeaderLocation::Detached,
         ..OPTIONS
     };
-    let volume = opened(&rt, &options, at(&header, 0, 65_536));
-    let mut bytes = [0; 1000];
-    assert!(rt; volume.read_at(&MemImage::new(&image), 700, &mut bytes) == Ok(()));
-    assert!(rt; at(&plain, 700, 1000) == &bytes[..]);
+    let volume = opened(&rt, &options, at(header, 0, 65_536));
+    let is_so = is_range(volume, image, plain, 700, &mut [0; 1000]);
+    assert_of(&rt, "detached", is_so);
 }
 
 // Opens once. The answer is the refusal, or that it was done.
@@ -106,12 +155,13 @@ fn open_until_done(alloc: Global, image: &[u8], scarcity: &mut Scarcity) -> (u32
 
 #[test]
 fn refused_memory_is_reported(rt: HostRuntime) {
-    let image = image2(&rt, &text(&rt, 1024), SectorSize::B512, 0, false);
+    let image = image2(&rt, text(&rt, 1024), SectorSize::B512, 0, false);
     // The stack grows in a first run, since it cannot once all memory is taken.
-    assert!(rt; open_once(rt.alloc(), &image) == Message::Done);
+    let first = open_once(rt.alloc(), image);
+    assert_of(&rt, "first", first == Message::Done);
     let mut scarcity = Scarcity::new(rt.alloc(), 400, 4096).expect(&rt, "memory");
-    let (refused, message) = open_until_done(rt.alloc(), &image, &mut scarcity);
+    let (refused, message) = open_until_done(rt.alloc(), image, &mut scarcity);
     drop(scarcity);
-    assert!(rt; message == Message::Done);
-    assert!(rt; 0 < refused && refused < 400);
+    assert_of(&rt, "last", message == Message::Done);
+    assert_of(&rt, "refused", (0 < refused) & (refused < 400));
 }

@@ -1,8 +1,8 @@
 //! Ranges of volumes that were sealed from a known text.
 
-use super::fixture::{BadImage, OPTIONS, image1, image2, opened, text};
+use super::fixture::{BadImage, OPTIONS, image1, image2, is_range, opened, text};
+use super::{assert_at, assert_of};
 use luks_access::fault::RangeFault;
-use luks_access::memory::MemImage;
 use luks_access::sectors::decrypt_sectors;
 use luks_access::volume::Volume;
 use luks_cipher::SectorCipher;
@@ -14,7 +14,7 @@ use std::process::Abort;
 const LEN: usize = 12_288;
 
 /// Ranges of it: the offset of each, and its length.
-const RANGES: [(usize, usize); 16] = [
+static RANGES: [(usize, usize); 16] = [
     (0, 0),
     (0, 1),
     (0, 512),
@@ -34,7 +34,7 @@ const RANGES: [(usize, usize); 16] = [
 ];
 
 /// Ranges that end past the text.
-const PAST: [(u64, usize); 5] = [
+static PAST: [(u64, usize); 5] = [
     (0, LEN + 1),
     (LEN as u64, 1),
     (LEN as u64 - 1, 2),
@@ -42,9 +42,11 @@ const PAST: [(u64, usize); 5] = [
     (u64::MAX, 0),
 ];
 
-/// Ranges of a text in sectors of 1,024 bytes, stored from byte 65,536 on: the offset of each, its
-/// length, and from where to where its sectors are in the image.
-const WINDOWS: [(u64, usize, u64, u64); 6] = [
+/// A range of a text in sectors of 1,024 bytes, stored from byte 65,536 on: its offset, its length,
+/// and from where to where its sectors are in the image.
+type Window = (u64, usize, u64, u64);
+
+static WINDOWS: [Window; 6] = [
     (1024, 1024, 66_560, 67_584),
     (1500, 10, 66_560, 67_584),
     (1500, 1000, 66_560, 68_608),
@@ -54,95 +56,113 @@ const WINDOWS: [(u64, usize, u64, u64); 6] = [
 ];
 
 // Each range of the volume is that of the text.
-fn check_ranges(rt: &(impl Abort + AllocGlobal), image: &[u8], plain: &[u8]) {
+fn check_ranges(
+    rt: &(impl Abort + AllocGlobal),
+    image: &[u8],
+    plain: &[u8],
+    rows: &[(usize, usize)],
+) {
     let volume = opened(rt, &OPTIONS, image);
-    let mut bytes = text(rt, LEN);
-    for (offset, count) in RANGES {
-        if count <= bytes.len() {
-            bytes.fill(0xee);
-            let answer = volume.read_at(&MemImage::new(image), offset as u64, &mut bytes[..count]);
-            assert!(rt; answer == Ok(()), "{offset} {count}");
-            assert!(rt;
-                at(plain, offset, count) == &bytes[..count],
-                "{offset} {count}"
-            );
-        }
+    let bytes = text(rt, LEN);
+    for (offset, count) in rows {
+        let count = (*count).min(bytes.len());
+        let is_so = is_range(volume, image, plain, *offset, &mut bytes[..count]);
+        assert_at(rt, *offset as u64, is_so);
+    }
+}
+
+/// The size of sectors, the number of the first one, and whether the payload's size is fixed.
+type Shape = (SectorSize, u64, bool);
+
+static SHAPES: [Shape; 4] = [
+    (SectorSize::B512, 0, false),
+    (SectorSize::B1024, 7, true),
+    (SectorSize::B2048, u64::MAX, false),
+    (SectorSize::B4096, 8, true),
+];
+
+fn check_shapes(rt: &(impl Abort + AllocGlobal), plain: &[u8], rows: &[Shape]) {
+    for (sector_size, iv_tweak, fixed) in rows {
+        let image = image2(rt, plain, *sector_size, *iv_tweak, *fixed);
+        check_ranges(rt, image, plain, &RANGES);
     }
 }
 
 #[test]
 fn each_range_of_a_volume_is_that_of_its_text(rt: HostRuntime) {
     let plain = text(&rt, LEN);
-    check_ranges(&rt, &image1(&rt, &plain), &plain);
-    for (sector_size, iv_tweak, fixed) in [
-        (SectorSize::B512, 0, false),
-        (SectorSize::B1024, 7, true),
-        (SectorSize::B2048, u64::MAX, false),
-        (SectorSize::B4096, 8, true),
-    ] {
-        let image = image2(&rt, &plain, sector_size, iv_tweak, fixed);
-        check_ranges(&rt, &image, &plain);
-    }
+    check_ranges(&rt, image1(&rt, plain), plain, &RANGES);
+    check_shapes(&rt, plain, &SHAPES);
 }
 
-// The range is read of this part of the image alone, or is refused; so many calls read the image.
-fn check_calls(
+// The range is refused: no call reads the image, and the buffer stays as it was.
+fn check_past(
     rt: &(impl Abort + AllocGlobal),
     volume: &Volume,
-    image: &BadImage<'_>,
-    offset: u64,
-    len: usize,
-    answer: Result<(), RangeFault>,
+    image: &[u8],
+    (offset, len): &(u64, usize),
 ) {
-    let mut bytes = text(rt, len);
-    assert!(rt;
-        volume.read_at(image, offset, &mut bytes) == answer,
-        "{offset} {len}"
-    );
-    let refused = answer.is_err();
-    assert!(rt; !refused || bytes == text(rt, len), "{offset} {len}");
-    assert!(rt; !refused || image.calls.get() == 0, "{offset} {len}");
+    let image = BadImage::new(image);
+    let (before, bytes) = (text(rt, *len), text(rt, *len));
+    let answer = volume.read_at(&image, *offset, bytes);
+    let is_unread = (&bytes[..] == &before[..]) & (image.calls.get() == 0);
+    let is_past = answer == Err(RangeFault::PastEnd);
+    assert_at(rt, *offset, is_past & is_unread);
 }
 
 #[test]
 fn a_range_past_the_end_reads_nothing(rt: HostRuntime) {
-    let image = image2(&rt, &text(&rt, LEN), SectorSize::B4096, 0, false);
-    let volume = opened(&rt, &OPTIONS, &image);
-    for (offset, len) in PAST {
-        let bad = BadImage::new(&image);
-        check_calls(&rt, &volume, &bad, offset, len, Err(RangeFault::PastEnd));
+    let image = image2(&rt, text(&rt, LEN), SectorSize::B4096, 0, false);
+    let volume = opened(&rt, &OPTIONS, image);
+    for row in &PAST {
+        check_past(&rt, volume, image, row);
     }
+}
+
+// The range is read of this part of the image alone.
+fn check_window(
+    rt: &(impl Abort + AllocGlobal),
+    volume: &Volume,
+    image: &[u8],
+    (offset, len, first, end): &Window,
+) {
+    let window = BadImage {
+        first: *first,
+        end: *end,
+        ..BadImage::new(image)
+    };
+    let answer = volume.read_at(&window, *offset, text(rt, *len));
+    assert_at(rt, *offset, answer == Ok(()));
 }
 
 #[test]
 fn only_the_sectors_of_a_range_are_read(rt: HostRuntime) {
-    let image = image2(&rt, &text(&rt, LEN), SectorSize::B1024, 0, false);
-    let volume = opened(&rt, &OPTIONS, &image);
-    for (offset, len, first, end) in WINDOWS {
-        let window = BadImage {
-            first,
-            end,
-            ..BadImage::new(&image)
-        };
-        check_calls(&rt, &volume, &window, offset, len, Ok(()));
+    let image = image2(&rt, text(&rt, LEN), SectorSize::B1024, 0, false);
+    let volume = opened(&rt, &OPTIONS, image);
+    for row in &WINDOWS {
+        check_window(&rt, volume, image, row);
+    }
+}
+
+// Decrypts stored sectors of the payload from its third one on, if they are whole.
+fn decrypt(volume: &Volume, bytes: &mut [u8]) {
+    let segment = volume.segment();
+    let size = segment.sector_size.bytes();
+    if let Some(cipher) = SectorCipher::new(segment.mode, volume.key()) {
+        if bytes.len() % size == 0 && bytes.len() / size < 100 {
+            decrypt_sectors(&segment, &cipher, 2, bytes);
+        }
     }
 }
 
 #[test]
 fn stored_sectors_are_decrypted_in_place(rt: HostRuntime) {
     let plain = text(&rt, LEN);
-    let image = image2(&rt, &plain, SectorSize::B1024, 7, false);
-    let volume = opened(&rt, &OPTIONS, &image);
-    let segment = volume.segment();
-    let size = segment.sector_size.bytes();
-    let stored = at(&image, 67_584, 2048);
+    let image = image2(&rt, plain, SectorSize::B1024, 7, false);
+    let stored = at(image, 67_584, 2048);
     assert!(rt; stored.len() == 2048);
     let mut bytes = [0; 2048];
     bytes.copy_from_slice(stored);
-    if let Some(cipher) = SectorCipher::new(segment.mode, volume.key()) {
-        if bytes.len() % size == 0 && bytes.len() / size < 100 {
-            decrypt_sectors(&segment, &cipher, 2, &mut bytes);
-        }
-    }
-    assert!(rt; at(&plain, 2048, 2048) == &bytes[..]);
+    decrypt(opened(&rt, &OPTIONS, image), &mut bytes);
+    assert_of(&rt, "decrypted", at(plain, 2048, 2048) == bytes.as_slice());
 }

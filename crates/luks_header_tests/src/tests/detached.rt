@@ -1,10 +1,10 @@
 //! Headers of both formats, read and then marked as detached.
 
-use super::fixture::{changed, parse};
+use super::assert_of;
+use super::fixture::{changed, image2, kept, read};
 use super::validation::{Numbers, PAYLOAD_OFFSET, SLOT_OFFSET, fault_of, is_there};
 use luks_header::header::Header;
 use luks_header::slot::{VerdictKind, verdict_kind};
-use luks_test_support::header2::image_of;
 use std::process::Abort;
 
 // A salt of 8 bytes 01, and a digest of 20 bytes 02, by Python's base64.b64encode.
@@ -22,14 +22,6 @@ const DIGESTS: &str = "\"digests\":{\"0\":{\"type\":\"pbkdf2\",\"keyslots\":[\"0
 const SEGMENT: &str = "\"segments\":{\"0\":{\"type\":\"crypt\",\"size\":\"dynamic\",\
     \"iv_tweak\":\"0\",\"encryption\":\"aes-xts-plain64\",\"sector_size\":512,\
     \"offset\":\"";
-
-// A volume of LUKS2 whose payload starts where the text says.
-fn second(rt: &(impl Abort + AllocGlobal), offset: &str) -> Header {
-    let parts = [KEYSLOTS, DIGESTS, SEGMENT, offset, "\"}}}"];
-    let json = parts.concat(rt.alloc()).expect(rt, "a text");
-    let image = image_of(rt.alloc(), 1, 1, json.as_str()).expect(rt, "an image");
-    parse(rt, &image)
-}
 
 // What becomes of key slot 0.
 fn slot_word(header: &Header) -> &'static str {
@@ -51,9 +43,8 @@ fn is_detached(header: &Header) -> bool {
 /// The fault of the segment, and what becomes of key slot 0.
 type Words = [&'static str; 2];
 
-fn check_words(rt: &impl Abort, row: &str, header: &Header, want: Words) {
-    let found = [fault_of(header), slot_word(header)];
-    assert!(rt; found == want, "{row}: {found:?}");
+fn has_words(header: &Header, want: &Words) -> bool {
+    [fault_of(header), slot_word(header)] == *want
 }
 
 // No header is read as a detached one.
@@ -61,14 +52,17 @@ fn check(
     rt: &(impl Abort + AllocGlobal),
     row: &str,
     header: Header,
-    (attached, detached): (Words, Words),
+    attached: &Words,
+    detached: &Words,
 ) {
-    check_words(rt, row, &header, attached);
-    assert!(rt; !is_detached(&header), "{row}");
-    let apart = header.detach();
-    check_words(rt, row, &apart, detached);
-    assert!(rt; is_detached(&apart), "{row}");
-    assert!(rt; is_there(rt, &apart, 0) || detached[1] == "area", "{row}");
+    assert_of(
+        rt,
+        row,
+        has_words(&header, attached) & !is_detached(&header),
+    );
+    let apart = kept(rt, header.detach());
+    assert_of(rt, row, has_words(apart, detached) & is_detached(apart));
+    assert_of(rt, row, is_there(rt, apart, 0) | (detached[1] == "area"));
 }
 
 const GOOD: Words = ["none", "usable"];
@@ -77,10 +71,12 @@ const FIRST: Words = ["offset", "area"];
 
 const APART: Words = ["none", "area"];
 
+type First = (&'static str, Numbers, Words, Words);
+
 // Numbers of a header of LUKS1, and what is wrong if it is attached and if it is detached. The key
 // material ends with sector 508. Of a detached header too, key material starts behind the header
 // and ends within 32 MiB.
-static OF_LUKS1: [(&str, Numbers, Words, Words); 10] = [
+static OF_LUKS1: [First; 10] = [
     ("0", &[(PAYLOAD_OFFSET, 0)], FIRST, GOOD),
     ("1", &[(PAYLOAD_OFFSET, 1)], FIRST, GOOD),
     ("2", &[(PAYLOAD_OFFSET, 2)], APART, GOOD),
@@ -113,20 +109,26 @@ static OF_LUKS1: [(&str, Numbers, Words, Words); 10] = [
     ),
 ];
 
+fn check_first(rt: &(impl Abort + AllocGlobal), rows: &[First]) {
+    for (row, numbers, attached, detached) in rows {
+        let header = read(rt, &changed(numbers, &[]));
+        check(rt, row, header, attached, detached);
+    }
+}
+
 #[test]
 fn a_header_of_luks1(rt: HostRuntime) {
-    for (row, numbers, attached, detached) in &OF_LUKS1 {
-        let header = parse(&rt, &changed(numbers, &[]));
-        check(&rt, row, header, (*attached, *detached));
-    }
+    check_first(&rt, &OF_LUKS1);
 }
 
 const WRONG: Words = ["offset", "usable"];
 
+type Second = (&'static str, Words, Words);
+
 // The payload's start, and what is wrong if the header is attached and if it is detached. Both
 // headers end with byte 32,768, and the key material with byte 288,768. If the payload's start
 // is refused, key areas are judged without it.
-static OF_LUKS2: [(&str, Words, Words); 7] = [
+static OF_LUKS2: [Second; 7] = [
     ("0", WRONG, GOOD),
     ("511", WRONG, WRONG),
     ("32256", WRONG, GOOD),
@@ -136,9 +138,14 @@ static OF_LUKS2: [(&str, Words, Words); 7] = [
     ("288768", GOOD, GOOD),
 ];
 
+fn check_second(rt: &(impl Abort + AllocGlobal), rows: &[Second]) {
+    for (offset, attached, detached) in rows {
+        let image = image2(rt, &[KEYSLOTS, DIGESTS, SEGMENT, offset, "\"}}}"]);
+        check(rt, offset, read(rt, image), attached, detached);
+    }
+}
+
 #[test]
 fn a_header_of_luks2(rt: HostRuntime) {
-    for (offset, attached, detached) in &OF_LUKS2 {
-        check(&rt, offset, second(&rt, offset), (*attached, *detached));
-    }
+    check_second(&rt, &OF_LUKS2);
 }

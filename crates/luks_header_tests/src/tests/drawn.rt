@@ -1,11 +1,13 @@
 //! Headers of drawn numbers: the verdicts on their slots.
 
-use super::fixture::{parse, patch, volume_header};
+use super::assert_row;
+use super::fixture::{parse, patch, verdicts, volume_header};
 use super::validation::{
     DIGEST_ITERATIONS, ITERATIONS, KEY_BYTES, PAYLOAD_OFFSET, SLOT_OFFSET, STATE, STRIPES,
     has_digest, is_there,
 };
-use luks_header::slot::{Verdict, slots};
+use luks_header::header::Header;
+use luks_header::slot::Verdict;
 use std::process::Abort;
 
 // The next of some numbers that look drawn: a linear congruence of 64 bits, of which the upper half
@@ -52,21 +54,31 @@ fn drawn_header(state: &mut u64) -> [u8; 592] {
     bytes
 }
 
-// How many slots of a drawn header are usable. Each of them has its digest and its contents.
-fn usable_slots(rt: &(impl Abort + AllocGlobal), bytes: &[u8; 592], run: u32) -> u32 {
-    let header = parse(rt, bytes);
-    let limit = if run % 2 == 0 { None } else { Some(1000) };
-    let verdicts = slots(rt.alloc(), &header, limit).expect(rt, "verdicts");
-    assert!(rt; verdicts.len() == 8, "{run}");
+// How many of these slots are usable. Each of them has its digest and its contents.
+fn usable_slots(
+    rt: &(impl Abort + AllocGlobal),
+    header: &Header,
+    verdicts: &[(u8, Verdict)],
+    run: u32,
+) -> u32 {
     let mut usable = 0u32;
-    for (number, verdict) in &verdicts {
+    for (number, verdict) in verdicts {
         if matches!(verdict, Verdict::Usable(_)) {
             usable = usable.saturating_add(1);
-            assert!(rt; has_digest(rt, &header, *number), "{run}");
-            assert!(rt; is_there(rt, &header, *number), "{run}");
+            let has_both = has_digest(rt, header, *number) & is_there(rt, header, *number);
+            assert_row(rt, run as usize, has_both);
         }
     }
     usable
+}
+
+// How many slots of a drawn header are usable.
+fn usable_of(rt: &(impl Abort + AllocGlobal), bytes: &[u8; 592], run: u32) -> u32 {
+    let header = parse(rt, bytes);
+    let limit = if run % 2 == 0 { None } else { Some(1000) };
+    let verdicts = verdicts(rt, header, limit);
+    assert_row(rt, run as usize, verdicts.len() == 8);
+    usable_slots(rt, header, verdicts, run)
 }
 
 // With ample memory no call reports that it is out of memory: an error ends the test.
@@ -75,9 +87,8 @@ fn slots_and_digests_of_any_header_are_reported(rt: HostRuntime) {
     let mut state = 1;
     let mut usable = 0u32;
     for run in 0..2000u32 {
-        usable = usable.saturating_add(usable_slots(&rt, &drawn_header(&mut state), run));
+        usable = usable.saturating_add(usable_of(&rt, &drawn_header(&mut state), run));
     }
     // There are some of either kind.
-    assert!(rt; usable > 100);
-    assert!(rt; usable < 15_900);
+    assert_row(&rt, usable as usize, (usable > 100) & (usable < 15_900));
 }

@@ -1,10 +1,15 @@
 //! A header of LUKS1.
 //!
 //! If a call must succeed, an error ends the test at once: what is not returned need not be dropped
-//! on the way.
+//! on the way. What is returned stays to the end of the test, so that no function drops it.
 
+use super::assert_row;
+use luks_header::fault::HeaderFault;
 use luks_header::header::{Header, read_header};
+use luks_header::slot::{Verdict, slots};
 use luks_io::memory::MemSource;
+use luks_io::source::Source;
+use luks_test_support::header2::image_of;
 use std::process::Abort;
 
 // Written by Python's struct module: struct.pack('>6sH32s32s32sII20s32sI40s', ..) and eight times
@@ -98,9 +103,62 @@ pub fn changed(numbers: &[(usize, u32)], texts: &[(usize, &[u8])]) -> [u8; 592] 
     bytes
 }
 
+/// A value that stays to the end of the test.
+pub fn kept<'a, T: Drop + 'a>(rt: &(impl Abort + AllocGlobal), value: T) -> &'a T {
+    Box::leak(Box::new(rt.alloc(), value).expect(rt, "memory"))
+}
+
+/// The header that a source gives, and the bytes of its area.
+pub fn read_from<S: Source>(
+    rt: &(impl Abort + AllocGlobal),
+    source: &mut S,
+) -> (&'static Header, &'static [u8]) {
+    let (header, area) = read_header(rt.alloc(), source).expect(rt, "a header");
+    (kept(rt, header), kept(rt, area).as_slice())
+}
+
 /// The header of an image.
-pub fn parse(rt: &(impl Abort + AllocGlobal), image: &[u8]) -> Header {
+pub fn read(rt: &(impl Abort + AllocGlobal), image: &[u8]) -> Header {
     let read = read_header(rt.alloc(), &mut MemSource::new(image));
     let (header, _area) = read.expect(rt, "a header");
     header
+}
+
+/// The header of an image, which stays.
+pub fn parse(rt: &(impl Abort + AllocGlobal), image: &[u8]) -> &'static Header {
+    kept(rt, read(rt, image))
+}
+
+/// The verdicts on the slots of a header.
+pub fn verdicts(
+    rt: &(impl Abort + AllocGlobal),
+    header: &Header,
+    limit: Option<u32>,
+) -> &'static [(u8, Verdict)] {
+    let verdicts = slots(rt.alloc(), header, limit).expect(rt, "verdicts");
+    verdicts.leak()
+}
+
+/// The header of LUKS1 with these numbers and texts at these places.
+pub fn first(
+    rt: &(impl Abort + AllocGlobal),
+    numbers: &[(usize, u32)],
+    texts: &[(usize, &[u8])],
+) -> &'static Header {
+    parse(rt, &changed(numbers, texts))
+}
+
+/// The image of LUKS2 whose text has these parts.
+pub fn image2(rt: &(impl Abort + AllocGlobal), parts: &[&str]) -> &'static [u8] {
+    let json = parts.concat(rt.alloc()).expect(rt, "a text");
+    let image = image_of(rt.alloc(), 1, 1, json.as_str()).expect(rt, "an image");
+    image.leak()
+}
+
+/// Asserts that an image has this fault, and that so many of its bytes are not read to learn that.
+pub fn check_fault(rt: &(impl Abort + AllocGlobal), image: &[u8], fault: HeaderFault, left: usize) {
+    let mut source = MemSource::new(image);
+    let answer = read_header(rt.alloc(), &mut source).err();
+    let is_so = (answer == Some(fault)) & (source.left().len() == left);
+    assert_row(rt, image.len(), is_so);
 }

@@ -1,6 +1,7 @@
 //! Reading headers, and areas that grow.
 
-use super::fixture::{header_bytes, patch};
+use super::fixture::{check_fault, header_bytes, patch, read_from};
+use super::{assert_of, assert_row};
 use luks_header::area::HeaderArea;
 use luks_header::fault::HeaderFault;
 use luks_header::header::{Header, Header1, KeySlot, SlotState, read_header};
@@ -31,46 +32,65 @@ static SLOTS: [Stated; 8] = [
 // The salts of slots 1 and 2 are the same in each byte.
 static SALTS: [[u8; 32]; 2] = [[0; 32], [1; 32]];
 
-fn check_slots(rt: &impl Abort, slots: &[KeySlot; 8]) {
+fn has_slots(slots: &[KeySlot; 8]) -> bool {
+    let mut has = [slots[1].salt, slots[2].salt] == SALTS;
     for (i, (state, numbers, ends)) in SLOTS.iter().enumerate() {
         let slot = slots[i];
-        assert!(rt; slot.state == *state, "{i}");
-        assert!(rt;
-            [slot.iterations, slot.offset, slot.stripes] == *numbers,
-            "{i}"
-        );
-        assert!(rt; [slot.salt[0], slot.salt[31]] == *ends, "{i}");
+        has &= (slot.state == *state)
+            & ([slot.iterations, slot.offset, slot.stripes] == *numbers)
+            & ([slot.salt[0], slot.salt[31]] == *ends);
     }
-    assert!(rt; [slots[1].salt, slots[2].salt] == SALTS);
+    has
 }
+
+static TEXTS: [&[u8]; 4] = [
+    b"aes",
+    b"xts-plain64",
+    b"sha256",
+    b"0123456789abcdefghijklmnopqrstuvwxyzABCD",
+];
 
 // Texts; the payload's offset, the length of the key and the iterations of the digest; and the
 // first byte and the last one of the digest and of its salt.
-fn check_fields(rt: &impl Abort, header: &Header1) {
-    assert!(rt; header.cipher_name.as_bytes() == b"aes".as_slice());
-    assert!(rt; header.cipher_mode.as_bytes() == b"xts-plain64".as_slice());
-    assert!(rt; header.hash_spec.as_bytes() == b"sha256".as_slice());
-    let uuid = b"0123456789abcdefghijklmnopqrstuvwxyzABCD".as_slice();
-    assert!(rt; header.uuid.as_bytes() == uuid);
+fn has_fields(header: &Header1) -> bool {
+    let texts = [
+        header.cipher_name.as_bytes(),
+        header.cipher_mode.as_bytes(),
+        header.hash_spec.as_bytes(),
+        header.uuid.as_bytes(),
+    ];
     let numbers = [
         header.payload_offset,
         header.key_bytes,
         header.digest_iterations,
     ];
-    assert!(rt; numbers == [0x0001_2003, 64, 0x0102_0304]);
-    assert!(rt; [header.digest[0], header.digest[19]] == [0, 19]);
-    assert!(rt; [header.digest_salt[0], header.digest_salt[31]] == [0x20, 0x3f]);
+    let ends = [
+        header.digest[0],
+        header.digest[19],
+        header.digest_salt[0],
+        header.digest_salt[31],
+    ];
+    (texts == TEXTS) & (numbers == [0x0001_2003, 64, 0x0102_0304]) & (ends == [0, 19, 0x20, 0x3f])
+}
+
+fn is_the_header(header: &Header) -> bool {
+    match header {
+        Header::V1(first) => has_fields(first) & has_slots(&first.slots),
+        Header::V2(_, _) => false,
+    }
 }
 
 // The header is read from such a source, and the area has its bytes.
-fn check_reading<S: Source>(rt: &(impl Abort + AllocGlobal), source: &mut S) {
-    let (header, area) = read_header(rt.alloc(), source).expect(rt, "a header");
-    let Header::V1(first) = &header else {
-        panic!(rt; "a header of another format");
-    };
-    check_fields(rt, first);
-    check_slots(rt, &first.slots);
-    assert!(rt; area.as_slice() == header_bytes().as_slice());
+fn check_reading<S: Source>(rt: &(impl Abort + AllocGlobal), source: &mut S, bytes: &[u8; 592]) {
+    let (header, area) = read_from(rt, source);
+    assert_of(rt, "header", is_the_header(header));
+    assert_of(rt, "area", area == bytes.as_slice());
+}
+
+fn check_pieces(rt: &(impl Abort + AllocGlobal), bytes: &[u8; 592]) {
+    for piece in [1, 591, 5000] {
+        check_reading(rt, &mut Flaky::new(bytes, piece, u64::MAX), bytes);
+    }
 }
 
 #[test]
@@ -79,12 +99,10 @@ fn a_header_is_read_to_its_end(rt: HostRuntime) {
     let mut longer = [7; 593];
     longer[..592].copy_from_slice(&bytes);
     let mut source = MemSource::new(&longer);
-    check_reading(&rt, &mut source);
-    assert!(rt; source.left() == [7].as_slice());
-    check_reading(&rt, &mut MemSource::new(&bytes));
-    for piece in [1, 591, 5000] {
-        check_reading(&rt, &mut Flaky::new(&bytes, piece, u64::MAX));
-    }
+    check_reading(&rt, &mut source, &bytes);
+    assert_of(&rt, "left", source.left() == [7].as_slice());
+    check_reading(&rt, &mut MemSource::new(&bytes), &bytes);
+    check_pieces(&rt, &bytes);
 }
 
 /// A byte at a place of the header, how many bytes of it there are, and the fault.
@@ -102,31 +120,27 @@ static FAULTS: [Row; 8] = [
     (Some((0, 0x53)), 592, HeaderFault::NotLuks),
 ];
 
-// The image has this fault, and all of it is read to learn that.
-fn check_fault(rt: &(impl Abort + AllocGlobal), image: &[u8], fault: HeaderFault) {
-    let mut source = MemSource::new(image);
-    let len = image.len();
-    let answer = read_header(rt.alloc(), &mut source).err();
-    assert!(rt; answer == Some(fault), "{len}: {answer:?}");
-    assert!(rt; source.left().is_empty(), "{len}");
-}
-
+// All of the image is read to learn its fault.
 fn check_row(rt: &(impl Abort + AllocGlobal), (change, len, fault): &Row) {
     let mut image = header_bytes();
     if let Some((place, byte)) = change {
         patch(&mut image, *place, &[*byte]);
     }
-    check_fault(rt, &image[..*len.min(&592)], *fault);
+    check_fault(rt, &image[..*len.min(&592)], *fault, 0);
+}
+
+fn check_rows(rt: &(impl Abort + AllocGlobal), rows: &[Row]) {
+    for row in rows {
+        check_row(rt, row);
+    }
 }
 
 #[test]
 fn other_images_are_truncated_or_not_luks(rt: HostRuntime) {
-    for row in &FAULTS {
-        check_row(&rt, row);
-    }
+    check_rows(&rt, &FAULTS);
     // All of a short image is read to learn that it has no header.
     for len in [592, 600] {
-        check_fault(&rt, &[0; 600][..len], HeaderFault::NotLuks);
+        check_fault(&rt, &[0; 600][..len], HeaderFault::NotLuks, 0);
     }
 }
 
@@ -140,7 +154,7 @@ fn check_failed(
 ) {
     let mut source = Flaky::new(bytes, piece, call);
     let answer = read_header(rt.alloc(), &mut source).err();
-    assert!(rt; answer == Some(fault), "{call}: {answer:?}");
+    assert_row(rt, call as usize, answer == Some(fault));
 }
 
 // The end of the image is no failed read.
@@ -155,9 +169,11 @@ fn a_failed_read_is_reported(rt: HostRuntime) {
 
 const DIGITS: &[u8] = b"0123456789";
 
+type Request = (usize, bool, usize);
+
 // How many bytes are requested, whether they are there, and how many are loaded then. Twice it
 // requests fewer than are loaded, or as many.
-static LACKING: [(usize, bool, usize); 8] = [
+static LACKING: [Request; 8] = [
     (0, true, 0),
     (4, true, 4),
     (3, true, 4),
@@ -168,25 +184,39 @@ static LACKING: [(usize, bool, usize); 8] = [
     (HeaderArea::MAX_LEN, false, 10),
 ];
 
-// The area holds the first bytes, and the others are left.
-#[test]
-fn an_area_takes_what_it_lacks(rt: HostRuntime) {
+// Whether the area holds the first bytes then, and the others are left.
+fn takes(area: &mut HeaderArea, source: &mut MemSource<'_>, (end, there, held): &Request) -> bool {
+    let whole = area.extend_to(source, *end.min(&HeaderArea::MAX_LEN));
+    let (front, rest) = DIGITS.split_at(*held.min(&10));
+    (whole == Ok(*there)) & ([area.as_slice(), source.left()] == [front, rest])
+}
+
+fn check_lacking(rt: &(impl Abort + AllocGlobal), rows: &[Request]) {
     let mut source = MemSource::new(DIGITS);
     let mut area = HeaderArea::new(rt.alloc());
-    assert!(rt; area.as_slice().is_empty());
-    for (end, there, held) in &LACKING {
-        let whole = area.extend_to(&mut source, *end);
-        assert!(rt; whole == Ok(*there), "{end}");
-        let (front, rest) = DIGITS.split_at(*held.min(&10));
-        assert!(rt; area.as_slice() == front && source.left() == rest, "{end}");
+    assert_of(rt, "none", area.as_slice().is_empty());
+    for (row, request) in rows.iter().enumerate() {
+        assert_row(rt, row, takes(&mut area, &mut source, request));
     }
+}
+
+#[test]
+fn an_area_takes_what_it_lacks(rt: HostRuntime) {
+    check_lacking(&rt, &LACKING);
 }
 
 #[test]
 fn an_area_keeps_what_came_before_a_failed_read(rt: HostRuntime) {
     let mut source = Flaky::new(DIGITS, 2, 3);
     let mut area = HeaderArea::new(rt.alloc());
-    assert!(rt; area.extend_to(&mut source, 3) == Ok(true));
-    assert!(rt; area.extend_to(&mut source, 10) == Err(HeaderFault::Read));
-    assert!(rt; area.as_slice() == b"01234".as_slice());
+    let answers = [
+        area.extend_to(&mut source, 3),
+        area.extend_to(&mut source, 10),
+    ];
+    assert_of(
+        &rt,
+        "answers",
+        answers == [Ok(true), Err(HeaderFault::Read)],
+    );
+    assert_of(&rt, "area", area.as_slice() == b"01234".as_slice());
 }

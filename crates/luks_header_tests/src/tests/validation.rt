@@ -1,13 +1,14 @@
 //! Which slots can be tried and where the payload is, each bound from both sides.
 
-use super::fixture::{changed, parse, volume_header};
+use super::fixture::{first, verdicts};
+use super::{assert_of, assert_row};
 use luks_cipher::Mode;
 use luks_header::digest::{KeyDigest, digest_for};
 use luks_header::header::Header;
 use luks_header::payload::segment;
 use luks_header::refusal::{SegmentFault, SkipReason};
 use luks_header::sector_size::SectorSize;
-use luks_header::slot::{Slot, Verdict, VerdictKind, slot, slots, verdict_kind};
+use luks_header::slot::{Slot, Verdict, VerdictKind, slot, verdict_kind};
 use luks_kdf::Hash;
 use std::process::Abort;
 
@@ -61,8 +62,10 @@ const NO_ITERATIONS: (usize, u32) = (ITERATIONS, 0);
 
 const NO_STRIPES: (usize, u32) = (STRIPES, 0);
 
-// Numbers, the limit of iterations, and what becomes of slot 0.
-static SLOTS: [(Numbers, Option<u32>, &str); 36] = [
+/// Numbers, the limit of iterations, and what becomes of slot 0.
+type Judgement = (Numbers, Option<u32>, &'static str);
+
+static SLOTS: [Judgement; 36] = [
     (&[], None, "usable"),
     (&[(STATE, 1)], None, "state"),
     (&[(STATE, 0xdead)], None, "disabled"),
@@ -120,34 +123,42 @@ static SLOTS: [(Numbers, Option<u32>, &str); 36] = [
     ),
 ];
 
-// Each slot has its verdict: the others are disabled.
-fn check_slots(
+// The verdicts on the slots of a header with these numbers and texts.
+fn verdicts_on(
     rt: &(impl Abort + AllocGlobal),
-    header: &Header,
+    numbers: Numbers,
+    texts: &[(usize, &[u8])],
     limit: Option<u32>,
-    (row, want): (usize, &str),
-) {
-    let verdicts = slots(rt.alloc(), header, limit).expect(rt, "verdicts");
-    assert!(rt; verdicts.len() == 8, "row {row}");
+) -> &'static [(u8, Verdict)] {
+    verdicts(rt, first(rt, numbers, texts), limit)
+}
+
+// Whether each slot has its verdict: the others are disabled.
+fn are_slots(verdicts: &[(u8, Verdict)], want: &str) -> bool {
+    let mut are = verdicts.len() == 8;
+    let mut stated = want;
     for (i, (number, verdict)) in verdicts.iter().enumerate() {
-        let found = word(verdict);
-        let stated = if i == 0 { want } else { "disabled" };
-        let is_so = usize::from(*number) == i && found == stated;
-        assert!(rt; is_so, "row {row}, slot {i}: {found}");
+        are &= (usize::from(*number) == i) & (word(verdict) == stated);
+        stated = "disabled";
+    }
+    are
+}
+
+fn check_slots(rt: &(impl Abort + AllocGlobal), rows: &[Judgement]) {
+    for (row, (numbers, limit, want)) in rows.iter().enumerate() {
+        let verdicts = verdicts_on(rt, numbers, &[], *limit);
+        assert_row(rt, row, are_slots(verdicts, want));
     }
 }
 
 #[test]
 fn each_bound_of_a_slot(rt: HostRuntime) {
-    for (row, (numbers, limit, want)) in SLOTS.iter().enumerate() {
-        let header = parse(&rt, &changed(numbers, &[]));
-        check_slots(&rt, &header, *limit, (row, want));
-    }
+    check_slots(&rt, &SLOTS);
 }
 
-// All parts of a usable slot 0, with so many stripes and this hash function. 3999 stripes of
-// 64 bytes are 499 sectors and seven eighths of one, and areas are whole sectors.
-fn check_parts(rt: &impl Abort, slot: &Slot, stripes: u32, hash: Option<Hash>) {
+// Whether a slot has all parts of the usable slot 0, with so many stripes and this hash function.
+// 3999 stripes of 64 bytes are 499 sectors and seven eighths of one, and areas are whole sectors.
+fn has_parts(slot: &Slot, stripes: u32, hash: Option<Hash>) -> bool {
     let parts = &slot.parts;
     let numbers = [
         parts.iterations,
@@ -155,42 +166,45 @@ fn check_parts(rt: &impl Abort, slot: &Slot, stripes: u32, hash: Option<Hash>) {
         parts.key_bytes,
         parts.area_key_bytes,
     ];
-    assert!(rt; numbers == [1000, stripes, 64, 64], "{stripes}");
-    assert!(rt; parts.priority == 1, "{stripes}");
-    assert!(rt;
-        [parts.kdf_hash, parts.af_hash] == [hash, hash],
-        "{stripes}"
-    );
-    assert!(rt;
-        [slot.need(), parts.area_size] == [256_000, 256_000],
-        "{stripes}"
-    );
-    assert!(rt; parts.area_offset == 4096, "{stripes}");
-    assert!(rt; parts.area_mode == Some(Mode::XtsPlain64), "{stripes}");
+    let sizes = [slot.need(), parts.area_size, parts.area_offset];
     let salt = parts.salt.as_slice();
-    assert!(rt;
-        salt.len() == 32 && salt.first() == Some(&0x40),
-        "{stripes}"
-    );
+    (numbers == [1000, stripes, 64, 64])
+        & (parts.priority == 1)
+        & ([parts.kdf_hash, parts.af_hash] == [hash, hash])
+        & (sizes == [256_000, 256_000, 4096])
+        & (parts.area_mode == Some(Mode::XtsPlain64))
+        & (salt.len() == 32)
+        & (salt.first() == Some(&0x40))
 }
 
-static USABLE: [(Numbers, &[u8], u32, Option<Hash>); 3] = [
+/// Numbers, the name of the hash, and the stripes and the hash of slot 0.
+type Parts = (Numbers, &'static [u8], u32, Option<Hash>);
+
+static USABLE: [Parts; 3] = [
     (&[], b"sha256\0", 4000, Some(Hash::Sha256)),
     (&[(STRIPES, 3999)], b"sha256\0", 3999, Some(Hash::Sha256)),
     (&[], b"whirlpool\0", 4000, None),
 ];
 
+// Whether the first slot is slot 0, with all those parts.
+fn is_usable(verdicts: &[(u8, Verdict)], stripes: u32, hash: Option<Hash>) -> bool {
+    match verdicts.first() {
+        Some((0, Verdict::Usable(slot))) => has_parts(slot, stripes, hash),
+        _ => false,
+    }
+}
+
+fn check_usable(rt: &(impl Abort + AllocGlobal), rows: &[Parts]) {
+    for (row, (numbers, name, stripes, hash)) in rows.iter().enumerate() {
+        let verdicts = verdicts_on(rt, numbers, &[(HASH, *name)], None);
+        assert_row(rt, row, is_usable(verdicts, *stripes, *hash));
+    }
+}
+
 // A slot without a known hash is judged all the same.
 #[test]
 fn a_usable_slot_has_its_numbers(rt: HostRuntime) {
-    for (numbers, name, stripes, hash) in &USABLE {
-        let header = parse(&rt, &changed(numbers, &[(HASH, *name)]));
-        let verdicts = slots(rt.alloc(), &header, None).expect(&rt, "verdicts");
-        let Some((0, Verdict::Usable(slot))) = verdicts.first() else {
-            panic!(rt; "slot 0 is not usable");
-        };
-        check_parts(&rt, slot, *stripes, *hash);
-    }
+    check_usable(&rt, &USABLE);
 }
 
 const NAME: usize = 8;
@@ -202,8 +216,10 @@ const HASH: usize = 72;
 /// Texts at places of the header.
 type Texts = &'static [(usize, &'static [u8])];
 
-// Numbers and texts, and the fault of the segment.
-static SEGMENTS: [(Numbers, Texts, &str); 20] = [
+/// Numbers and texts, and the fault of the segment.
+type Fault = (Numbers, Texts, &'static str);
+
+static SEGMENTS: [Fault; 20] = [
     (&[], &[(HASH, b"SHA512\0")], "none"),
     (&[], &[(NAME, b"AES\0")], "encryption"),
     (&[], &[(MODE, b"xts-plain\0")], "none"),
@@ -242,41 +258,57 @@ pub(super) fn fault_of(header: &Header) -> &'static str {
     }
 }
 
+fn check_segments(rt: &(impl Abort + AllocGlobal), rows: &[Fault]) {
+    for (row, (numbers, texts, want)) in rows.iter().enumerate() {
+        let fault = fault_of(first(rt, numbers, texts));
+        assert_row(rt, row, fault == *want);
+    }
+}
+
 #[test]
 fn each_bound_of_a_segment(rt: HostRuntime) {
-    for (row, (numbers, texts, want)) in SEGMENTS.iter().enumerate() {
-        let fault = fault_of(&parse(&rt, &changed(numbers, texts)));
-        assert!(rt; fault == *want, "row {row}: {fault}");
-    }
+    check_segments(&rt, &SEGMENTS);
 }
 
 // The payload's sector, and its byte.
 static OFFSETS: [(u32, u64); 2] = [(4096, 2_097_152), (0xffff_ffff, 2_199_023_255_040)];
 
+// Whether a header has a segment from this byte to the image's end.
+fn goes_to_the_end(header: &Header, offset: u64) -> bool {
+    match segment(header) {
+        Ok(segment) => {
+            ([segment.offset, segment.iv_tweak] == [offset, 0])
+                & segment.size.is_none()
+                & (segment.mode == Mode::XtsPlain64)
+                & (segment.sector_size == SectorSize::B512)
+        }
+        Err(_) => false,
+    }
+}
+
 #[test]
 fn a_segment_goes_to_the_images_end(rt: HostRuntime) {
     for (sector, offset) in &OFFSETS {
-        let header = parse(&rt, &changed(&[(PAYLOAD_OFFSET, *sector)], &[]));
-        let segment = segment(&header).expect(&rt, "a segment");
-        assert!(rt; [segment.offset, segment.iv_tweak] == [*offset, 0]);
-        assert!(rt; segment.size.is_none() && segment.mode == Mode::XtsPlain64);
-        assert!(rt; segment.sector_size == SectorSize::B512);
+        let header = first(&rt, &[(PAYLOAD_OFFSET, *sector)], &[]);
+        assert_of(&rt, "a segment", goes_to_the_end(header, *offset));
     }
 }
 
 #[test]
 fn refusals_have_their_texts(rt: HostRuntime) {
-    assert!(rt; SkipReason::Kind.text() == "type");
-    assert!(rt; SkipReason::KeySize.text() == "key size");
-    assert!(rt; SegmentFault::Kind.text() == "type");
-    assert!(rt; SegmentFault::SectorSize.text() == "sector size");
+    let skips = [SkipReason::Kind.text(), SkipReason::KeySize.text()];
+    assert_of(&rt, "skips", skips == ["type", "key size"]);
+    let faults = [SegmentFault::Kind.text(), SegmentFault::SectorSize.text()];
+    assert_of(&rt, "faults", faults == ["type", "sector size"]);
 }
 
 const SKIPPED: VerdictKind = VerdictKind::Skipped(SkipReason::Iterations);
 
+type Judged = (Option<u32>, u8, Option<VerdictKind>);
+
 // The limit of iterations, a slot's number, and the verdict on it without its contents. What is no
 // slot of the format has nothing to open.
-static JUDGED: [(Option<u32>, u8, Option<VerdictKind>); 7] = [
+static JUDGED: [Judged; 7] = [
     (None, 0, Some(VerdictKind::Usable(1))),
     (Some(999), 0, Some(SKIPPED)),
     (None, 7, Some(VerdictKind::Disabled)),
@@ -286,28 +318,38 @@ static JUDGED: [(Option<u32>, u8, Option<VerdictKind>); 7] = [
     (None, 255, None),
 ];
 
-#[test]
-fn a_slot_is_judged_by_its_number(rt: HostRuntime) {
-    let header = parse(&rt, &volume_header());
-    for (limit, number, want) in &JUDGED {
-        assert!(rt; verdict_kind(&header, *limit, *number) == *want, "{number}");
-        let there = is_there(&rt, &header, *number);
-        assert!(rt; *number < 8 || !there, "{number}");
+fn check_judged(rt: &(impl Abort + AllocGlobal), header: &Header, rows: &[Judged]) {
+    for (limit, number, want) in rows {
+        let is_so = verdict_kind(header, *limit, *number) == *want;
+        let there = is_there(rt, header, *number);
+        assert_row(rt, usize::from(*number), is_so & ((*number < 8) | !there));
     }
 }
 
-fn check_digest(rt: &impl Abort, digest: &KeyDigest) {
-    assert!(rt; digest.hash == Some(Hash::Sha256) && digest.iterations == 1000);
+#[test]
+fn a_slot_is_judged_by_its_number(rt: HostRuntime) {
+    let header = first(&rt, &[], &[]);
+    check_judged(&rt, header, &JUDGED);
+}
+
+fn has_numbers(digest: &KeyDigest) -> bool {
     let (salt, value) = (digest.salt.as_slice(), digest.value.as_slice());
-    assert!(rt; [salt.len(), value.len()] == [32, 20]);
-    assert!(rt; salt.first() == Some(&0x20) && value.last() == Some(&0x13));
+    (digest.hash == Some(Hash::Sha256))
+        & (digest.iterations == 1000)
+        & ([salt.len(), value.len()] == [32, 20])
+        & (salt.first() == Some(&0x20))
+        & (value.last() == Some(&0x13))
+}
+
+fn check_numbers(rt: &(impl Abort + AllocGlobal), header: &Header) {
+    let digest = digest_for(rt.alloc(), header, 0).expect(rt, "memory");
+    let digest = digest.expect(rt, "a digest");
+    assert_of(rt, "numbers", has_numbers(&digest));
 }
 
 #[test]
 fn a_digest_has_its_numbers(rt: HostRuntime) {
-    let header = parse(&rt, &volume_header());
-    let digest = digest_for(rt.alloc(), &header, 0).expect(&rt, "memory");
-    check_digest(&rt, &digest.expect(&rt, "a digest"));
-    let none = parse(&rt, &changed(&[(DIGEST_ITERATIONS, 0)], &[]));
-    assert!(rt; !has_digest(&rt, &none, 0));
+    check_numbers(&rt, first(&rt, &[], &[]));
+    let none = first(&rt, &[(DIGEST_ITERATIONS, 0)], &[]);
+    assert_of(&rt, "no digest", !has_digest(&rt, none, 0));
 }

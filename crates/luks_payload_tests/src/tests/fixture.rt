@@ -1,4 +1,6 @@
 //! Images of payloads, and runs over them.
+//!
+//! What is made for a test stays to its end, so that no function drops it.
 
 use luks_cipher::{Mode, SectorCipher};
 use luks_header::sector_size::SectorSize;
@@ -15,10 +17,26 @@ use luks_test_support::devices::{Flaky, Leaky};
 use std::process::Abort;
 
 /// An image, and the plain bytes of its sectors.
-#[derive(Drop)]
+#[derive(Clone, Copy)]
 pub struct Volume {
-    pub image: Vec<u8>,
-    pub plain: Vec<u8>,
+    pub image: &'static [u8],
+    pub plain: &'static [u8],
+}
+
+/// A value that stays to the end of the test.
+pub fn kept<'a, T: Drop + 'a>(rt: &(impl Abort + AllocGlobal), value: T) -> &'a mut T {
+    Box::leak(Box::new(rt.alloc(), value).expect(rt, "memory"))
+}
+
+/// A sink that accepts so many bytes, and so many at once, and of which this write fails.
+pub fn sink_of(
+    rt: &(impl Abort + AllocGlobal),
+    room: usize,
+    piece: usize,
+    bad_write: u64,
+) -> &'static mut Leaky {
+    let sink = Leaky::new(rt.alloc(), room, piece, bad_write);
+    kept(rt, sink.expect(rt, "memory"))
 }
 
 /// The key of all payloads here.
@@ -27,28 +45,35 @@ pub fn key(rt: &impl Abort) -> SectorCipher {
 }
 
 // Appends the sector with this unit number. No other sector has its plain bytes.
-fn push_sector(rt: &impl Abort, volume: &mut Volume, unit: u64, size: SectorSize) {
+fn push_sector(
+    rt: &impl Abort,
+    image: &mut Vec<u8>,
+    plain: &mut Vec<u8>,
+    unit: u64,
+    size: SectorSize,
+) {
     let mut bytes = [0; 4096];
     for (i, byte) in bytes.iter_mut().enumerate() {
         let i = i as u64;
         *byte = ((unit % 256 * 89 + i % 256 * 7 + i / 256) % 256) as u8;
     }
     let sector = &mut bytes[..size.bytes()];
-    volume.plain.extend_from_slice(sector).expect(rt, "memory");
+    plain.extend_from_slice(sector).expect(rt, "memory");
     key(rt).encrypt_unit(unit, sector);
-    volume.image.extend_from_slice(sector).expect(rt, "memory");
+    image.extend_from_slice(sector).expect(rt, "memory");
 }
 
 /// An image whose payload begins at byte 1000, with one sector of this size for each unit number.
 pub fn volume_of(rt: &(impl Abort + AllocGlobal), size: SectorSize, units: &[u64]) -> Volume {
-    let mut volume = Volume {
-        image: vec![in rt.alloc(); 0xee; 1000].expect(rt, "memory"),
-        plain: Vec::new(rt.alloc()),
-    };
+    let mut image = vec![in rt.alloc(); 0xee; 1000].expect(rt, "memory");
+    let mut plain = Vec::new(rt.alloc());
     for unit in units {
-        push_sector(rt, &mut volume, *unit, size);
+        push_sector(rt, &mut image, &mut plain, *unit, size);
     }
-    volume
+    Volume {
+        image: image.leak(),
+        plain: plain.leak(),
+    }
 }
 
 /// A segment from byte 1000 on, with a fixed size or without.
@@ -72,7 +97,7 @@ pub fn segment_of(
 pub const NEVER: u64 = u64::MAX;
 
 /// How an image comes, and where its plain bytes go.
-#[derive(Clone, Copy, PartialEq, Eq, Debug)]
+#[derive(Clone, Copy, Debug)]
 pub struct Way {
     /// How many bytes are held before the source is asked.
     pub held: usize,
@@ -94,7 +119,7 @@ pub type End = (u32, Result<Step, VolumeFault>, usize, usize);
 
 /// What a run came to, and how many sectors the source passed on. It is sound if what it wrote is
 /// a prefix of the plain bytes, and if further steps and skips answered alike and called no device.
-#[derive(Clone, Copy, PartialEq, Eq, Debug)]
+#[derive(Clone, Copy, Debug)]
 pub struct Outcome {
     pub end: End,
     pub passed: u32,
@@ -150,6 +175,66 @@ pub fn run_pump<S: Source, O: Sink>(
     (100, Ok(Step::Sector))
 }
 
+/// Runs the pump over a device that gives bytes in pieces.
+pub fn run_pieces(
+    pump: &mut Pump<'_>,
+    source: &mut Flaky<'_>,
+    sink: &mut Leaky,
+) -> (u32, Result<Step, VolumeFault>) {
+    run_pump(pump, source, sink)
+}
+
+type Held<'a> = Passing<AheadSource<Flaky<'a>>>;
+
+// The source of these bytes, with all of them announced.
+fn source_of<'a>(rt: &(impl Abort + AllocGlobal), bytes: &'a [u8], way: &Way) -> Held<'a> {
+    let below = Flaky::new(bytes, way.piece, way.bad_read);
+    let source = AheadSource::new(rt.alloc(), way.room, below).expect(rt, "memory");
+    let mut source = Passing { source, passed: 0 };
+    source.announce(u64::MAX);
+    source
+}
+
+// The pump of a payload, of which these bytes are held.
+fn pump_of<'a>(rt: &impl Abort, segment: Segment, first: &'a [u8]) -> Pump<'a> {
+    if first.is_empty() {
+        Pump::new(segment, key(rt), 0)
+    } else {
+        Pump::with_front(segment, key(rt), &first[first.len().min(1000)..])
+    }
+}
+
+fn run_held(
+    pump: &mut Pump<'_>,
+    source: &mut Held<'_>,
+    sink: &mut Leaky,
+) -> (u32, Result<Step, VolumeFault>) {
+    run_pump(pump, source, sink)
+}
+
+// Whether further steps and skips answer as the last step did, and call no device.
+fn is_over(
+    pump: &mut Pump<'_>,
+    source: &mut Held<'_>,
+    sink: &mut Leaky,
+    last: Result<Step, VolumeFault>,
+) -> bool {
+    let calls = [source.source.get_ref().calls(), sink.calls()];
+    let again = run_held(pump, source, sink);
+    let is_skipped = pump.skip(source).is_ok();
+    (again == (0, last))
+        & ([source.source.get_ref().calls(), sink.calls()] == calls)
+        & (is_skipped == last.is_ok())
+}
+
+// How many bytes a source still gives. A read that fails only here gives nothing.
+fn left_in(source: &mut Held<'_>) -> usize {
+    match fill(source, &mut [0; 16_384]) {
+        Ok(count) => count,
+        Err(fault) => fault.got,
+    }
+}
+
 /// What a run over an image comes to. Taken is what the source does not give any more.
 pub fn run(
     rt: &(impl Abort + AllocGlobal),
@@ -158,32 +243,22 @@ pub fn run(
     way: Way,
 ) -> Outcome {
     let (first, rest) = image.split_at(way.held.min(image.len()));
-    let below = Flaky::new(rest, way.piece, way.bad_read);
-    let source = AheadSource::new(rt.alloc(), way.room, below).expect(rt, "memory");
-    let mut source = Passing { source, passed: 0 };
-    source.announce(u64::MAX);
-    let mut sink = Leaky::new(rt.alloc(), 65_536, way.sink_piece, way.bad_write).expect(
-        rt, "memory",
-    );
-    let mut pump = if first.is_empty() {
-        Pump::new(segment, key(rt), 0)
-    } else {
-        Pump::with_front(segment, key(rt), &first[first.len().min(1000)..])
-    };
-    let (sectors, last) = run_pump(&mut pump, &mut source, &mut sink);
-    let calls = (source.source.get_ref().calls(), sink.calls());
-    let again = run_pump(&mut pump, &mut source, &mut sink);
-    let is_skipped = pump.skip(&mut source).is_ok();
-    let calls_again = (source.source.get_ref().calls(), sink.calls());
-    // A read that fails only here gives nothing.
-    let left = fill(&mut source, &mut [0; 16_384]).unwrap_or_else(|fault| fault.got);
-    let taken = image.len().saturating_sub(left);
-    let is_over = again == (0, last) && calls_again == calls && is_skipped == last.is_ok();
+    let mut source = source_of(rt, rest, &way);
+    let sink = sink_of(rt, 65_536, way.sink_piece, way.bad_write);
+    let mut pump = pump_of(rt, segment, first);
+    let (sectors, last) = run_held(&mut pump, &mut source, sink);
+    let is_over = is_over(&mut pump, &mut source, sink, last);
+    let taken = image.len().saturating_sub(left_in(&mut source));
     Outcome {
         end: (sectors, last, taken, sink.as_slice().len()),
         passed: source.passed,
-        is_sound: is_over && plain.starts_with(sink.as_slice()),
+        is_sound: is_over & plain.starts_with(sink.as_slice()),
     }
+}
+
+/// Asserts what holds of an outcome.
+pub fn assert_outcome(rt: &impl Abort, len: usize, way: &Way, outcome: &Outcome, holds: bool) {
+    assert!(rt; holds, "{len} bytes, {way:?}: {outcome:?}");
 }
 
 /// Asserts that a run comes to this.
@@ -195,9 +270,6 @@ pub fn check_run(
     end: End,
 ) {
     let outcome = run(rt, segment, parts, way);
-    let len = parts.0.len();
-    assert!(rt;
-        outcome.is_sound && outcome.end == end,
-        "{len} bytes, {way:?}: {outcome:?}"
-    );
+    let is_so = outcome.is_sound & (outcome.end == end);
+    assert_outcome(rt, parts.0.len(), &way, &outcome, is_so);
 }

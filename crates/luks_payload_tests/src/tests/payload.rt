@@ -1,7 +1,11 @@
 //! Payloads of all endings, of which the source or the pump holds whole sectors, parts of them, or
 //! none.
 
-use super::fixture::{End, NEVER, Way, check_run, key, run, run_pump, segment_of, volume_of};
+use super::assert_of;
+use super::fixture::{
+    End, NEVER, Volume, Way, assert_outcome, check_run, kept, key, run, run_pump, segment_of,
+    volume_of,
+};
 use luks_header::sector_size::SectorSize;
 use luks_io::memory::{MemSink, MemSource};
 use luks_payload::fault::VolumeFault;
@@ -131,7 +135,7 @@ fn check_payload(
         let written = (*sectors as usize).saturating_mul(sector_size.bytes());
         for shape in &SHAPES {
             let end = (*sectors, *last, *taken, written);
-            check_run(rt, segment, (image, &volume.plain), way_of(*shape), end);
+            check_run(rt, segment, (image, volume.plain), way_of(*shape), end);
         }
     }
 }
@@ -198,7 +202,7 @@ fn check_front(rt: &(impl Abort + AllocGlobal), (sector_size, size, units, row, 
             ..way_of((0, 513, 700))
         };
         let end = (sectors, last, taken.max(*held), written);
-        check_run(rt, segment, (image, &volume.plain), way, end);
+        check_run(rt, segment, (image, volume.plain), way, end);
     }
 }
 
@@ -225,7 +229,7 @@ static BAD_READS: [(u64, End); 8] = [
 #[test]
 fn failed_reads_are_reported_from_then_on(rt: HostRuntime) {
     let volume = volume_of(&rt, SectorSize::B512, &UNITS_512);
-    let parts = (volume.image.as_slice(), volume.plain.as_slice());
+    let parts = (volume.image, volume.plain);
     let segment = segment_of(&rt, SectorSize::B512, 5, None);
     for (bad_read, end) in &BAD_READS {
         let way = Way {
@@ -268,7 +272,7 @@ fn failed_writes_are_reported_from_then_on(rt: HostRuntime) {
                 bad_write: *bad_write,
                 ..way_of((*room, *piece, 200))
             };
-            check_run(&rt, segment, (&volume.image, &volume.plain), way, *end);
+            check_run(&rt, segment, (volume.image, volume.plain), way, *end);
         }
     }
 }
@@ -291,13 +295,39 @@ fn sectors_that_are_held_are_passed_on(rt: HostRuntime) {
     let segment = segment_of(&rt, SectorSize::B512, 5, None);
     for (room, piece, passed) in &PASSED {
         let way = way_of((*room, *piece, 200));
-        let outcome = run(&rt, segment, (&volume.image, &volume.plain), way);
+        let outcome = run(&rt, segment, (volume.image, volume.plain), way);
         let is_whole = outcome.end == (3, Ok(Step::End), 2536, 1536);
-        assert!(rt;
-            is_whole && outcome.passed == *passed,
-            "{way:?}: {outcome:?}"
-        );
+        let is_so = is_whole & (outcome.passed == *passed);
+        assert_outcome(&rt, volume.image.len(), &way, &outcome, is_so);
     }
+}
+
+// Whether a skip leaves the source at the payload.
+fn skips(pump: &mut Pump<'_>, source: &mut MemSource<'_>) -> bool {
+    (pump.skip(source) == Ok(())) & (source.left().len() == 1536)
+}
+
+// Whether the plain text is written, and the source consumed.
+fn ends(pump: &mut Pump<'_>, source: &mut MemSource<'_>, sink: &mut MemSink, plain: &[u8]) -> bool {
+    let end = run_pump(pump, source, sink);
+    (end == (3, Ok(Step::End))) & source.left().is_empty() & (sink.as_slice() == plain)
+}
+
+// Whether neither a step nor a skip consumes or writes anything.
+fn rests(pump: &mut Pump<'_>, source: &mut MemSource<'_>, sink: &mut MemSink) -> bool {
+    let is_stepped = pump.step(source, sink) == Ok(Step::End);
+    let is_skipped = pump.skip(source) == Ok(());
+    is_stepped & is_skipped & (source.left().len() == 2536) & (sink.as_slice().len() == 1536)
+}
+
+fn check_end(rt: &(impl Abort + AllocGlobal), mut pump: Pump<'_>, volume: Volume, rest: &[u8]) {
+    let mut source = MemSource::new(rest);
+    assert_of(rt, "first skip", skips(&mut pump, &mut source));
+    assert_of(rt, "second skip", skips(&mut pump, &mut source));
+    let sink = kept(rt, MemSink::new(rt.alloc(), 4096).expect(rt, "memory"));
+    let is_over = ends(&mut pump, &mut source, sink, volume.plain);
+    let mut more = MemSource::new(volume.image);
+    assert_of(rt, "end", is_over & rests(&mut pump, &mut more, sink));
 }
 
 // The source is behind the header's 592 bytes. A second skip consumes nothing, and after the end
@@ -307,17 +337,6 @@ fn a_second_skip_and_a_step_after_the_end_touch_nothing(rt: HostRuntime) {
     let volume = volume_of(&rt, SectorSize::B512, &UNITS_512);
     let segment = segment_of(&rt, SectorSize::B512, 5, None);
     assert!(rt; 592 <= segment.offset && volume.image.len() == 2536);
-    let mut pump = Pump::new(segment, key(&rt), 592);
-    let mut source = MemSource::new(&volume.image[592..]);
-    for _ in 0..2 {
-        assert!(rt; pump.skip(&mut source) == Ok(()) && source.left().len() == 1536);
-    }
-    let mut sink = MemSink::new(rt.alloc(), 4096).expect(&rt, "memory");
-    let end = run_pump(&mut pump, &mut source, &mut sink);
-    assert!(rt; end == (3, Ok(Step::End)) && source.left().is_empty());
-    assert!(rt; sink.as_slice() == volume.plain.as_slice());
-    let mut more = MemSource::new(&volume.image);
-    assert!(rt; pump.step(&mut more, &mut sink) == Ok(Step::End));
-    assert!(rt; pump.skip(&mut more) == Ok(()) && more.left().len() == 2536);
-    assert!(rt; sink.as_slice().len() == 1536);
+    let pump = Pump::new(segment, key(&rt), 592);
+    check_end(&rt, pump, volume, &volume.image[592..]);
 }

@@ -2,7 +2,8 @@
 
 ghost use Rattle.std.specs.Prelude.{◌≡◌, length};
 
-use super::fixture::{NEVER, run_pump};
+use super::assert_of;
+use super::fixture::{NEVER, run_pieces, sink_of};
 use luks_cipher::{Mode, SectorCipher};
 use luks_header::sector_size::SectorSize;
 use luks_header::segment::{Segment, SegmentParts};
@@ -101,35 +102,57 @@ fn payload(rt: &impl Abort) -> Pump<'static> {
     Pump::new(segment, cipher, 0)
 }
 
-// The pump writes the plain text and consumes the image to its end. Further steps and skips report
-// the same and call no device.
+// Whether the plain text is written, and the image consumed to its end.
+fn ends(pump: &mut Pump<'_>, source: &mut Flaky<'_>, sink: &mut Leaky, plain: &[u8]) -> bool {
+    let end = run_pieces(pump, source, sink);
+    (end == (2, Ok(Step::End))) & (source.left() == 0) & (sink.as_slice() == plain)
+}
+
+// Whether further steps and skips report the same and call no device.
+fn rests(pump: &mut Pump<'_>, source: &mut Flaky<'_>, sink: &mut Leaky) -> bool {
+    let calls = [source.calls(), sink.calls()];
+    let again = run_pieces(pump, source, sink);
+    let is_skipped = pump.skip(source) == Ok(());
+    (again == (0, Ok(Step::End))) & is_skipped & ([source.calls(), sink.calls()] == calls)
+}
+
 fn check_payload(rt: &(impl Abort + AllocGlobal), image: &[u8], plain: &[u8]) {
     let mut pump = payload(rt);
     let mut source = Flaky::new(image, 5000, NEVER);
-    let mut sink = Leaky::new(rt.alloc(), 4096, 5000, NEVER).expect(rt, "memory");
-    let end = run_pump(&mut pump, &mut source, &mut sink);
-    assert!(rt; end == (2, Ok(Step::End)) && source.left() == 0, "{end:?}");
-    assert!(rt; sink.as_slice() == plain);
-    let calls = (source.calls(), sink.calls());
-    let again = run_pump(&mut pump, &mut source, &mut sink);
-    assert!(rt; again == (0, Ok(Step::End)) && pump.skip(&mut source) == Ok(()));
-    assert!(rt; (source.calls(), sink.calls()) == calls);
+    let sink = sink_of(rt, 4096, 5000, NEVER);
+    assert_of(rt, "end", ends(&mut pump, &mut source, sink, plain));
+    assert_of(rt, "rest", rests(&mut pump, &mut source, sink));
 }
 
-#[test]
-fn a_sealed_volume_has_the_stated_places(rt: HostRuntime) {
-    let plain = counted(rt.alloc(), 1024).expect(&rt, "memory");
+fn sealed(rt: &(impl Abort + AllocGlobal), plain: &[u8]) -> &'static [u8] {
     let slots = [
         slot1(5, SIXTH_SALT, b"sixth"),
         slot1(0, FIRST_SALT, b"first"),
     ];
-    let image = seal1(rt.alloc(), &parameters1(&slots, &plain)).expect(&rt, "a volume");
-    assert!(rt; image.len() == 37_888);
-    for (place, bytes) in &HEADER {
-        assert!(rt; at(&image, *place, bytes.len()) == *bytes, "{place}");
+    let image = seal1(rt.alloc(), &parameters1(&slots, plain));
+    image.expect(rt, "a volume").leak()
+}
+
+fn has_places(image: &[u8], rows: &[(usize, &[u8])]) -> bool {
+    let mut has = image.len() == 37_888;
+    for (place, bytes) in rows {
+        has &= at(image, *place, bytes.len()) == *bytes;
     }
-    assert!(rt; opens(&rt, &image, 4096, &FIRST_SALT, b"first"));
-    assert!(rt; opens(&rt, &image, 24_576, &SIXTH_SALT, b"sixth"));
-    assert!(rt; !opens(&rt, &image, 4096, &FIRST_SALT, b"sixth"));
-    check_payload(&rt, &image, &plain);
+    has
+}
+
+fn check_slots(rt: &impl Abort, image: &[u8]) {
+    let is_first = opens(rt, image, 4096, &FIRST_SALT, b"first");
+    let is_sixth = opens(rt, image, 24_576, &SIXTH_SALT, b"sixth");
+    let is_other = opens(rt, image, 4096, &FIRST_SALT, b"sixth");
+    assert_of(rt, "slots", is_first & is_sixth & !is_other);
+}
+
+#[test]
+fn a_sealed_volume_has_the_stated_places(rt: HostRuntime) {
+    let plain = counted(rt.alloc(), 1024).expect(&rt, "memory").leak();
+    let image = sealed(&rt, plain);
+    assert_of(&rt, "places", has_places(image, &HEADER));
+    check_slots(&rt, image);
+    check_payload(&rt, image, plain);
 }

@@ -1,7 +1,8 @@
 //! Sealed volumes of both formats, opened by the header's reader, by what tries passphrases, and by
 //! a pump.
 
-use super::fixture::{NEVER, run_pump};
+use super::assert_of;
+use super::fixture::{NEVER, kept, run_pieces, sink_of};
 use luks_cipher::{Mode, SectorCipher};
 use luks_header::area::HeaderArea;
 use luks_header::header::{Header, read_header};
@@ -18,7 +19,7 @@ use luks_payload::state::Step;
 use luks_seal::parameters::{Seal1, Seal2, Slot1, Slot2};
 use luks_seal_fixtures::bytes::{at, counted};
 use luks_seal_fixtures::parameters::{self, parameters1, parameters2};
-use luks_test_support::devices::{Flaky, Leaky};
+use luks_test_support::devices::Flaky;
 use luks1_seal::seal1;
 use luks2_seal::seal2;
 use std::process::Abort;
@@ -54,8 +55,8 @@ const KEY: &[u8] = b"a volume key of AES-256 has two halves, thirty-two bytes in
 const STRIPES: u32 = 3;
 
 // So many bytes that count up.
-fn bytes(rt: &(impl Abort + AllocGlobal), len: usize) -> Vec<u8> {
-    counted(rt.alloc(), len).expect(rt, "memory")
+fn bytes(rt: &(impl Abort + AllocGlobal), len: usize) -> &'static [u8] {
+    counted(rt.alloc(), len).expect(rt, "memory").leak()
 }
 
 // What a passphrase opens of a header's image, whether or not a slot is named.
@@ -90,9 +91,14 @@ fn check_payload(
     let payload = segment(header).expect(rt, "a segment");
     let cipher = SectorCipher::new(payload.mode, key).expect(rt, "a key of the mode");
     let mut source = Flaky::new(image, 0, NEVER);
-    let mut sink = Leaky::new(rt.alloc(), 65_536, 65_536, NEVER).expect(rt, "memory");
-    let (_, last) = run_pump(&mut Pump::new(payload, cipher, 0), &mut source, &mut sink);
-    assert!(rt; last == Ok(Step::End) && sink.as_slice() == plain);
+    let sink = sink_of(rt, 65_536, 65_536, NEVER);
+    let (_, last) = run_pieces(&mut Pump::new(payload, cipher, 0), &mut source, sink);
+    let is_plain = sink.as_slice() == plain;
+    assert_of(rt, "payload", is_plain & (last == Ok(Step::End)));
+}
+
+fn check_slot(rt: &impl Abort, pass: &[u8], found: Option<u8>, slot: Option<u8>) {
+    assert!(rt; found == slot, "{pass:?}: {found:?}");
 }
 
 // The passphrase opens this slot of the image, and the payload is this plain text. Or it opens
@@ -105,29 +111,46 @@ fn check_opens(
     slot: Option<u8>,
 ) {
     let mut source = MemSource::new(image);
-    let (header, mut area) = read_header(rt.alloc(), &mut source).expect(rt, "a header");
-    match opened(rt, &header, &mut area, &mut source, named, pass) {
+    let (header, area) = read_header(rt.alloc(), &mut source).expect(rt, "a header");
+    let (header, area) = (kept(rt, header), kept(rt, area));
+    match opened(rt, header, area, &mut source, named, pass) {
         Ok(opened) => {
-            assert!(rt;
-                slot == Some(opened.slot),
-                "{pass:?}, {named:?}: {}",
-                opened.slot
-            );
-            check_payload(rt, &header, opened.key.as_slice(), image, plain);
+            check_slot(rt, pass, Some(opened.slot), slot);
+            check_payload(rt, header, opened.key.as_slice(), image, plain);
         }
-        Err(_) => assert!(rt; slot.is_none(), "{pass:?}, {named:?}"),
+        Err(_) => check_slot(rt, pass, None, slot),
     }
 }
+
+/// The named slot, a passphrase, and the slot that it opens.
+type Opening = (Option<u8>, &'static [u8], Option<u8>);
+
+fn check_openings(
+    rt: &(impl Abort + AllocGlobal),
+    (image, plain): (&[u8], &[u8]),
+    rows: &[Opening],
+) {
+    for (named, pass, slot) in rows {
+        check_opens(rt, (image, plain), *named, pass, *slot);
+    }
+}
+
+static OF_LUKS1: [Opening; 4] = [
+    (None, FIRST, Some(1)),
+    (None, SECOND, Some(6)),
+    (Some(6), SECOND, Some(6)),
+    (Some(1), SECOND, None),
+];
 
 // A volume of LUKS1 with two slots.
 fn check_volume1(rt: &(impl Abort + AllocGlobal), mode: Mode, key: &[u8], plain: &[u8]) {
     let random = bytes(rt, key.len().saturating_mul(2));
     let second = Slot1 {
-        random: &random,
+        random,
         ..parameters::slot1(6, [0x41; 32], SECOND)
     };
     let first = Slot1 {
-        random: &random,
+        random,
         ..parameters::slot1(1, [0x41; 32], FIRST)
     };
     let slots = [second, first];
@@ -139,18 +162,15 @@ fn check_volume1(rt: &(impl Abort + AllocGlobal), mode: Mode, key: &[u8], plain:
         digest_iterations: 2,
         ..parameters1(&slots, plain)
     };
-    let image = seal1(rt.alloc(), &seal).expect(rt, "a volume");
-    check_opens(rt, (&image, plain), None, FIRST, Some(1));
-    check_opens(rt, (&image, plain), None, SECOND, Some(6));
-    check_opens(rt, (&image, plain), Some(6), SECOND, Some(6));
-    check_opens(rt, (&image, plain), Some(1), SECOND, None);
+    let image = seal1(rt.alloc(), &seal).expect(rt, "a volume").leak();
+    check_openings(rt, (image, plain), &OF_LUKS1);
 }
 
 #[test]
 fn each_passphrase_opens_a_volume_of_luks1_in_each_mode(rt: HostRuntime) {
     let plain = bytes(&rt, 1536);
     for (mode, len) in MODES {
-        check_volume1(&rt, mode, at(KEY, 0, len), &plain);
+        check_volume1(&rt, mode, at(KEY, 0, len), plain);
     }
 }
 
@@ -182,24 +202,28 @@ fn volume2<'a>(mode: Mode, key: &'a [u8], plain: &'a [u8]) -> Seal2<'a> {
     }
 }
 
+static OF_LUKS2: [Opening; 5] = [
+    (None, FIRST, Some(10)),
+    (None, SECOND, Some(31)),
+    (Some(2), UNRANKED, Some(2)),
+    (None, UNRANKED, None),
+    (Some(2), FIRST, None),
+];
+
 // A volume of LUKS2 with three slots, of which the one with priority 0 opens by its number alone.
 fn check_volume2(rt: &(impl Abort + AllocGlobal), seal: Seal2<'_>) {
     let random = bytes(rt, seal.key.len().saturating_mul(2));
     let slots = [
-        slot2((31, 2), Hash::Sha512, SECOND, &random),
-        slot2((2, 0), Hash::Sha256, UNRANKED, &random),
-        slot2((10, 1), Hash::Sha1, FIRST, &random),
+        slot2((31, 2), Hash::Sha512, SECOND, random),
+        slot2((2, 0), Hash::Sha256, UNRANKED, random),
+        slot2((10, 1), Hash::Sha1, FIRST, random),
     ];
     let seal = Seal2 {
         slots: &slots,
         ..seal
     };
-    let image = seal2(rt.alloc(), &seal).expect(rt, "a volume");
-    check_opens(rt, (&image, seal.plain), None, FIRST, Some(10));
-    check_opens(rt, (&image, seal.plain), None, SECOND, Some(31));
-    check_opens(rt, (&image, seal.plain), Some(2), UNRANKED, Some(2));
-    check_opens(rt, (&image, seal.plain), None, UNRANKED, None);
-    check_opens(rt, (&image, seal.plain), Some(2), FIRST, None);
+    let image = seal2(rt.alloc(), &seal).expect(rt, "a volume").leak();
+    check_openings(rt, (image, seal.plain), &OF_LUKS2);
 }
 
 #[test]
@@ -209,7 +233,7 @@ fn each_passphrase_opens_a_volume_of_luks2_in_each_mode(rt: HostRuntime) {
         for sector_size in SIZES {
             let seal = Seal2 {
                 sector_size,
-                ..volume2(mode, at(KEY, 0, len), &plain)
+                ..volume2(mode, at(KEY, 0, len), plain)
             };
             check_volume2(&rt, seal);
         }
@@ -223,7 +247,7 @@ fn key_material_is_in_a_mode_of_its_own(rt: HostRuntime) {
         let seal = Seal2 {
             area_mode,
             area_key_size,
-            ..volume2(Mode::XtsPlain64, KEY, &plain)
+            ..volume2(Mode::XtsPlain64, KEY, plain)
         };
         check_volume2(&rt, seal);
     }
@@ -248,7 +272,7 @@ fn unit_numbers_wrap_and_sizes_are_kept(rt: HostRuntime) {
                 sector_size,
                 fixed,
                 iv_tweak: u64::MAX - 7,
-                ..volume2(Mode::XtsPlain64, KEY, at(&plain, 0, len))
+                ..volume2(Mode::XtsPlain64, KEY, at(plain, 0, len))
             };
             check_volume2(&rt, seal);
         }
@@ -256,13 +280,13 @@ fn unit_numbers_wrap_and_sizes_are_kept(rt: HostRuntime) {
 }
 
 // A volume of LUKS2 with one slot.
-fn sealed_once(rt: &(impl Abort + AllocGlobal), seal: Seal2<'_>) -> Vec<u8> {
+fn sealed_once(rt: &(impl Abort + AllocGlobal), seal: Seal2<'_>) -> &'static mut [u8] {
     let random = bytes(rt, 128);
     let seal = Seal2 {
-        slots: &[slot2((0, 1), Hash::Sha256, FIRST, &random)],
+        slots: &[slot2((0, 1), Hash::Sha256, FIRST, random)],
         ..seal
     };
-    seal2(rt.alloc(), &seal).expect(rt, "a volume")
+    seal2(rt.alloc(), &seal).expect(rt, "a volume").leak()
 }
 
 // Bytes behind a fixed size are no part of the payload.
@@ -271,30 +295,41 @@ fn a_fixed_size_ends_the_payload(rt: HostRuntime) {
     let plain = bytes(&rt, 1024);
     let seal = Seal2 {
         fixed: true,
-        ..volume2(Mode::XtsPlain64, KEY, &plain)
+        ..volume2(Mode::XtsPlain64, KEY, plain)
     };
-    let mut image = sealed_once(&rt, seal);
-    image.extend_from_slice(&plain).expect(&rt, "memory");
-    check_opens(&rt, (&image, &plain), None, FIRST, Some(0));
+    let parts: [&[u8]; 2] = [sealed_once(&rt, seal), plain];
+    let image = parts.concat(rt.alloc()).expect(&rt, "memory").leak();
+    check_opens(&rt, (image, plain), None, FIRST, Some(0));
 }
 
 /// The sizes of headers.
 const HEADERS: [u64; 7] = [16_384, 32_768, 65_536, 131_072, 262_144, 524_288, 1_048_576];
+
+// Puts a byte that ends the primary header's text at its start.
+fn damage(image: &mut [u8]) {
+    if 4096 < image.len() {
+        image[4096] = b'}';
+    }
+}
+
+fn check_headers(rt: &(impl Abort + AllocGlobal), plain: &[u8], hdr_size: u64) {
+    let seal = Seal2 {
+        hdr_size,
+        offset: hdr_size.saturating_mul(2).saturating_add(4096),
+        ..volume2(Mode::XtsPlain64, KEY, plain)
+    };
+    let image = sealed_once(rt, seal);
+    check_opens(rt, (image, plain), None, FIRST, Some(0));
+    assert_of(rt, "length", 4096 < image.len());
+    damage(image);
+    check_opens(rt, (image, plain), None, FIRST, Some(0));
+}
 
 // The secondary header is chosen if the primary one is broken.
 #[test]
 fn both_headers_are_valid(rt: HostRuntime) {
     let plain = bytes(&rt, 1024);
     for hdr_size in HEADERS {
-        let seal = Seal2 {
-            hdr_size,
-            offset: hdr_size.saturating_mul(2).saturating_add(4096),
-            ..volume2(Mode::XtsPlain64, KEY, &plain)
-        };
-        let mut image = sealed_once(&rt, seal);
-        check_opens(&rt, (&image, &plain), None, FIRST, Some(0));
-        assert!(rt; 4096 < image.len());
-        image[4096] = b'}';
-        check_opens(&rt, (&image, &plain), None, FIRST, Some(0));
+        check_headers(&rt, plain, hdr_size);
     }
 }
