@@ -1,14 +1,16 @@
 -- What `clap` says of luksrd's command line.
-use Rattle.std.proofs.Common.{◌≡◌, ◌∙◌, ◌||◌, Bool, Err, IsErrAnd, List, None, Ok, Option, Result, [], ◌∷◌, ap, false}
-use Rattle.std.proofs.Common.{inl, inr, refl, subst, sym, true}
+use Rattle.std.proofs.Common.{◌≡◌, ◌∙◌, ◌||◌, Bool, Err, IfOk, IsErrAnd, List, None, Ok, Option, Result, [], ◌∷◌, ap, false}
+use Rattle.std.proofs.Common.{inl, inr, refl, subst, sym, true, ◌++◌}
 use Rattle.std.proofs.Math.Bool.{or-false}
 use Rattle.clap.specs.Words.{App, HasKind, HasMatchesOf, Kinds, Text, fault_of, is_simple, is_simple_and_free, kind_of}
 use Rattle.clap.specs.Words.{subcommand_of, subcommand_rows_of}
 use Rattle.clap.specs.declared.Error.{Error}
 use Rattle.clap.specs.declared.ArgMatches.{ArgMatches}
+use Rattle.clap.specs.Words.{AddsInTurn, AddsSubcommand, Shape, app_of, with_subcommand}
+use Rattle.clap.specs.declared.builder.Command.{Command}
 use Rattle.clap.proofs.OnLiterals.{clap_on_literals}
 use Rattle.luks_args.specs.Command.{fault_for, subcommand_in, unless_faulty}
-use Rattle.luks_args.specs.Grammar.{header_command, luksrd, volume_command}
+use Rattle.luks_args.specs.Grammar.{AreReadAs, IsReadAs, alone, header_command, luksrd, volume_command}
 use Rattle.luks_args.specs.declared.planning.PlanFault.{PlanFault}
 use Rattle.luks_args.specs.declared.planning.PlanFault.TheVariants.{Usage}
 
@@ -61,3 +63,37 @@ module _ {T : Type 0} where
       → fault ≡ Usage
   fault_given (Ok x) fault given usage = cc
   fault_given (Err x) fault given usage = cc
+
+-- a command more behind those that are read
+pub read_more : (commands : List Command) (shapes : List Shape) (command : Command) (shape : Shape)
+    → AreReadAs commands shapes → IsReadAs command (alone shape)
+    → AreReadAs (commands ++ command ∷ []) (shapes ++ shape ∷ [])
+unfolding AreReadAs
+read_more [] [] command shape are is = (is, tt)
+read_more (c ∷ cs) (s ∷ ss) command shape are is = (are.0, read_more cs ss command shape are.1 is)
+read_more [] (s ∷ ss) command shape are is = absurd are
+read_more (c ∷ cs) [] command shape are is = absurd are
+
+abbrev pub with_subcommands : App → List Shape → App
+with_subcommands app [] = app
+with_subcommands app (shape ∷ shapes) = with_subcommands (with_subcommand app shape) shapes
+
+-- subcommands that are added in turn stand behind those before
+pub added_shapes : (old new : Command) (commands : List Command) (app : App) (shapes : List Shape) → app_of old ≡ app
+    → AddsInTurn AddsSubcommand old commands new → AreReadAs commands shapes
+    → app_of new ≡ with_subcommands app shapes
+unfolding AreReadAs
+added_shapes old new [] app [] is adds are = ap app_of (sym adds) ∙ is
+added_shapes old new (c ∷ cs) app (s ∷ ss) is (middle, step, rest) are =
+    let read : IsReadAs c (alone s) = are.0 in
+    added_shapes middle new cs (with_subcommand app s) ss
+    (step.shape read.local ∙ cc (is, ap (λ (a : App). a.top) read.app)) rest are.1
+added_shapes old new [] app (s ∷ ss) is adds are = absurd are
+added_shapes old new (c ∷ cs) app [] is adds are = absurd are
+
+module _ {E : Type 0} where
+  pub built_of : (result : Result Command E) (old : Command) (commands : List Command) (app : App) (shapes : List Shape)
+      → app_of old ≡ app → IfOk result (λ new. AddsInTurn AddsSubcommand old commands new) → AreReadAs commands shapes
+      → IfOk result (λ new. app_of new ≡ with_subcommands app shapes)
+  built_of (Ok new) old commands app shapes is adds are = added_shapes old new commands app shapes is adds are
+  built_of (Err error) old commands app shapes is adds are = tt

@@ -76,13 +76,17 @@ program = record (new_shape (codes "luksrd")) {
   disable_help_subcommand = true;
 }
 
+-- the commands that are not on headers alone
+abbrev pub other_shapes : List Shape
+other_shapes = test_passphrase_shape ∷ luks_cat_shape ∷ af_split_shape ∷ af_merge_shape ∷ []
+
+-- the commands
+abbrev pub luksrd_shapes : List Shape
+luksrd_shapes = is_luks_shape ∷ luks_uuid_shape ∷ luks_dump_shape ∷ luks_check_shape ∷ other_shapes
+
 -- luksrd with its commands
 unfoldable pub luksrd : App
-luksrd = record {
-  top = record program { is_leaf = false };
-  subs = is_luks_shape ∷ luks_uuid_shape ∷ luks_dump_shape ∷ luks_check_shape ∷ test_passphrase_shape ∷ luks_cat_shape ∷
-      af_split_shape ∷ af_merge_shape ∷ [];
-}
+luksrd = record { top = record program { is_leaf = false }; subs = luksrd_shapes }
 
 -- a command on its own
 abbrev pub alone : Shape → App
@@ -97,6 +101,8 @@ pub record IsReadAs (command : Command) (as_read : App) : Type 0 where
 abbrev pub BuildsApp : {E : Type 0} → Result Command E → App → Type 0
 BuildsApp making as_read = IfOk making (λ command. IsReadAs command as_read)
 
--- a program being built has these commands, if memory did not run out
-abbrev pub HasSubcommands : {E : Type 0} → Result Command E → App → Type 0
-HasSubcommands making as_read = IfOk making (λ command. app_of command ≡ as_read)
+-- `clap` reads the commands as these shapes, one by one
+unfoldable pub AreReadAs : List Command → List Shape → Type 0
+AreReadAs [] [] = Unit
+AreReadAs (command ∷ commands) (shape ∷ shapes) = IsReadAs command (alone shape) × AreReadAs commands shapes
+AreReadAs _ _ = ⊥

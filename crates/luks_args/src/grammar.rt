@@ -1,12 +1,11 @@
 //! The commands of luksrd as `clap` reads them.
 
-ghost use Rattle.std.specs.Prelude.{◌≡◌, codes, false};
-ghost use Rattle.clap.specs.Words.{App, Shape, rule_of, with_rule, with_subcommand};
-ghost use Rattle.luks_args.specs.Grammar.{HasSubcommands, BuildsApp, IsReadAs, af_merge_shape, af_split_shape, alone};
-ghost use Rattle.luks_args.specs.Grammar.{header_command, header_option, input, is_luks_shape};
-ghost use Rattle.luks_args.specs.Grammar.{luks_cat_shape, luks_check_shape, luks_dump_shape, luks_uuid_shape, luksrd};
-ghost use Rattle.luks_args.specs.Grammar.{option, program, required};
-ghost use Rattle.luks_args.specs.Grammar.{test_passphrase_shape, volume_command};
+ghost use Rattle.std.specs.Prelude.{◌≡◌, ◌∷◌, ◌++◌, [], IfOk, List, OnOk, codes, false};
+ghost use Rattle.clap.specs.Words.{App, Shape, app_of, rule_of, with_rule};
+ghost use Rattle.luks_args.specs.Grammar.{AreReadAs, BuildsApp, IsReadAs, af_merge_shape, af_split_shape};
+ghost use Rattle.luks_args.specs.Grammar.{alone, header_command, header_option, input, luksrd};
+ghost use Rattle.luks_args.specs.Grammar.{luksrd_shapes, option, other_shapes, program, required};
+ghost use Rattle.luks_args.specs.Grammar.{volume_command};
 
 use clap::{Arg, Command};
 use std::alloc::{AllocError, Global};
@@ -17,12 +16,11 @@ type Making<'a> = Result<Command<'a>, AllocError>;
 
 // luksrd with all its commands.
 #[tactic(auto, unfolding(crate::specs::Grammar::luksrd))]
-pub(super) fn grammar<'a>(alloc: Global) -> Result<Command<'a>, AllocError>
-    ensures { HasSubcommands result luksrd }
+pub(super) fn grammar<'a>(alloc: Global) -> Making<'a>
+    ensures { IfOk result (λ made. app_of made ≡ luksrd) }
 {
-    let program = with_header_commands(alloc, Ok(program(alloc)));
-    let program = with_volume_commands(alloc, program);
-    with_stripe_commands(alloc, program)
+    let commands = commands(alloc)?;
+    program(alloc).subcommands(commands)
 }
 
 // luksrd with no command yet, and with no argument that asks for help.
@@ -35,46 +33,57 @@ fn program<'a>(alloc: Global) -> Command<'a>
         .disable_help_subcommand(true)
 }
 
-// The program with the commands on headers as well.
-fn with_header_commands<'a>(alloc: Global, program: Making<'a>) -> Making<'a>
-    ensures { (as_read : App) → HasSubcommands program.entry as_read
-        → HasSubcommands result (with_subcommand (with_subcommand (with_subcommand
-        (with_subcommand as_read is_luks_shape) luks_uuid_shape) luks_dump_shape) luks_check_shape) }
+// All commands of luksrd.
+fn commands<'a>(alloc: Global) -> Result<Vec<Command<'a>>, AllocError>
+    ensures { IfOk result (λ commands. AreReadAs commands.items luksrd_shapes) }
 {
-    let program = with_command(program, header_command(alloc, "isLuks"));
-    let program = with_command(program, header_command(alloc, "luksUUID"));
-    let program = with_command(program, header_command(alloc, "luksDump"));
-    with_command(program, header_command(alloc, "luksCheck"))
+    let mut commands = Vec::new(alloc);
+    push_commands(alloc, &mut commands)?;
+    Ok(commands)
 }
 
-// The program with the commands on volumes as well.
-fn with_volume_commands<'a>(alloc: Global, program: Making<'a>) -> Making<'a>
-    ensures { (as_read : App) → HasSubcommands program.entry as_read
-        → HasSubcommands result (with_subcommand
-        (with_subcommand as_read test_passphrase_shape) luks_cat_shape) }
+// Adds all commands of luksrd.
+fn push_commands<'a>(alloc: Global, commands: &mut Vec<Command<'a>>) -> Result<(), AllocError>
+    ensures { (before : List Shape) → AreReadAs commands.old.items before
+        → OnOk result (AreReadAs commands.new.items (before ++ luksrd_shapes)) }
 {
-    let program = with_command(program, volume_command(alloc, "testPassphrase"));
-    with_command(program, volume_command(alloc, "luksCat"))
+    push_header_command(alloc, commands, "isLuks")?;
+    push_header_command(alloc, commands, "luksUUID")?;
+    push_header_command(alloc, commands, "luksDump")?;
+    push_header_command(alloc, commands, "luksCheck")?;
+    push_other_commands(alloc, commands)
 }
 
-// The program with the commands on stripes as well.
-fn with_stripe_commands<'a>(alloc: Global, program: Making<'a>) -> Making<'a>
-    ensures { (as_read : App) → HasSubcommands program.entry as_read
-        → HasSubcommands result (with_subcommand
-        (with_subcommand as_read af_split_shape) af_merge_shape) }
+// Adds the commands that are not on headers alone.
+fn push_other_commands<'a>(alloc: Global, commands: &mut Vec<Command<'a>>) -> Result<(), AllocError>
+    ensures { (before : List Shape) → AreReadAs commands.old.items before
+        → OnOk result (AreReadAs commands.new.items (before ++ other_shapes)) }
 {
-    let program = with_command(program, af_split(alloc));
-    with_command(program, af_merge(alloc))
+    push_command(commands, volume_command(alloc, "testPassphrase"))?;
+    push_command(commands, volume_command(alloc, "luksCat"))?;
+    push_command(commands, af_split(alloc))?;
+    push_command(commands, af_merge(alloc))
 }
 
-// The program with the command as well.
-fn with_command<'a>(program: Making<'a>, command: Making<'a>) -> Making<'a>
-    ensures { (as_read : App) (shape : Shape) → HasSubcommands program.entry as_read
+// Adds the command on headers of that name.
+fn push_header_command<'a>(
+    alloc: Global,
+    commands: &mut Vec<Command<'a>>,
+    name: &'a str,
+) -> Result<(), AllocError>
+    ensures { (before : List Shape) → AreReadAs commands.old.items before → OnOk result
+        (AreReadAs commands.new.items (before ++ header_command name.entry.now ∷ [])) }
+{
+    push_command(commands, header_command(alloc, name))
+}
+
+// Adds the command.
+fn push_command<'a>(commands: &mut Vec<Command<'a>>, command: Making<'a>) -> Result<(), AllocError>
+    ensures { (before : List Shape) (shape : Shape) → AreReadAs commands.old.items before
         → BuildsApp command.entry (alone shape)
-        → HasSubcommands result (with_subcommand as_read shape) }
+        → OnOk result (AreReadAs commands.new.items (before ++ shape ∷ [])) }
 {
-    let command = command?;
-    program?.subcommand(command)
+    Ok(commands.push(command?)?)
 }
 
 // `NAME [--header FILE] IMAGE`

@@ -1,7 +1,8 @@
-use Rattle.luks_args.specs.Grammar.{alone, luksrd, program}
+use Rattle.luks_args.specs.Grammar.{alone, luksrd, luksrd_shapes, program}
+use Rattle.luks_args.proofs.GrammarLemmas.{built_of}
 use Rattle.luks_args.proofs.grammar.grammar.Goals as goal
 
 pub returns : goal.returns
 unfolding luksrd
-returns c = c.with_stripe_commands.ensures _ (c.with_volume_commands-program.ensures _
-    (c.with_header_commands-program.ensures (alone program) c.program.ensures.app))
+returns c = built_of c.subcommands.result _ _ (alone program) luksrd_shapes c.program.ensures.app
+    c.subcommands.ensures (c.in_ok-commands.ensures)
