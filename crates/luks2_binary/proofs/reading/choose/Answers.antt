@@ -5,7 +5,7 @@ use Rattle.luks2_binary.specs.ReadLen2.{reach2_of, probe_end}
 use Rattle.luks2_binary.proofs.ChoiceLemmas.{beside_same, chosen_primary, found_chosen, found_early, found_over}
 use Rattle.luks2_binary.proofs.ChoiceLemmas.{found_settled, no_size_valid, primary_within, reach_first, reach_other}
 use Rattle.luks2_binary.proofs.ChoiceLemmas.{reach_primary, size_valid}
-use Rattle.luks2_binary.proofs.FrontLemmas.{not_ended, over_joined}
+use Rattle.luks2_binary.proofs.FrontLemmas.{grew_more, not_ended, over_joined}
 use Rattle.luks2_binary.proofs.reading.choose.Goals as goal
 
 pub returns-in_err-size-clause-loads : goal.returns-in_err-size-clause-loads
@@ -119,3 +119,20 @@ returns-clause-loads g c = record {
   early = search rules;
   refusals = search rules;
 }
+
+pub returns-in_err-size-clause-grew : goal.returns-in_err-size-clause-grew
+returns-in_err-size-clause-grew g c =
+    let p = err_from_is_err_and c.from_residual.result c.from_residual.ensures.1 in
+    rw (p.1, p.2) c.in_err-size.ensures.grew
+
+pub returns-in_default-clause-grew : goal.returns-in_default-clause-grew
+returns-in_default-clause-grew g c = grew_more _ _ _ _ _ _ _ _ _ _ _ _ _ c.in_ok-size.ensures.grew c.search.ensures.grew
+
+pub returns-in_err-grow-clause-grew : goal.returns-in_err-grow-clause-grew
+returns-in_err-grow-clause-grew g c =
+    let p = err_from_is_err_and c.from_residual-in_err-grow.result c.from_residual-in_err-grow.ensures.1 in
+    rw (p.1, p.2) (grew_more _ _ _ _ _ _ _ _ _ _ _ _ _ c.in_ok-size.ensures.grew
+    c.in_err-grow.ensures.grew)
+
+pub returns-clause-grew : goal.returns-clause-grew
+returns-clause-grew g c = grew_more _ _ _ _ _ _ _ _ _ _ _ _ _ c.in_ok-size.ensures.grew c.in_ok-grow.ensures.grew

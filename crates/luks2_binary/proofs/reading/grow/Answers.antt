@@ -1,8 +1,8 @@
-use Rattle.std.proofs.Common.{◌∙◌, ◌-◌, Err, ap, sym, length, min}
+use Rattle.std.proofs.Common.{◌∙◌, ◌-◌, Err, false, ap, sym, length, min}
 use Rattle.std.specs.Prelude.{not}
 use Rattle.std.proofs.lemmas.Result.{err_from_is_err_and}
 use Rattle.luks_area.specs.Area.{HeaderAreaModel}
-use Rattle.luks2_binary.proofs.FrontLemmas.{ended_is, ended_short, grew_by, not_grown}
+use Rattle.luks2_binary.proofs.FrontLemmas.{ended_is, ended_short, gave_broken, grew_by, grew_none, not_grown}
 use Rattle.luks2_binary.proofs.reading.grow.Goals as goal
 
 pub returns-in_err-extend_to-clause-early : goal.returns-in_err-extend_to-clause-early
@@ -30,3 +30,24 @@ returns-clause-grew g c =
           c.in_ok-extend_to.ensures.loads.whole,
     ))
     c.in_ok-extend_to.ensures.reads)
+
+pub returns-then-has_ended-clause-grew : goal.returns-then-has_ended-clause-grew
+returns-then-has_ended-clause-grew g c = grew_none _ _ _ _
+
+pub returns-in_err-extend_to-clause-grew : goal.returns-in_err-extend_to-clause-grew
+returns-in_err-extend_to-clause-grew g c =
+    let p = err_from_is_err_and c.from_residual.result c.from_residual.ensures.1 in
+    let old = c.args.area.now.bytes in
+    let new = c.extend_to.new.self.bytes in
+    let goes = sym c.has_ended.ensures ∙ c.if-has_ended.false in
+    let stopped = c.in_err-extend_to.ensures in
+    rw (p.1, p.2, stopped.ended, goes) (grew_by old new false _ _ _ _ _ stopped.loads.kept
+    (λ known knows.
+    gave_broken (c.args.end - length old) old new known _ c.in_err-extend_to.field-0.0 (stopped.taken known knows))
+    stopped.reads)
+
+pub returns-in_err-extend_to-clause-within : goal.returns-in_err-extend_to-clause-within
+returns-in_err-extend_to-clause-within g c = c.extend_to.ensures.loads.within
+
+pub returns-clause-within : goal.returns-clause-within
+returns-clause-within g c = c.extend_to.ensures.loads.within

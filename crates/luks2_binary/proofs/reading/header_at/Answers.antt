@@ -4,7 +4,7 @@ use Rattle.std.proofs.lemmas.Result.{err_from_is_err_and}
 use Rattle.luks2_binary.specs.ReadLen2.{probe_end}
 use Rattle.luks2_binary.proofs.AgreeLemmas.{fit_here, no_size, reach_fit, reach_least, reach_unfit, short-valid}
 use Rattle.luks2_binary.proofs.AgreeLemmas.{unfit_here, valid_here, whole_image}
-use Rattle.luks2_binary.proofs.FrontLemmas.{over_joined}
+use Rattle.luks2_binary.proofs.FrontLemmas.{grew_more, over_joined}
 use Rattle.luks2_binary.proofs.ValidLemmas.{short-fits, unfit-is_valid}
 use Rattle.luks2_binary.proofs.reading.header_at.Goals as goal
 
@@ -150,3 +150,27 @@ returns-clause-loads g c = record {
   early = search rules;
   refusals = search rules;
 }
+
+pub returns-in_err-grow-clause-grew : goal.returns-in_err-grow-clause-grew
+returns-in_err-grow-clause-grew g c =
+    let p = err_from_is_err_and c.from_residual.result c.from_residual.ensures.1 in
+    rw (p.1, p.2) c.in_err-grow.ensures.grew
+
+pub returns-then-not-branch-clause-grew : goal.returns-then-not-branch-clause-grew
+returns-then-not-branch-clause-grew g c = c.in_ok-grow.ensures.grew
+
+pub returns-in_default-clause-grew : goal.returns-in_default-clause-grew
+returns-in_default-clause-grew g c = c.in_ok-grow.ensures.grew
+
+pub returns-in_err-grow-2-clause-grew : goal.returns-in_err-grow-2-clause-grew
+returns-in_err-grow-2-clause-grew g c =
+    let p = err_from_is_err_and c.from_residual-in_err-grow-2.result c.from_residual-in_err-grow-2.ensures.1 in
+    rw (p.1, p.2) (grew_more _ _ _ _ _ _ _ _ _ _ _ _ _ c.in_ok-grow.ensures.grew
+    c.in_err-grow-2.ensures.grew)
+
+pub returns-then-not-branch-2-clause-grew : goal.returns-then-not-branch-2-clause-grew
+returns-then-not-branch-2-clause-grew g c =
+    grew_more _ _ _ _ _ _ _ _ _ _ _ _ _ c.in_ok-grow.ensures.grew c.in_ok-grow-2.ensures.grew
+
+pub returns-clause-grew : goal.returns-clause-grew
+returns-clause-grew g c = grew_more _ _ _ _ _ _ _ _ _ _ _ _ _ c.in_ok-grow.ensures.grew c.in_ok-grow-2.ensures.grew

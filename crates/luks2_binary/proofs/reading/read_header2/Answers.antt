@@ -60,3 +60,15 @@ returns-clause-ended g c =
     remembers_end _ c.args.area.now c.choose.new.area _ _ _ _ _ c.choose.ensures.grew
     (hits_end _ _ _ _ _ c.ok_or.ensures.value c.in_ok-header.ensures.loads.over
     c.in_ok-header.ensures.loads.settled)
+
+pub returns-in_err-header-clause-kept : goal.returns-in_err-header-clause-kept
+returns-in_err-header-clause-kept g c =
+    let front = front_self c.choose.new.area.bytes c.choose.new.area.ended in
+    let before = c.choose.ensures.grew.fronts c.choose.new.area.bytes front in
+    before.begins
+
+pub returns-clause-kept : goal.returns-clause-kept
+returns-clause-kept g c =
+    let front = front_self c.choose.new.area.bytes c.choose.new.area.ended in
+    let before = c.choose.ensures.grew.fronts c.choose.new.area.bytes front in
+    before.begins

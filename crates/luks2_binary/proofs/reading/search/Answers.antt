@@ -162,3 +162,16 @@ returns-clause-loads g c = record {
   early = search rules;
   refusals = search rules;
 }
+
+pub returns-in_err-header_at-clause-grew : goal.returns-in_err-header_at-clause-grew
+returns-in_err-header_at-clause-grew g c =
+    let p = err_from_is_err_and c.from_residual.result c.from_residual.ensures.1 in
+    rw (p.1, p.2) (grew_more _ _ _ _ _ _ _ _ _ _ _ _ _ c.loop-place.invariant.grew
+    c.in_err-header_at.ensures.grew)
+
+pub returns-then-is_some-clause-grew : goal.returns-then-is_some-clause-grew
+returns-then-is_some-clause-grew g c =
+    grew_more _ _ _ _ _ _ _ _ _ _ _ _ _ c.loop-place.invariant.grew c.in_ok-header_at.ensures.grew
+
+pub returns-clause-grew : goal.returns-clause-grew
+returns-clause-grew g c = c.loop-place.invariant.grew
