@@ -1,6 +1,6 @@
 -- What `clap` says of luksrd's command line.
-use Rattle.std.proofs.Common.{◌≡◌, ◌∙◌, ◌||◌, Bool, Err, IfOk, IsErrAnd, List, None, Ok, Option, Result, [], ◌∷◌, ap, false}
-use Rattle.std.proofs.Common.{inl, inr, refl, subst, sym, true, ◌++◌}
+use Rattle.std.proofs.Common.{◌≡◌, ◌∙◌, ◌||◌, Bool, Err, IfOk, IsErrAnd, List, None, Ok, Option, Result, [], ◌∷◌, ◌++◌}
+use Rattle.std.proofs.Common.{ap, false, inl, inr, refl, subst, sym, true}
 use Rattle.std.proofs.Math.Bool.{or-false}
 use Rattle.clap.specs.Words.{App, HasKind, HasMatchesOf, Kinds, Text, fault_of, is_simple, is_simple_and_free, kind_of}
 use Rattle.clap.specs.Words.{subcommand_of, subcommand_rows_of}
