@@ -36,12 +36,16 @@ unfoldable pub slot1_lines : ℕ → List KeySlot → List ℕ
 slot1_lines number [] = []
 slot1_lines number (slot ∷ slots) = slot1_line number slot ++ slot1_lines (suc number) slots
 
+-- the line of the cipher and its mode
+unfoldable pub cipher_line : Header1 → List ℕ
+cipher_line h = field (codes "Cipher") (escaped h.cipher_name ++ codes "-" ++ escaped h.cipher_mode)
+
 -- the lines from the version to the hash
 unfoldable pub text1_lines : Header1 → List ℕ
 text1_lines h =
     field (codes "Version") (codes "1")
     ++ field (codes "UUID") (escaped h.uuid)
-    ++ field (codes "Cipher") (escaped h.cipher_name ++ codes "-" ++ escaped h.cipher_mode)
+    ++ cipher_line h
     ++ field (codes "Hash") (escaped h.hash_spec)
 
 -- the lines from the payload's offset, in sectors of 512 bytes, to the iterations of the digest

@@ -8,15 +8,28 @@ use std::alloc::{AllocError, Global};
 
 /// A text of a header as it is printed: bytes that are no visible ASCII, and the backslash, as
 /// `\xHH`.
-#[tactic(auto, unfolding(crate::specs::Escaping::escaped))]
 pub(crate) fn escape(alloc: Global, text: &[u8]) -> Result<String, AllocError>
     ensures { IfOk result (λ printed. string_bytes printed ≡ escaped text.now) }
 {
     let mut printed = String::new(alloc);
-    for byte in text {
-        push_escaped(alloc, &mut printed, *byte)?;
-    }
+    push_escaped_text(alloc, &mut printed, text)?;
     Ok(printed)
+}
+
+/// Adds a text of a header as it is printed.
+#[tactic(auto, unfolding(crate::specs::Escaping::escaped))]
+pub(crate) fn push_escaped_text(
+    alloc: Global,
+    printed: &mut String,
+    text: &[u8],
+) -> Result<(), AllocError>
+    ensures { OnOk result
+        (string_bytes printed.new ≡ string_bytes printed.old ++ escaped text.now) }
+{
+    for byte in text {
+        push_escaped(alloc, printed, *byte)?;
+    }
+    Ok(())
 }
 
 /// Adds one byte of a header's text.

@@ -1,11 +1,11 @@
 //! What is printed of a LUKS1 header.
 
 ghost use Rattle.std.specs.Prelude.{◌≡◌, ◌++◌, IfOk, OnOk, length, string_bytes, ◌≤◌};
-ghost use Rattle.luks_dump.specs.Dump1.{dump1_of, enabled_text, number_lines, slot1_line};
+ghost use Rattle.luks_dump.specs.Dump1.{cipher_line, dump1_of, enabled_text, number_lines, slot1_line};
 ghost use Rattle.luks_dump.specs.Dump1.{slot1_lines};
 ghost use Rattle.luks_dump.specs.Dump1.{slot_text, text1_lines, uuid_line};
 
-use crate::escaping::escape;
+use crate::escaping::{escape, push_escaped_text};
 use crate::field::{push_bytes, push_field, push_number, push_text};
 use luks_header::header::{Header1, KeySlot, SlotState};
 use std::alloc::{AllocError, Global};
@@ -38,14 +38,22 @@ fn push_texts(alloc: Global, lines: &mut String, header: &Header1) -> Result<(),
     ensures { OnOk result
         (string_bytes lines.new ≡ string_bytes lines.old ++ text1_lines header.now) }
 {
-    let name = escape(alloc, header.cipher_name.as_bytes())?;
-    let mode = escape(alloc, header.cipher_mode.as_bytes())?;
-    let cipher = format!(in alloc; "{name}-{mode}")?;
     push_field(lines, "Version", "1")?;
     push_text(alloc, lines, "UUID", header.uuid.as_bytes())?;
-    push_field(lines, "Cipher", cipher.as_str())?;
-    push_text(alloc, lines, "Hash", header.hash_spec.as_bytes())?;
-    Ok(())
+    push_cipher(alloc, lines, header)?;
+    push_text(alloc, lines, "Hash", header.hash_spec.as_bytes())
+}
+
+/// Adds the line of the cipher and its mode.
+#[tactic(auto, unfolding(crate::specs::Dump1::cipher_line))]
+fn push_cipher(alloc: Global, lines: &mut String, header: &Header1) -> Result<(), AllocError>
+    ensures { OnOk result
+        (string_bytes lines.new ≡ string_bytes lines.old ++ cipher_line header.now) }
+{
+    let mut cipher = escape(alloc, header.cipher_name.as_bytes())?;
+    cipher.push('-')?;
+    push_escaped_text(alloc, &mut cipher, header.cipher_mode.as_bytes())?;
+    push_field(lines, "Cipher", cipher.as_str())
 }
 
 /// Adds the lines from the payload's offset to the iterations of the digest.
@@ -63,8 +71,7 @@ fn push_numbers(alloc: Global, lines: &mut String, header: &Header1) -> Result<(
         lines,
         "MK iterations",
         header.digest_iterations as u64,
-    )?;
-    Ok(())
+    )
 }
 
 /// Adds a line for each key slot.

@@ -7,7 +7,7 @@ ghost use Rattle.luks_dump.specs.Escaping.{escaped};
 ghost use Rattle.luks2_metadata.specs.Digest2.{digests2_of};
 
 use super::slots::hash_text;
-use crate::escaping::escape;
+use crate::escaping::push_escaped_text;
 use crate::field::push_field;
 use luks2_json::tree::Metadata;
 use luks2_metadata::digest::{Digest, digests};
@@ -67,33 +67,42 @@ fn describe(alloc: Global, digest: &Option<Digest>) -> Result<String, AllocError
 }
 
 // What is said of a digest that can be used.
-#[tactic(auto, unfolding(crate::specs::Dump2::digest_text))]
 fn describe_usable(alloc: Global, digest: &Digest) -> Result<String, AllocError>
     ensures { IfOk result (λ text. string_bytes text ≡ digest_text digest.now) }
+{
+    let mut text = String::new(alloc);
+    push_usable(alloc, &mut text, digest)?;
+    Ok(text)
+}
+
+// Adds what is said of a digest that can be used.
+#[tactic(auto, unfolding(crate::specs::Dump2::digest_text))]
+fn push_usable(alloc: Global, text: &mut String, digest: &Digest) -> Result<(), AllocError>
+    ensures { OnOk result
+        (string_bytes text.new ≡ string_bytes text.old ++ digest_text digest.now) }
 {
     let hash = hash_text(digest.key.hash);
     let iterations = digest.key.iterations;
     let bytes = digest.key.value.as_slice().len();
-    let keyslots = join(alloc, digest.keyslots.as_slice())?;
-    let segments = join(alloc, digest.segments.as_slice())?;
-    let mut text = format!(in alloc; "USABLE hash={hash} iterations={iterations}")?;
     write!(
         text,
-        " bytes={bytes} keyslots={keyslots} segments={segments}"
+        "USABLE hash={hash} iterations={iterations} bytes={bytes} keyslots="
     )?;
-    Ok(text)
+    push_names(alloc, text, digest.keyslots.as_slice())?;
+    text.push_str(" segments=")?;
+    push_names(alloc, text, digest.segments.as_slice())
 }
 
-// Names in their order, with commas between them.
-fn join(alloc: Global, names: &[String]) -> Result<String, AllocError>
-    ensures { IfOk result (λ text. string_bytes text ≡ names_text (map string_bytes names.now)) }
+// Adds names in their order, with commas between them.
+fn push_names(alloc: Global, text: &mut String, names: &[String]) -> Result<(), AllocError>
+    ensures { OnOk result (string_bytes text.new
+        ≡ string_bytes text.old ++ names_text (map string_bytes names.now)) }
 {
     match names {
-        [] => Ok(String::new(alloc)),
+        [] => Ok(()),
         [first, rest @ ..] => {
-            let mut text = escape(alloc, first.as_bytes())?;
-            push_more(alloc, &mut text, rest)?;
-            Ok(text)
+            push_escaped_text(alloc, text, first.as_bytes())?;
+            push_more(alloc, text, rest)
         }
     }
 }
@@ -114,7 +123,6 @@ fn push_name(alloc: Global, text: &mut String, name: &str) -> Result<(), AllocEr
     ensures { OnOk result
         (string_bytes text.new ≡ string_bytes text.old ++ codes "," ++ escaped name.now) }
 {
-    let name = escape(alloc, name.as_bytes())?;
     text.push(',')?;
-    text.push_str(name.as_str())
+    push_escaped_text(alloc, text, name.as_bytes())
 }

@@ -1,7 +1,0 @@
-use Rattle.std.proofs.Common.{◌≡◌, take, string_bytes}
-use Rattle.luks_dump.specs.Escaping.{escaped}
-use Rattle.luks_dump.proofs.escaping.escape.Given as goal
-
--- the bytes so far are printed
-abbrev pub invariant-loop-byte : goal.invariant-loop-byte
-invariant-loop-byte l = string_bytes l.printed ≡ escaped (take l.byte-index l.text)
