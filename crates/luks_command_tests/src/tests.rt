@@ -1,0 +1,4 @@
+//! Tests, by the crate that they are of.
+
+mod args;
+mod report;

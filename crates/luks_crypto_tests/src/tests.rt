@@ -1,0 +1,4 @@
+//! Tests, by the crate that they are of.
+
+mod cipher;
+mod kdf;

@@ -1,0 +1,5 @@
+//! Tests, by the crate that they are of.
+
+mod binary;
+mod header;
+mod metadata;

@@ -1,5 +1,0 @@
-use Rattle.std.proofs.Common.{◌∙◌, sym}
-use Rattle.luks_payload_tests.proofs.tests.sealed_both.opened.Goals as goal
-
-pub open-requires-clause-segment : goal.open-requires-clause-segment
-open-requires-clause-segment g c = (c.in-Ok.field-0, sym c.segment.ensures ∙ c.in-Ok.is)

@@ -1,0 +1,5 @@
+//! Tests, by the crate that they are of.
+
+mod open;
+mod payload;
+mod seal;
