@@ -173,6 +173,23 @@ impl<S> AheadSource<S> {
     }
 }
 
+impl<S: Source> AheadSource<S> {
+    /// Copies out as many of the buffered bytes as fit, and counts that as a read.
+    fn hand_out(&mut self, buf: &mut [u8]) -> Result<usize, DeviceFault>
+        ensures value { result ≡ Ok (min (length buf.old) (length self.old.held)) }
+        ensures len { length buf.new ≡ length buf.old }
+        ensures bytes { self.old.held
+            ≡ take (min (length buf.old) (length self.old.held)) buf.new ++ self.new.held }
+        ensures leaves { self.new ≡ record self.old {
+          held = self.new.held;
+          counts = after_read result (length buf.old) self.old.counts;
+        } }
+    {
+        let count = self.copy_out(buf);
+        self.counted(Ok(count), buf.len())
+    }
+}
+
 impl<S: Source> Source for AheadSource<S> {
     ghost use Rattle.std.specs.Io.KnownBytes.{prepend_known};
 
@@ -204,9 +221,9 @@ impl<S: Source> Source for AheadSource<S> {
             if let Err(fault) = self.refill(ahead) {
                 return self.counted(Err(fault), buf.len());
             }
+            return self.hand_out(buf);
         }
-        let count = self.copy_out(buf);
-        self.counted(Ok(count), buf.len())
+        self.hand_out(buf)
     }
 
     /// Allows read-ahead for the next `count` bytes, including those that are buffered.
