@@ -2,7 +2,7 @@
 use Rattle.std.proofs.Common.{◌≡◌, ◌≢◌, ℕ, ◌+◌, ◌*◌, ◌≤◌, inl, inr, List, Option, Result, Ok, Err, Bool, true, false}
 use Rattle.std.proofs.Common.{ap, sym, refl, subst, length, max, arith}
 use Rattle.std.proofs.Math.Nat.{mul-le-mul_right}
-use Rattle.luks_cli.proofs.OpenedRuns.{positioned_within}
+use Rattle.luks_cli.proofs.OpenedRuns.{positioned_within, runs_at}
 use Rattle.std.specs.Prelude.{MatchBool, if◌then◌else◌, nat_lt}
 use Rattle.luks_io.specs.Devices.{Appended, ConsumedExactly}
 use Rattle.luks_header.specs.Header.{header_read_len}
@@ -139,46 +139,21 @@ unopened : (file : List ℕ) (out : Outcome) (message : Message)
     (Wrote : List ℕ → Type 0) → (aborts message ≡ false → message ≡ out.message → out.payload_consumed ≡ 0)
     → ConsumedPayload 0 → RunMatches (PromptOpening Detached file) out message ConsumedHeader ConsumedSecret Wrote
     → DetachedRunMatches (PromptDetachedCat file) out message ConsumedHeader ConsumedPayload ConsumedSecret Wrote
-unopened file out message ConsumedHeader ConsumedPayload ConsumedSecret Wrote none took run = by (aborts message) refl
+unopened file out message ConsumedHeader ConsumedPayload ConsumedSecret Wrote none took run = record {
+  payload_consumed = 0;
+  payload_within = within (aborts message) refl;
+  payload = took;
+  run = runs_at (PromptOpening Detached file) (PromptDetachedCat file 0) out message ConsumedHeader ConsumedSecret Wrote
+      (λ a b output silent. subst (PromptDetachedCat file 0 message a b) (sym silent) (prompt_at_first file message a b))
+      run;
+}
   where
-    by : (b : Bool) → aborts message ≡ b
-        → DetachedRunMatches (PromptDetachedCat file) out message ConsumedHeader ConsumedPayload ConsumedSecret
-        Wrote
-    by true is =
-        let broken : Aborted (PromptOpening Detached file) out message ConsumedHeader ConsumedSecret Wrote =
-        rw is at run in
-        record {
-          payload_consumed = 0;
-          payload_within = rw is (omega arith);
-          payload = took;
-          run = rw is (record {
-            image_consumed = broken.image_consumed;
-            secret_consumed = broken.secret_consumed;
-            output_len = broken.output_len;
-            image_within = broken.image_within;
-            secret_within = broken.secret_within;
-            output_within = broken.output_within;
-            is_silent = broken.is_silent;
-            is_prompt = subst (PromptDetachedCat file 0 message broken.image_consumed broken.secret_consumed)
-                (sym broken.is_prompt) (prompt_at_first file message broken.image_consumed broken.secret_consumed);
-            image = broken.image;
-            secret = broken.secret;
-            output = broken.output;
-          });
-        }
-    by false is =
+    within : (b : Bool) → aborts message ≡ b
+        → MatchBool b (0 ≤ out.payload_consumed) (0 ≡ out.payload_consumed)
+    within true is = omega arith
+    within false is =
         let whole : Completed out message ConsumedHeader ConsumedSecret Wrote = rw is at run in
-        record {
-          payload_consumed = 0;
-          payload_within = rw is (sym (none is whole.as_stated));
-          payload = took;
-          run = rw is (record {
-            as_stated = whole.as_stated;
-            image = whole.image;
-            secret = whole.secret;
-            output = whole.output;
-          });
-        }
+        sym (none is whole.as_stated)
 
 -- opening ended the run
 pub runs_unopened_apart : (o : VolumeRequest) (file image pass : List ℕ) (message : Message)
@@ -274,10 +249,10 @@ module _ (o : VolumeRequest) (file image pass : List ℕ) (segment : Segment) (o
 
 -- a payload that is passed on ends with no message that tells of opening
 pub with_key : (message : Message) → PayloadMessage message → EndsWithoutKey message → ⊥
-with_key Done passed without = absurd without
-with_key CutBeforePayload passed without = absurd without
-with_key (Tail n) passed without = absurd without
-with_key (Short n) passed without = absurd without
-with_key ReadFailed passed without = absurd without
-with_key WriteFailed passed without = absurd without
+with_key Done passed without = absurd without.0
+with_key CutBeforePayload passed without = absurd without.0
+with_key (Tail n) passed without = absurd without.0
+with_key (Short n) passed without = absurd without.0
+with_key WriteFailed passed without = absurd without.0
+with_key ReadFailed passed without = let wrong : true ≡ false = without.1 in cc
 with_key _ passed without = absurd passed

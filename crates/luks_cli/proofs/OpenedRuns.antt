@@ -38,18 +38,18 @@ takes_slot secret = record { loaded = λ segment opened loaded. omega arith; who
 pub takes_payload : (image secret : List ℕ) → ConsumesLoaded secret (payload_outcome image secret)
 takes_payload image secret = record { loaded = λ segment opened loaded. omega arith; whole = λ segment opened loaded. refl }
 
--- a run that is prompt has the outcome that is stated
-pub runs_at_any_pace : (is_prompt : Promptness) (out : Outcome) (message : Message)
-    (ConsumedImage ConsumedSecret : ℕ → Type 0)
-    (Wrote : List ℕ → Type 0)
+-- a run that is prompt in one way is so in another that follows from it
+pub runs_at : (is_prompt is_prompt' : Promptness) (out : Outcome) (message : Message)
+    (ConsumedImage ConsumedSecret : ℕ → Type 0) (Wrote : List ℕ → Type 0)
+    → ((image secret output : ℕ) → is_prompt message image secret output → is_prompt' message image secret output)
     → RunMatches is_prompt out message ConsumedImage ConsumedSecret Wrote
-    → RunMatches AnyPace out message ConsumedImage ConsumedSecret Wrote
-runs_at_any_pace is_prompt out message ConsumedImage ConsumedSecret Wrote = either (aborts message)
+    → RunMatches is_prompt' out message ConsumedImage ConsumedSecret Wrote
+runs_at is_prompt is_prompt' out message ConsumedImage ConsumedSecret Wrote follows = either (aborts message)
   where
     either : (b : Bool)
         → MatchBool b (Aborted is_prompt out message ConsumedImage ConsumedSecret Wrote)
         (Completed out message ConsumedImage ConsumedSecret Wrote)
-        → MatchBool b (Aborted AnyPace out message ConsumedImage ConsumedSecret Wrote)
+        → MatchBool b (Aborted is_prompt' out message ConsumedImage ConsumedSecret Wrote)
         (Completed out message ConsumedImage ConsumedSecret Wrote)
     either true run = record {
       image_consumed = run.image_consumed;
@@ -59,7 +59,7 @@ runs_at_any_pace is_prompt out message ConsumedImage ConsumedSecret Wrote = eith
       secret_within = run.secret_within;
       output_within = run.output_within;
       is_silent = run.is_silent;
-      is_prompt = tt;
+      is_prompt = follows run.image_consumed run.secret_consumed run.output_len run.is_prompt;
       image = run.image;
       secret = run.secret;
       output = run.output;
@@ -70,12 +70,27 @@ runs_at_any_pace is_prompt out message ConsumedImage ConsumedSecret Wrote = eith
 
 module _ (location : HeaderLocation) (o : VolumeRequest) (image pass : List ℕ) (segment : Segment) (opened : Opened)
     (loaded : List ℕ) (i s : Option (List ℕ)) (u : Unlocks location o image pass segment opened loaded i s) where
-  -- memory was refused for the line
-  runs_without_line : (w : Option (List ℕ))
-      → RunMatches AnyPace (volume_outcome_by (reader_for location) (slot_outcome pass) o image pass) OutOfMemory
+  -- the key slot was reported, or not all of its line
+  pub runs_slot : (w w' : Option (List ℕ)) (message : Message) → ReportsSlot opened.slot w w' message
+      → RunMatches AnyPace (volume_outcome_by (reader_for location) (slot_outcome pass) o image pass) message
       (ConsumedExactly image i) (ConsumedExactly pass s)
-      (Appended w w)
-  runs_without_line w = rw (u.outcome (slot_outcome pass)) (record {
+      (Appended w w')
+  runs_slot w w' Done reported = rw (u.outcome (slot_outcome pass))
+      (record { as_stated = refl; image = u.image_consumed; secret = u.secret_consumed; output = reported })
+  runs_slot w w' WriteFailed reported = rw (u.outcome (slot_outcome pass)) (record {
+    image_consumed = length loaded;
+    secret_consumed = length pass;
+    output_len = reported.0;
+    image_within = omega arith;
+    secret_within = omega arith;
+    output_within = reported.1;
+    is_silent = tt;
+    is_prompt = tt;
+    image = u.image_consumed;
+    secret = u.secret_consumed;
+    output = reported.2;
+  })
+  runs_slot w w' OutOfMemory reported = rw (reported, u.outcome (slot_outcome pass)) (record {
     image_consumed = length loaded;
     secret_consumed = length pass;
     output_len = 0;
@@ -88,46 +103,6 @@ module _ (location : HeaderLocation) (o : VolumeRequest) (image pass : List ℕ)
     secret = u.secret_consumed;
     output = adds-none w;
   })
-
-  module _ (line : List ℕ) (is : line ≡ opened_line opened.slot) (w w' : Option (List ℕ)) where
-    -- the line was written
-    runs_told : Appended w w' line
-        → RunMatches AnyPace (volume_outcome_by (reader_for location) (slot_outcome pass) o image pass) Done
-        (ConsumedExactly image i) (ConsumedExactly pass s)
-        (Appended w w')
-    runs_told added =
-        rw (
-          u.outcome (slot_outcome pass),
-          ← is,
-        ) (record { as_stated = refl; image = u.image_consumed; secret = u.secret_consumed; output = added })
-
-    -- a write failed within it
-    runs_without_rest : (n : ℕ) → n < length line → Appended w w' (take n line)
-        → RunMatches AnyPace (volume_outcome_by (reader_for location) (slot_outcome pass) o image pass) WriteFailed
-        (ConsumedExactly image i) (ConsumedExactly pass s)
-        (Appended w w')
-    runs_without_rest n within added = rw (u.outcome (slot_outcome pass), ← is) (record {
-      image_consumed = length loaded;
-      secret_consumed = length pass;
-      output_len = n;
-      image_within = omega arith;
-      secret_within = omega arith;
-      output_within = omega arith;
-      is_silent = tt;
-      is_prompt = tt;
-      image = u.image_consumed;
-      secret = u.secret_consumed;
-      output = added;
-    })
-
-  -- the key slot was reported, or not all of its line
-  pub runs_slot : (w w' : Option (List ℕ)) (message : Message) → ReportsSlot opened.slot w w' message
-      → RunMatches AnyPace (volume_outcome_by (reader_for location) (slot_outcome pass) o image pass) message
-      (ConsumedExactly image i) (ConsumedExactly pass s)
-      (Appended w w')
-  runs_slot w w' Done reported = runs_told (opened_line opened.slot) refl w w' reported
-  runs_slot w w' WriteFailed reported = runs_without_rest (opened_line opened.slot) refl w w' reported.0 reported.1 reported.2
-  runs_slot w w' OutOfMemory reported = rw reported (runs_without_line w)
   runs_slot w w' _ reported = absurd reported
 
 -- a write failed within the line

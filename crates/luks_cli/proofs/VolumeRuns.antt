@@ -133,6 +133,12 @@ module _ (on_opened : OnOpened) (named : Option ℕ) (v : Volume) (image secret 
 -- ---- runs that open no volume
 
 module _ (location : HeaderLocation) (o : VolumeRequest) (image pass : List ℕ) (i s w : Option (List ℕ)) where
+  -- a run that writes nothing matches the outcome of what is done with a volume that is opened
+  abbrev Matches : OnOpened → Message → Type 0
+  Matches on_opened message =
+      RunMatches (PromptOpening location image) (volume_outcome_by (reader_for location) on_opened o image pass) message
+      (ConsumedExactly image i) (ConsumedExactly pass s) (Appended w w)
+
   module _ (on_opened : OnOpened) (takes : ConsumesLoaded pass on_opened) where
     cost_consumed : header_read_len image
         ≤ (volume_outcome_by (reader_for location) on_opened o image pass).image_consumed
@@ -148,10 +154,7 @@ module _ (location : HeaderLocation) (o : VolumeRequest) (image pass : List ℕ)
     pub runs_without_volume : (message : Message) → OpeningMessage message
         → AbortsFinding (reader_for location) o image i message
         → s ≡ Some pass
-        → RunMatches (PromptOpening location image) (volume_outcome_by (reader_for location) on_opened o image pass)
-        message
-        (ConsumedExactly image i) (ConsumedExactly pass s)
-        (Appended w w)
+        → Matches on_opened message
     runs_without_volume OutOfMemory only stop whole =
         early location _ image pass OutOfMemory i s w stop.0 0 refl (omega arith)
         (prompt_in_header location image OutOfMemory stop.0 0 stop.1) (omega (arith, stop.1, cost_consumed))
@@ -194,10 +197,7 @@ module _ (location : HeaderLocation) (o : VolumeRequest) (image pass : List ℕ)
     runs_without_secret : (on_opened : OnOpened) (takes : ConsumesLoaded pass on_opened) (message : Message)
         → NoKeyFileRead pass s message
         → ConsumedExactly image i (header_read_len image)
-        → RunMatches (PromptOpening location image) (volume_outcome_by (reader_for location) on_opened o image pass)
-        message
-        (ConsumedExactly image i) (ConsumedExactly pass s)
-        (Appended w w)
+        → Matches on_opened message
     runs_without_secret on_opened takes KeyFileLength stop rest =
         rw (outcome_found on_opened, found_long on_opened o.key_slot volume image pass stop.0)
         (ends_unwritten location image pass KeyFileLength i s w (header_read_len image) (max_key_file_len + 1) (λ h. cc)
@@ -225,9 +225,7 @@ module _ (location : HeaderLocation) (o : VolumeRequest) (image pass : List ℕ)
       runs_without_area : (on_opened : OnOpened) (takes : ConsumesLoaded pass on_opened) (fault : HeaderFault)
           → AbortsConsuming (key_areas_end order.slots - length area) area area' (drop
           (header_read_len image) image) i fault
-          → RunMatches (PromptOpening location image) (volume_outcome_by (reader_for location) on_opened o image pass)
-          (message_for_header fault) (ConsumedExactly image i)
-          (ConsumedExactly pass s) (Appended w w)
+          → Matches on_opened (message_for_header fault)
       unfolding volume
       runs_without_area on_opened takes LostRead stop =
           let more = area_more image area area' i (key_areas_end order.slots) front stop.0 stop.2 in
@@ -253,10 +251,7 @@ module _ (location : HeaderLocation) (o : VolumeRequest) (image pass : List ℕ)
           (min (key_areas_end order.slots - length area) (length (drop (header_read_len image) image)))) where
         -- the image ended within them
         runs_cut : (on_opened : OnOpened) → length area' < key_areas_end order.slots
-            → RunMatches (PromptOpening location image)
-            (volume_outcome_by (reader_for location) on_opened o image pass) Cut
-            (ConsumedExactly image i) (ConsumedExactly pass s)
-            (Appended w w)
+            → Matches on_opened Cut
         unfolding volume
         runs_cut on_opened few =
             let cut = area_cut image area area' i (key_areas_end order.slots) front grows few in
@@ -280,9 +275,7 @@ module _ (location : HeaderLocation) (o : VolumeRequest) (image pass : List ℕ)
           (min (key_areas_end order.slots - length area) (length (drop (header_read_len image) image))))
           → (enough : key_areas_end order.slots ≤ length area') (fault : OpenFault)
           (tried : opening_of order area' pass ≡ Err fault) (on_opened : OnOpened)
-          → RunMatches (PromptOpening location image) (volume_outcome_by (reader_for location) on_opened o image pass)
-          (message_for_opening o.key_slot fault)
-          (ConsumedExactly image i) (ConsumedExactly pass s) (Appended w w)
+          → Matches on_opened (message_for_opening o.key_slot fault)
       unfolding volume
       runs_unopened grows enough fault tried on_opened =
           let loaded = area_held image area area' i (key_areas_end order.slots) front grows enough in
@@ -320,9 +313,7 @@ module _ (location : HeaderLocation) (o : VolumeRequest) (image pass : List ℕ)
         (area area' : List ℕ) (front : area ≡ take (header_read_len image) image) (on_opened : OnOpened)
         (takes : ConsumesLoaded pass on_opened) (message : Message)
         → TriesSlots o.key_slot segment order pass area area' (drop (header_read_len image) image) i (Err message)
-        → RunMatches (PromptOpening location image) (volume_outcome_by (reader_for location) on_opened o image pass)
-        message
-        (ConsumedExactly image i) (ConsumedExactly pass s) (Appended w w)
+        → Matches on_opened message
     runs_without_slot short gone area area' front on_opened takes message (inl lost) =
         rw lost.1 (runs_without_area short gone area area' front on_opened takes lost.0 lost.2)
     runs_without_slot short gone area area' front on_opened takes message (inr (grows, inl cut)) =
@@ -337,9 +328,7 @@ module _ (location : HeaderLocation) (o : VolumeRequest) (image pass : List ℕ)
         (header_read_len image))
         (message : Message)
         → OpensVolume o.key_slot segment order pass area area' (drop (header_read_len image) image) i s (Err message)
-        → RunMatches (PromptOpening location image) (volume_outcome_by (reader_for location) on_opened o image pass)
-        message
-        (ConsumedExactly image i) (ConsumedExactly pass s) (Appended w w)
+        → Matches on_opened message
     runs_without_key area area' front on_opened takes left message (inl (short, gone, tried)) =
         runs_without_slot short gone area area' front on_opened takes message tried
     runs_without_key area area' front on_opened takes left message (inr none) =

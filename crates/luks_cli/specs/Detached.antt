@@ -1,6 +1,6 @@
 -- The headline for a header in a file of its own: header and key areas come from that file, and the payload from the
 -- image, at the segment's own place.
-use Rattle.std.specs.Prelude.{◌≡◌, ℕ, List, Option, Some, is_err, true, Bool, ◌&&◌, not}
+use Rattle.std.specs.Prelude.{◌≡◌, ℕ, List, Option, Some, is_err, true, false, Bool, ◌&&◌, not}
 use Rattle.luks_io.specs.Counts.{Writes}
 use Rattle.luks_io.specs.declared.counts.ReadCounts.{ReadCounts}
 use Rattle.luks_io.specs.declared.counts.WriteCounts.{WriteCounts}
@@ -9,10 +9,6 @@ use Rattle.luks_request.specs.Request.{Request, is_luks, luks_uuid, luks_dump, l
 use Rattle.luks_report.specs.CheckOutput.{check_of, message_for_check}
 use Rattle.luks_report.specs.Dump.{dump_of, uuid_of}
 use Rattle.luks_report.specs.declared.message.Message.{Message}
-use Rattle.luks_report.specs.declared.message.Message.TheVariants.{NotLuks, Cut, Json, OutOfMemory, ReadFailed}
-use Rattle.luks_report.specs.declared.message.Message.TheVariants.{SegmentRefused, NoSuchSlot, SlotDisabled}
-use Rattle.luks_report.specs.declared.message.Message.TheVariants.{SlotSkipped, NothingTried}
-use Rattle.luks_report.specs.declared.message.Message.TheVariants.{KeyFileLength, NoKey}
 use Rattle.luks_runs.specs.Ending.{Outcome}
 use Rattle.luks_runs.specs.HeaderOutcome.{is_luks_outcome, print_outcome_by, always_done}
 use Rattle.luks_cli.specs.Outcome.{outcome_of}
@@ -22,6 +18,7 @@ use Rattle.luks_runs.specs.Run.{is_run_read_failure, is_run_write_failure}
 use Rattle.luks_cli.specs.CommandRun.{AllowsPayload, IsCounted, Knows, KnowsSecret, ConsumedOfSecret, ReadsOnce}
 use Rattle.luks_cli.specs.CommandRun.{ReadsPayload}
 use Rattle.luks_unlock.specs.Finding.{HasSegmentBy}
+use Rattle.luks_unlock.specs.OpeningMessages.{OpeningMessage}
 use Rattle.luks_unlock.specs.Volume.{detached_payload_outcome, slot_outcome, volume_by, volume_outcome_by}
 use Rattle.luks_cli.specs.VolumeParts.{PromptDetachedCat}
 
@@ -75,20 +72,9 @@ NeedsNoSecretDetached (luks_cat o) header =
     Knows header (λ file. is_err (volume_by detached_header_of o file) ≡ true)
 NeedsNoSecretDetached request header = Unit {0}
 
--- the run ended before a key was found
+-- the run ended before a key was found: as opening a volume may end, but for a failed read, which may be the payload's
 abbrev pub EndsWithoutKey : Message → Type 0
-EndsWithoutKey NotLuks = Unit {0}
-EndsWithoutKey Cut = Unit {0}
-EndsWithoutKey Json = Unit {0}
-EndsWithoutKey (SegmentRefused _) = Unit {0}
-EndsWithoutKey (NoSuchSlot _) = Unit {0}
-EndsWithoutKey (SlotDisabled _) = Unit {0}
-EndsWithoutKey (SlotSkipped _ _) = Unit {0}
-EndsWithoutKey (NothingTried _) = Unit {0}
-EndsWithoutKey KeyFileLength = Unit {0}
-EndsWithoutKey (NoKey _) = Unit {0}
-EndsWithoutKey OutOfMemory = Unit {0}
-EndsWithoutKey _ = ⊥
+EndsWithoutKey message = OpeningMessage message × (is_run_read_failure message ≡ false)
 
 -- nothing of the image is read: only `luksCat` reads it, after a key was found
 abbrev pub NeedsNoPayload : Request → Message → Type 0
