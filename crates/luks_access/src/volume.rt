@@ -57,29 +57,31 @@ impl Model for Volume {
     ghost invariant = { λ v. v.cipher ≡ (v.unlocked.segment.mode, v.unlocked.key) };
 }
 
-/// Tries the key slots of a volume that was found, unless the passphrase is too long.
+/// Tries the key slots of a volume that was found, unless the passphrase is too long. The volume is
+/// taken, so that it is not tried again.
 fn unlock<S: Source>(
     opening: &VolumeArgs<'_>,
-    found: &mut FoundVolume,
+    found: FoundVolume,
     source: &mut S,
     pass: &[u8],
     work: &mut Work,
 ) -> Result<UnlockedVolume, Message>
-    requires { HasSlots (volume_request opening.now) found.old }
-    ensures run { IfKnown (S.to_come source.old) (λ rest.
-        (found.old.area.ended ≡ true → rest ≡ [])
-        → UnlocksVolume (volume_request opening.now).key_slot found.old.segment found.old.order
-        pass.now found.old.area.bytes found.new.area.bytes rest (S.to_come source.new) result) }
-    ensures work { CountsTrials found.old.order found.new.area.bytes pass.now work.old work.new }
+    requires { HasSlots (volume_request opening.now) found }
+    ensures run { IfKnown (S.to_come source.old) (λ rest. (found.area.ended ≡ true → rest ≡ [])
+        → (loaded : List ℕ) × UnlocksVolume (volume_request opening.now).key_slot found.segment
+        found.order pass.now found.area.bytes loaded rest (S.to_come source.new) result) }
+    ensures work { (loaded : List ℕ)
+        × CountsTrials found.order loaded pass.now work.old work.new }
     ensures only { IfErr result OpeningMessage }
     ensures reads { (ended : Bool) × Reads (is_run_read_failure (result_message result)) ended
         (S.counts source.old) (S.counts source.new) }
-    ensures ended { found.old.area.ended ≡ true → source.new ≡ source.old }
+    ensures ended { found.area.ended ≡ true → source.new ≡ source.old }
 {
     if pass.len() > MAX_PASSPHRASE_LEN {
         return Err(Message::KeyFileLength);
     }
-    try_slots(opening, found, source, pass, work)
+    let mut found = found;
+    try_slots(opening, &mut found, source, pass, work)
 }
 
 impl Volume {
@@ -109,8 +111,8 @@ impl Volume {
             (S.counts source.old) (S.counts source.new) }
     {
         let opening = opening(options);
-        let mut found = find_volume(alloc, options.location, &opening, source)?;
-        let unlocked = unlock(&opening, &mut found, source, pass, &mut Work::new(0))?;
+        let found = find_volume(alloc, options.location, &opening, source)?;
+        let unlocked = unlock(&opening, found, source, pass, &mut Work::new(0))?;
         let cipher = unlocked.cipher();
         Ok(Volume { unlocked, cipher })
     }

@@ -13,7 +13,7 @@ returns-clause-opens g c known is =
     opened_by c.args.options.now (volume_request c.opening-opening.result) known c.args.pass.now _
     c.opening-opening.ensures _ _ _ read.0 found.slots.segment found.slots.order _ _ read.1 _
     (c.in_ok-unlocked.ensures.run _ read.2.left
-    (nothing_left _ _ _ _ _ known _ found.loaded is read.2.left))
+    (nothing_left _ _ _ _ _ known _ found.loaded is read.2.left)).1
 
 pub returns-clause-cats : goal.returns-clause-cats
 returns-clause-cats g c known is =
@@ -47,7 +47,7 @@ returns-in_err-unlocked-clause-refuses g c =
     refused_unopened c.args.options.now (volume_request c.opening-opening.result) known c.args.pass.now _
     c.opening-opening.ensures _ _ _ read.0 found.slots.segment found.slots.order _ _ read.1 _ never
     (c.in_err-unlocked.ensures.run _ read.2.left
-    (nothing_left _ _ _ _ _ known _ found.loaded is read.2.left)))
+    (nothing_left _ _ _ _ _ known _ found.loaded is read.2.left)).1)
 
 pub returns-in_err-unlocked-clause-refuses_no_honest : goal.returns-in_err-unlocked-clause-refuses_no_honest
 returns-in_err-unlocked-clause-refuses_no_honest g c =
@@ -59,7 +59,7 @@ returns-in_err-unlocked-clause-refuses_no_honest g c =
     refused_unopened c.args.options.now (volume_request c.opening-opening.result) known c.args.pass.now _
     c.opening-opening.ensures _ _ _ read.0 found.slots.segment found.slots.order _ _ read.1 _ never
     (c.in_err-unlocked.ensures.run _ read.2.left
-    (nothing_left _ _ _ _ _ known _ found.loaded is read.2.left))))
+    (nothing_left _ _ _ _ _ known _ found.loaded is read.2.left)).1))
 
 -- the key slots were tried after the volume was found
 pub returns-in_err-unlocked-clause-reads : goal.returns-in_err-unlocked-clause-reads
