@@ -28,9 +28,8 @@ use Rattle.luks_unlock.specs.Finding.{AbortsFinding}
 use Rattle.luks_unlock.specs.OpeningMessages.{OpeningMessage}
 use Rattle.luks_unlock.specs.Trying.{TriesSlots, opened_of}
 use Rattle.luks_unlock.specs.declared.unlocked.UnlockedVolume.{UnlockedVolume}
-use Rattle.luks_unlock.specs.Volume.{OnOpened, detached_payload_outcome, loaded_for, payload_outcome}
-use Rattle.luks_unlock.specs.Volume.{outcome_after, volume_by, volume_in_header, volume_in_segment}
-use Rattle.luks_unlock.specs.Volume.{volume_outcome_by}
+use Rattle.luks_unlock.specs.Volume.{OnOpened, detached_payload_outcome, loaded_for, payload_outcome, outcome_after}
+use Rattle.luks_unlock.specs.Volume.{volume_by, volume_in_header, volume_in_segment, volume_outcome_by}
 use Rattle.luks_verdict.specs.declared.refusal.SegmentFault.{SegmentFault}
 use Rattle.luks_verdict.specs.declared.segment.Segment.{Segment}
 use Rattle.luks_payload.specs.Plain.{ending_of, ending_of_len, payload_len, sector_len}

@@ -1,9 +1,8 @@
 -- Parts of what is joined, and sectors decrypted one after the other.
 use Rattle.std.proofs.Common.{◌≡◌, ℕ, zero, suc, ◌+◌, ◌-◌, ◌*◌, ◌/◌, ◌%◌, ◌<◌, ◌≤◌, List, [], ◌++◌, length, take, drop}
-use Rattle.std.proofs.Common.{length-append, length-drop, length-take-le, append-nil, append_assoc, add-one}
-use Rattle.std.proofs.Common.{arith, refl, sym, ap, ◌∙◌}
+use Rattle.std.proofs.Common.{length-append, length-drop, length-take-le, append-nil, append_assoc, add-one, arith}
+use Rattle.std.proofs.Common.{refl, sym, ap, ◌∙◌, Option, None, Some}
 use Rattle.std.proofs.lemmas.List.{drop-drop, drop-take, take-take, drop_all}
-use Rattle.std.proofs.Common.{Option, None, Some}
 use Rattle.std.proofs.Math.Nat.{div-mul-le_self, mod-eq-sub-div-mul, mul-le-mul_right}
 use Rattle.luks_cipher.proofs.ModeLemmas.{length-sector_decrypted}
 use Rattle.luks_cipher.specs.Sector.{Cipher, sector_decrypted}

@@ -30,9 +30,7 @@ use Rattle.luks_runs.specs.HeaderOutcome.{is_luks_outcome, print_outcome_by}
 use Rattle.luks_unlock.specs.OpeningMessages.{OpeningMessage}
 use Rattle.luks_runs.specs.RunMessages.{PayloadMessage}
 use Rattle.luks_runs.specs.HeaderReading.{HeaderReader, detached_header_of}
-use Rattle.luks_runs.specs.Run.{Aborted, Completed, Promptness, RunMatches, DetachedRunMatches}
-use Rattle.luks_runs.specs.Run.{ConsumedNothing}
-use Rattle.luks_runs.specs.Run.{aborts}
+use Rattle.luks_runs.specs.Run.{Aborted, Completed, Promptness, RunMatches, DetachedRunMatches, ConsumedNothing, aborts}
 use Rattle.luks_cli.specs.Unlocking.{Unlocks, PromptOpening}
 use Rattle.luks_unlock.specs.Volume.{OnOpened, Volume, detached_payload_outcome, found_outcome, opened_outcome}
 use Rattle.luks_unlock.specs.Volume.{outcome_after, slot_outcome, volume_by, volume_outcome_by}

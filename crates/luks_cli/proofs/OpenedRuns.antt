@@ -1,7 +1,6 @@
 -- How the commands on volumes end once their volume is opened.
-use Rattle.std.proofs.Common.{◌≡◌, ◌≢◌, ℕ, ◌+◌, ◌*◌, ◌/◌, ◌<◌, ◌≤◌, List, Option, Some}
-use Rattle.std.proofs.Common.{◌⊎◌, inl, inr, Bool, true, false, ap, refl, subst, sym, take, length, max}
-use Rattle.std.proofs.Common.{[], drop, length-drop, arith}
+use Rattle.std.proofs.Common.{◌≡◌, ◌≢◌, ℕ, ◌+◌, ◌*◌, ◌/◌, ◌<◌, ◌≤◌, List, Option, Some, ◌⊎◌, inl, inr, Bool, true}
+use Rattle.std.proofs.Common.{false, ap, refl, subst, sym, take, length, max, [], drop, length-drop, arith}
 use Rattle.std.proofs.lemmas.List.{drop_all}
 use Rattle.std.proofs.Math.Nat.{div-eq_of_lt-le, mul-le-mul_right}
 use Rattle.std.specs.Prelude.{MatchBool}
@@ -20,12 +19,10 @@ use Rattle.luks_runs.specs.Location.{reader_for}
 use Rattle.luks_runs.specs.declared.location.HeaderLocation.{HeaderLocation}
 use Rattle.luks_runs.specs.declared.location.HeaderLocation.TheVariants.{Attached}
 use Rattle.luks_runs.specs.Payload.{ForwardsPayload}
-use Rattle.luks_cli.specs.VolumeParts.{PromptCat}
+use Rattle.luks_cli.specs.VolumeParts.{PromptCat, ConsumesLoaded}
 use Rattle.luks_runs.specs.RunMessages.{PayloadMessage}
 use Rattle.luks_request.specs.Request.{VolumeRequest}
-use Rattle.luks_runs.specs.Run.{Aborted, Completed, Promptness, RunMatches, AnyPace, aborts}
-use Rattle.luks_runs.specs.Run.{is_run_read_failure}
-use Rattle.luks_cli.specs.VolumeParts.{ConsumesLoaded}
+use Rattle.luks_runs.specs.Run.{Aborted, Completed, Promptness, RunMatches, AnyPace, aborts, is_run_read_failure}
 use Rattle.luks_unlock.specs.OpeningMessages.{OpeningMessage}
 use Rattle.luks_cli.specs.Unlocking.{ReportsSlot, Unlocks}
 use Rattle.luks_report.specs.Texts.{opened_line}

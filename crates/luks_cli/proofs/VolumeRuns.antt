@@ -18,9 +18,8 @@ use Rattle.luks_open.specs.declared.fault.OpenFault.TheVariants.{NothingTried as
 use Rattle.luks_open.specs.declared.opening.Opened.{Opened}
 use Rattle.luks_cli.proofs.PromptLemmas.{held_early, prompt_before_payload, prompt_in_header, prompt_refused}
 use Rattle.luks_unlock.proofs.OutcomeLemmas.{area_cut, area_held, area_more, found_cut, found_is, found_long}
-use Rattle.luks_unlock.proofs.OutcomeLemmas.{found_whole}
-use Rattle.luks_unlock.proofs.OutcomeLemmas.{front_len, outcome_is, tried_is}
-use Rattle.luks_report.specs.Faults.{message_for_header}
+use Rattle.luks_unlock.proofs.OutcomeLemmas.{found_whole, front_len, outcome_is, tried_is}
+use Rattle.luks_report.specs.Faults.{message_for_header, message_for_opening}
 use Rattle.luks_unlock.specs.Volume.{OnOpened, found_outcome, opened_outcome, outcome_after, volume_outcome_by}
 use Rattle.luks_runs.specs.Ending.{Outcome, no_output}
 use Rattle.luks_request.specs.Request.{VolumeRequest}
@@ -28,8 +27,7 @@ use Rattle.luks_runs.specs.Run.{Aborted, IsPrefixLen, IsSilent, RunMatches}
 use Rattle.luks_io.proofs.Consuming.{adds-none, took-none}
 use Rattle.luks_io.specs.Devices.{Appended, ConsumedExactly}
 use Rattle.luks_runs.proofs.HeaderConsumption.{cost_there, consumed_header}
-use Rattle.luks_runs.specs.KeyFile.{NoKeyFileRead}
-use Rattle.luks_runs.specs.KeyFile.{max_key_file_len}
+use Rattle.luks_runs.specs.KeyFile.{NoKeyFileRead, max_key_file_len}
 use Rattle.luks_cli.specs.VolumeParts.{ConsumesLoaded}
 use Rattle.luks_unlock.specs.OpeningMessages.{OpeningMessage}
 use Rattle.luks_unlock.specs.Trying.{TriesSlots, opened_of}
@@ -40,7 +38,6 @@ use Rattle.luks_unlock.specs.Volume.{Volume, loaded_for, volume_by}
 use Rattle.luks_runs.specs.Location.{reader_for}
 use Rattle.luks_runs.specs.declared.location.HeaderLocation.{HeaderLocation}
 use Rattle.luks_runs.specs.declared.location.HeaderLocation.TheVariants.{Attached}
-use Rattle.luks_report.specs.Faults.{message_for_opening}
 use Rattle.luks_report.specs.declared.message.Message.{Message}
 use Rattle.luks_report.specs.declared.message.Message.TheVariants.{Cut, KeyFileLength, OutOfMemory, ReadFailed}
 use Rattle.luks_report.specs.declared.message.Message.TheVariants.{WriteFailed}

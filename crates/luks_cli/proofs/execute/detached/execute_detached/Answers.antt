@@ -5,8 +5,7 @@ use Rattle.luks_runs.specs.Run.{AnyPace, result_message}
 use Rattle.luks_runs.specs.declared.headers.Printout.TheVariants.{Uuid, Dump, Check}
 use Rattle.luks_cli.proofs.CallLemmas.{calls_apart, calls_of_image, calls_of_is_luks, none_read}
 use Rattle.luks_cli.specs.CommandRun.{ReadsOnce}
-use Rattle.luks_cli.proofs.DetachedRuns.{no_payload_for_answer, no_payload_for_text, no_payload_for_slot}
-use Rattle.luks_cli.proofs.DetachedRuns.{runs_apart}
+use Rattle.luks_cli.proofs.DetachedRuns.{no_payload_for_answer, no_payload_for_text, no_payload_for_slot, runs_apart}
 use Rattle.luks_cli.proofs.execute.detached.execute_detached.Goals as goal
 
 pub returns-in-IsLuks : goal.returns-in-IsLuks

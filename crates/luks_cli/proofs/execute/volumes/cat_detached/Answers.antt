@@ -5,8 +5,7 @@ use Rattle.luks_request.specs.Request.{volume_request}
 use Rattle.luks_runs.specs.Run.{result_message}
 use Rattle.luks_unlock.specs.Volume.{detached_payload_outcome}
 use Rattle.luks_cli.proofs.CallLemmas.{calls_apart, calls_unopened, none_failed, none_read}
-use Rattle.luks_cli.proofs.DetachedRuns.{runs_passed_apart, runs_unopened_apart}
-use Rattle.luks_cli.proofs.DetachedRuns.{takes_detached_payload, with_key}
+use Rattle.luks_cli.proofs.DetachedRuns.{runs_passed_apart, runs_unopened_apart, takes_detached_payload, with_key}
 use Rattle.luks_cli.proofs.OpenedRuns.{never_memory}
 use Rattle.luks_cli.proofs.execute.volumes.cat_detached.Goals as goal
 

@@ -3,8 +3,7 @@ use Rattle.std.proofs.Common.{true}
 use Rattle.luks_unlock.specs.Volume.{slot_outcome}
 use Rattle.luks_runs.specs.Run.{AnyPace, result_message}
 use Rattle.luks_cli.proofs.CallLemmas.{calls_unopened, none_failed}
-use Rattle.luks_cli.proofs.OpenedRuns.{runs_at, runs_slot, slot_message, slot_reads_nothing}
-use Rattle.luks_cli.proofs.OpenedRuns.{takes_slot}
+use Rattle.luks_cli.proofs.OpenedRuns.{runs_at, runs_slot, slot_message, slot_reads_nothing, takes_slot}
 use Rattle.luks_cli.proofs.execute.volumes.test_passphrase.Goals as goal
 
 pub returns-in_err-unlocked-clause-run : goal.returns-in_err-unlocked-clause-run
