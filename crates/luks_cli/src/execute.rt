@@ -36,8 +36,8 @@ mod volumes;
 ///
 /// No device is called needlessly: no read goes into an empty buffer or follows one that failed or
 /// hit the end, and no write brings nothing or follows one that failed. The end of each input is
-/// hit at most once. No command but `luksCat` allows read-ahead, which allows it up to the payload's
-/// end and no further, if both inputs know their bytes.
+/// hit at most once. No command but `luksCat` allows read-ahead, and `luksCat` allows it up to the
+/// payload's end and no further, if both inputs know their bytes.
 ///
 /// `luksCat` writes the plaintext of an honestly sealed volume if the passphrase has at most
 /// 8,388,608 bytes and is that of a key slot which is tried, no slot tried before gives another
