@@ -15,8 +15,7 @@ use Rattle.luks_verdict.specs.declared.digest.KeyDigest.{KeyDigest}
 use Rattle.luks_verdict.specs.declared.refusal.SkipReason.{SkipReason}
 use Rattle.luks_verdict.specs.declared.refusal.SkipReason.TheVariants.{State, Stripes, Iterations, Area, Digest}
 use Rattle.luks_verdict.specs.declared.slot.Slot.{Slot}
-use Rattle.luks_verdict.specs.declared.slot.Verdict.TheVariants.{Usable}
-use Rattle.luks_verdict.specs.declared.slot.Verdict.TheVariants.{Disabled as Unused}
+use Rattle.luks_verdict.specs.declared.slot.Verdict.TheVariants.{Usable, Disabled as Unused}
 use Rattle.luks_verdict.specs.declared.slot.VerdictKind.TheVariants.{Usable as Open}
 use Rattle.luks1_header.specs.Slot1.{digest1_of, hash1_of, is_damaged, is_disabled, area1_out_of_range, mode1_of}
 use Rattle.luks1_header.specs.Slot1.{payload1_start, reason1_of, slot1_at, slot1_of, slot_parts1_of, verdict1_at}

@@ -7,8 +7,7 @@ ghost use Rattle.luks_verdict.specs.Slot.{verdict_kind_of};
 ghost use Rattle.luks1_header.specs.Segment1.{fault1_of, segment1_of, overlaps_header1};
 ghost use Rattle.luks1_header.specs.Slot1.{digest1_of, hash1_of, is_disabled, area1_out_of_range};
 ghost use Rattle.luks1_header.specs.Slot1.{mode1_of, payload1_start, reason1_of, slot1_at};
-ghost use Rattle.luks1_header.specs.Slot1.{slot1_of};
-ghost use Rattle.luks1_header.specs.Slot1.{verdict1_at, verdict1_of};
+ghost use Rattle.luks1_header.specs.Slot1.{slot1_of, verdict1_at, verdict1_of};
 
 use crate::header::{HEADER1_LEN, Header1, KeySlot, SlotState};
 use luks_cipher::Mode;

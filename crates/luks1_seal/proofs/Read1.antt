@@ -16,8 +16,7 @@ use Rattle.luks_kdf.specs.Pbkdf2.{derived_key}
 use Rattle.luks_kdf.specs.declared.hash.Hash.{Hash}
 use Rattle.luks_kdf.specs.declared.hash.Hash.TheVariants.{Sha1, Sha224, Sha256, Sha384, Sha512}
 use Rattle.luks_kdf.proofs.Pbkdf2Lemmas.{length-derived_key}
-use Rattle.luks1_header.specs.Header1.{key_slot_of, key_slots_of}
-use Rattle.luks1_header.specs.Header1.{header1_of as read_header1}
+use Rattle.luks1_header.specs.Header1.{key_slot_of, key_slots_of, header1_of as read_header1}
 use Rattle.luks1_header.specs.declared.header.Header1.{Header1}
 use Rattle.luks1_header.specs.declared.header.KeySlot.{KeySlot}
 use Rattle.luks1_header.specs.declared.header.SlotState.TheVariants.{Enabled}

@@ -11,8 +11,7 @@ use Rattle.luks_verdict.specs.Rule.{need_of}
 use Rattle.luks_verdict.specs.Segment.{segment_by}
 use Rattle.luks_verdict.specs.Slot.{slot_of}
 use Rattle.luks_verdict.specs.declared.sector_size.SectorSize.TheVariants.{B512}
-use Rattle.luks1_header.specs.Header1.{is_luks1, key_slot_of}
-use Rattle.luks1_header.specs.Header1.{header1_of as read_header1}
+use Rattle.luks1_header.specs.Header1.{is_luks1, key_slot_of, header1_of as read_header1}
 use Rattle.luks1_header.specs.Slot1.{digest_parts1_of, slot_parts1_of, verdict1_at, verdict1_of}
 use Rattle.luks1_header.specs.declared.header.Header1.{Header1}
 use Rattle.luks1_header.specs.declared.header.KeySlot.{KeySlot}
@@ -27,8 +26,7 @@ use Rattle.luks_seal.specs.declared.parameters.Slot1.{Slot1}
 use Rattle.luks_seal.proofs.MaterialLemmas.{gives_key}
 use Rattle.luks_seal.proofs.SectorLemmas.{sectors_stand}
 use Rattle.luks1_seal.specs.Layout1.{area_key1_of, area_sectors_of, image1_of, key_slot1_of, material1_of}
-use Rattle.luks1_seal.specs.Layout1.{payload1_bytes}
-use Rattle.luks1_seal.specs.Layout1.{slot1_numbered, start1_of}
+use Rattle.luks1_seal.specs.Layout1.{payload1_bytes, slot1_numbered, start1_of}
 use Rattle.luks1_seal.specs.Passphrases1.{passphrases1_of}
 use Rattle.luks1_seal.specs.Ranges1.{AreParameters, FitsSlot}
 use Rattle.luks1_seal.specs.Typed1.{AreTyped1, IsTypedSlot1}

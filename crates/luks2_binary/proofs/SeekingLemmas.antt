@@ -2,7 +2,7 @@
 use Rattle.std.proofs.Common.{◌≡◌, ◌∙◌, ℕ, ◌+◌, ◌-◌, ◌<◌, ◌≤◌, ◌⊎◌, inl, inr, List, ◌++◌, Option, Some, None, Err}
 use Rattle.std.proofs.Common.{Bool, true, false, ap, sym, subst, refl, take, drop, take_all, length, length-append}
 use Rattle.std.proofs.Common.{append-nil, max, arith}
-use Rattle.std.specs.Prelude.{[], Result, ok_or}
+use Rattle.std.specs.Prelude.{[], Result, ok_or, nat_lt}
 use Rattle.std.proofs.Math.Seq.{drop-append_seam, take-append-add, take-append_seam}
 use Rattle.std.proofs.lemmas.List.{drop-drop, drop_all}
 use Rattle.luks_io.specs.declared.counts.ReadCounts.{ReadCounts}
@@ -15,7 +15,6 @@ use Rattle.luks2_binary.specs.Front2.{AbortsSeeking, AnsweredFrom, ConsumedReadL
 use Rattle.luks2_binary.specs.Front2.{FallsShort, Reaches, RemembersEnd, SeeksHeader2, StaysBelow, hits_eof, unloaded}
 use Rattle.luks2_binary.proofs.FrontLemmas.{front_self}
 use Rattle.std.proofs.lemmas.Bool.{le-ltb, lt-ltb}
-use Rattle.std.specs.Prelude.{nat_lt}
 use Rattle.luks2_binary.specs.declared.header.Header2.{Header2}
 use Rattle.luks2_binary.proofs.ChoiceLemmas.{reach_some}
 

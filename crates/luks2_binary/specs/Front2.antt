@@ -4,10 +4,9 @@ use Rattle.std.specs.Prelude.{◌≡◌, ◌+◌, ◌-◌, ◌<◌, ◌≤◌, �
 use Rattle.std.specs.Prelude.{[], Some, None, Result, Ok, Err, drop, length, max, nat_lt, take}
 use Rattle.luks_io.specs.Counts.{Reads}
 use Rattle.luks_io.specs.declared.counts.ReadCounts.{ReadCounts}
-use Rattle.luks_area.specs.Area.{ConsumedOnto}
+use Rattle.luks_area.specs.Area.{ConsumedOnto, HeaderAreaModel}
 use Rattle.luks_area.specs.declared.fault.HeaderFault.{HeaderFault}
 use Rattle.luks_area.specs.declared.fault.HeaderFault.TheVariants.{NotLuks, Cut, Json, Read, Memory}
-use Rattle.luks_area.specs.Area.{HeaderAreaModel}
 use Rattle.luks_io.specs.Devices.{IfKnown}
 use Rattle.luks2_binary.specs.declared.header.Header2.{Header2}
 use Rattle.luks2_binary.specs.Choice2.{header2_of, is_valid, size_at}

@@ -3,8 +3,7 @@
 ghost use Rattle.std.specs.Prelude.{◌≡◌, ◌≤◌, ◌==◌, length, position};
 ghost use Rattle.luks_area.specs.Fields.{at, text_of};
 ghost use Rattle.luks2_binary.specs.Header2.{end2_of, checksum_hash_in, header2_from};
-ghost use Rattle.luks2_binary.specs.Header2.{hdr_offset_in, sequence_in};
-ghost use Rattle.luks2_binary.specs.Header2.{size_in};
+ghost use Rattle.luks2_binary.specs.Header2.{hdr_offset_in, sequence_in, size_in};
 ghost use Rattle.luks2_binary.specs.Text2.{json_text_of};
 
 use luks_area::field::{bytes_at, number64_at, text_at};

@@ -1,9 +1,8 @@
 //! Finding the header of an image.
 
 ghost use Rattle.std.specs.Prelude.{◌≡◌, ◌+◌, ◌≤◌, ◌↔◌, ◌⊎◌, ◌++◌, ◌<◌, ◌&&◌, not, true, false};
-ghost use Rattle.std.specs.Prelude.{length, max};
-ghost use Rattle.std.specs.Prelude.{take, IsTrue, Ok, IfOk, IfErr, IfSome, OnErr, OnOk};
-ghost use Rattle.std.specs.Prelude.{Some, option_and_then};
+ghost use Rattle.std.specs.Prelude.{length, max, take, IsTrue, Ok, IfOk, IfErr, IfSome, OnErr};
+ghost use Rattle.std.specs.Prelude.{OnOk, Some, option_and_then};
 ghost use Rattle.luks_io.specs.Devices.{IfKnown};
 ghost use Rattle.luks_io.specs.Counts.{Reads};
 ghost use Rattle.luks_area.specs.Area.{is_read, max_area_len};

@@ -9,9 +9,8 @@ use Rattle.std.specs.Result.{result_ok}
 use Rattle.std.proofs.lemmas.Map.Text.{is_eq-slice_cmp}
 use Rattle.std.proofs.lemmas.Bool.{ne_eqb}
 use Rattle.luks2_metadata.specs.Segment2.{are_none, fault2_of, has_requirement, is_empty_list, made2, offset_of}
-use Rattle.luks2_metadata.specs.Segment2.{only_member}
-use Rattle.luks2_metadata.specs.Segment2.{payload2_of, payload_mode2_of, segment2_of, segment_faults, segment_parts2_of}
-use Rattle.luks2_metadata.specs.Segment2.{segment_said, overlaps_headers2, starts_wrong, the_segment}
+use Rattle.luks2_metadata.specs.Segment2.{only_member, payload2_of, payload_mode2_of, segment2_of, segment_faults}
+use Rattle.luks2_metadata.specs.Segment2.{segment_parts2_of, segment_said, overlaps_headers2, starts_wrong, the_segment}
 use Rattle.luks2_metadata.specs.declared.bounds.Bounds.{Bounds}
 use Rattle.luks_cipher.specs.declared.mode.Mode.{Mode}
 use Rattle.luks_verdict.proofs.MadeLemmas.{refused_or-fault, refused_or-none, refused_or-ok}

@@ -9,8 +9,7 @@ use Rattle.luks_cipher.specs.declared.mode.Mode.{Mode}
 use Rattle.luks_cipher.proofs.ModeLemmas.{longest_mode_key}
 use Rattle.luks_verdict.specs.Digest.{has_no_usable_digest}
 use Rattle.luks_verdict.specs.Rule.{exceeds, iterations_out_of_range, is_in_range, area_out_of_range}
-use Rattle.luks_verdict.specs.Rule.{stripes_out_of_range, max_iteration_count}
-use Rattle.luks_verdict.specs.Rule.{need_of}
+use Rattle.luks_verdict.specs.Rule.{stripes_out_of_range, max_iteration_count, need_of}
 use Rattle.luks_verdict.specs.Slot.{are_in_range, material_end, verdict_by, verdict_kind_of, slot_of}
 use Rattle.luks_verdict.proofs.MadeLemmas.{slot_from-yes}
 use Rattle.luks_verdict.specs.declared.refusal.SkipReason.{SkipReason}

@@ -18,8 +18,7 @@ use Rattle.luks2_binary.specs.Text2.{json_area_of, json_text_of}
 use Rattle.luks2_binary.specs.declared.header.Header2.{Header2}
 use Rattle.luks2_binary.specs.declared.header.Place.TheVariants.{Primary}
 use Rattle.luks2_json.specs.Tree.{has_objects, tree_of, value_of}
-use Rattle.luks_header.specs.Header.{bounds2_of}
-use Rattle.luks_header.specs.Header.{header_of as read_header}
+use Rattle.luks_header.specs.Header.{bounds2_of, header_of as read_header}
 use Rattle.luks_header.specs.declared.header.Header.TheVariants.{V2}
 use Rattle.luks_seal.specs.Pieces.{padded}
 use Rattle.luks_seal.specs.declared.parameters.Seal2.{Seal2}

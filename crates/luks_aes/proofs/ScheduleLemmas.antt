@@ -1,9 +1,8 @@
 -- The key schedule as the code keeps it.
 use Rattle.std.proofs.Common.{◌≡◌, ℕ, zero, suc, ◌+◌, ◌-◌, ◌*◌, ◌/◌, ◌≤◌, ◌<◌, ◌⊎◌, List, [], ◌∷◌, length, take, inl}
 use Rattle.std.proofs.Common.{inr, ◌||◌, arith, refl, sym, ap, ◌∙◌}
-use Rattle.std.specs.Prelude.{IsTrue, ◌==◌}
+use Rattle.std.specs.Prelude.{IsTrue, ◌==◌, slice_index}
 use Rattle.std.proofs.lemmas.Bool.{or_cases, eqb-true}
-use Rattle.std.specs.Prelude.{slice_index}
 use Rattle.std.proofs.lemmas.List.{get_or-take, length-take-le, length-append, take_all, take-take, take-append-le}
 use Rattle.luks_aes.specs.Aes.{is_aes_key_length, next_word, words_after, with_next_word, rounds_of, words_of}
 use Rattle.luks_aes.specs.Aes.{key_expansion, cipher, inv_cipher, encrypted, decrypted}

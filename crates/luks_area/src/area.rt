@@ -1,8 +1,7 @@
 //! The start of an image, with its headers and key areas.
 
-ghost use Rattle.std.specs.Prelude.{◌≡◌, ◌-◌, ◌<◌, ◌≤◌, ◌++◌, if◌then◌else◌, true, false};
-ghost use Rattle.std.specs.Prelude.{[], OnOk, OnErr, Ok, Err, length, max};
-ghost use Rattle.std.specs.Prelude.{replicate, vec_capacity, vec_len};
+ghost use Rattle.std.specs.Prelude.{◌≡◌, ◌-◌, ◌<◌, ◌≤◌, ◌++◌, if◌then◌else◌, true, false, [], OnOk};
+ghost use Rattle.std.specs.Prelude.{OnErr, Ok, Err, length, max, replicate, vec_capacity, vec_len};
 ghost use Rattle.luks_io.specs.Devices.{IfKnown};
 ghost use Rattle.luks_io.specs.Counts.{Reads};
 ghost use Rattle.luks_area.specs.Area.{ConsumesUpTo, Loads, is_read, is_truncated, max_area_len};

@@ -4,8 +4,7 @@ ghost use Rattle.std.specs.Prelude.{◌≡◌, IfOk, None, Some, map, option_map
 ghost use Rattle.clap.specs.Words.{found_of, kind_of, rows_of, subcommand_rows_of};
 ghost use Rattle.luks_args.specs.Command.{command_of, fault_for, header_request_in, merge_args_in};
 ghost use Rattle.luks_args.specs.Command.{volume_args_in, header_args_in, request_in};
-ghost use Rattle.luks_args.specs.Command.{split_args_in};
-ghost use Rattle.luks_args.specs.Command.{subcommand_in};
+ghost use Rattle.luks_args.specs.Command.{split_args_in, subcommand_in};
 ghost use Rattle.luks_request.specs.Request.{merge_request, volume_request, header_request};
 ghost use Rattle.luks_request.specs.Request.{request_of, split_request};
 

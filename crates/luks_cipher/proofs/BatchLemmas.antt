@@ -11,8 +11,7 @@ use Rattle.luks_aes.specs.Field.{◌⊕◌}
 use Rattle.luks_aes.specs.Aes.{cell, decrypted}
 use Rattle.luks_aes.proofs.Undone.{whole_state}
 use Rattle.luks_aes.proofs.InvMixedLemmas.{same_cells}
-use Rattle.luks_cipher.specs.Xts.{data_key, doubled, tweak_of, block_xor, block_at, block_decrypted}
-use Rattle.luks_cipher.specs.Xts.{joined}
+use Rattle.luks_cipher.specs.Xts.{data_key, doubled, tweak_of, block_xor, block_at, block_decrypted, joined}
 use Rattle.luks_cipher.specs.Batches.{tweak_after, with_tweaks}
 use Rattle.luks_cipher.specs.Cbc.{block_before}
 use Rattle.luks_cipher.proofs.TweakLemmas.{IsDoneBefore}

@@ -29,7 +29,12 @@ pub calls_of_image : (message : Message) (ended : Bool) (image image' secret : R
     → Reads (is_run_read_failure message) ended image image' → Writes (is_run_write_failure message) out out'
     → CountsCalls ReadsOnce message image image' secret secret out out'
 calls_of_image message ended image image' secret out out' reads writes =
-    record { in_image = true; image_reads = (ended, reads); secret_reads = (false, no_reads secret); out_writes = writes }
+    record {
+      in_image = true;
+      image_reads = (ended, reads);
+      secret_reads = (false, no_reads secret);
+      out_writes = writes;
+    }
 
 pub calls_of_is_luks : (message : Message) (ended : Bool) (image image' secret : ReadCounts) (out : WriteCounts)
     → IsLuksMessage message → Reads (is_run_read_failure message) ended image image'

@@ -142,7 +142,8 @@ unopened file out message ConsumedHeader ConsumedPayload ConsumedSecret Wrote no
   payload_within = within (aborts message) refl;
   payload = took;
   run = runs_at (PromptOpening Detached file) (PromptDetachedCat file 0) out message ConsumedHeader ConsumedSecret Wrote
-      (λ a b output silent. subst (PromptDetachedCat file 0 message a b) (sym silent) (prompt_at_first file message a b))
+      (λ a b output silent. subst (PromptDetachedCat file 0 message a b) (sym silent)
+      (prompt_at_first file message a b))
       run;
 }
   where
@@ -170,7 +171,8 @@ runs_unopened_apart o file image pass message ConsumedHeader ConsumedPayload Con
 -- ---- the payload
 
 module _ (o : VolumeRequest) (file image pass : List ℕ) (segment : Segment) (opened : Opened) (loaded : List ℕ)
-    (h s : Option (List ℕ)) (u : Unlocks Detached o file pass segment opened loaded h s) (i' w w' : Option (List ℕ)) where
+    (h s : Option (List ℕ)) (u : Unlocks Detached o file pass segment opened loaded h s)
+    (i' w w' : Option (List ℕ)) where
   stated : volume_outcome_by detached_header_of (detached_payload_outcome image pass) o file pass
       ≡ detached_payload_outcome image pass segment opened (length loaded)
   stated = u.outcome (detached_payload_outcome image pass)

@@ -33,7 +33,10 @@ pub takes_slot : (secret : List ℕ) → ConsumesLoaded secret (slot_outcome sec
 takes_slot secret = record { loaded = λ segment opened loaded. omega arith; whole = λ segment opened loaded. refl }
 
 pub takes_payload : (image secret : List ℕ) → ConsumesLoaded secret (payload_outcome image secret)
-takes_payload image secret = record { loaded = λ segment opened loaded. omega arith; whole = λ segment opened loaded. refl }
+takes_payload image secret = record {
+  loaded = λ segment opened loaded. omega arith;
+  whole = λ segment opened loaded. refl;
+}
 
 -- a run that is prompt in one way is so in another that follows from it
 pub runs_at : (is_prompt is_prompt' : Promptness) (out : Outcome) (message : Message)
@@ -152,8 +155,15 @@ forwarded_all : (segment : Segment) (cipher : Cipher) (image : List ℕ) (loaded
     → ForwardsPayload segment cipher image loaded left w w' message
     → ForwardsPayload segment cipher image loaded (Some []) w w' message
 forwarded_all segment cipher image loaded left w w' ReadFailed all unread passed = absurd (unread refl)
-forwarded_all segment cipher image loaded left w w' WriteFailed all unread passed =
-    (passed.0, passed.1, passed.2, passed.3, passed.4, none_more image loaded _ left all (omega arith) passed.5, passed.6)
+forwarded_all segment cipher image loaded left w w' WriteFailed all unread passed = (
+  passed.0,
+  passed.1,
+  passed.2,
+  passed.3,
+  passed.4,
+  none_more image loaded _ left all (omega arith) passed.5,
+  passed.6,
+)
 forwarded_all segment cipher image loaded left w w' message all unread passed =
     (passed.0, none_more image loaded _ left all (omega arith) passed.1, passed.2)
 

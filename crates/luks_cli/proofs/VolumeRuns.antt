@@ -102,8 +102,10 @@ module _ (on_opened : OnOpened) (named : Option ℕ) (v : Volume) (image secret 
   opened_within : (r : Result Opened OpenFault)
       → (loaded_for image v ≤ (opened_outcome on_opened named v image secret r).image_consumed)
       × (length secret ≤ (opened_outcome on_opened named v image secret r).secret_consumed)
-  opened_within (Ok opened) =
-      (takes.loaded v.segment opened (loaded_for image v), omega (arith, takes.whole v.segment opened (loaded_for image v)))
+  opened_within (Ok opened) = (
+    takes.loaded v.segment opened (loaded_for image v),
+    omega (arith, takes.whole v.segment opened (loaded_for image v)),
+  )
   opened_within (Err fault) = (omega arith, omega arith)
 
   -- a key file that is not too long is taken whole, and the image as far as it is loaded
@@ -321,7 +323,8 @@ module _ (location : HeaderLocation) (o : VolumeRequest) (image pass : List ℕ)
     -- the volume was not opened
     pub runs_without_key : (area area' : List ℕ) (front : area
         ≡ take (header_read_len image) image) (on_opened : OnOpened)
-        (takes : ConsumesLoaded pass on_opened) (left : ConsumedExactly image (Some (drop (header_read_len image) image))
+        (takes : ConsumesLoaded pass on_opened)
+        (left : ConsumedExactly image (Some (drop (header_read_len image) image))
         (header_read_len image))
         (message : Message)
         → OpensVolume o.key_slot segment order pass area area' (drop (header_read_len image) image) i s (Err message)

@@ -99,8 +99,9 @@ abbrev pub ReadsImage : Request → Option (List ℕ) → Option (List ℕ) → 
 ReadsImage (luks_cat o) image secret = ReadsPayload (CatAllows o image secret)
 ReadsImage _ image secret = ReadsOnce
 
--- what a run that reads the image in this way adds to the counts of its devices: a failure of the image or of the second
--- input if a read failed, one of the output if a write failed, at most one end of each input, and no needless call
+-- what a run that reads the image in this way adds to the counts of its devices: a failure of the image or of the
+-- second input if a read failed, one of the output if a write failed, at most one end of each input, and no needless
+-- call
 pub record CountsCalls (ReadsIt : Bool → ReadCounts → ReadCounts → Type 0) (message : Message)
     (image image' secret secret' : ReadCounts) (out out' : WriteCounts) : Type 0 where
   pub in_image : Bool

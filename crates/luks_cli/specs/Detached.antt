@@ -60,7 +60,8 @@ RunsDetached request message header header' image image' secret secret' written 
     → KnowsSecret request secret known_secret → IsCounted request known
     → DetachedRunMatches (detached_promptness_of request file)
     (detached_outcome_of request file known known_secret) message
-    (ConsumedExactly file header') (ConsumedOfPayload request known image') (ConsumedOfSecret request known_secret secret')
+    (ConsumedExactly file header') (ConsumedOfPayload request known image')
+    (ConsumedOfSecret request known_secret secret')
     (Appended written written'))
 
 -- the command has no second input, or needs none of it: the header, the segment or the order of the key slots ends the

@@ -14,7 +14,8 @@ use Rattle.luks_unlock.specs.Volume.{OnOpened}
 
 -- whatever is done with a volume consumes at least the bytes of its image that are loaded, and the whole key file
 pub record ConsumesLoaded (secret : List ℕ) (on_opened : OnOpened) : Type 0 where
-  pub loaded : (segment : Segment) (opened : Opened) (loaded : ℕ) → loaded ≤ (on_opened segment opened loaded).image_consumed
+  pub loaded : (segment : Segment) (opened : Opened) (loaded : ℕ)
+      → loaded ≤ (on_opened segment opened loaded).image_consumed
   pub whole : (segment : Segment) (opened : Opened) (loaded : ℕ)
       → (on_opened segment opened loaded).secret_consumed ≡ length secret
 

@@ -1,5 +1,5 @@
-//! Tests of the crypto crates, through their public calls: `luks_kdf` (hash functions, keys and stripes),
-//! `luks_aes`, `luks_aes_batch` and `luks_cipher`.
+//! Tests of the crypto crates, through their public calls: `luks_kdf` (hash functions, keys and
+//! stripes), `luks_aes`, `luks_aes_batch` and `luks_cipher`.
 //!
 //! They are a crate of their own, so that the crates below are not proved once more with them.
 #![tactic(auto)]

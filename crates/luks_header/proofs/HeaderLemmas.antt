@@ -22,8 +22,7 @@ use Rattle.luks2_binary.specs.declared.header.Header2.{Header2}
 use Rattle.luks2_json.specs.Tree.{tree_of}
 use Rattle.serde_json.specs.Data.{Data}
 use Rattle.luks_header.specs.Header.{AbortsHeld, AbortsReading, ConsumedHeaderLen, header_read_len, falls_short}
-use Rattle.luks_header.specs.Header.{header_of, probe_len}
-use Rattle.luks_header.specs.Header.{with_metadata, with_text}
+use Rattle.luks_header.specs.Header.{header_of, probe_len, with_metadata, with_text}
 use Rattle.luks_header.specs.declared.header.Header.{Header}
 use Rattle.luks_header.specs.declared.header.Header.TheVariants.{V1}
 use Rattle.luks_header.proofs.HeldLemmas.{cost_other, header_missing, reach_other}

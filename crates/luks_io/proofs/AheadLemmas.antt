@@ -33,7 +33,8 @@ kept_known (Some xs) (Some ys) kept known is = cc
 pub consumed_piece : (a b : Option (List ℕ)) (piece known : List ℕ) → Consumes a b piece → a ≡ Some known
     → ConsumedExactly known b (length piece)
 consumed_piece a b piece known took is =
-    (took-front a b piece (length piece) (omega arith) (rw (take_all (length piece) piece (omega arith)) took) known is).0
+    (took-front a b piece (length piece) (omega arith)
+    (rw (take_all (length piece) piece (omega arith)) took) known is).0
 
 -- a read took no more than it had room for
 pub takes_at_most : {E : Type 0} (a b : Option (List ℕ)) (r : Result ℕ E) (buf : List ℕ) (most : ℕ) → length buf ≤ most

@@ -1,7 +1,6 @@
 //! PBKDF2 with the blocks of a key side by side: a lane of a vector derives each.
 
-ghost use Rattle.std.specs.Prelude.{◌≡◌, ℕ, ◌+◌, ◌*◌, ◌^◌, ◌<◌, ◌≤◌, List, ◌⊎◌, length, refl};
-ghost use Rattle.std.specs.Prelude.{take};
+ghost use Rattle.std.specs.Prelude.{◌≡◌, ℕ, ◌+◌, ◌*◌, ◌^◌, ◌<◌, ◌≤◌, List, ◌⊎◌, length, refl, take};
 ghost use Rattle.std.specs.Int.{div_ceil};
 ghost use Rattle.std.proofs.Common.{inl, inr};
 ghost use Rattle.luks_sha_lanes.specs.Chains.{chain_sum, digest_at};

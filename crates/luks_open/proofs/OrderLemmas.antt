@@ -23,8 +23,7 @@ use Rattle.luks_header.specs.SlotVerdicts.{slot_at, verdict_at}
 use Rattle.luks_header.specs.declared.header.Header.{Header}
 use Rattle.luks_header.proofs.KnownLemmas.{digest_of_usable, slot_of_usable}
 use Rattle.luks_open.specs.Order.{IsOrMemory, OrderModel, entry_at, entry_of, key_areas_end, order_of, skipped_at}
-use Rattle.luks_open.specs.Order.{order_alone}
-use Rattle.luks_open.specs.Order.{order_of_all, order_of_named, unless_none, usable_at, where_usable}
+use Rattle.luks_open.specs.Order.{order_alone, order_of_all, order_of_named, unless_none, usable_at, where_usable}
 use Rattle.luks_open.specs.declared.entry.Entry.{Entry}
 use Rattle.luks_open.specs.declared.fault.OpenFault.{OpenFault}
 

@@ -23,7 +23,8 @@ All-IsTriable header segment named limit order loaded is_segment is_order there 
     All-from_recursion (λ (entry : Entry). IsTriable loaded entry.slot) order.slots
     (of_entries order.slots (All-order header named limit order is_order) (All-key_areas_end loaded order.slots there))
   where
-    of_entry : (entry : Entry) → IsOf header limit entry → material_end entry.slot ≤ loaded → IsTriable loaded entry.slot
+    of_entry : (entry : Entry) → IsOf header limit entry → material_end entry.slot ≤ loaded
+        → IsTriable loaded entry.slot
     of_entry entry is ends =
         let known = known_usable header segment limit entry.number entry.slot is_segment is.usable in
         record {

@@ -9,8 +9,7 @@ use Rattle.luks_verdict.specs.declared.refusal.SkipReason.{SkipReason}
 use Rattle.luks_verdict.specs.declared.refusal.SkipReason.TheVariants.{Digest}
 use Rattle.luks_verdict.specs.declared.slot.Slot.{Slot}
 use Rattle.luks_verdict.specs.declared.slot.Verdict.{Verdict}
-use Rattle.luks_verdict.specs.declared.slot.Verdict.TheVariants.{Usable, Skipped}
-use Rattle.luks_verdict.specs.declared.slot.Verdict.TheVariants.{Disabled as Unused}
+use Rattle.luks_verdict.specs.declared.slot.Verdict.TheVariants.{Usable, Skipped, Disabled as Unused}
 use Rattle.luks_header.specs.HeaderDigests.{digest_for}
 use Rattle.luks_header.specs.SlotVerdicts.{slot_at, verdict_at}
 use Rattle.luks_header.specs.declared.header.Header.{Header}

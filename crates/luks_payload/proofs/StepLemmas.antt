@@ -14,11 +14,9 @@ use Rattle.luks_io.specs.declared.counts.WriteCounts.{WriteCounts}
 use Rattle.luks_io.proofs.CountsLemmas.{no_writes}
 use Rattle.luks_io.proofs.Consuming.{consumed_behind, consumed_sum}
 use Rattle.luks_payload.specs.SectorEffects.{PositionedAt, AbortsDiscarding, AbortsInSector, is_pump_read_failure}
-use Rattle.luks_payload.specs.SectorEffects.{is_cut, is_pump_write_failure}
-use Rattle.luks_payload.specs.SectorEffects.{max_sectors}
+use Rattle.luks_payload.specs.SectorEffects.{is_cut, is_pump_write_failure, max_sectors}
 use Rattle.luks_payload.specs.Plain.{payload_end_in, ending_of_len, payload_end_of, payload_len, sector_len}
-use Rattle.luks_payload.specs.Plain.{sector_plaintext}
-use Rattle.luks_payload.specs.Plain.{sector_start, unit_number, unit_plain}
+use Rattle.luks_payload.specs.Plain.{sector_plaintext, sector_start, unit_number, unit_plain}
 use Rattle.luks_payload.specs.PumpEffects.{EndEffect, EndsAt, MayAnswer, PumpModel, SkipEffect, SkipsAgain}
 use Rattle.luks_payload.specs.PumpEffects.{PositionedIn, StepEffect, ConsumesSector}
 use Rattle.luks_payload.specs.PumpEffects.{WritesSectors, hits_eof_at, is_running, consumed_by, state_after_skip}
@@ -28,9 +26,8 @@ use Rattle.luks_payload.specs.declared.fault.VolumeFault.{VolumeFault}
 use Rattle.luks_payload.specs.declared.fault.VolumeFault.TheVariants.{CutBeforePayload, Tail, Short, Read, Write}
 use Rattle.luks_payload.specs.declared.state.Step.{Step}
 use Rattle.luks_payload.specs.declared.state.Step.TheVariants.{Sector, End}
-use Rattle.luks_payload.proofs.SectorLemmas.{all_whole, at_least_512, at_limit, at_limit_end, before_end}
-use Rattle.luks_payload.proofs.SectorLemmas.{by_ending, ends_at_end, ends_before, is_whole, is_within}
-use Rattle.luks_payload.proofs.SectorLemmas.{none_whole}
+use Rattle.luks_payload.proofs.SectorLemmas.{all_whole, at_least_512, at_limit, at_limit_end, before_end, by_ending}
+use Rattle.luks_payload.proofs.SectorLemmas.{ends_at_end, ends_before, is_whole, is_within, none_whole}
 
 module _ (s : Segment) (image : List ℕ) (count : ℕ) where
   -- a stated end is what a step did

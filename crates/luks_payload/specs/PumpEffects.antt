@@ -6,8 +6,7 @@ use Rattle.luks_io.specs.Devices.{Appended, ConsumedExactly, ConsumedBetween}
 use Rattle.luks_verdict.specs.declared.segment.Segment.{Segment}
 use Rattle.luks_payload.specs.SectorEffects.{PositionedAt, max_sectors}
 use Rattle.luks_payload.specs.Plain.{ending_of, ending_of_len, payload_end_of, sector_len, sector_plaintext}
-use Rattle.luks_payload.specs.Plain.{sector_start}
-use Rattle.luks_payload.specs.Plain.{sectors_of}
+use Rattle.luks_payload.specs.Plain.{sector_start, sectors_of}
 use Rattle.luks_payload.specs.declared.fault.VolumeFault.{VolumeFault}
 use Rattle.luks_payload.specs.declared.fault.VolumeFault.TheVariants.{CutBeforePayload, Tail, Short, Read, Write}
 use Rattle.luks_payload.specs.declared.state.State.{State}

@@ -65,8 +65,8 @@ fn fill_sector<S: Source>(
     Ok(held + got)
 }
 
-/// Fills `sector` as [`fill_sector`] does, and writes its plaintext if it is whole. Answers how many
-/// bytes there were.
+/// Fills `sector` as [`fill_sector`] does, and writes its plaintext if it is whole. Answers how
+/// many bytes there were.
 fn forward_filled<S: Source, O: Sink>(
     cipher: &SectorCipher,
     number: u64,

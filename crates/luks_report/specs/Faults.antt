@@ -15,10 +15,9 @@ use Rattle.luks_args.specs.declared.planning.PlanFault.{PlanFault}
 use Rattle.luks_args.specs.declared.planning.PlanFault.TheVariants.{Memory as NoPlan, Usage as NoCommand}
 use Rattle.luks_report.specs.declared.message.Message.{Message}
 use Rattle.luks_report.specs.declared.message.Message.TheVariants.{Done, Usage, NotLuks, Cut, Json, OutOfMemory}
-use Rattle.luks_report.specs.declared.message.Message.TheVariants.{ReadFailed, WriteFailed}
-use Rattle.luks_report.specs.declared.message.Message.TheVariants.{NoSuchSlot, SlotDisabled, SlotSkipped, NothingTried}
-use Rattle.luks_report.specs.declared.message.Message.TheVariants.{NoKey}
-use Rattle.luks_report.specs.declared.message.Message.TheVariants.{CutBeforePayload, Tail, Short}
+use Rattle.luks_report.specs.declared.message.Message.TheVariants.{ReadFailed, WriteFailed, NoSuchSlot, SlotDisabled}
+use Rattle.luks_report.specs.declared.message.Message.TheVariants.{SlotSkipped, NothingTried, NoKey, CutBeforePayload}
+use Rattle.luks_report.specs.declared.message.Message.TheVariants.{Tail, Short}
 
 -- the words give no command
 abbrev pub message_for_plan : PlanFault → Message

@@ -1,8 +1,7 @@
 -- Passing on a payload sector by sector.
-use Rattle.std.proofs.Common.{◌≡◌, ℕ, zero, suc, ◌+◌, ◌-◌, ◌*◌, ◌/◌, ◌%◌, ◌^◌, ◌<◌, ◌≤◌, ◌⊎◌, inl, inr, List, []}
-use Rattle.std.proofs.Common.{◌++◌, Option, None, Some, Result, Ok, Err, ◌∙◌, ap, sym, refl, take, drop, length}
-use Rattle.std.proofs.Common.{take_all, length-take-le, length-drop, length-append, append-nil, add-one, max, arith}
-use Rattle.std.proofs.Common.{false}
+use Rattle.std.proofs.Common.{◌≡◌, ℕ, zero, suc, ◌+◌, ◌-◌, ◌*◌, ◌/◌, ◌%◌, ◌^◌, ◌<◌, ◌≤◌, ◌⊎◌, inl, inr, List, [], ◌++◌}
+use Rattle.std.proofs.Common.{Option, None, Some, Result, Ok, Err, ◌∙◌, ap, sym, refl, take, drop, length, take_all}
+use Rattle.std.proofs.Common.{length-take-le, length-drop, length-append, append-nil, add-one, max, arith, false}
 use Rattle.std.proofs.lemmas.Bool.{cases_lt}
 use Rattle.std.proofs.lemmas.List.{drop-drop, drop-take, drop_all, take-append-le}
 use Rattle.std.proofs.Math.Nat.{div-eq_of_lt-le, div-mul-le_self, mul-le-mul_left, mul-le-mul_right}
@@ -21,8 +20,7 @@ use Rattle.luks_io.specs.declared.counts.ReadCounts.{ReadCounts}
 use Rattle.luks_payload.specs.Plain.{payload_end_in, ending_of, payload_end_of, plain_of, sector_len, sector_plaintext}
 use Rattle.luks_payload.specs.Plain.{sector_start, sectors_of, unit_plain, payload_bytes}
 use Rattle.luks_payload.specs.PumpEffects.{EndEffect, PumpModel, PositionedIn, StepEffect, WritesSectors, after_step}
-use Rattle.luks_payload.specs.PumpEffects.{next_offset, position}
-use Rattle.luks_payload.specs.PumpEffects.{consumed_by}
+use Rattle.luks_payload.specs.PumpEffects.{next_offset, position, consumed_by}
 use Rattle.luks_payload.specs.declared.fault.VolumeFault.{VolumeFault}
 use Rattle.luks_payload.specs.declared.fault.VolumeFault.TheVariants.{CutBeforePayload as IsCutBefore, Tail as HasTail}
 use Rattle.luks_payload.specs.declared.fault.VolumeFault.TheVariants.{Short as IsShort, Read, Write}

@@ -3,9 +3,8 @@ use Rattle.luks_runs.specs.declared.headers.Printout.{Printout}
 use Rattle.luks_runs.specs.declared.headers.Printout.TheVariants.{Uuid, Dump, Check}
 use Rattle.luks_report.specs.declared.message.Message.{Message}
 use Rattle.luks_report.specs.declared.message.Message.TheVariants.{Done, No, Findings, NotLuks, Cut, Json, OutOfMemory}
-use Rattle.luks_report.specs.declared.message.Message.TheVariants.{ReadFailed, WriteFailed}
-use Rattle.luks_report.specs.declared.message.Message.TheVariants.{CutBeforePayload, Tail, Short}
-use Rattle.luks_report.specs.declared.message.Message.TheVariants.{KeyLength, FewRandomBytes, FewStripes}
+use Rattle.luks_report.specs.declared.message.Message.TheVariants.{ReadFailed, WriteFailed, CutBeforePayload, Tail}
+use Rattle.luks_report.specs.declared.message.Message.TheVariants.{Short, KeyLength, FewRandomBytes, FewStripes}
 
 -- which messages `isLuks` may end with
 abbrev pub IsLuksMessage : Message → Type 0

@@ -1,7 +1,6 @@
 //! The payload on its way from the image to the output.
 
-ghost use Rattle.std.specs.Prelude.{◌≡◌, ◌≤◌, ◌⊎◌, Bool, List, [], ℕ, Option};
-ghost use Rattle.std.specs.Prelude.{length, take};
+ghost use Rattle.std.specs.Prelude.{◌≡◌, ◌≤◌, ◌⊎◌, Bool, List, [], ℕ, Option, length, take};
 ghost use Rattle.luks_runs.specs.Payload.{HitsPayloadEof, ForwardsLoaded, max_needed};
 ghost use Rattle.luks_runs.specs.Payload.{with_payload_ahead};
 ghost use Rattle.luks_runs.specs.RunMessages.{PayloadMessage};
@@ -29,7 +28,8 @@ fn pump_behind<'a>(segment: Segment, cipher: SectorCipher, loaded: &'a [u8]) -> 
         ⊎ (result.state ≡ State.InPayload) }
     ensures reach { consumed_by result ≡ length loaded.now }
     ensures stands { (whole : List ℕ) (left : Option (List ℕ))
-        → loaded.now ≡ take (length loaded.now) whole → ConsumedExactly whole left (length loaded.now)
+        → loaded.now ≡ take (length loaded.now) whole
+        → ConsumedExactly whole left (length loaded.now)
         → PositionedIn whole result left }
 {
     let consumed = loaded.len() as u64;
@@ -60,7 +60,8 @@ pub fn write_payload<I: Source, O: Sink>(
     image: &mut I,
     out: &mut O,
 ) -> Result<(), Message>
-    ensures run { ForwardsLoaded segment cipher loaded.now (I.to_come image.old) (I.to_come image.new)
+    ensures run { ForwardsLoaded segment cipher loaded.now
+        (I.to_come image.old) (I.to_come image.new)
         (O.written out.old) (O.written out.new) (result_message result) }
     ensures only { PayloadMessage (result_message result) }
     ensures reads { (ended : Bool)

@@ -3,8 +3,7 @@ use Rattle.std.proofs.Common.{◌≡◌, ℕ, ◌+◌, ◌-◌, ◌*◌, ◌/◌
 use Rattle.std.proofs.Common.{bit_or, bit_xor, ap, sym, ◌∙◌, arith, refl, pow-add, add_comm, mod-lt, pow_pos}
 use Rattle.std.specs.Int.Bits.{or_shifted_r}
 use Rattle.std.specs.Simd.Lanes.{zip2}
-use Rattle.std.proofs.lemmas.Nat.{and_mask, mod-pow-add, mod_low, shr_below, shr_high, shr_split, shl-shr}
-use Rattle.std.proofs.lemmas.Nat.{xor_mod}
+use Rattle.std.proofs.lemmas.Nat.{and_mask, mod-pow-add, mod_low, shr_below, shr_high, shr_split, shl-shr, xor_mod}
 use Rattle.luks_sha_lanes.proofs.LaneLemmas.{half_lt}
 use Rattle.luks_sha_lanes.proofs.WordLemmas.{below_two}
 use Rattle.luks_sha_lanes.specs.Lanes.{word}

@@ -96,7 +96,8 @@ module _ (image area area' : List ℕ) (i : Option (List ℕ)) (loaded : ℕ)
         (omega (arith, grown.0, grown.1, cost_there image), rw all at more.1)
 
     -- the area is loaded
-    pub area_held : loaded ≤ length area' → (loaded ≤ length image) × (length area' ≡ max (header_read_len image) loaded)
+    pub area_held : loaded ≤ length area'
+        → (loaded ≤ length image) × (length area' ≡ max (header_read_len image) loaded)
         × (area' ≡ take (max (header_read_len image) loaded) image)
         × ConsumedExactly image i (max (header_read_len image) loaded)
     unfolding reached

@@ -1,7 +1,6 @@
 -- Finding the volume of an image.
 use Rattle.std.proofs.Common.{◌≡◌, ◌∙◌, ℕ, ◌⊎◌, inl, inr, List, [], ◌∷◌, Option, Some, Ok, Err, true, false, ap, refl}
-use Rattle.std.proofs.Common.{Bool, min, sym}
-use Rattle.std.proofs.Common.{length, length-take-le, take, append-nil, arith}
+use Rattle.std.proofs.Common.{Bool, min, sym, length, length-take-le, take, append-nil, arith}
 use Rattle.std.specs.Prelude.{is_err}
 use Rattle.luks_io.proofs.CountsLemmas.{reads_more}
 use Rattle.luks_io.specs.Counts.{Reads}
@@ -21,18 +20,16 @@ use Rattle.luks_open.specs.Order.{OrderModel, order_of}
 use Rattle.luks_open.specs.declared.fault.OpenFault.{OpenFault}
 use Rattle.luks_open.specs.declared.fault.OpenFault.TheVariants.{NoSuchSlot as NotThere, Disabled, NamedSkipped}
 use Rattle.luks_open.specs.declared.fault.OpenFault.TheVariants.{NothingTried as NoneTried, NoKey as NoneOpens, Memory}
-use Rattle.luks_report.specs.Faults.{message_for_header}
+use Rattle.luks_report.specs.Faults.{message_for_header, message_for_opening}
 use Rattle.luks_request.specs.Request.{VolumeRequest}
-use Rattle.luks_runs.proofs.HeaderConsumption.{cost_there}
+use Rattle.luks_runs.proofs.HeaderConsumption.{cost_there, reading_fault}
 use Rattle.luks_unlock.specs.Finding.{AbortsFinding, FindsVolume}
 use Rattle.luks_unlock.specs.Trying.{HitsEndOfAreas}
 use Rattle.luks_unlock.specs.declared.finding.FoundVolume.{FoundVolume}
 use Rattle.luks_runs.specs.Run.{is_run_read_failure}
-use Rattle.luks_runs.proofs.HeaderConsumption.{reading_fault}
 use Rattle.luks_runs.specs.Location.{LoadedFrom, reader_for}
 use Rattle.luks_unlock.specs.Volume.{volume_by, volume_in_header}
 use Rattle.luks_runs.specs.declared.location.HeaderLocation.{HeaderLocation}
-use Rattle.luks_report.specs.Faults.{message_for_opening}
 use Rattle.luks_report.specs.declared.message.Message.{Message}
 use Rattle.luks_report.specs.declared.message.Message.TheVariants.{OutOfMemory, ReadFailed, SegmentRefused}
 

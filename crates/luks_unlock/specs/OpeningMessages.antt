@@ -2,8 +2,7 @@
 use Rattle.luks_report.specs.declared.message.Message.{Message}
 use Rattle.luks_report.specs.declared.message.Message.TheVariants.{NotLuks, Cut, Json, OutOfMemory, ReadFailed}
 use Rattle.luks_report.specs.declared.message.Message.TheVariants.{SegmentRefused, NoSuchSlot, SlotDisabled}
-use Rattle.luks_report.specs.declared.message.Message.TheVariants.{SlotSkipped, NothingTried}
-use Rattle.luks_report.specs.declared.message.Message.TheVariants.{KeyFileLength, NoKey}
+use Rattle.luks_report.specs.declared.message.Message.TheVariants.{SlotSkipped, NothingTried, KeyFileLength, NoKey}
 
 -- opening a volume
 abbrev pub OpeningMessage : Message → Type 0

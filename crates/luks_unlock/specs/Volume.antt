@@ -9,19 +9,17 @@ use Rattle.luks_verdict.specs.declared.refusal.SegmentFault.{SegmentFault}
 use Rattle.luks_verdict.specs.declared.segment.Segment.{Segment}
 use Rattle.luks_open.specs.Order.{OrderModel, key_areas_end, order_of}
 use Rattle.luks_open.specs.declared.fault.OpenFault.{OpenFault}
-use Rattle.luks_report.specs.Faults.{message_for_header, message_for_opening}
+use Rattle.luks_report.specs.Faults.{message_for_header, message_for_opening, message_at_end}
 use Rattle.luks_request.specs.Request.{VolumeRequest}
 use Rattle.luks_open.specs.Opening.{opening_of}
 use Rattle.luks_open.specs.declared.opening.Opened.{Opened}
 use Rattle.luks_payload.specs.Plain.{ending_of, payload_end_of, plain_of}
-use Rattle.luks_report.specs.Faults.{message_at_end}
 use Rattle.luks_report.specs.Texts.{opened_line}
-use Rattle.luks_report.specs.declared.message.Message.TheVariants.{Done, Cut, KeyFileLength}
+use Rattle.luks_report.specs.declared.message.Message.TheVariants.{Done, Cut, KeyFileLength, SegmentRefused}
 use Rattle.luks_runs.specs.KeyFile.{max_key_file_len}
 use Rattle.luks_runs.specs.Ending.{Outcome, no_output}
 use Rattle.luks_runs.specs.HeaderReading.{HeaderReader}
 use Rattle.luks_report.specs.declared.message.Message.{Message}
-use Rattle.luks_report.specs.declared.message.Message.TheVariants.{SegmentRefused}
 
 -- a volume: its header, its segment, and which key slots are tried
 pub record Volume : Type 0 where
@@ -95,7 +93,8 @@ detached_payload_outcome image secret segment opened loaded = record {
 
 -- the key slots were tried
 abbrev pub opened_outcome : OnOpened → Option ℕ → Volume → List ℕ → List ℕ → Result Opened OpenFault → Outcome
-opened_outcome on_opened named volume image secret (Ok opened) = on_opened volume.segment opened (loaded_for image volume)
+opened_outcome on_opened named volume image secret (Ok opened) =
+    on_opened volume.segment opened (loaded_for image volume)
 opened_outcome on_opened named volume image secret (Err fault) =
     no_output (message_for_opening named fault) (loaded_for image volume) (length secret)
 

@@ -2,8 +2,7 @@
 
 ghost use Rattle.std.specs.Prelude.{◌≡◌, ◌+◌, ◌<◌, ◌^◌};
 ghost use Rattle.luks_verdict.specs.Rule.{iterations_out_of_range, is_digest, is_in_range};
-ghost use Rattle.luks_verdict.specs.Rule.{area_out_of_range};
-ghost use Rattle.luks_verdict.specs.Rule.{stripes_out_of_range, need_of};
+ghost use Rattle.luks_verdict.specs.Rule.{area_out_of_range, stripes_out_of_range, need_of};
 
 use luks_area::area::HeaderArea;
 

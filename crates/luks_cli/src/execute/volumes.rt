@@ -244,7 +244,8 @@ pub(super) fn cat_detached<H: Source, I: Source, K: Source, O: Sink>(
     ensures before_key { EndsWithoutKey (result_message result) → image.new ≡ image.old }
     ensures calls { CountsCallsDetached
         (ReadsPayload (DetachedCatAllows (H.to_come header.old) (K.to_come secret.old)))
-        (result_message result) (H.counts header.old) (H.counts header.new) (I.counts image.old) (I.counts image.new)
+        (result_message result) (H.counts header.old) (H.counts header.new)
+        (I.counts image.old) (I.counts image.new)
         (K.counts secret.old) (K.counts secret.new) (O.counts out.old) (O.counts out.new) }
 {
     let unlocked = unlock(alloc, HeaderLocation::Detached, opening, header, secret)?;

@@ -1,9 +1,8 @@
 //! What is printed of a LUKS1 header.
 
 ghost use Rattle.std.specs.Prelude.{◌≡◌, ◌++◌, IfOk, OnOk, length, string_bytes, ◌≤◌};
-ghost use Rattle.luks_dump.specs.Dump1.{cipher_line, dump1_of, enabled_text, number_lines, slot1_line};
-ghost use Rattle.luks_dump.specs.Dump1.{slot1_lines};
-ghost use Rattle.luks_dump.specs.Dump1.{slot_text, text1_lines, uuid_line};
+ghost use Rattle.luks_dump.specs.Dump1.{cipher_line, dump1_of, enabled_text, number_lines};
+ghost use Rattle.luks_dump.specs.Dump1.{slot1_line, slot1_lines, slot_text, text1_lines, uuid_line};
 
 use crate::escaping::{escape, push_escaped_text};
 use crate::field::{push_bytes, push_field, push_number, push_text};

@@ -68,7 +68,8 @@ returns-in_err-grow-2-clause-loads g c = record {
   within = λ image front.
       let fit = fit_here c.grow.new.area.bytes c.grow.new.area.ended image c.as_slice.result.now c.args.place
       (c.grow-2.ensures.grew.fronts image front) c.as_slice.ensures.value
-      (c.in_ok-grow.ensures.whole.0 c.if-not-branch.false) c.in-Some.size c.in-Some.ensures.value in
+      (c.in_ok-grow.ensures.whole.0 c.if-not-branch.false) c.in-Some.size
+      c.in-Some.ensures.value in
       omega (arith, c.grow.ensures.within, c.grow-2.ensures.within, reach_fit image c.args.place fit.0, fit.1);
   settled = search rules;
   over = search rules;
@@ -77,7 +78,8 @@ returns-in_err-grow-2-clause-loads g c = record {
       rw (p.1, p.2) (λ stops image front.
       let fit = fit_here c.grow.new.area.bytes c.grow.new.area.ended image c.as_slice.result.now c.args.place
       (c.grow-2.ensures.grew.fronts image front) c.as_slice.ensures.value
-      (c.in_ok-grow.ensures.whole.0 c.if-not-branch.false) c.in-Some.size c.in-Some.ensures.value in
+      (c.in_ok-grow.ensures.whole.0 c.if-not-branch.false) c.in-Some.size
+      c.in-Some.ensures.value in
       omega (arith, c.in_err-grow-2.ensures.early stops, reach_fit image c.args.place fit.0, fit.1));
   refusals = search rules;
 }
@@ -88,7 +90,8 @@ returns-then-not-branch-2-clause-valid g c =
     λ image front.
     let fit = fit_here c.grow.new.area.bytes c.grow.new.area.ended image c.as_slice.result.now c.args.place
     (c.grow-2.ensures.grew.fronts image front) c.as_slice.ensures.value
-    (c.in_ok-grow.ensures.whole.0 c.if-not-branch.false) c.in-Some.size c.in-Some.ensures.value in
+    (c.in_ok-grow.ensures.whole.0 c.if-not-branch.false) c.in-Some.size
+    c.in-Some.ensures.value in
     let all = whole_image c.grow-2.new.area.bytes c.grow-2.new.area.ended image c.in_ok-grow-2.field-0
     (c.args.place + c.in-Some.size) front
     c.in_ok-grow-2.ensures.whole c.in_ok-grow-2.ensures.settled c.if-not-branch-2.true in
@@ -99,14 +102,16 @@ returns-then-not-branch-2-clause-loads g c = record {
   within = λ image front.
       let fit = fit_here c.grow.new.area.bytes c.grow.new.area.ended image c.as_slice.result.now c.args.place
       (c.grow-2.ensures.grew.fronts image front) c.as_slice.ensures.value
-      (c.in_ok-grow.ensures.whole.0 c.if-not-branch.false) c.in-Some.size c.in-Some.ensures.value in
+      (c.in_ok-grow.ensures.whole.0 c.if-not-branch.false) c.in-Some.size
+      c.in-Some.ensures.value in
       omega (arith, c.grow.ensures.within, c.grow-2.ensures.within, reach_fit image c.args.place fit.0, fit.1);
   settled = search rules;
   over = λ image front.
       let first = c.grow-2.ensures.grew.fronts image front in
       let fit = fit_here c.grow.new.area.bytes c.grow.new.area.ended image c.as_slice.result.now c.args.place
       first c.as_slice.ensures.value
-      (c.in_ok-grow.ensures.whole.0 c.if-not-branch.false) c.in-Some.size c.in-Some.ensures.value in
+      (c.in_ok-grow.ensures.whole.0 c.if-not-branch.false) c.in-Some.size
+      c.in-Some.ensures.value in
       over_joined image c.grow.new.area.bytes c.grow-2.new.area.bytes c.args.area.now.ended c.grow.new.area.ended
       c.grow-2.new.area.ended
       (c.args.place + 4096) (c.args.place + c.in-Some.size) (probe_end image c.args.place) first front
@@ -123,7 +128,8 @@ returns-clause-valid g c =
     let there : c.args.place + 4096 ≤ length c.grow.new.area.bytes = c.in_ok-grow.ensures.whole.0 c.if-not-branch.false
     in
     let fit = fit_here c.grow.new.area.bytes c.grow.new.area.ended image c.as_slice.result.now c.args.place
-    (c.grow-2.ensures.grew.fronts image front) c.as_slice.ensures.value there c.in-Some.size c.in-Some.ensures.value in
+    (c.grow-2.ensures.grew.fronts image front) c.as_slice.ensures.value there c.in-Some.size
+    c.in-Some.ensures.value in
     c.then_some.ensures
     ∙ ap (λ b. then_some b c.in-Some.size) c.is_valid.ensures
     ∙ valid_here c.grow-2.new.area.bytes c.grow-2.new.area.ended image c.as_slice-2.result.now c.args.place
@@ -136,13 +142,15 @@ returns-clause-loads g c = record {
   within = λ image front.
       let fit = fit_here c.grow.new.area.bytes c.grow.new.area.ended image c.as_slice.result.now c.args.place
       (c.grow-2.ensures.grew.fronts image front) c.as_slice.ensures.value
-      (c.in_ok-grow.ensures.whole.0 c.if-not-branch.false) c.in-Some.size c.in-Some.ensures.value in
+      (c.in_ok-grow.ensures.whole.0 c.if-not-branch.false) c.in-Some.size
+      c.in-Some.ensures.value in
       omega (arith, c.grow.ensures.within, c.grow-2.ensures.within, reach_fit image c.args.place fit.0, fit.1);
   settled = λ image front goes.
       let there : c.args.place + 4096 ≤ length c.grow.new.area.bytes =
       c.in_ok-grow.ensures.whole.0 c.if-not-branch.false in
       let fit = fit_here c.grow.new.area.bytes c.grow.new.area.ended image c.as_slice.result.now c.args.place
-      (c.grow-2.ensures.grew.fronts image front) c.as_slice.ensures.value there c.in-Some.size c.in-Some.ensures.value in
+      (c.grow-2.ensures.grew.fronts image front) c.as_slice.ensures.value there c.in-Some.size
+      c.in-Some.ensures.value in
       let whole = c.in_ok-grow-2.ensures.whole.0 c.if-not-branch-2.false in
       omega (arith, there, whole, c.grow-2.ensures.grew.longer, reach_fit image c.args.place fit.0, fit.1);
   over = search rules;

@@ -101,9 +101,11 @@ returns-then-is_some-clause-loads g c = record {
   over = λ image front.
       let grew = c.header_at.ensures.grew in
       let first = grew.fronts image front in
-      over_here image c.args.area.now.bytes c.loop-place.area.bytes _ c.loop-place.area.ended _ c.loop-place.place-index _
+      over_here image c.args.area.now.bytes c.loop-place.area.bytes _ c.loop-place.area.ended _
+      c.loop-place.place-index _
       c.places-place-items.ensures c.loop-place-test.true
-      (c.loop-place.invariant.searched image first) grew.longer grew.stays (c.header_at.ensures.loads.within image front)
+      (c.loop-place.invariant.searched image first) grew.longer grew.stays
+      (c.header_at.ensures.loads.within image front)
       c.args.area.now.ended first front (c.loop-place.invariant.over image first)
       (c.in_ok-header_at.ensures.loads.over image front);
   going = search rules;
@@ -131,7 +133,8 @@ loop-place-preserved g c = record {
       over_here image c.args.area.now.bytes c.loop-place.area.bytes _ c.loop-place.area.ended _ c.loop-place.place-index
       _
       c.places-place-items.ensures c.loop-place-test.true
-      (c.loop-place.invariant.searched image first) grew.longer grew.stays (c.header_at.ensures.loads.within image front)
+      (c.loop-place.invariant.searched image first) grew.longer grew.stays
+      (c.header_at.ensures.loads.within image front)
       c.args.area.now.ended first front (c.loop-place.invariant.over image first)
       (c.in_ok-header_at.ensures.loads.over image front);
   grew = grew_more _ _ _ _ _ _ _ _ _ _ _ _ _ c.loop-place.invariant.grew c.in_ok-header_at.ensures.grew;

@@ -32,7 +32,8 @@ returns-in-LuksDump g c = rw (c.report-in-LuksDump.ensures, c.in-LuksDump.is) (r
   report = record { only = c.print-in-LuksDump.ensures.only; status = refl };
   unneeded = λ _. refl;
   reads_first = λ _. c.print-in-LuksDump.ensures.reads_first;
-  calls = calls_of_image (result_message c.print-in-LuksDump.result) _ _ _ _ _ _ c.print-in-LuksDump.ensures.reads.1 c.print-in-LuksDump.ensures.writes;
+  calls = calls_of_image (result_message c.print-in-LuksDump.result) _ _ _ _ _ _
+      c.print-in-LuksDump.ensures.reads.1 c.print-in-LuksDump.ensures.writes;
 })
 
 pub returns-in-LuksCheck : goal.returns-in-LuksCheck
@@ -42,7 +43,8 @@ returns-in-LuksCheck g c = rw (c.report-in-LuksCheck.ensures, c.in-LuksCheck.is)
   report = record { only = c.print-in-LuksCheck.ensures.only; status = refl };
   unneeded = λ _. refl;
   reads_first = λ _. c.print-in-LuksCheck.ensures.reads_first;
-  calls = calls_of_image (result_message c.print-in-LuksCheck.result) _ _ _ _ _ _ c.print-in-LuksCheck.ensures.reads.1 c.print-in-LuksCheck.ensures.writes;
+  calls = calls_of_image (result_message c.print-in-LuksCheck.result) _ _ _ _ _ _
+      c.print-in-LuksCheck.ensures.reads.1 c.print-in-LuksCheck.ensures.writes;
 })
 
 pub returns-in-TestPassphrase : goal.returns-in-TestPassphrase

@@ -73,7 +73,8 @@ returns-clause-held g c =
     let long : 8 ≤ length c.args.area.now.bytes = omega (arith, c.requires.first.0) in
     let read = c.in_ok-header.ensures in
     let other = begins_longer c.args.area.now.bytes c.read_header2.new.area.bytes long read.kept ∙ c.requires.first.2 in
-    let text = c.json_text.ensures ∙ ap (λ bytes. json_text_of bytes c.in_ok-header.header) c.as_slice.ensures.value in (
+    let text = c.json_text.ensures
+    ∙ ap (λ bytes. json_text_of bytes c.in_ok-header.header) c.as_slice.ensures.value in (
       header_read c.read_header2.new.area.bytes other c.in_ok-header.header c.in_ok-metadata.metadata read.answered.0
           (ap tree_of (sym text) ∙ c.in_ok-metadata.ensures.ok),
       read.answered.1 ∙ sym (cost_other c.read_header2.new.area.bytes other),

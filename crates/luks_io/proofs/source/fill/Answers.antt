@@ -1,6 +1,5 @@
 use Rattle.std.proofs.Common.{rules}
-use Rattle.luks_io.proofs.Moves.{Consumes-next, took-front, took-kept, took-nothing}
-use Rattle.luks_io.proofs.Moves.{took-whole}
+use Rattle.luks_io.proofs.Moves.{Consumes-next, took-front, took-kept, took-nothing, took-whole}
 use Rattle.luks_io.proofs.source.fill.Goals as goal
 
 pub loop-at-preserved : goal.loop-at-preserved

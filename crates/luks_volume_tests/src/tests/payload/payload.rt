@@ -93,8 +93,8 @@ static PAYLOADS: [Payload; 7] = [
 /// how many a sink accepts at once.
 type Shape = (usize, usize, usize);
 
-// Pieces alone; and then none is loaded; less than a sector of 512 bytes, and one and a part; three,
-// and the whole image; and pieces that end within sectors.
+// Pieces alone; and then none is loaded; less than a sector of 512 bytes, and one and a part;
+// three, and the whole image; and pieces that end within sectors.
 static SHAPES: [Shape; 13] = [
     (0, 1, 700),
     (0, 511, 1),

@@ -43,7 +43,8 @@ returns-in-LuksDump g c = rw (c.report-in-LuksDump.ensures, c.in-LuksDump.is) (r
   untouched = λ _. refl;
   reads_first = λ _. c.print-in-LuksDump.ensures.reads_first;
   calls = calls_apart ReadsOnce _ _ _ _ _ _ _ _ (none_read _)
-      (calls_of_image (result_message c.print-in-LuksDump.result) _ _ _ _ _ _ c.print-in-LuksDump.ensures.reads.1 c.print-in-LuksDump.ensures.writes);
+      (calls_of_image (result_message c.print-in-LuksDump.result) _ _ _ _ _ _
+      c.print-in-LuksDump.ensures.reads.1 c.print-in-LuksDump.ensures.writes);
 })
 
 pub returns-in-LuksCheck : goal.returns-in-LuksCheck
@@ -56,7 +57,8 @@ returns-in-LuksCheck g c = rw (c.report-in-LuksCheck.ensures, c.in-LuksCheck.is)
   untouched = λ _. refl;
   reads_first = λ _. c.print-in-LuksCheck.ensures.reads_first;
   calls = calls_apart ReadsOnce _ _ _ _ _ _ _ _ (none_read _)
-      (calls_of_image (result_message c.print-in-LuksCheck.result) _ _ _ _ _ _ c.print-in-LuksCheck.ensures.reads.1 c.print-in-LuksCheck.ensures.writes);
+      (calls_of_image (result_message c.print-in-LuksCheck.result) _ _ _ _ _ _
+      c.print-in-LuksCheck.ensures.reads.1 c.print-in-LuksCheck.ensures.writes);
 })
 
 pub returns-in-TestPassphrase : goal.returns-in-TestPassphrase
