@@ -90,10 +90,10 @@ reach_fit image place is = rw is refl
 pub whole_image : (held : List ℕ) (ended : Bool) (image : List ℕ) (whole : Bool) (end : ℕ) → IsPrefixOf held ended image
     → (IsTrue whole ↔ (end ≤ length held)) → (ended ≡ false → end ≤ length held) → whole ≡ false
     → (image ≡ held) × (length held < end)
-whole_image held true image whole end front iff settled is =
+whole_image held true image whole end front iff complete is =
     (front.ends refl, short_from_not whole end (length held) iff (ap not is))
-whole_image held false image whole end front iff settled is =
-    (let short = short_from_not whole end (length held) iff (ap not is) in absurd (omega (arith, settled refl)))
+whole_image held false image whole end front iff complete is =
+    (let short = short_from_not whole end (length held) iff (ap not is) in absurd (omega (arith, complete refl)))
 
 -- a test that answered None has failed
 pub none_fails : (b : Bool) (n : ℕ) → None ≡ (if b then Some n else None) → b ≡ false

@@ -10,7 +10,7 @@ use Rattle.luks2_binary.specs.ReadLen2.{reach2_of, probe_end, search_reach}
 use Rattle.luks2_binary.specs.Front2.{FallsShort, IsPrefixOf, OfEach, Reaches, StaysBelow, valid_size}
 use Rattle.luks2_binary.specs.declared.header.Header2.{Header2}
 use Rattle.luks2_binary.proofs.AgreeLemmas.{at-front, reach_fit, reach_least, some_holds, none_fails, valid-front}
-use Rattle.luks2_binary.proofs.FrontLemmas.{over_joined}
+use Rattle.luks2_binary.proofs.FrontLemmas.{end_hit_joined}
 use Rattle.luks2_binary.proofs.ValidLemmas.{fits_parts, size_is_place, valid_parts, valid_range}
 
 module _ (image : List ℕ) where
@@ -102,33 +102,33 @@ found_chosen held ended (Ok header) none is = λ image front.
 found_chosen held ended (Err fault) none is = tt
 
 -- and so far is read for it
-pub found_settled : (held' : List ℕ) (ended' : Bool) (found : Result (Option Header2) HeaderFault)
+pub found_complete : (held' : List ℕ) (ended' : Bool) (found : Result (Option Header2) HeaderFault)
     → OfEach held' ended' (λ image. is_valid image 0 ≡ false)
     → OfEach held' ended' (λ image. ended' ≡ false → probe_end image 0 ≤ length held')
     → OnOk found (Reaches held' ended' search_reach)
     → OnOk found (Reaches held' ended' reach2_of)
-found_settled held' ended' (Ok header) none first reaches = λ image front goes.
+found_complete held' ended' (Ok header) none first reaches = λ image front goes.
     omega (arith, reach_other image (none image front), first image front goes, reaches image front goes)
-found_settled held' ended' (Err fault) none first reaches = tt
+found_complete held' ended' (Err fault) none first reaches = tt
 
 -- and less is held where memory was refused
-pub found_early : (held' : List ℕ) (ended' : Bool) (found : Result (Option Header2) HeaderFault)
+pub found_stopped_below : (held' : List ℕ) (ended' : Bool) (found : Result (Option Header2) HeaderFault)
     → OfEach held' ended' (λ image. is_valid image 0 ≡ false)
     → IfErr found (λ fault. fault ≡ Memory → StaysBelow held' ended' search_reach)
     → IfErr found (λ fault. fault ≡ Memory → StaysBelow held' ended' reach2_of)
-found_early held' ended' (Ok header) none early = tt
-found_early held' ended' (Err fault) none early = λ stops image front.
-    omega (arith, early stops image front, reach_other image (none image front))
+found_stopped_below held' ended' (Ok header) none stopped_below = tt
+found_stopped_below held' ended' (Err fault) none stopped_below = λ stops image front.
+    omega (arith, stopped_below stops image front, reach_other image (none image front))
 
 -- and less is held where the end was found
-pub found_over : (held held' : List ℕ) (e e1 e2 : Bool) (found : Result (Option Header2) HeaderFault)
+pub found_end_hit : (held held' : List ℕ) (e e1 e2 : Bool) (found : Result (Option Header2) HeaderFault)
     → ((image : List ℕ) → IsPrefixOf held' e2 image → IsPrefixOf held e1 image)
     → OfEach held' e2 (λ image. is_valid image 0 ≡ false)
     → FallsShort held e e1 (λ image. probe_end image 0) → OnOk found (FallsShort held' e1 e2 search_reach)
     → OnOk found (FallsShort held' e e2 reach2_of)
-found_over held held' e e1 e2 (Ok header) fronts none first then = λ image front.
+found_end_hit held held' e e1 e2 (Ok header) fronts none first then = λ image front.
     let other = reach_other image (none image front) in
-    over_joined image held held' e e1 e2 (probe_end image 0) (search_reach image) (reach2_of image)
+    end_hit_joined image held held' e e1 e2 (probe_end image 0) (search_reach image) (reach2_of image)
     (fronts image front) front (first image (fronts image front)) (then image front)
     (omega (arith, other)) (omega (arith, other))
-found_over held held' e e1 e2 (Err fault) fronts none first then = tt
+found_end_hit held held' e e1 e2 (Err fault) fronts none first then = tt

@@ -178,11 +178,11 @@ not_ended true ended' stays goes = absurd (let wrong = stays refl in cc)
 not_ended false ended' stays goes = refl
 
 -- the end was found in one of two calls, so that less is held than is to be read
-pub over_joined : (image held held' : List ℕ) (e e1 e2 : Bool) (near far most : ℕ) → IsPrefixOf held e1 image
+pub end_hit_joined : (image held held' : List ℕ) (e e1 e2 : Bool) (near far most : ℕ) → IsPrefixOf held e1 image
     → IsPrefixOf held' e2 image → (e ≡ false → e1 ≡ true → length held < near)
     → (e1 ≡ false → e2 ≡ true → length held' < far) → near ≤ most → far ≤ most → e ≡ false → e2 ≡ true
     → length held' < most
-over_joined image held held' e true e2 near far most first then over over' below below' goes found =
-    omega (arith, over goes refl, ap length (first.ends refl), ap length (then.ends found))
-over_joined image held held' e false e2 near far most first then over over' below below' goes found =
-    omega (arith, over' refl found)
+end_hit_joined image held held' e true e2 near far most first then end_hit end_hit' below below' goes found =
+    omega (arith, end_hit goes refl, ap length (first.ends refl), ap length (then.ends found))
+end_hit_joined image held held' e false e2 near far most first then end_hit end_hit' below below' goes found =
+    omega (arith, end_hit' refl found)

@@ -15,7 +15,7 @@ use Rattle.luks2_binary.specs.declared.header.Finding.TheVariants.{PrimaryNotVal
 use Rattle.luks2_binary.specs.declared.header.Header2.{Header2}
 use Rattle.luks2_binary.specs.declared.header.Place.TheVariants.{Secondary}
 use Rattle.luks2_binary.proofs.AgreeLemmas.{at-front}
-use Rattle.luks2_binary.proofs.FrontLemmas.{over_joined}
+use Rattle.luks2_binary.proofs.FrontLemmas.{end_hit_joined}
 use Rattle.luks2_binary.proofs.ValidLemmas.{valid_range}
 use Rattle.luks2_binary.proofs.WalkLemmas.{are_one, first_valid, furthest}
 
@@ -27,7 +27,7 @@ ahead image k = furthest (is_valid image) (probe_end image) (drop k sizes)
 pub record Searched (image old held : List ℕ) (ended : Bool) (k : ℕ) : Type 0 where
   pub place : first_valid (is_valid image) sizes ≡ first_valid (is_valid image) (drop k sizes)
   pub within : length held ≤ max (length old) (ahead image 0)
-  pub settled : ended ≡ false → ahead image 0 ≤ max (length held) (ahead image k)
+  pub complete : ended ≡ false → ahead image 0 ≤ max (length held) (ahead image k)
   pub behind : ahead image k ≤ ahead image 0
 
 -- before the first place
@@ -35,7 +35,7 @@ pub searched_none : (image held : List ℕ) (ended : Bool) → Searched image he
 searched_none image held ended = record {
   place = refl;
   within = omega arith;
-  settled = λ goes. omega arith;
+  complete = λ goes. omega arith;
   behind = omega arith;
 }
 
@@ -80,10 +80,10 @@ module _ (image old held held' : List ℕ) (ended ended' : Bool) (k : ℕ) (item
   pub searched_on : is_valid image place ≡ false → (ended' ≡ false → probe_end image place ≤ length held')
       → Searched image old held' ended' (k + 1)
   unfolding first_valid
-  searched_on fails settled = rw add-one record {
+  searched_on fails complete = rw add-one record {
     place = so_far.place ∙ rw (here, fails) refl;
     within = omega (arith, reached fails, so_far.within, so_far.behind, within);
-    settled = λ goes. omega (arith, reached fails, so_far.settled (goes_on goes), settled goes, longer);
+    complete = λ goes. omega (arith, reached fails, so_far.complete (goes_on goes), complete goes, longer);
     behind = omega (arith, reached fails, so_far.behind);
   }
 
@@ -99,27 +99,27 @@ module _ (image old held held' : List ℕ) (ended ended' : Bool) (k : ℕ) (item
   searched_within = omega (arith, reach_below, so_far.within, within, search_reach_is image)
 
   -- where the end was found by now less is held than the search looks at
-  pub over_here : (before : Bool) → IsPrefixOf held ended image → IsPrefixOf held' ended' image
+  pub end_hit_here : (before : Bool) → IsPrefixOf held ended image → IsPrefixOf held' ended' image
       → (before ≡ false → ended ≡ true → length held < search_reach image)
       → (ended ≡ false → ended' ≡ true → length held' < probe_end image place)
       → before ≡ false → ended' ≡ true → length held' < search_reach image
-  over_here before front front' over over' =
-      over_joined image held held' before ended ended' (search_reach image) (probe_end image place)
-      (search_reach image) front front' over over' (omega arith) reach_below
+  end_hit_here before front front' end_hit end_hit' =
+      end_hit_joined image held held' before ended ended' (search_reach image) (probe_end image place)
+      (search_reach image) front front' end_hit end_hit' (omega arith) reach_below
 
   -- a valid header is here: the search ends
   pub searched_place : is_valid image place ≡ true → first_valid (is_valid image) sizes ≡ Some place
   unfolding first_valid
   searched_place holds = so_far.place ∙ rw (here, holds) refl
 
-  pub searched_settled : is_valid image place ≡ true → (ended' ≡ false → probe_end image place ≤ length held')
+  pub searched_complete : is_valid image place ≡ true → (ended' ≡ false → probe_end image place ≤ length held')
       → ended' ≡ false → search_reach image ≤ length held'
-  searched_settled holds settled goes =
+  searched_complete holds complete goes =
       omega (
         arith,
         reached_last holds,
-        so_far.settled (goes_on goes),
-        settled goes,
+        so_far.complete (goes_on goes),
+        complete goes,
         longer,
         search_reach_is image,
       )

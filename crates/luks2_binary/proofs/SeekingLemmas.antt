@@ -28,10 +28,10 @@ module _ (image old new : List ℕ) (ended : Bool) (front : IsPrefixOf new ended
   -- and just that where the header was found
   pub cost_held : (ended ≡ false → reach2_of image ≤ length new) → length new ≡ header2_read_len image
   unfolding header2_read_len
-  cost_held settled = by ended refl where
+  cost_held complete = by ended refl where
     by : (b : Bool) → ended ≡ b → length new ≡ header2_read_len image
     by true e = omega (arith, reach_some image, within, ap length (front.ends e))
-    by false e = omega (arith, reach_some image, within, settled e, front.within)
+    by false e = omega (arith, reach_some image, within, complete e, front.within)
 
 -- what the code answers of a choice is the header of the image
 pub answer_is : (image : List ℕ) (chosen : Option Header2) (answer : Result Header2 HeaderFault)
@@ -87,13 +87,13 @@ module _ (old new rest : List ℕ) (ended : Bool) (left' : Option (List ℕ)) wh
       → HoldsFront (old ++ rest) new ended left' → length old ≤ length new → length new ≤ header2_read_len (old ++ rest)
       → (fault ≡ Memory → length new < reach2_of (old ++ rest))
       → AbortsSeeking (old ++ rest) old new rest left' fault
-  aborts_seeking Read which holds longer within early =
+  aborts_seeking Read which holds longer within stopped_below =
       (length new - length old, omega arith, consumed_count holds longer)
-  aborts_seeking Memory which holds longer within early =
-      (length new - length old, omega (arith, early refl), consumed_count holds longer)
-  aborts_seeking NotLuks which holds longer within early = absurd (elim which [ inl e ↦ cc | inr e ↦ cc ])
-  aborts_seeking Cut which holds longer within early = absurd (elim which [ inl e ↦ cc | inr e ↦ cc ])
-  aborts_seeking Json which holds longer within early = absurd (elim which [ inl e ↦ cc | inr e ↦ cc ])
+  aborts_seeking Memory which holds longer within stopped_below =
+      (length new - length old, omega (arith, stopped_below refl), consumed_count holds longer)
+  aborts_seeking NotLuks which holds longer within stopped_below = absurd (elim which [ inl e ↦ cc | inr e ↦ cc ])
+  aborts_seeking Cut which holds longer within stopped_below = absurd (elim which [ inl e ↦ cc | inr e ↦ cc ])
+  aborts_seeking Json which holds longer within stopped_below = absurd (elim which [ inl e ↦ cc | inr e ↦ cc ])
 
 -- the image has the header that was answered, or none
 pub seeks_answer : (old new rest : List ℕ) (left' : Option (List ℕ)) (chosen : Option Header2)
@@ -112,11 +112,11 @@ answered_from held None answer is known long = rw is (known ∙ is, long)
 -- a failure answers nothing of the image
 pub fault_answered : (held : List ℕ) (fault : HeaderFault) → (fault ≡ Read) ⊎ (fault ≡ Memory)
     → (fault ≡ Memory → StaysBelow held false reach2_of) → AnsweredFrom held (Err fault)
-fault_answered held Read which early = tt
-fault_answered held Memory which early = early refl
-fault_answered held NotLuks which early = absurd (elim which [ inl e ↦ cc | inr e ↦ cc ])
-fault_answered held Cut which early = absurd (elim which [ inl e ↦ cc | inr e ↦ cc ])
-fault_answered held Json which early = absurd (elim which [ inl e ↦ cc | inr e ↦ cc ])
+fault_answered held Read which stopped_below = tt
+fault_answered held Memory which stopped_below = stopped_below refl
+fault_answered held NotLuks which stopped_below = absurd (elim which [ inl e ↦ cc | inr e ↦ cc ])
+fault_answered held Cut which stopped_below = absurd (elim which [ inl e ↦ cc | inr e ↦ cc ])
+fault_answered held Json which stopped_below = absurd (elim which [ inl e ↦ cc | inr e ↦ cc ])
 
 -- what is behind the loaded bytes, whether the image's end was hit before or not
 pub holds_unloaded : (old new rest : List ℕ) (ended ended' : Bool) (left left' : Option (List ℕ)) (failed' : Bool)
@@ -139,10 +139,10 @@ holds_unloaded old new rest true ended' left left' failed' counts counts' grew i
 pub hits_end : (new : List ℕ) (ended ended' : Bool) (chosen : Option Header2) (answer : Result Header2 HeaderFault)
     → answer ≡ ok_or chosen NotLuks → FallsShort new ended ended' reach2_of → Reaches new ended' reach2_of
     → ended ≡ false → ended' ≡ hits_eof answer new
-hits_end new ended ended' chosen answer is over settled goes = by_answer chosen is where
+hits_end new ended ended' chosen answer is end_hit complete goes = by_answer chosen is where
   by_end : (b : Bool) → ended' ≡ b → b ≡ nat_lt (length new) (reach2_of new)
-  by_end true e = sym (lt-ltb (length new) (reach2_of new) (over new (front_self new ended') goes e))
-  by_end false e = sym (le-ltb (length new) (reach2_of new) (settled new (front_self new ended') e))
+  by_end true e = sym (lt-ltb (length new) (reach2_of new) (end_hit new (front_self new ended') goes e))
+  by_end false e = sym (le-ltb (length new) (reach2_of new) (complete new (front_self new ended') e))
 
   by_answer : (o : Option Header2) → answer ≡ ok_or o NotLuks → ended' ≡ hits_eof answer new
   by_answer (Some header) e = rw e (by_end ended' refl)

@@ -59,16 +59,16 @@ FallsShort held' ended ended' reach = OfEach held' ended' (λ image. ended ≡ f
 abbrev pub StaysBelow : List ℕ → Bool → (List ℕ → ℕ) → Type 0
 StaysBelow held ended reach = OfEach held ended (λ image. length held < reach image)
 
--- an image was loaded as far as it is to be read: no further (`within`), and no less (`settled`) unless its end was hit
--- before (`over`). If a read fails or memory runs out (`refusals`), its end was not hit (`going`), and memory runs out
--- only while more is to be read (`early`)
+-- an image was loaded as far as it is to be read: no further (`within`), and no less (`complete`) unless its end was
+-- hit before (`end_hit`). If a read fails or memory runs out (`refusals`), its end was not hit (`before_end`), and
+-- memory runs out only while more is to be read (`stopped_below`)
 pub record LoadedFor {T : Type 0} (reach : List ℕ → ℕ) (answer : Result T HeaderFault) (held held' : List ℕ)
     (ended ended' : Bool) : Type 0 where
   pub within : WithinReach held held' ended' reach
-  pub settled : OnOk answer (Reaches held' ended' reach)
-  pub over : OnOk answer (FallsShort held' ended ended' reach)
-  pub going : OnErr answer (ended' ≡ false)
-  pub early : IfErr answer (λ fault. fault ≡ Memory → StaysBelow held' ended' reach)
+  pub complete : OnOk answer (Reaches held' ended' reach)
+  pub end_hit : OnOk answer (FallsShort held' ended ended' reach)
+  pub before_end : OnErr answer (ended' ≡ false)
+  pub stopped_below : IfErr answer (λ fault. fault ≡ Memory → StaysBelow held' ended' reach)
   pub refusals : IfErr answer (λ fault. (fault ≡ Read) ⊎ (fault ≡ Memory))
 
 -- the rest of an image, as much of it as is read for the header, went behind what was loaded

@@ -24,12 +24,12 @@ use luks_io::source::Source;
 fn grow<S: Source>(area: &mut HeaderArea, source: &mut S, end: usize) -> Result<bool, HeaderFault>
     requires { end ≤ max_area_len }
     ensures whole { IfOk result (λ whole. IsTrue whole ↔ (end ≤ length area.new.bytes)) }
-    ensures settled { OnOk result (area.new.ended ≡ false → end ≤ length area.new.bytes) }
+    ensures complete { OnOk result (area.new.ended ≡ false → end ≤ length area.new.bytes) }
     ensures within { length area.new.bytes ≤ max (length area.old.bytes) end }
-    ensures over { OnOk result
+    ensures end_hit { OnOk result
         (area.old.ended ≡ false → area.new.ended ≡ true → length area.new.bytes < end) }
-    ensures going { OnErr result (area.new.ended ≡ false) }
-    ensures early { IfErr result (λ fault.
+    ensures before_end { OnErr result (area.new.ended ≡ false) }
+    ensures stopped_below { IfErr result (λ fault.
         fault ≡ HeaderFault.Memory → length area.new.bytes < end) }
     ensures grew { Extended area.old.bytes area.new.bytes area.old.ended area.new.ended
         (S.to_come source.old) (S.to_come source.new) (is_read result)

@@ -2,22 +2,22 @@ use Rattle.std.proofs.Common.{rules, ◌∙◌, ◌*◌, ap, sym, arith}
 use Rattle.std.proofs.lemmas.Result.{err_from_is_err_and}
 use Rattle.luks2_binary.specs.Choice2.{with_valid_primary}
 use Rattle.luks2_binary.specs.ReadLen2.{reach2_of, probe_end}
-use Rattle.luks2_binary.proofs.ChoiceLemmas.{beside_same, chosen_primary, found_chosen, found_early, found_over}
-use Rattle.luks2_binary.proofs.ChoiceLemmas.{found_settled, no_size_valid, primary_within, reach_first, reach_other}
-use Rattle.luks2_binary.proofs.ChoiceLemmas.{reach_primary, size_valid}
-use Rattle.luks2_binary.proofs.FrontLemmas.{grew_more, not_ended, over_joined}
+use Rattle.luks2_binary.proofs.ChoiceLemmas.{beside_same, chosen_primary, found_chosen, found_end_hit}
+use Rattle.luks2_binary.proofs.ChoiceLemmas.{found_complete, found_stopped_below, no_size_valid, primary_within, reach_first}
+use Rattle.luks2_binary.proofs.ChoiceLemmas.{reach_other, reach_primary, size_valid}
+use Rattle.luks2_binary.proofs.FrontLemmas.{grew_more, not_ended, end_hit_joined}
 use Rattle.luks2_binary.proofs.reading.choose.Goals as goal
 
 pub returns-in_err-size-clause-loads : goal.returns-in_err-size-clause-loads
 returns-in_err-size-clause-loads g c = record {
   within = λ image front.
       omega (arith, c.header_at.ensures.loads.within image front, reach_first image);
-  settled = search rules;
-  over = search rules;
-  going = search rules;
-  early = let p = err_from_is_err_and c.from_residual.result c.from_residual.ensures.1 in
+  complete = search rules;
+  end_hit = search rules;
+  before_end = search rules;
+  stopped_below = let p = err_from_is_err_and c.from_residual.result c.from_residual.ensures.1 in
       rw (p.1, p.2) (λ stops image front.
-      omega (arith, c.in_err-size.ensures.loads.early stops image front, reach_first image));
+      omega (arith, c.in_err-size.ensures.loads.stopped_below stops image front, reach_first image));
   refusals = search rules;
 }
 
@@ -40,29 +40,28 @@ returns-in_default-clause-loads g c = record {
         c.search.ensures.loads.within image front,
         reach_other image none,
       );
-  settled = let grew = c.search.ensures.grew in
-      found_settled c.search.new.area.bytes c.search.new.area.ended c.search.result
+  complete = let grew = c.search.ensures.grew in
+      found_complete c.search.new.area.bytes c.search.new.area.ended c.search.result
       (λ image front. no_size_valid image 0
       (sym c.in_default.is ∙ c.in_ok-size.ensures.valid image (grew.fronts image front)))
       (λ image front goes.
       omega (
         arith,
-        c.in_ok-size.ensures.loads.settled image (grew.fronts image front)
+        c.in_ok-size.ensures.loads.complete image (grew.fronts image front)
             (not_ended c.header_at.new.area.ended c.search.new.area.ended grew.stays goes),
         grew.longer,
       ))
-      c.search.ensures.loads.settled;
-  over = found_over c.header_at.new.area.bytes c.search.new.area.bytes c.args.area.now.ended c.header_at.new.area.ended
-      c.search.new.area.ended
-      c.search.result c.search.ensures.grew.fronts
+      c.search.ensures.loads.complete;
+  end_hit = found_end_hit c.header_at.new.area.bytes c.search.new.area.bytes c.args.area.now.ended
+      c.header_at.new.area.ended c.search.new.area.ended c.search.result c.search.ensures.grew.fronts
       (λ image front. no_size_valid image 0
       (sym c.in_default.is ∙ c.in_ok-size.ensures.valid image (c.search.ensures.grew.fronts image front)))
-      c.in_ok-size.ensures.loads.over c.search.ensures.loads.over;
-  going = search rules;
-  early = found_early c.search.new.area.bytes c.search.new.area.ended c.search.result
+      c.in_ok-size.ensures.loads.end_hit c.search.ensures.loads.end_hit;
+  before_end = search rules;
+  stopped_below = found_stopped_below c.search.new.area.bytes c.search.new.area.ended c.search.result
       (λ image front. no_size_valid image 0
       (sym c.in_default.is ∙ c.in_ok-size.ensures.valid image (c.search.ensures.grew.fronts image front)))
-      c.search.ensures.loads.early;
+      c.search.ensures.loads.stopped_below;
   refusals = search rules;
 }
 
@@ -74,14 +73,15 @@ returns-in_err-grow-clause-loads g c = record {
       primary_within image c.args.area.now.bytes c.header_at.new.area.bytes c.grow.new.area.bytes c.in-Some.size
       (sym c.in-Some.is ∙ c.in_ok-size.ensures.valid image first) (c.header_at.ensures.loads.within image first)
       c.grow.ensures.within;
-  settled = search rules;
-  over = search rules;
-  going = search rules;
-  early = let p = err_from_is_err_and c.from_residual-in_err-grow.result c.from_residual-in_err-grow.ensures.1 in
+  complete = search rules;
+  end_hit = search rules;
+  before_end = search rules;
+  stopped_below = let p = err_from_is_err_and c.from_residual-in_err-grow.result
+      c.from_residual-in_err-grow.ensures.1 in
       rw (p.1, p.2) (λ stops image front.
       let first = c.grow.ensures.grew.fronts image front in
       let is = size_valid image 0 c.in-Some.size (sym c.in-Some.is ∙ c.in_ok-size.ensures.valid image first) in
-      omega (arith, c.in_err-grow.ensures.early stops, reach_primary image is.0, is.1));
+      omega (arith, c.in_err-grow.ensures.stopped_below stops, reach_primary image is.0, is.1));
   refusals = search rules;
 }
 
@@ -92,7 +92,7 @@ returns-clause-chosen g c = λ image front.
     c.with_valid_primary.ensures
     ∙ ap with_valid_primary c.as_slice.ensures.value
     ∙ beside_same c.grow.new.area.bytes c.grow.new.area.ended image front is.0
-    (λ goes. omega (arith, c.in_ok-grow.ensures.settled goes, is.1))
+    (λ goes. omega (arith, c.in_ok-grow.ensures.complete goes, is.1))
     ∙ sym (chosen_primary image is.0)
 
 pub returns-clause-loads : goal.returns-clause-loads
@@ -102,21 +102,21 @@ returns-clause-loads g c = record {
       primary_within image c.args.area.now.bytes c.header_at.new.area.bytes c.grow.new.area.bytes c.in-Some.size
       (sym c.in-Some.is ∙ c.in_ok-size.ensures.valid image first) (c.header_at.ensures.loads.within image first)
       c.grow.ensures.within;
-  settled = λ image front goes.
+  complete = λ image front goes.
       let first = c.grow.ensures.grew.fronts image front in
       let is = size_valid image 0 c.in-Some.size (sym c.in-Some.is ∙ c.in_ok-size.ensures.valid image first) in
-      omega (arith, c.in_ok-grow.ensures.settled goes, reach_primary image is.0, is.1);
-  over = λ image front.
+      omega (arith, c.in_ok-grow.ensures.complete goes, reach_primary image is.0, is.1);
+  end_hit = λ image front.
       let first = c.grow.ensures.grew.fronts image front in
       let is = size_valid image 0 c.in-Some.size (sym c.in-Some.is ∙ c.in_ok-size.ensures.valid image first) in
-      over_joined image c.header_at.new.area.bytes c.grow.new.area.bytes c.args.area.now.ended
+      end_hit_joined image c.header_at.new.area.bytes c.grow.new.area.bytes c.args.area.now.ended
       c.header_at.new.area.ended
       c.grow.new.area.ended
       (probe_end image 0) (2 * c.in-Some.size) (reach2_of image) first front
-      (c.in_ok-size.ensures.loads.over image first) c.in_ok-grow.ensures.over (reach_first image)
+      (c.in_ok-size.ensures.loads.end_hit image first) c.in_ok-grow.ensures.end_hit (reach_first image)
       (omega (arith, reach_primary image is.0, is.1));
-  going = search rules;
-  early = search rules;
+  before_end = search rules;
+  stopped_below = search rules;
   refusals = search rules;
 }
 

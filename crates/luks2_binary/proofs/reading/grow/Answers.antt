@@ -5,8 +5,8 @@ use Rattle.luks_area.specs.Area.{HeaderAreaModel}
 use Rattle.luks2_binary.proofs.FrontLemmas.{ended_is, ended_short, gave_broken, grew_by, grew_none, not_grown}
 use Rattle.luks2_binary.proofs.reading.grow.Goals as goal
 
-pub returns-in_err-extend_to-clause-early : goal.returns-in_err-extend_to-clause-early
-returns-in_err-extend_to-clause-early g c =
+pub returns-in_err-extend_to-clause-stopped_below : goal.returns-in_err-extend_to-clause-stopped_below
+returns-in_err-extend_to-clause-stopped_below g c =
     let p = err_from_is_err_and c.from_residual.result c.from_residual.ensures.1 in
     let stopped = c.in_err-extend_to.ensures in
     rw (p.1, p.2) (λ stops.

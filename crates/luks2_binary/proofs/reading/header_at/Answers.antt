@@ -4,19 +4,19 @@ use Rattle.std.proofs.lemmas.Result.{err_from_is_err_and}
 use Rattle.luks2_binary.specs.ReadLen2.{probe_end}
 use Rattle.luks2_binary.proofs.AgreeLemmas.{fit_here, no_size, reach_fit, reach_least, reach_unfit, short-valid}
 use Rattle.luks2_binary.proofs.AgreeLemmas.{unfit_here, valid_here, whole_image}
-use Rattle.luks2_binary.proofs.FrontLemmas.{grew_more, over_joined}
+use Rattle.luks2_binary.proofs.FrontLemmas.{grew_more, end_hit_joined}
 use Rattle.luks2_binary.proofs.ValidLemmas.{short-fits, unfit-is_valid}
 use Rattle.luks2_binary.proofs.reading.header_at.Goals as goal
 
 pub returns-in_err-grow-clause-loads : goal.returns-in_err-grow-clause-loads
 returns-in_err-grow-clause-loads g c = record {
   within = λ image front. omega (arith, c.grow.ensures.within, reach_least image c.args.place);
-  settled = search rules;
-  over = search rules;
-  going = search rules;
-  early = let p = err_from_is_err_and c.from_residual.result c.from_residual.ensures.1 in
+  complete = search rules;
+  end_hit = search rules;
+  before_end = search rules;
+  stopped_below = let p = err_from_is_err_and c.from_residual.result c.from_residual.ensures.1 in
       rw (p.1, p.2) (λ stops image front.
-      omega (arith, c.in_err-grow.ensures.early stops, reach_least image c.args.place));
+      omega (arith, c.in_err-grow.ensures.stopped_below stops, reach_least image c.args.place));
   refusals = search rules;
 }
 
@@ -26,17 +26,18 @@ returns-then-not-branch-clause-valid g c =
     λ image front.
     let all = whole_image c.grow.new.area.bytes c.grow.new.area.ended image c.in_ok-grow.field-0 (c.args.place + 4096)
     front
-    c.in_ok-grow.ensures.whole c.in_ok-grow.ensures.settled c.if-not-branch.true in
+    c.in_ok-grow.ensures.whole c.in_ok-grow.ensures.complete c.if-not-branch.true in
     let short = short-fits image c.args.place (omega (arith, all.1, ap length all.0)) in
     no_size image c.args.place (unfit-is_valid image c.args.place short)
 
 pub returns-then-not-branch-clause-loads : goal.returns-then-not-branch-clause-loads
 returns-then-not-branch-clause-loads g c = record {
   within = λ image front. omega (arith, c.grow.ensures.within, reach_least image c.args.place);
-  settled = search rules;
-  over = λ image front goes found. omega (arith, c.in_ok-grow.ensures.over goes found, reach_least image c.args.place);
-  going = search rules;
-  early = search rules;
+  complete = search rules;
+  end_hit = λ image front goes found.
+      omega (arith, c.in_ok-grow.ensures.end_hit goes found, reach_least image c.args.place);
+  before_end = search rules;
+  stopped_below = search rules;
   refusals = search rules;
 }
 
@@ -51,15 +52,15 @@ returns-in_default-clause-valid g c =
 pub returns-in_default-clause-loads : goal.returns-in_default-clause-loads
 returns-in_default-clause-loads g c = record {
   within = λ image front. omega (arith, c.grow.ensures.within, reach_least image c.args.place);
-  settled = λ image front goes.
+  complete = λ image front goes.
       let there : c.args.place + 4096 ≤ length c.grow.new.area.bytes =
       c.in_ok-grow.ensures.whole.0 c.if-not-branch.false in
       let unfit = unfit_here c.grow.new.area.bytes c.grow.new.area.ended image c.as_slice.result.now c.args.place front
       c.as_slice.ensures.value there c.in_default.ensures.value in
       omega (arith, there, reach_unfit image c.args.place unfit);
-  over = search rules;
-  going = search rules;
-  early = search rules;
+  end_hit = search rules;
+  before_end = search rules;
+  stopped_below = search rules;
   refusals = search rules;
 }
 
@@ -71,16 +72,17 @@ returns-in_err-grow-2-clause-loads g c = record {
       (c.in_ok-grow.ensures.whole.0 c.if-not-branch.false) c.in-Some.size
       c.in-Some.ensures.value in
       omega (arith, c.grow.ensures.within, c.grow-2.ensures.within, reach_fit image c.args.place fit.0, fit.1);
-  settled = search rules;
-  over = search rules;
-  going = search rules;
-  early = let p = err_from_is_err_and c.from_residual-in_err-grow-2.result c.from_residual-in_err-grow-2.ensures.1 in
+  complete = search rules;
+  end_hit = search rules;
+  before_end = search rules;
+  stopped_below = let p = err_from_is_err_and c.from_residual-in_err-grow-2.result
+      c.from_residual-in_err-grow-2.ensures.1 in
       rw (p.1, p.2) (λ stops image front.
       let fit = fit_here c.grow.new.area.bytes c.grow.new.area.ended image c.as_slice.result.now c.args.place
       (c.grow-2.ensures.grew.fronts image front) c.as_slice.ensures.value
       (c.in_ok-grow.ensures.whole.0 c.if-not-branch.false) c.in-Some.size
       c.in-Some.ensures.value in
-      omega (arith, c.in_err-grow-2.ensures.early stops, reach_fit image c.args.place fit.0, fit.1));
+      omega (arith, c.in_err-grow-2.ensures.stopped_below stops, reach_fit image c.args.place fit.0, fit.1));
   refusals = search rules;
 }
 
@@ -94,7 +96,7 @@ returns-then-not-branch-2-clause-valid g c =
     c.in-Some.ensures.value in
     let all = whole_image c.grow-2.new.area.bytes c.grow-2.new.area.ended image c.in_ok-grow-2.field-0
     (c.args.place + c.in-Some.size) front
-    c.in_ok-grow-2.ensures.whole c.in_ok-grow-2.ensures.settled c.if-not-branch-2.true in
+    c.in_ok-grow-2.ensures.whole c.in_ok-grow-2.ensures.complete c.if-not-branch-2.true in
     no_size image c.args.place (short-valid image c.args.place fit.0 (omega (arith, all.1, ap length all.0, fit.1)))
 
 pub returns-then-not-branch-2-clause-loads : goal.returns-then-not-branch-2-clause-loads
@@ -105,20 +107,20 @@ returns-then-not-branch-2-clause-loads g c = record {
       (c.in_ok-grow.ensures.whole.0 c.if-not-branch.false) c.in-Some.size
       c.in-Some.ensures.value in
       omega (arith, c.grow.ensures.within, c.grow-2.ensures.within, reach_fit image c.args.place fit.0, fit.1);
-  settled = search rules;
-  over = λ image front.
+  complete = search rules;
+  end_hit = λ image front.
       let first = c.grow-2.ensures.grew.fronts image front in
       let fit = fit_here c.grow.new.area.bytes c.grow.new.area.ended image c.as_slice.result.now c.args.place
       first c.as_slice.ensures.value
       (c.in_ok-grow.ensures.whole.0 c.if-not-branch.false) c.in-Some.size
       c.in-Some.ensures.value in
-      over_joined image c.grow.new.area.bytes c.grow-2.new.area.bytes c.args.area.now.ended c.grow.new.area.ended
+      end_hit_joined image c.grow.new.area.bytes c.grow-2.new.area.bytes c.args.area.now.ended c.grow.new.area.ended
       c.grow-2.new.area.ended
       (c.args.place + 4096) (c.args.place + c.in-Some.size) (probe_end image c.args.place) first front
-      c.in_ok-grow.ensures.over c.in_ok-grow-2.ensures.over (reach_least image c.args.place)
+      c.in_ok-grow.ensures.end_hit c.in_ok-grow-2.ensures.end_hit (reach_least image c.args.place)
       (omega (arith, reach_fit image c.args.place fit.0, fit.1));
-  going = search rules;
-  early = search rules;
+  before_end = search rules;
+  stopped_below = search rules;
   refusals = search rules;
 }
 
@@ -145,7 +147,7 @@ returns-clause-loads g c = record {
       (c.in_ok-grow.ensures.whole.0 c.if-not-branch.false) c.in-Some.size
       c.in-Some.ensures.value in
       omega (arith, c.grow.ensures.within, c.grow-2.ensures.within, reach_fit image c.args.place fit.0, fit.1);
-  settled = λ image front goes.
+  complete = λ image front goes.
       let there : c.args.place + 4096 ≤ length c.grow.new.area.bytes =
       c.in_ok-grow.ensures.whole.0 c.if-not-branch.false in
       let fit = fit_here c.grow.new.area.bytes c.grow.new.area.ended image c.as_slice.result.now c.args.place
@@ -153,9 +155,9 @@ returns-clause-loads g c = record {
       c.in-Some.ensures.value in
       let whole = c.in_ok-grow-2.ensures.whole.0 c.if-not-branch-2.false in
       omega (arith, there, whole, c.grow-2.ensures.grew.longer, reach_fit image c.args.place fit.0, fit.1);
-  over = search rules;
-  going = search rules;
-  early = search rules;
+  end_hit = search rules;
+  before_end = search rules;
+  stopped_below = search rules;
   refusals = search rules;
 }
 

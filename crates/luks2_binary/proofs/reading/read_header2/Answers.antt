@@ -19,7 +19,7 @@ returns-in_err-header-clause-seeks g c =
     aborts_seeking old new rest c.choose.new.area.ended _ _ c.in_err-header.ensures.loads.refusals holds grew.longer
     (below_cost (old ++ rest) old new c.choose.new.area.ended holds.front c.requires.few
     (c.choose.ensures.loads.within (old ++ rest) holds.front))
-    (λ stops. c.in_err-header.ensures.loads.early stops (old ++ rest) holds.front))
+    (λ stops. c.in_err-header.ensures.loads.stopped_below stops (old ++ rest) holds.front))
 
 pub returns-in_err-header-clause-answered : goal.returns-in_err-header-clause-answered
 returns-in_err-header-clause-answered g c =
@@ -27,8 +27,8 @@ returns-in_err-header-clause-answered g c =
     let new = c.choose.new.area.bytes in
     rw (p.1, p.2)
     (fault_answered new c.in_err-header.field-0.0 c.in_err-header.ensures.loads.refusals (λ stops image front.
-    c.in_err-header.ensures.loads.early stops image
-    (subst (λ ended. IsPrefixOf new ended image) (sym c.in_err-header.ensures.loads.going) front)))
+    c.in_err-header.ensures.loads.stopped_below stops image
+    (subst (λ ended. IsPrefixOf new ended image) (sym c.in_err-header.ensures.loads.before_end) front)))
 
 -- all that has to be read is loaded
 pub returns-clause-seeks : goal.returns-clause-seeks
@@ -43,7 +43,7 @@ returns-clause-seeks g c rest knows =
     (consumed_read_len old new rest c.choose.new.area.ended _ holds grew.longer
     (cost_held (old ++ rest) old new c.choose.new.area.ended holds.front c.requires.few
     (c.choose.ensures.loads.within (old ++ rest) holds.front)
-    (c.in_ok-header.ensures.loads.settled (old ++ rest) holds.front)))
+    (c.in_ok-header.ensures.loads.complete (old ++ rest) holds.front)))
 
 pub returns-clause-answered : goal.returns-clause-answered
 returns-clause-answered g c =
@@ -53,13 +53,13 @@ returns-clause-answered g c =
     (answer_is new c.in_ok-header.header c.ok_or.result c.ok_or.ensures.value (c.in_ok-header.ensures.chosen new front))
     (cost_held new c.args.area.now.bytes new c.choose.new.area.ended front c.requires.few
     (c.choose.ensures.loads.within new front)
-    (c.in_ok-header.ensures.loads.settled new front))
+    (c.in_ok-header.ensures.loads.complete new front))
 
 pub returns-clause-ended : goal.returns-clause-ended
 returns-clause-ended g c =
     remembers_end _ c.args.area.now c.choose.new.area _ _ _ _ _ c.choose.ensures.grew
-    (hits_end _ _ _ _ _ c.ok_or.ensures.value c.in_ok-header.ensures.loads.over
-    c.in_ok-header.ensures.loads.settled)
+    (hits_end _ _ _ _ _ c.ok_or.ensures.value c.in_ok-header.ensures.loads.end_hit
+    c.in_ok-header.ensures.loads.complete)
 
 pub returns-in_err-header-clause-kept : goal.returns-in_err-header-clause-kept
 returns-in_err-header-clause-kept g c =

@@ -4,15 +4,15 @@ use Rattle.std.proofs.lemmas.Result.{err_from_is_err_and}
 use Rattle.luks2_binary.specs.Choice2.{found_at}
 use Rattle.luks2_binary.specs.Header2.{sizes}
 use Rattle.luks2_binary.proofs.FrontLemmas.{front_self, grew_more, grew_none}
-use Rattle.luks2_binary.proofs.SearchLemmas.{found_least, least_is, none_valid, over_here, place_range, reach_below}
+use Rattle.luks2_binary.proofs.SearchLemmas.{found_least, least_is, none_valid, end_hit_here, place_range, reach_below}
 use Rattle.luks2_binary.proofs.SearchLemmas.{search_reach_is, searched_all, searched_none, searched_on, searched_place}
-use Rattle.luks2_binary.proofs.SearchLemmas.{searched_settled, searched_within, some_valid}
+use Rattle.luks2_binary.proofs.SearchLemmas.{searched_complete, searched_within, some_valid}
 use Rattle.luks2_binary.proofs.reading.search.Goals as goal
 
 pub loop-place-init : goal.loop-place-init
 loop-place-init g c = record {
   searched = λ image front. searched_none image c.args.area.now.bytes c.args.area.now.ended;
-  over = λ image front goes found. absurd (cc);
+  end_hit = λ image front goes found. absurd (cc);
   grew = grew_none c.args.area.now.bytes c.args.area.now.ended _ _;
 }
 
@@ -32,10 +32,10 @@ returns-in_err-header_at-clause-loads g c = record {
       c.places-place-items.ensures c.loop-place-test.true
       (c.loop-place.invariant.searched image (grew.fronts image front)) grew.longer grew.stays
       (c.header_at.ensures.loads.within image front);
-  settled = search rules;
-  over = search rules;
-  going = search rules;
-  early = let p = err_from_is_err_and c.from_residual.result c.from_residual.ensures.1 in
+  complete = search rules;
+  end_hit = search rules;
+  before_end = search rules;
+  stopped_below = let p = err_from_is_err_and c.from_residual.result c.from_residual.ensures.1 in
       let grew = c.header_at.ensures.grew in
       rw (p.1, p.2) (λ is image front.
       let below = reach_below image c.args.area.now.bytes c.loop-place.area.bytes _ c.loop-place.area.ended _
@@ -43,7 +43,7 @@ returns-in_err-header_at-clause-loads g c = record {
       c.places-place-items.ensures c.loop-place-test.true
       (c.loop-place.invariant.searched image (grew.fronts image front)) grew.longer grew.stays
       (c.header_at.ensures.loads.within image front) in
-      omega (arith, below, c.in_err-header_at.ensures.loads.early is image front));
+      omega (arith, below, c.in_err-header_at.ensures.loads.stopped_below is image front));
   refusals = search rules;
 }
 
@@ -87,29 +87,29 @@ returns-then-is_some-clause-loads g c = record {
       c.places-place-items.ensures c.loop-place-test.true
       (c.loop-place.invariant.searched image (grew.fronts image front)) grew.longer grew.stays
       (c.header_at.ensures.loads.within image front);
-  settled = λ image front goes.
+  complete = λ image front goes.
       let place = get_or c.places-place-items.result.now c.loop-place.place-index 0 in
       let grew = c.header_at.ensures.grew in
-      searched_settled image c.args.area.now.bytes c.loop-place.area.bytes _ c.loop-place.area.ended _
+      searched_complete image c.args.area.now.bytes c.loop-place.area.bytes _ c.loop-place.area.ended _
       c.loop-place.place-index _
       c.places-place-items.ensures c.loop-place-test.true
       (c.loop-place.invariant.searched image (grew.fronts image front)) grew.longer grew.stays
       (c.header_at.ensures.loads.within image front)
       (some_valid image place c.in_ok-header_at.field-0 (c.in_ok-header_at.ensures.valid image front)
       (sym c.is_some.ensures ∙ c.if-is_some.true))
-      (c.in_ok-header_at.ensures.loads.settled image front) goes;
-  over = λ image front.
+      (c.in_ok-header_at.ensures.loads.complete image front) goes;
+  end_hit = λ image front.
       let grew = c.header_at.ensures.grew in
       let first = grew.fronts image front in
-      over_here image c.args.area.now.bytes c.loop-place.area.bytes _ c.loop-place.area.ended _
+      end_hit_here image c.args.area.now.bytes c.loop-place.area.bytes _ c.loop-place.area.ended _
       c.loop-place.place-index _
       c.places-place-items.ensures c.loop-place-test.true
       (c.loop-place.invariant.searched image first) grew.longer grew.stays
       (c.header_at.ensures.loads.within image front)
-      c.args.area.now.ended first front (c.loop-place.invariant.over image first)
-      (c.in_ok-header_at.ensures.loads.over image front);
-  going = search rules;
-  early = search rules;
+      c.args.area.now.ended first front (c.loop-place.invariant.end_hit image first)
+      (c.in_ok-header_at.ensures.loads.end_hit image front);
+  before_end = search rules;
+  stopped_below = search rules;
   refusals = search rules;
 }
 
@@ -126,17 +126,16 @@ loop-place-preserved g c = record {
       (c.header_at.ensures.loads.within image front)
       (none_valid image place c.in_ok-header_at.field-0 (c.in_ok-header_at.ensures.valid image front)
       (sym c.is_some.ensures ∙ c.if-is_some.false))
-      (c.in_ok-header_at.ensures.loads.settled image front);
-  over = λ image front.
+      (c.in_ok-header_at.ensures.loads.complete image front);
+  end_hit = λ image front.
       let grew = c.header_at.ensures.grew in
       let first = grew.fronts image front in
-      over_here image c.args.area.now.bytes c.loop-place.area.bytes _ c.loop-place.area.ended _ c.loop-place.place-index
-      _
-      c.places-place-items.ensures c.loop-place-test.true
+      end_hit_here image c.args.area.now.bytes c.loop-place.area.bytes _ c.loop-place.area.ended _
+      c.loop-place.place-index _ c.places-place-items.ensures c.loop-place-test.true
       (c.loop-place.invariant.searched image first) grew.longer grew.stays
       (c.header_at.ensures.loads.within image front)
-      c.args.area.now.ended first front (c.loop-place.invariant.over image first)
-      (c.in_ok-header_at.ensures.loads.over image front);
+      c.args.area.now.ended first front (c.loop-place.invariant.end_hit image first)
+      (c.in_ok-header_at.ensures.loads.end_hit image front);
   grew = grew_more _ _ _ _ _ _ _ _ _ _ _ _ _ c.loop-place.invariant.grew c.in_ok-header_at.ensures.grew;
 }
 
@@ -154,15 +153,15 @@ returns-clause-loads g c = record {
   within = λ image front.
       (let so_far = c.loop-place.invariant.searched image front in
       omega (arith, so_far.within, search_reach_is image));
-  settled = λ image front goes.
+  complete = λ image front goes.
       let so_far = c.loop-place.invariant.searched image front in
       let none = searched_all image c.args.area.now.bytes c.loop-place.area.bytes c.loop-place.area.ended
       c.loop-place.place-index so_far
       (omega (arith, c.loop-place-test.false, ap length c.places-place-items.ensures)) in
-      omega (arith, so_far.settled goes, none.1, search_reach_is image);
-  over = λ image front goes found. c.loop-place.invariant.over image front goes found;
-  going = search rules;
-  early = search rules;
+      omega (arith, so_far.complete goes, none.1, search_reach_is image);
+  end_hit = λ image front goes found. c.loop-place.invariant.end_hit image front goes found;
+  before_end = search rules;
+  stopped_below = search rules;
   refusals = search rules;
 }
 

@@ -9,7 +9,7 @@ abbrev pub invariant-loop-place : goal.invariant-loop-place
 invariant-loop-place g l = record {
   searched : OfEach l.area.bytes l.area.ended
       (λ image. Searched image l.fn.area.bytes l.area.bytes l.area.ended l.place-index);
-  over : FallsShort l.area.bytes l.fn.area.ended l.area.ended search_reach;
+  end_hit : FallsShort l.area.bytes l.fn.area.ended l.area.ended search_reach;
   grew : Extended l.fn.area.bytes l.area.bytes l.fn.area.ended l.area.ended (g.S.Source.to_come l.fn.source)
       (g.S.Source.to_come l.source)
       false (g.S.Source.counts l.fn.source) (g.S.Source.counts l.source);
