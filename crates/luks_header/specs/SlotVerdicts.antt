@@ -1,9 +1,10 @@
 -- The verdicts on the key slots of a header: whether each can be tried, and if not, why.
-use Rattle.std.specs.Prelude.{ℕ, Bool, false, List, Option, option_map}
+use Rattle.std.specs.Prelude.{ℕ, Bool, true, false, List, Option, Some, option_map}
 use Rattle.luks_verdict.specs.Rule.{max_slots}
 use Rattle.luks_verdict.specs.Table.{ascending}
 use Rattle.luks_verdict.specs.declared.slot.Slot.{Slot}
 use Rattle.luks_verdict.specs.declared.slot.Verdict.{Verdict}
+use Rattle.luks_verdict.specs.declared.slot.Verdict.TheVariants.{Usable}
 use Rattle.luks1_header.specs.Slot1.{slot1_at, verdict1_at}
 use Rattle.luks2_json.specs.Numbered.{has_key_out_of_range}
 use Rattle.luks2_metadata.specs.Slot2.{slot2_at, verdict2_at}
@@ -15,6 +16,11 @@ use Rattle.luks_header.specs.declared.header.Header.TheVariants.{V1, V2}
 unfoldable pub verdict_at : Header → Option ℕ → ℕ → Option Verdict
 verdict_at (V1 header) limit number = verdict1_at header limit number
 verdict_at (V2 header tree) limit number = verdict2_at tree (bounds2_of header) limit number
+
+-- a key slot with this verdict can be tried
+abbrev pub is_usable : Option Verdict → Bool
+is_usable (Some (Usable slot)) = true
+is_usable verdict = false
 
 -- what is needed to open the key slot of this number: in LUKS1 if it is there and its numbers are in range, whatever
 -- its state and its digest; in LUKS2 if it is there and there is no reason to skip it but a limit on iterations

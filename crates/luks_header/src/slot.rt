@@ -1,10 +1,10 @@
 //! Key slots and their verdicts.
 
-ghost use Rattle.std.specs.Prelude.{◌≡◌, ◌≤◌, IfOk, option_map, vec_len};
+ghost use Rattle.std.specs.Prelude.{◌≡◌, ◌≤◌, true, IfOk, OnErr, option_map, vec_len};
 ghost use Rattle.luks_verdict.specs.Rule.{max_slots};
 ghost use Rattle.luks_verdict.specs.Slot.{verdict_kind_of};
-ghost use Rattle.luks_header.specs.SlotVerdicts.{has_name_out_of_range, slot_at, verdict_at};
-ghost use Rattle.luks_header.specs.SlotVerdicts.{verdicts_of};
+ghost use Rattle.luks_header.specs.SlotVerdicts.{has_name_out_of_range, is_usable, slot_at};
+ghost use Rattle.luks_header.specs.SlotVerdicts.{verdict_at, verdicts_of};
 
 use crate::header::{Header, bounds};
 use luks_verdict::refusal::SkipReason;
@@ -46,14 +46,20 @@ pub fn slot(alloc: Global, header: &Header, number: u8) -> Result<Option<Slot>, 
     }
 }
 
-// The verdict on the key slot of this number.
-fn verdict(
+/// The verdict on the key slot of this number, if the header has one. A slot with more iterations
+/// than the limit is skipped.
+///
+/// # Errors
+///
+/// `AllocError` if the slot can be tried and memory runs out.
+pub fn verdict(
     alloc: Global,
     header: &Header,
     limit: Option<u32>,
     number: u8,
 ) -> Result<Option<Verdict>, AllocError>
-    ensures { IfOk result (λ verdict. verdict ≡ verdict_at header.now limit number) }
+    ensures value { IfOk result (λ verdict. verdict ≡ verdict_at header.now limit number) }
+    ensures err { OnErr result (is_usable (verdict_at header.now limit number) ≡ true) }
 {
     match verdict_kind(header, limit, number) {
         None => Ok(None),

@@ -1,6 +1,6 @@
 -- What holds of the key slots that are tried, and where the last of their key material ends.
 use Rattle.std.proofs.Common.{◌≡◌, ◌∙◌, ℕ, ◌+◌, ◌==◌, ◌<◌, ◌≤◌, max, Bool, true, false, List, [], ◌∷◌, length, drop}
-use Rattle.std.proofs.Common.{get_or, Option, Some, None, Result, Ok, IsOk, IsSome, refl, sym, ap, subst, arith}
+use Rattle.std.proofs.Common.{get_or, Option, Some, None, Ok, IsOk, IsSome, refl, sym, ap, subst, arith}
 use Rattle.std.specs.Prelude.{if◌then◌else◌, option_map}
 use Rattle.std.specs.List.{AllByRecursion}
 use Rattle.std.proofs.lemmas.Bool.{eq-eqb}
@@ -19,72 +19,69 @@ use Rattle.luks_verdict.specs.declared.slot.VerdictKind.TheVariants.{Usable as O
 use Rattle.luks_verdict.proofs.VerdictLemmas.{usable_from_open}
 use Rattle.luks_verdict.proofs.TableLemmas.{AllByRecursion-append, All-ascending}
 use Rattle.luks_header.specs.HeaderDigests.{digest_for}
-use Rattle.luks_header.specs.SlotVerdicts.{slot_at, verdict_at}
+use Rattle.luks_header.specs.SlotVerdicts.{verdict_at}
 use Rattle.luks_header.specs.declared.header.Header.{Header}
-use Rattle.luks_header.proofs.KnownLemmas.{digest_of_usable, slot_of_usable}
-use Rattle.luks_open.specs.Order.{IsOrMemory, OrderModel, entry_at, entry_of, key_areas_end, order_of, skipped_at}
-use Rattle.luks_open.specs.Order.{order_alone, order_of_all, order_of_named, unless_none, usable_at, where_usable}
+use Rattle.luks_header.proofs.KnownLemmas.{digest_of_usable}
+use Rattle.luks_open.specs.Order.{OrderModel, entries_of, entry_at, entry_of, key_areas_end, order_of, skipped_at}
+use Rattle.luks_open.specs.Order.{order_of_all, order_of_named, unless_none, usable_at, where_usable}
 use Rattle.luks_open.specs.declared.entry.Entry.{Entry}
-use Rattle.luks_open.specs.declared.fault.OpenFault.{OpenFault}
 
 -- what is tried of a key slot is of this header: it can be tried, and this is its digest
 pub record IsOf (header : Header) (limit : Option ℕ) (entry : Entry) : Type 0 where
   pub usable : verdict_at header limit entry.number ≡ Some (Usable entry.slot)
   pub digest : digest_for header entry.number ≡ Some entry.digest
 
--- what it is made of
-entry_of-some : (number : ℕ) (slot : Option Slot) (digest : Option KeyDigest) (entry : Entry)
-    → entry_of number slot digest ≡ Some entry
-    → (entry.number ≡ number) × (slot ≡ Some entry.slot) × (digest ≡ Some entry.digest)
-entry_of-some number (Some slot) (Some digest) entry is =
+-- an entry is made of a verdict and a digest
+entry_of-some : (number : ℕ) (verdict : Option Verdict) (digest : Option KeyDigest) (entry : Entry)
+    → entry_of number verdict digest ≡ Some entry
+    → (entry.number ≡ number) × (verdict ≡ Some (Usable entry.slot)) × (digest ≡ Some entry.digest)
+entry_of-some number (Some (Usable slot)) (Some digest) entry is =
     let same : entry ≡ record { number = number; slot = slot; digest = digest } = same_Some _ _ (sym is) in (
       ap (λ (e : Entry). e.number) same,
-      sym (ap (λ (e : Entry). Some e.slot) same),
+      sym (ap (λ (e : Entry). Some (Usable e.slot)) same),
       sym (ap (λ (e : Entry). Some e.digest) same),
     )
-entry_of-some number (Some slot) None entry is = absurd cc
+entry_of-some number (Some (Usable slot)) None entry is = absurd cc
+entry_of-some number (Some Disabled) digest entry is = absurd cc
+entry_of-some number (Some (Skipped reason)) digest entry is = absurd cc
 entry_of-some number None digest entry is = absurd cc
 
--- of a key slot that can be tried
-usable_entry : (header : Header) (limit : Option ℕ) (number : ℕ) (slot : Slot) (entry : Entry)
-    → verdict_at header limit number ≡ Some (Usable slot)
-    → entry_at header number ≡ Some entry → IsOf header limit entry
+-- those of the header
+entry_at-some : (header : Header) (limit : Option ℕ) (number : ℕ) (entry : Entry)
+    → entry_at header limit number ≡ Some entry → IsOf header limit entry
 unfolding entry_at
-usable_entry header limit number slot entry usable is =
-    let made = entry_of-some number (slot_at header number) (digest_for header number) entry is in
-    let same : slot ≡ entry.slot = same_Some _ _ (sym (slot_of_usable header limit number slot usable) ∙ made.1) in
+entry_at-some header limit number entry is =
+    let made = entry_of-some number (verdict_at header limit number) (digest_for header number) entry is in
     record {
-      usable = ap (verdict_at header limit) made.0 ∙ (usable ∙ ap (λ (s : Slot). Some (Usable s)) same);
+      usable = ap (verdict_at header limit) made.0 ∙ made.1;
       digest = ap (digest_for header) made.0 ∙ made.2;
     }
 
--- there is what it takes to open it, and a digest
+-- a key slot that can be tried has an entry
 pub entry_there : (header : Header) (limit : Option ℕ) (number : ℕ) (slot : Slot)
     → verdict_at header limit number ≡ Some (Usable slot)
-    → (entry : Entry) × (entry_at header number ≡ Some entry)
+    → (entry : Entry) × (entry_at header limit number ≡ Some entry)
 unfolding entry_at
 entry_there header limit number slot usable =
-    let its_slot = slot_of_usable header limit number slot usable in
     let its_digest = digest_of_usable header limit number slot usable in
-    (record { number = number; slot = slot; digest = its_digest.0 }, rw (its_slot, its_digest.1) refl)
+    (record { number = number; slot = slot; digest = its_digest.0 }, rw (usable, its_digest.1) refl)
 
 -- of one that can be tried and has a priority
 usable_at-some : (header : Header) (limit : Option ℕ) (priority number : ℕ) (entry : Entry)
     → usable_at header limit priority number ≡ Some entry → IsOf header limit entry
-usable_at-some header limit priority number entry is = of_verdict (verdict_at header limit number) refl is
+usable_at-some header limit priority number entry is = of_verdict (verdict_at header limit number) is
   where
-    of_test : (slot : Slot) → verdict_at header limit number ≡ Some (Usable slot) → (test : Bool)
-        → (if test then entry_at header number else None) ≡ Some entry → IsOf header limit entry
-    of_test slot v true h = usable_entry header limit number slot entry v h
-    of_test slot v false h = absurd cc
-
-    of_verdict : (verdict : Option Verdict) → verdict_at header limit number ≡ verdict
-        → where_usable priority (entry_at header number) verdict ≡ Some entry
+    of_test : (test : Bool) → (if test then entry_at header limit number else None) ≡ Some entry
         → IsOf header limit entry
-    of_verdict None v h = absurd cc
-    of_verdict (Some Disabled) v h = absurd cc
-    of_verdict (Some (Skipped reason)) v h = absurd cc
-    of_verdict (Some (Usable slot)) v h = of_test slot v (slot.parts.priority == priority) h
+    of_test true h = entry_at-some header limit number entry h
+    of_test false h = absurd cc
+
+    of_verdict : (verdict : Option Verdict) → where_usable priority (entry_at header limit number) verdict ≡ Some entry
+        → IsOf header limit entry
+    of_verdict None h = absurd cc
+    of_verdict (Some Disabled) h = absurd cc
+    of_verdict (Some (Skipped reason)) h = absurd cc
+    of_verdict (Some (Usable slot)) h = of_test (slot.parts.priority == priority) h
 
 -- what is tried where no key slot is named
 order-unless_none : (entries : List Entry) (skipped : List (ℕ × SkipReason)) (order : OrderModel)
@@ -104,24 +101,23 @@ All-order header None limit order is =
     (AllByRecursion-append (IsOf header limit) _ _
     (All-ascending (IsOf header limit) (usable_at header limit 2) max_slots (usable_at-some header limit 2))
     (All-ascending (IsOf header limit) (usable_at header limit 1) max_slots (usable_at-some header limit 1)))
-All-order header (Some number) limit order is = of_verdict (verdict_at header limit number) refl is
+All-order header (Some number) limit order is = of_verdict (verdict_at header limit number) is
   where
-    of_entry : (slot : Slot) → verdict_at header limit number ≡ Some (Usable slot) → (entry : Option Entry)
-        → entry_at header number ≡ entry
-        → order_alone entry ≡ Ok order → AllByRecursion (IsOf header limit) order.slots
-    of_entry slot v None e h = absurd cc
-    of_entry slot v (Some entry) e h =
-        let same : record { slots = entry ∷ []; skipped = [] } ≡ order = cc in
-        subst (λ (t : OrderModel). AllByRecursion (IsOf header limit) t.slots) same
-        (usable_entry header limit number slot entry v e, tt)
+    of_entry : (entry : Option Entry) → entry_at header limit number ≡ entry
+        → AllByRecursion (IsOf header limit) (entries_of entry)
+    of_entry None e = tt
+    of_entry (Some entry) e = (entry_at-some header limit number entry e, tt)
 
-    of_verdict : (verdict : Option Verdict) → verdict_at header limit number ≡ verdict
-        → order_of_named (entry_at header number) verdict ≡ Ok order
+    of_verdict : (verdict : Option Verdict) → order_of_named (entry_at header limit number) verdict ≡ Ok order
         → AllByRecursion (IsOf header limit) order.slots
-    of_verdict None v h = absurd cc
-    of_verdict (Some Disabled) v h = absurd cc
-    of_verdict (Some (Skipped reason)) v h = absurd cc
-    of_verdict (Some (Usable slot)) v h = of_entry slot v (entry_at header number) refl h
+    of_verdict None h = absurd cc
+    of_verdict (Some Disabled) h = absurd cc
+    of_verdict (Some (Skipped reason)) h = absurd cc
+    of_verdict (Some (Usable slot)) h =
+        let alone : OrderModel = record { slots = entries_of (entry_at header limit number); skipped = [] } in
+        let same : alone ≡ order = cc in
+        subst (λ (t : OrderModel). AllByRecursion (IsOf header limit) t.slots) same
+        (of_entry (entry_at header limit number) refl)
 
 -- ---- where there is something to try
 
@@ -140,30 +136,11 @@ usable_there header limit priority number is =
     let there = entry_there header limit number usable.0 usable.1 in
     rw (usable.1, eq-eqb usable.0.parts.priority priority usable.2, there.1) refl
 
--- where the one that is named can be tried, it is
-pub named_tried : (header : Header) (limit : Option ℕ) (number : ℕ) (slot : Slot)
-    → verdict_at header limit number ≡ Some (Usable slot)
-    → IsOk (order_of_named (entry_at header number) (verdict_at header limit number))
-named_tried header limit number slot usable =
-    let there = entry_there header limit number slot usable in
-    rw (usable, there.1) refl
-
--- the one that is named is judged one that can be tried
-pub named_open : (header : Header) (limit : Option ℕ) (priority number : ℕ)
-    → option_map verdict_kind_of (verdict_at header limit number) ≡ Some (Open priority)
-    → IsOk (order_of_named (entry_at header number) (verdict_at header limit number))
-named_open header limit priority number is =
-    let usable = usable_from_open (verdict_at header limit number) priority is in
-    named_tried header limit number usable.0 usable.1
-
--- and it alone is tried
+-- a key slot that is named and judged one that can be tried is tried alone
 pub named_alone : (entry : Option Entry) (verdict : Option Verdict) (priority : ℕ)
-    (answer : Result OrderModel OpenFault)
     → option_map verdict_kind_of verdict ≡ Some (Open priority)
-    → IsOrMemory (order_alone entry) answer → IsOrMemory (order_of_named entry verdict) answer
-named_alone entry verdict priority answer is alone =
-    let usable = usable_from_open verdict priority is in
-    rw usable.1 alone
+    → order_of_named entry verdict ≡ Ok record { slots = entries_of entry; skipped = [] }
+named_alone entry verdict priority is = rw (usable_from_open verdict priority is).1 refl
 
 -- ---- where the last of the key material ends
 

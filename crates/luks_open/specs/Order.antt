@@ -6,12 +6,10 @@ use Rattle.luks_verdict.specs.Slot.{material_end}
 use Rattle.luks_verdict.specs.Table.{ascending}
 use Rattle.luks_verdict.specs.declared.digest.KeyDigest.{KeyDigest}
 use Rattle.luks_verdict.specs.declared.refusal.SkipReason.{SkipReason}
-use Rattle.luks_verdict.specs.declared.refusal.SkipReason.TheVariants.{Digest}
-use Rattle.luks_verdict.specs.declared.slot.Slot.{Slot}
 use Rattle.luks_verdict.specs.declared.slot.Verdict.{Verdict}
 use Rattle.luks_verdict.specs.declared.slot.Verdict.TheVariants.{Usable, Skipped, Disabled as Unused}
 use Rattle.luks_header.specs.HeaderDigests.{digest_for}
-use Rattle.luks_header.specs.SlotVerdicts.{slot_at, verdict_at}
+use Rattle.luks_header.specs.SlotVerdicts.{verdict_at}
 use Rattle.luks_header.specs.declared.header.Header.{Header}
 use Rattle.luks_open.specs.declared.entry.Entry.{Entry}
 use Rattle.luks_open.specs.declared.fault.OpenFault.{OpenFault}
@@ -25,17 +23,16 @@ pub record OrderModel : Type 0 where
   -- the key slots that were skipped, by ascending number; empty if a key slot was named
   pub skipped : List (ℕ × SkipReason)
 
--- the entry of a key slot, if there is a digest
-abbrev pub entry_of : ℕ → Option Slot → Option KeyDigest → Option Entry
-entry_of number (Some slot) (Some digest) = Some record { number = number; slot = slot; digest = digest }
-entry_of number (Some slot) None = None
-entry_of number None digest = None
+-- the entry of a key slot with this verdict, if it can be tried. (There is a digest then.)
+abbrev pub entry_of : ℕ → Option Verdict → Option KeyDigest → Option Entry
+entry_of number (Some (Usable slot)) (Some digest) = Some record { number = number; slot = slot; digest = digest }
+entry_of number verdict digest = None
 
--- what is tried of the key slot of this number
-unfoldable pub entry_at : Header → ℕ → Option Entry
-entry_at header number = entry_of number (slot_at header number) (digest_for header number)
+-- the entry of the key slot of this number, if it can be tried
+unfoldable pub entry_at : Header → Option ℕ → ℕ → Option Entry
+entry_at header limit number = entry_of number (verdict_at header limit number) (digest_for header number)
 
--- that entry, if the key slot can be tried and has this priority
+-- that entry, if the key slot has this priority
 abbrev pub where_usable : ℕ → Option Entry → Option Verdict → Option Entry
 where_usable priority entry (Some (Usable slot)) = if slot.parts.priority == priority then entry else None
 where_usable priority entry (Some Unused) = None
@@ -43,7 +40,9 @@ where_usable priority entry (Some (Skipped reason)) = None
 where_usable priority entry None = None
 
 abbrev pub usable_at : Header → Option ℕ → ℕ → ℕ → Option Entry
-usable_at header limit priority number = where_usable priority (entry_at header number) (verdict_at header limit number)
+usable_at header limit priority number =
+    where_usable priority (entry_at header limit number)
+    (verdict_at header limit number)
 
 -- a key slot that is skipped, and why
 abbrev pub where_skipped : ℕ → Option Verdict → Option (ℕ × SkipReason)
@@ -66,22 +65,22 @@ order_of_all header limit =
     unless_none (ascending (usable_at header limit 2) max_slots ++ ascending (usable_at header limit 1) max_slots)
     (ascending (skipped_at header limit) max_slots)
 
--- it is tried alone. (If it can be tried, there are a slot and a digest.)
-abbrev pub order_alone : Option Entry → Result OrderModel OpenFault
-order_alone (Some entry) = Ok record { slots = entry ∷ []; skipped = [] }
-order_alone None = Err (NamedSkipped Digest)
+-- this entry alone
+abbrev pub entries_of : Option Entry → List Entry
+entries_of (Some entry) = entry ∷ []
+entries_of None = []
 
 -- a key slot is named, of which this became: it alone is tried, whatever its priority
 abbrev pub order_of_named : Option Entry → Option Verdict → Result OrderModel OpenFault
 order_of_named entry None = Err NoSuchSlot
-order_of_named entry (Some (Usable slot)) = order_alone entry
+order_of_named entry (Some (Usable slot)) = Ok record { slots = entries_of entry; skipped = [] }
 order_of_named entry (Some Unused) = Err Disabled
 order_of_named entry (Some (Skipped reason)) = Err (NamedSkipped reason)
 
 -- what is tried of a header's key slots, by the key slot that is named and the limit on iterations, or why nothing is
 unfoldable pub order_of : Header → Option ℕ → Option ℕ → Result OrderModel OpenFault
 order_of header None limit = order_of_all header limit
-order_of header (Some named) limit = order_of_named (entry_at header named) (verdict_at header limit named)
+order_of header (Some named) limit = order_of_named (entry_at header limit named) (verdict_at header limit named)
 
 -- an answer is the specified one, or memory ran out
 abbrev pub IsOrMemory : {T : Type 0} → Result T OpenFault → Result T OpenFault → Type 0

@@ -5,7 +5,7 @@ ghost use Rattle.luks_open.specs.Order.{entry_at};
 
 use luks_header::digest::{KeyDigest, digest_for};
 use luks_header::header::Header;
-use luks_header::slot::{Slot, slot};
+use luks_header::slot::{Slot, Verdict, verdict};
 use std::alloc::{AllocError, Global};
 
 /// A key slot that is tried, and the digest that it is opened against.
@@ -19,17 +19,18 @@ pub struct Entry {
     pub digest: KeyDigest,
 }
 
-/// The entry of the key slot of this number, if the header has what is needed to open it, and a
-/// digest.
+/// The entry of the key slot of this number, if it can be tried. A slot with more iterations than
+/// the limit cannot.
 #[tactic(auto, unfolding(crate::specs::Order::entry_at))]
 pub(crate) fn entry_at(
     alloc: Global,
     header: &Header,
+    limit: Option<u32>,
     number: u8,
 ) -> Result<Option<Entry>, AllocError>
-    ensures { IfOk result (λ entry. entry ≡ entry_at header.now number) }
+    ensures { IfOk result (λ entry. entry ≡ entry_at header.now limit number) }
 {
-    let Some(slot) = slot(alloc, header, number)? else {
+    let Some(Verdict::Usable(slot)) = verdict(alloc, header, limit, number)? else {
         return Ok(None);
     };
     let Some(digest) = digest_for(alloc, header, number)? else {

@@ -4,7 +4,7 @@ ghost use Rattle.std.specs.Prelude.{◌≡◌, ◌++◌, Err, IfOk, IsOk, IsSome
 ghost use Rattle.std.specs.Prelude.{[], ◌∷◌, ◌≤◌, length};
 ghost use Rattle.luks_verdict.specs.Rule.{max_slots};
 ghost use Rattle.luks_verdict.specs.Table.{ascending};
-ghost use Rattle.luks_open.specs.Order.{IsOrMemory, order_of, skipped_at, entry_at, order_alone};
+ghost use Rattle.luks_open.specs.Order.{IsOrMemory, order_of, skipped_at, entries_of, entry_at};
 ghost use Rattle.luks_open.specs.Order.{order_of_all, order_of_named, usable_at};
 ghost use Rattle.luks_header.specs.SlotVerdicts.{verdict_at};
 
@@ -30,7 +30,9 @@ fn usable(
     ensures err { OnErr result (IsSome (usable_at header.now limit priority number)) }
 {
     match verdict_kind(header, limit, number) {
-        Some(VerdictKind::Usable(its)) if its == priority => entry_at(alloc, header, number),
+        Some(VerdictKind::Usable(its)) if its == priority => {
+            entry_at(alloc, header, limit, number)
+        }
         _ => Ok(None),
     }
 }
@@ -96,21 +98,29 @@ fn order_all(alloc: Global, header: &Header, limit: Option<u32>) -> Result<Order
 }
 
 // One key slot alone.
-fn order_one(alloc: Global, entry: Entry) -> Result<Order, AllocError>
-    ensures { IfOk result (λ order. order ≡ record { slots = entry ∷ []; skipped = [] }) }
+fn order_alone(alloc: Global, entry: Option<Entry>) -> Result<Order, AllocError>
+    ensures { IfOk result (λ order. order
+        ≡ record { slots = entries_of entry; skipped = [] }) }
 {
-    let entries = vec![in alloc; entry]?;
+    let entries = match entry {
+        Some(entry) => vec![in alloc; entry]?,
+        None => Vec::new(alloc),
+    };
     Ok(Order::new(entries, SkippedSlots::new()))
 }
 
 // A key slot that can be tried is named.
-fn order_usable(alloc: Global, header: &Header, named: u8) -> Result<Order, OpenFault>
-    ensures answer { IsOrMemory (order_alone (entry_at header.now named)) result }
+fn order_usable(
+    alloc: Global,
+    header: &Header,
+    limit: Option<u32>,
+    named: u8,
+) -> Result<Order, AllocError>
+    ensures { IfOk result (λ order. order
+        ≡ record { slots = entries_of (entry_at header.now limit named); skipped = [] }) }
 {
-    match entry_at(alloc, header, named)? {
-        Some(entry) => Ok(order_one(alloc, entry)?),
-        None => Err(OpenFault::NamedSkipped(SkipReason::Digest)),
-    }
+    let entry = entry_at(alloc, header, limit, named)?;
+    order_alone(alloc, entry)
 }
 
 // A key slot is named.
@@ -121,15 +131,17 @@ fn order_named(
     named: u8,
 ) -> Result<Order, OpenFault>
     ensures answer { IsOrMemory
-        (order_of_named (entry_at header.now named) (verdict_at header.now limit named)) result }
+        (order_of_named (entry_at header.now limit named) (verdict_at header.now limit named))
+        result }
     ensures memory { result ≡ Err OpenFault.Memory
-        → IsOk (order_of_named (entry_at header.now named) (verdict_at header.now limit named)) }
+        → IsOk (order_of_named (entry_at header.now limit named)
+        (verdict_at header.now limit named)) }
 {
     match verdict_kind(header, limit, named) {
         None => Err(OpenFault::NoSuchSlot),
         Some(VerdictKind::Disabled) => Err(OpenFault::Disabled),
         Some(VerdictKind::Skipped(reason)) => Err(OpenFault::NamedSkipped(reason)),
-        Some(VerdictKind::Usable(_)) => order_usable(alloc, header, named),
+        Some(VerdictKind::Usable(_)) => Ok(order_usable(alloc, header, limit, named)?),
     }
 }
 

@@ -3,7 +3,7 @@ use Rattle.std.proofs.Common.{◌≡◌, ◌∙◌, ℕ, ◌≤◌, List, [], �
 use Rattle.std.proofs.Common.{subst, arith}
 use Rattle.std.specs.List.{AllByRecursion, Contains}
 use Rattle.std.proofs.lemmas.List.Elements.{All-nil, recursion_from_All}
-use Rattle.luks_header.proofs.KnownLemmas.{is_attached, slot_of_usable}
+use Rattle.luks_header.proofs.KnownLemmas.{is_attached}
 use Rattle.luks_open.specs.Opening.{answer_of, first_opening, slot_key, opening_of}
 use Rattle.luks_open.specs.Order.{entry_at, key_areas_end, order_of}
 use Rattle.luks_open.specs.declared.entry.Entry.{Entry}
@@ -14,7 +14,7 @@ use Rattle.luks_seal.specs.Sealed.{Sealed, SealsKey}
 use Rattle.luks_request.specs.Request.{VolumeRequest}
 use Rattle.luks_report.specs.Faults.{message_at_end}
 use Rattle.luks_report.specs.declared.message.Message.TheVariants.{Done}
-use Rattle.luks_runs.specs.Ending.{Outcome}
+use Rattle.luks_runs.specs.RunOutcome.{Outcome}
 use Rattle.luks_unlock.specs.Honest.{GivesNoOther, IsHonest}
 use Rattle.luks_unlock.specs.Volume.{Volume, found_outcome, loaded_for, opened_outcome, payload_outcome, volume_by}
 use Rattle.luks_unlock.specs.Volume.{volume_outcome, volume_outcome_by}
@@ -111,7 +111,6 @@ unfolding order_of entry_at
 named_is_honest o image passphrase plain key passphrases number sealed is short named unlimited =
     let seals = sealed_with image key plain passphrase passphrases number sealed is in
     let tried : Entry = record { number = number; slot = seals.slot; digest = seals.digest } in
-    let its_slot = slot_of_usable sealed.header None number seals.slot seals.usable in
     record {
       passphrases = passphrases;
       key = key;
@@ -120,7 +119,7 @@ named_is_honest o image passphrase plain key passphrases number sealed is short 
       is_passphrase = is;
       short = short;
       order = record { slots = tried ∷ []; skipped = [] };
-      is_order = rw (named, unlimited, seals.usable, its_slot, seals.is_digest) refl;
+      is_order = rw (named, unlimited, seals.usable, seals.is_digest) refl;
       first = record {
         before = [];
         entry = tried;

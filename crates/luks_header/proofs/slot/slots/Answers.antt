@@ -23,13 +23,13 @@ loop-number-preserved c =
     let before = c.loop-number.invariant in
     elim c.match-branch-2.branch [
       | in-Some+in_ok-push w ↦
-          (let one : f n ≡ Some (n, w.in-Some.verdict) = ap (beside n) (sym c.in_ok-verdict.ensures ∙ w.in-Some.is) in
+          (let one : f n ≡ Some (n, w.in-Some.verdict) = ap (beside n) (sym c.in_ok-verdict.ensures.value ∙ w.in-Some.is) in
           rw w.verdicts-is
           (w.in_ok-push.ensures.items
           ∙ (ap (λ (l : List (ℕ × Verdict)). l ++ (n, w.in-Some.verdict) ∷ []) before
           ∙ sym (ascending_one f n (n, w.in-Some.verdict) one))))
       | in_default w ↦
-          (let none : f n ≡ None = ap (beside n) (sym c.in_ok-verdict.ensures ∙ w.in_default.is) in
+          (let none : f n ≡ None = ap (beside n) (sym c.in_ok-verdict.ensures.value ∙ w.in_default.is) in
           rw w.verdicts-is (before ∙ sym (ascending_not f n none)))
     ]
 

@@ -15,8 +15,8 @@ unreachable-requires c =
     let none : c.in_ok-slot-in-Some-Usable.field-0 ≡ None = c.in-None-2.is in
     cc
 
-pub returns-in-Some : goal.returns-in-Some
-returns-in-Some c =
+pub returns-in-Some-clause-value : goal.returns-in-Some-clause-value
+returns-in-Some-clause-value c =
     let verdict_is = sym c.verdict_kind.ensures ∙ (c.in-Some-Usable.is ∙ ap Some c.in-Some-Usable.field-0-is) in
     let usable = usable_from_open (verdict_at c.args.header.now c.args.limit c.args.number) _ verdict_is in
     let there : slot_at c.args.header.now c.args.number ≡ Some usable.0 =
