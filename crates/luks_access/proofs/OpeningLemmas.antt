@@ -14,7 +14,7 @@ use Rattle.luks_report.specs.declared.message.Message.{Message}
 use Rattle.luks_report.specs.declared.message.Message.TheVariants.{Done, KeyFileLength, OutOfMemory, ReadFailed}
 use Rattle.luks_report.specs.declared.message.Message.TheVariants.{WriteFailed}
 use Rattle.luks_request.specs.Request.{VolumeRequest}
-use Rattle.luks_runs.specs.Ending.{Outcome, no_output}
+use Rattle.luks_runs.specs.RunOutcome.{Outcome, no_output}
 use Rattle.luks_runs.specs.HeaderReading.{HeaderReader}
 use Rattle.luks_runs.specs.Run.{aborts}
 use Rattle.luks_runs.specs.KeyFile.{max_key_file_len}

@@ -4,7 +4,7 @@ use Rattle.luks_cipher.specs.Sector.{Cipher}
 use Rattle.luks_report.specs.Faults.{message_at_end}
 use Rattle.luks_report.specs.declared.message.Message.{Message}
 use Rattle.luks_request.specs.Request.{VolumeRequest}
-use Rattle.luks_runs.specs.Ending.{Outcome, no_output}
+use Rattle.luks_runs.specs.RunOutcome.{Outcome, no_output}
 use Rattle.luks_runs.specs.Run.{aborts}
 use Rattle.luks_runs.specs.HeaderReading.{detached_header_of}
 use Rattle.luks_runs.specs.Location.{reader_for}

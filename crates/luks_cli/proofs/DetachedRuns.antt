@@ -25,7 +25,7 @@ use Rattle.luks_report.specs.declared.message.Message.TheVariants.{Short, OutOfM
 use Rattle.luks_runs.proofs.PayloadLemmas.{plain_len}
 use Rattle.luks_cli.proofs.PromptLemmas.{no_sectors_before, same_segment_by}
 use Rattle.luks_cli.specs.Detached.{EndsWithoutKey}
-use Rattle.luks_runs.specs.Ending.{Outcome, no_output}
+use Rattle.luks_runs.specs.RunOutcome.{Outcome, no_output}
 use Rattle.luks_runs.specs.HeaderOutcome.{is_luks_outcome, print_outcome_by}
 use Rattle.luks_unlock.specs.OpeningMessages.{OpeningMessage}
 use Rattle.luks_runs.specs.RunMessages.{PayloadMessage}

@@ -13,7 +13,7 @@ use Rattle.luks_open.specs.declared.opening.Opened.{Opened}
 use Rattle.luks_payload.specs.Plain.{sector_len, sector_start, sectors_of}
 use Rattle.luks_runs.proofs.PayloadLemmas.{plain_len}
 use Rattle.luks_cli.proofs.PromptLemmas.{same_segment_by}
-use Rattle.luks_runs.specs.Ending.{Outcome}
+use Rattle.luks_runs.specs.RunOutcome.{Outcome}
 use Rattle.luks_unlock.specs.Volume.{payload_outcome, slot_outcome, volume_outcome, volume_outcome_by}
 use Rattle.luks_runs.specs.Location.{reader_for}
 use Rattle.luks_runs.specs.declared.location.HeaderLocation.{HeaderLocation}

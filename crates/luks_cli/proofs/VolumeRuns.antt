@@ -21,7 +21,7 @@ use Rattle.luks_unlock.proofs.OutcomeLemmas.{area_cut, area_held, area_more, fou
 use Rattle.luks_unlock.proofs.OutcomeLemmas.{found_whole, front_len, outcome_is, tried_is}
 use Rattle.luks_report.specs.Faults.{message_for_header, message_for_opening}
 use Rattle.luks_unlock.specs.Volume.{OnOpened, found_outcome, opened_outcome, outcome_after, volume_outcome_by}
-use Rattle.luks_runs.specs.Ending.{Outcome, no_output}
+use Rattle.luks_runs.specs.RunOutcome.{Outcome, no_output}
 use Rattle.luks_request.specs.Request.{VolumeRequest}
 use Rattle.luks_runs.specs.Run.{Aborted, IsPrefixLen, IsSilent, RunMatches}
 use Rattle.luks_io.proofs.Consuming.{adds-none, took-none}

@@ -9,7 +9,7 @@ use Rattle.luks_request.specs.Request.{Request, is_luks, luks_uuid, luks_dump, l
 use Rattle.luks_report.specs.CheckOutput.{check_of, message_for_check}
 use Rattle.luks_report.specs.Dump.{dump_of, uuid_of}
 use Rattle.luks_report.specs.declared.message.Message.{Message}
-use Rattle.luks_runs.specs.Ending.{Outcome}
+use Rattle.luks_runs.specs.RunOutcome.{Outcome}
 use Rattle.luks_runs.specs.HeaderOutcome.{is_luks_outcome, print_outcome_by, always_done}
 use Rattle.luks_cli.specs.Outcome.{outcome_of}
 use Rattle.luks_runs.specs.HeaderReading.{detached_header_of}

@@ -4,7 +4,7 @@ use Rattle.luks_request.specs.Request.{Request, is_luks, luks_uuid, luks_dump, l
 use Rattle.luks_request.specs.Request.{af_split, af_merge}
 use Rattle.luks_report.specs.CheckOutput.{check_of, message_for_check}
 use Rattle.luks_report.specs.Dump.{dump_of, uuid_of}
-use Rattle.luks_runs.specs.Ending.{Outcome}
+use Rattle.luks_runs.specs.RunOutcome.{Outcome}
 use Rattle.luks_runs.specs.HeaderOutcome.{is_luks_outcome, print_outcome, always_done}
 use Rattle.luks_runs.specs.Stripe.{merge_outcome, split_outcome}
 use Rattle.luks_unlock.specs.Volume.{payload_outcome, slot_outcome, volume_outcome}

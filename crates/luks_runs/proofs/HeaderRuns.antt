@@ -13,7 +13,7 @@ use Rattle.luks_report.specs.declared.message.Message.{Message}
 use Rattle.luks_report.specs.declared.message.Message.TheVariants.{Done, OutOfMemory, ReadFailed, WriteFailed}
 use Rattle.luks_runs.specs.HeaderOutcome.{answer_to_is_luks}
 use Rattle.luks_report.specs.Faults.{message_for_header}
-use Rattle.luks_runs.specs.Ending.{Outcome, no_output}
+use Rattle.luks_runs.specs.RunOutcome.{Outcome, no_output}
 use Rattle.luks_runs.specs.RunMessages.{CheckMessage, PrintoutMessage}
 use Rattle.luks_runs.specs.HeaderOutcome.{is_luks_outcome, print_outcome_by, printout_text, printout_message}
 use Rattle.luks_runs.specs.Printing.{Prints}

@@ -18,7 +18,7 @@ use Rattle.luks_io.specs.Devices.{Appended, ConsumedExactly}
 use Rattle.luks_report.specs.declared.message.Message.{Message}
 use Rattle.luks_report.specs.declared.message.Message.TheVariants.{Done, KeyLength, FewRandomBytes, ReadFailed}
 use Rattle.luks_report.specs.declared.message.Message.TheVariants.{WriteFailed}
-use Rattle.luks_runs.specs.Ending.{Outcome}
+use Rattle.luks_runs.specs.RunOutcome.{Outcome}
 use Rattle.luks_runs.specs.Stripe.{split_key_outcome, split_outcome, split_stripes}
 use Rattle.luks_runs.specs.Run.{IsPrefixLen, IsSilent, RunMatches, Aborted, Completed}
 use Rattle.luks_runs.specs.StripeParts.{NoKeyRead, ForwardedBytes, AbortsAtStripe, PromptSplit}

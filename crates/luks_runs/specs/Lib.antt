@@ -1,4 +1,3 @@
-pub mod Ending
 pub mod HeaderOutcome
 pub mod HeaderReading
 pub mod KeyFile
@@ -7,5 +6,6 @@ pub mod Payload
 pub mod Printing
 pub mod Run
 pub mod RunMessages
+pub mod RunOutcome
 pub mod Stripe
 pub mod StripeParts

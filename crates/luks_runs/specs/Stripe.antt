@@ -5,7 +5,7 @@ use Rattle.luks_kdf.specs.Bytes.{xor}
 use Rattle.luks_kdf.specs.Stripes.{chain_of, merged}
 use Rattle.luks_kdf.specs.declared.hash.Hash.{Hash}
 use Rattle.luks_report.specs.declared.message.Message.TheVariants.{Done, KeyLength, FewRandomBytes, FewStripes}
-use Rattle.luks_runs.specs.Ending.{Outcome, no_output}
+use Rattle.luks_runs.specs.RunOutcome.{Outcome, no_output}
 
 -- the longest key
 abbrev pub max_key_len : ℕ

@@ -20,7 +20,7 @@ use Rattle.luks_report.specs.declared.message.Message.{Message}
 use Rattle.luks_report.specs.declared.message.Message.TheVariants.{Cut, KeyFileLength}
 use Rattle.luks_request.specs.Request.{VolumeRequest}
 use Rattle.luks_runs.proofs.HeaderConsumption.{cost_there}
-use Rattle.luks_runs.specs.Ending.{no_output}
+use Rattle.luks_runs.specs.RunOutcome.{no_output}
 use Rattle.luks_runs.specs.KeyFile.{max_key_file_len}
 use Rattle.luks_runs.specs.Location.{reader_for}
 use Rattle.luks_runs.specs.declared.location.HeaderLocation.{HeaderLocation}

@@ -17,7 +17,7 @@ use Rattle.luks_payload.specs.Plain.{ending_of, payload_end_of, plain_of}
 use Rattle.luks_report.specs.Texts.{opened_line}
 use Rattle.luks_report.specs.declared.message.Message.TheVariants.{Done, Cut, KeyFileLength, SegmentRefused}
 use Rattle.luks_runs.specs.KeyFile.{max_key_file_len}
-use Rattle.luks_runs.specs.Ending.{Outcome, no_output}
+use Rattle.luks_runs.specs.RunOutcome.{Outcome, no_output}
 use Rattle.luks_runs.specs.HeaderReading.{HeaderReader}
 use Rattle.luks_report.specs.declared.message.Message.{Message}
 

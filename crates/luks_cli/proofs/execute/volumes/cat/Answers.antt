@@ -1,7 +1,7 @@
 use Rattle.std.proofs.lemmas.Result.{err_from_is_err_and}
 use Rattle.std.proofs.Common.{◌∙◌, Some, ap, inr, max, sym, true}
 use Rattle.luks_io.specs.Memory.{MemSourceModel}
-use Rattle.luks_runs.specs.Ending.{Outcome}
+use Rattle.luks_runs.specs.RunOutcome.{Outcome}
 use Rattle.luks_runs.specs.Payload.{max_needed}
 use Rattle.luks_runs.specs.Run.{result_message}
 use Rattle.luks_unlock.specs.Volume.{slot_outcome}

@@ -1,4 +1,4 @@
--- What an outcome is.
+-- The outcome of a run: what it writes, its message, and how much of its inputs it consumes.
 use Rattle.std.specs.Prelude.{ℕ, List, []}
 use Rattle.luks_report.specs.declared.message.Message.{Message}
 
