@@ -1,21 +1,19 @@
 -- What is known of a header whose segment is not refused.
-use Rattle.std.proofs.Common.{◌≡◌, ◌*◌, ◌≤◌, ap, refl, Bool, true, false, List, [], ◌∷◌, Option, Some, None, Ok, Err}
+use Rattle.std.proofs.Common.{◌≡◌, ◌*◌, ◌≤◌, refl, Bool, true, false, List, [], ◌∷◌, Option, Some, None, Ok, Err}
 use Rattle.std.specs.Prelude.{not, is_none}
 use Rattle.std.proofs.lemmas.Bool.{ltb-false}
 use Rattle.luks_cipher.specs.declared.mode.Mode.{Mode}
 use Rattle.luks_kdf.specs.declared.hash.Hash.{Hash}
-use Rattle.luks_verdict.specs.Digest.{digest_of}
 use Rattle.luks_verdict.specs.Segment.{segment_by, segment_from}
-use Rattle.luks_verdict.specs.declared.digest.KeyDigest.{KeyDigest}
 use Rattle.luks_verdict.specs.declared.refusal.SegmentFault.{SegmentFault}
 use Rattle.luks_verdict.specs.declared.refusal.SegmentFault.TheVariants.{Encryption, KeyBytes, Offset}
 use Rattle.luks_verdict.specs.declared.refusal.SegmentFault.TheVariants.{Hash as UnknownHash}
 use Rattle.luks_verdict.specs.declared.segment.Segment.{Segment}
-use Rattle.luks_verdict.proofs.MadeLemmas.{digest_from-some, refused_or-fault, refused_or-none, refused_or-ok}
+use Rattle.luks_verdict.proofs.MadeLemmas.{refused_or-fault, refused_or-none, refused_or-ok}
 use Rattle.luks_verdict.proofs.TableLemmas.{first_not}
 use Rattle.luks1_header.specs.Segment1.{fault1_of, is_key_length1, made1, segment1_of, segment_parts1_of}
 use Rattle.luks1_header.specs.Segment1.{overlaps_header1}
-use Rattle.luks1_header.specs.Slot1.{digest1_of, digest_parts1_of, hash1_of, mode1_of}
+use Rattle.luks1_header.specs.Slot1.{hash1_of, mode1_of}
 use Rattle.luks1_header.specs.declared.header.Header1.{Header1}
 
 -- a volume that can be read: its mode and hash function are known ones, and its key has a length of the mode
@@ -92,11 +90,3 @@ pub segment1-none : (header : Header1) (segment : Segment) → fault1_of header 
 unfolding segment1_of
 segment1-none header segment none made =
     refused_or-none (fault1_of header) (segment_from (segment_parts1_of header)) (made1 header) segment none made
-
--- the digest has the header's hash
-pub digest_hash : (header : Header1) (digest : KeyDigest) → digest1_of header ≡ Some digest
-    → digest.hash ≡ hash1_of header
-unfolding digest1_of digest_of digest_parts1_of
-digest_hash header digest is =
-    let made = digest_from-some (digest_parts1_of header) digest is in
-    ap (λ (d : KeyDigest). d.hash) made.1

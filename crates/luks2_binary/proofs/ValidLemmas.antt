@@ -14,10 +14,6 @@ pub and_parts : (a b : Bool) → (a && b) ≡ true → (a ≡ true) × (b ≡ tr
 and_parts true b h = (refl, h)
 and_parts false b h = (h, absurd (let wrong : false ≡ true = h in cc))
 
--- one of two tests fails
-pub and_fails : (a b : Bool) → a ≡ false → (a && b) ≡ false
-and_fails a b h = rw h refl
-
 -- a length that is one of the nine
 known_size : (n : ℕ) → list_any (λ size. size == n) sizes ≡ true → (16384 ≤ n) × (n ≤ 4194304)
 unfolding sizes

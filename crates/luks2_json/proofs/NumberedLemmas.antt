@@ -85,14 +85,3 @@ lowest_found f n m none below is =
     let next = lowest_next f n none in
     let same : n + 1 + (m - (n + 1)) ≡ m = omega arith in
     ap (lowest f) (sym same) ∙ (lowest_stays f (n + 1) (m - (n + 1)) (ap is_some next ∙ is) ∙ next)
-
-of_before : {T : Type 0} (f : ℕ → Option T) (n : ℕ) (x : T) (before : Option T)
-    → (before ≡ Some x → (i : ℕ) × (f i ≡ Some x)) → option_or before (f n) ≡ Some x → (i : ℕ) × (f i ≡ Some x)
-of_before f n x None below is = (n, is)
-of_before f n x (Some y) below is = below is
-
--- what is found is made of some number
-pub lowest_made : {T : Type 0} (f : ℕ → Option T) (n : ℕ) (x : T) → lowest f n ≡ Some x → (i : ℕ) × (f i ≡ Some x)
-unfolding lowest
-lowest_made f zero x is = absurd cc
-lowest_made f (suc n) x is = of_before f n x (lowest f n) (λ below. lowest_made f n x below) is

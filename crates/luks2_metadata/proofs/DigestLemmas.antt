@@ -1,20 +1,16 @@
 -- Usable digests.
-use Rattle.std.proofs.Common.{◌≡◌, ◌∙◌, ℕ, ◌<◌, ◌≤◌, Bool, true, false, Option, Some, None, ap, sym, refl, arith}
+use Rattle.std.proofs.Common.{◌≡◌, ◌∙◌, ℕ, ◌<◌, ◌≤◌, true, false, Option, Some, None, ap, sym, refl, arith}
 use Rattle.std.proofs.Common.{length}
-use Rattle.std.specs.Prelude.{◌&&◌, codes, if◌then◌else◌, is_some, option_and_then, option_map}
-use Rattle.luks_kdf.specs.declared.hash.Hash.{Hash}
-use Rattle.luks2_json.specs.List.{has_texts}
-use Rattle.luks2_json.specs.Member.{base64_member, is_type, integer_member}
+use Rattle.std.specs.Prelude.{◌&&◌, if◌then◌else◌, is_some, option_map}
 use Rattle.std.proofs.lemmas.Bool.Decides.{nat_tests}
-use Rattle.luks_verdict.proofs.MadeLemmas.{digest_from-no, digest_from-some, digest_from-yes}
-use Rattle.luks_verdict.specs.Digest.{digest_from, digest_of}
-use Rattle.luks_verdict.specs.Rule.{iterations_out_of_range, is_digest, max_iteration_count, max_slots, usable_digest}
+use Rattle.luks_verdict.proofs.MadeLemmas.{digest_from-no, digest_from-yes}
+use Rattle.luks_verdict.specs.Digest.{digest_of}
+use Rattle.luks_verdict.specs.Rule.{iterations_out_of_range, is_digest, max_iteration_count, usable_digest}
 use Rattle.luks_verdict.specs.declared.digest.KeyDigest.{KeyDigest}
-use Rattle.luks2_json.proofs.NumberedLemmas.{lowest_found, lowest_made}
-use Rattle.luks2_json.specs.Numbered.{lowest, object_numbered}
-use Rattle.luks2_metadata.specs.Digest2.{digest2_for, digest2_of, own_digest, own_digest_at, digest_parts2_of}
-use Rattle.luks2_metadata.specs.Digest2.{is_digest2, is_of_slot, iterations_of_digest, value_in}
-use Rattle.luks2_json.specs.Derivation.{hash_member, iterations_in}
+use Rattle.luks2_json.proofs.NumberedLemmas.{lowest_found}
+use Rattle.luks2_json.specs.Numbered.{lowest}
+use Rattle.luks2_metadata.specs.Digest2.{digest2_of, digest_parts2_of, is_digest2, iterations_of_digest, value_in}
+use Rattle.luks2_json.specs.Derivation.{iterations_in}
 use Rattle.serde_json.specs.Data.{Data}
 
 -- one that lacks a member, or has one of a wrong kind
@@ -59,62 +55,3 @@ pub iterations_found : (f : ℕ → Option KeyDigest) (n m : ℕ) → lowest f n
     → option_map iterations_of_digest (lowest f m) ≡ option_map iterations_of_digest (f n)
 iterations_found f n m none below is =
     ap (option_map iterations_of_digest) (lowest_found f n m none below (sym (same_some (f n)) ∙ is))
-
--- ---- the hash function of a usable digest is a known one
-
-some_from_is_some : {T : Type 0} (o : Option T) → is_some o ≡ true → (x : T) × (o ≡ Some x)
-some_from_is_some None is = absurd cc
-some_from_is_some (Some x) is = (x, refl)
-
-both : (a b : Bool) → (a && b) ≡ true → (a ≡ true) × (b ≡ true)
-both true b is = (refl, is)
-both false b is = absurd cc
-
-has_hash : (digest : Data) → is_digest2 digest ≡ true → (hash : Hash) × (hash_member digest ≡ Some hash)
-unfolding is_digest2
-has_hash digest is =
-    let kind = is_type (codes "pbkdf2") digest in
-    let keyslots = has_texts (codes "keyslots") digest in
-    let segments = has_texts (codes "segments") digest in
-    let hash = is_some (hash_member digest) in
-    let iterations = is_some (integer_member (codes "iterations") digest) in
-    let salt = is_some (base64_member (codes "salt") digest) in
-    let value = is_some (base64_member (codes "digest") digest) in
-    let first = both (kind && keyslots && segments && hash && iterations && salt) value is in
-    let second = both (kind && keyslots && segments && hash && iterations) salt first.0 in
-    let third = both (kind && keyslots && segments && hash) iterations second.0 in
-    let fourth = both (kind && keyslots && segments) hash third.0 in
-    some_from_is_some (hash_member digest) fourth.1
-
-of_usable : (digest : Data) (key : KeyDigest) (test : Bool) → is_digest2 digest ≡ test
-    → (if test then digest_from (digest_parts2_of digest) else None) ≡ Some key
-    → (hash : Hash) × (key.hash ≡ Some hash)
-unfolding digest_of
-of_usable digest key true is made =
-    let known = has_hash digest is in
-    let same = digest_from-some (digest_parts2_of digest) key made in
-    (known.0, ap (λ (k : KeyDigest). k.hash) same.1 ∙ known.1)
-of_usable digest key false is made = absurd cc
-
-usable_hash : (digest : Data) (key : KeyDigest) → digest2_of digest ≡ Some key → (hash : Hash) × (key.hash ≡ Some hash)
-unfolding digest2_of
-usable_hash digest key is = of_usable digest key (is_digest2 digest) refl is
-
-of_listed : (digest : Data) (key : KeyDigest) (test : Bool) → (if test then digest2_of digest else None) ≡ Some key
-    → (hash : Hash) × (key.hash ≡ Some hash)
-of_listed digest key true is = usable_hash digest key is
-of_listed digest key false is = absurd cc
-
-of_there : (number : ℕ) (digest : Option Data) (key : KeyDigest)
-    → option_and_then (own_digest number) digest ≡ Some key → (hash : Hash) × (key.hash ≡ Some hash)
-unfolding own_digest
-of_there number (Some digest) key is = of_listed digest key (is_of_slot number digest) is
-of_there number None key is = absurd cc
-
--- that of the digest that a key slot is opened against too
-pub digest2_hash : (tree : Data) (number : ℕ) (key : KeyDigest) → digest2_for tree number ≡ Some key
-    → (hash : Hash) × (key.hash ≡ Some hash)
-unfolding digest2_for own_digest_at
-digest2_hash tree number key is =
-    let made = lowest_made (own_digest_at tree number) max_slots key is in
-    of_there number (object_numbered (codes "digests") tree made.0) key made.1

@@ -70,14 +70,6 @@ same_options options o p of_o of_p = same_outcome o p (of_o.0 ∙ sym of_p.0) (o
 
 -- ---- refusals
 
--- neither memory nor a read failed
-no_abort : (message : Message) → aborts message ≡ false
-    → (message ≢ OutOfMemory) × (message ≢ ReadFailed) × (message ≢ WriteFailed)
-no_abort OutOfMemory never = cc
-no_abort ReadFailed never = cc
-no_abort WriteFailed never = cc
-no_abort _ never = (λ is. cc, λ is. cc, λ is. cc)
-
 -- a command of these options comes to this outcome, whatever it does with a volume
 abbrev ComesTo : Options → VolumeRequest → List ℕ → List ℕ → Outcome → Type 0
 ComesTo options o image pass out =

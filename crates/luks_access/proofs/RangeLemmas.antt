@@ -1,13 +1,11 @@
 -- Ranges of a plaintext, from those of its sectors.
 use Rattle.std.proofs.Common.{◌≡◌, ℕ, ◌+◌, ◌-◌, ◌*◌, ◌/◌, ◌%◌, ◌<◌, ◌≤◌, List, ◌++◌, length, take, drop}
-use Rattle.std.proofs.Common.{[], append-nil, inl, inr, length-append, length-drop, Option, None, Some, Result, Ok, Err}
+use Rattle.std.proofs.Common.{[], append-nil, length-append, length-drop, Option, Some, Result, Ok, Err}
 use Rattle.std.proofs.Common.{arith, sym, ap, ◌∙◌, Bool, true}
 use Rattle.std.specs.Prelude.{OnOk}
-use Rattle.std.proofs.lemmas.Bool.{cases_lt}
 use Rattle.std.proofs.lemmas.List.{drop-drop, drop-take, drop_all, take-take}
 use Rattle.luks_kdf.proofs.BytesLemmas.{take_front}
 use Rattle.std.proofs.Math.Seq.{take-add}
-use Rattle.std.proofs.Math.Nat.{div-mul-le_self}
 use Rattle.luks_io.specs.Devices.{IfKnown}
 use Rattle.luks_runs.proofs.PayloadLemmas.{plain_len}
 use Rattle.luks_verdict.specs.SectorSize.{bytes_of}
@@ -54,41 +52,6 @@ is_sector B1024 offset len whole inside = record { start = omega arith; within =
 is_sector B2048 offset len whole inside = record { start = omega arith; within = omega arith; skip = omega arith }
 is_sector B4096 offset len whole inside = record { start = omega arith; within = omega arith; skip = omega arith }
 
--- a range that begins with a sector: whole ones, and then a part of one
-pub record IsParted (z offset n : ℕ) : Type 0 where
-  pub most : n - n % z ≤ n
-  pub whole : (n - n % z) % z ≡ 0
-  pub part : (offset + (n - n % z)) % z + (n - (n - n % z)) ≤ z
-
-split_at : (size : SectorSize) (offset n : ℕ) → offset % bytes_of size ≡ 0 → IsParted (bytes_of size) offset n
-split_at B512 offset n start = record { most = omega arith; whole = omega arith; part = omega arith }
-split_at B1024 offset n start = record { most = omega arith; whole = omega arith; part = omega arith }
-split_at B2048 offset n start = record { most = omega arith; whole = omega arith; part = omega arith }
-split_at B4096 offset n start = record { most = omega arith; whole = omega arith; part = omega arith }
-
-split_none : (size : SectorSize) (offset n : ℕ) → n ≤ 0 → IsParted (bytes_of size) offset n
-split_none B512 offset n none = record { most = omega arith; whole = omega arith; part = omega arith }
-split_none B1024 offset n none = record { most = omega arith; whole = omega arith; part = omega arith }
-split_none B2048 offset n none = record { most = omega arith; whole = omega arith; part = omega arith }
-split_none B4096 offset n none = record { most = omega arith; whole = omega arith; part = omega arith }
-
-pub is_split : (size : SectorSize) (offset n : ℕ) → (0 < n → offset % bytes_of size ≡ 0)
-    → IsParted (bytes_of size) offset n
-is_split size offset n start =
-    elim (cases_lt 0 n) [ inl some ↦ split_at size offset n (start some) | inr none ↦ split_none size offset n none ]
-
--- the bytes of a range before the first sector that begins in it: to the end of the sector that it begins in
-pub record IsHead (z offset n : ℕ) : Type 0 where
-  pub skip : offset % z ≤ z
-  pub next : n ≡ z - offset % z → (offset + n) % z ≡ 0
-  pub none : offset % z ≡ 0 → (offset + 0) % z ≡ 0
-
-pub is_head : (size : SectorSize) (offset n : ℕ) → IsHead (bytes_of size) offset n
-is_head B512 offset n = record { skip = omega arith; next = λ is. omega arith; none = λ is. omega arith }
-is_head B1024 offset n = record { skip = omega arith; next = λ is. omega arith; none = λ is. omega arith }
-is_head B2048 offset n = record { skip = omega arith; next = λ is. omega arith; none = λ is. omega arith }
-is_head B4096 offset n = record { skip = omega arith; next = λ is. omega arith; none = λ is. omega arith }
-
 -- ---- parts of a text
 
 -- a part of a range is a range
@@ -129,26 +92,6 @@ module _ (s : Segment) (known : List ℕ) (len : ℕ) (all : text_len s known �
             ∙ ap (λ k. take (length stored) (drop (s.offset + k) known)) (sym are.start);
         within = are.within;
       }
-
--- of so many bytes no more are the payload's
-within_least : (size : Option ℕ) (n : ℕ) → payload_bytes size n ≤ n
-within_least None n = omega arith
-within_least (Some size) n = omega arith
-
--- a plain text is no longer than the image behind its payload's start
-pub text_within : (s : Segment) (image_len : ℕ)
-    → payload_bytes s.size (image_len - s.offset) / sector_len s * sector_len s ≤ image_len - s.offset
-text_within s image_len =
-    omega (
-      arith,
-      div-mul-le_self (payload_bytes s.size (image_len - s.offset)) (sector_len s),
-      within_least s.size (image_len - s.offset),
-    )
-
--- an image with a plain text does not end before a range of it does
-pub image_reaches : (s : Segment) (known : List ℕ) (len offset n : ℕ) → text_len s known ≡ len → offset + n ≤ len
-    → 0 < n → length known < s.offset + offset + n → ⊥
-image_reaches s known len offset n all inside some short = omega (arith, text_within s (length known))
 
 -- ---- parts that were read
 

@@ -15,9 +15,6 @@ pub stands_also : (y z : ℕ → ℕ) (x : List (List ℕ)) → Represents y x �
     → ((q : ℕ) → q < 128 → y q ≡ z q) → Represents z x
 stands_also y z x is bytes same = record { bytes = bytes; at = λ j low. plane_also y z j _ (is.at j low) same }
 
-pub stands_equal : (y z : ℕ → ℕ) (x : List (List ℕ)) → Represents y x → ((q : ℕ) → y q ≡ z q) → Represents z x
-stands_equal y z x is same = stands_also y z x is (λ q. omega (arith, is.bytes q, same q)) (λ q low. same q)
-
 pub all_also : (y z : ℕ → ℕ → ℕ) (rows : List (List (List ℕ))) → RepresentRows y rows → ((r q : ℕ) → r < 4
     → z r q < 256)
     → ((r q : ℕ) → r < 4 → q < 128 → y r q ≡ z r q) → RepresentRows z rows

@@ -1,7 +1,6 @@
 -- What `clap` says of luksrd's command line.
-use Rattle.std.proofs.Common.{◌≡◌, ◌∙◌, ◌||◌, Bool, Err, IfOk, IsErrAnd, List, None, Ok, Option, Result, [], ◌∷◌, ◌++◌}
-use Rattle.std.proofs.Common.{ap, false, inl, inr, refl, subst, sym, true}
-use Rattle.std.proofs.Math.Bool.{or-false}
+use Rattle.std.proofs.Common.{◌≡◌, ◌∙◌, ◌||◌, Err, IfOk, IsErrAnd, List, None, Ok, Option, Result, [], ◌∷◌, ◌++◌}
+use Rattle.std.proofs.Common.{ap, inl, inr, refl, subst, sym, true}
 use Rattle.clap.specs.Words.{App, HasKind, HasMatchesOf, Kinds, Text, fault_of, is_simple, is_simple_and_free, kind_of}
 use Rattle.clap.specs.Words.{subcommand_of, subcommand_rows_of}
 use Rattle.clap.specs.declared.Error.{Error}
@@ -21,10 +20,6 @@ luksrd-simple = refl
 luksrd-free : is_simple_and_free luksrd ≡ true
 unfolding luksrd header_command volume_command clap_on_literals
 luksrd-free = refl
-
--- an argument that goes on to no other command leaves whether others do
-pub stays : (old new global : Bool) → new ≡ (old || global) → global ≡ false → new ≡ old
-stays old new global is local = is ∙ ap (λ b. old || b) local ∙ or-false old
 
 pub free : (app : App) → app ≡ luksrd → is_simple_and_free app ≡ true
 free app e = ap is_simple_and_free e ∙ luksrd-free

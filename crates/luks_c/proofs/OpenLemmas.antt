@@ -65,8 +65,3 @@ no_read _ count = λ is. cc
 pub some_code : (m : Message) → OpeningMessage m → code_for m ≢ 0
 some_code Done only = absurd only
 some_code _ only = λ is. absurd (omega arith)
-
--- nor is it that of a call which no caller should make
-pub small_code : (m : Message) → code_for m < 15
-small_code Done = omega arith
-small_code _ = omega arith

@@ -179,10 +179,6 @@ module _ (c : LuksrdVolume) (v : UnlockedVolume) (stored : Stores c v) (z : Sect
       its ∙ ap (λ n. if nat_lt n v.segment.offset then Err CutBeforePayload
       else ending_of_len v.segment.size (sector_len v.segment) (n - v.segment.offset)) (sym long)
 
--- a volume that C keeps has a sector size
-pub some_sector : (c : LuksrdVolume) (v : UnlockedVolume) → Stores c v → None ≡ sector_size_in c.sector_size → ⊥
-some_sector c v stored none = let wrong : None ≡ Some v.segment.sector_size = none ∙ stored_sector c v stored in cc
-
 -- stored sectors became that part of the plain text
 pub decrypted_for : (c : LuksrdVolume) (v : UnlockedVolume) (image : List ℕ) → Stores c v → (s : Segment)
     (cipher : Cipher) (first : ℕ) (old new : List ℕ) → Some s ≡ segment_in c → cipher ≡ cipher_in c s.mode

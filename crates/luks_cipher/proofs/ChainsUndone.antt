@@ -67,12 +67,6 @@ cbc_decrypted-cbc_encrypted key vector unit keys first all whole =
     ∙ link_undone key vector unit n j keys first size all low)
     ∙ joined_blocks unit n ∙ take_all (16 * n) unit (omega arith))
 
-before_state : (vector unit : List ℕ) (n j : ℕ) → IsState vector → length unit ≡ 16 * n → IsBytes unit → j ≤ n
-    → IsState (block_before vector unit j)
-unfolding block_before
-before_state vector unit n zero first size all low = first
-before_state vector unit n (suc j) first size all low = block_state unit n j size (omega arith) all
-
 decrypted_len : (a b : List ℕ) → length (block_xor a b) ≡ 16
 unfolding block_xor
 decrypted_len a b = refl

@@ -122,14 +122,6 @@ block_encrypted_len : (key tweak block : List ℕ) → length (block_encrypted k
 unfolding block_encrypted block_xor
 block_encrypted_len key tweak block = refl
 
--- a data unit of whole blocks is encrypted to one of the same length
-pub length-xts_encrypted : (key : List ℕ) (number : ℕ) (unit : List ℕ) → length unit % 16 ≡ 0
-    → length (xts_encrypted key number unit) ≡ length unit
-unfolding xts_encrypted
-length-xts_encrypted key number unit whole =
-    joined_length _ (length unit / 16) (λ j low. block_encrypted_len key (tweak_of key number j) (block_at unit j))
-    ∙ omega arith
-
 -- two ways of work on blocks that undo each other block by block do so on units
 both_ways : (f g : ℕ → List ℕ → List ℕ) (unit : List ℕ) (n : ℕ) → length unit ≡ 16 * n → IsBytes unit
     → ((j : ℕ) (block : List ℕ) → length (f j block) ≡ 16)

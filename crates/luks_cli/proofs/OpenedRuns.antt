@@ -32,12 +32,6 @@ use Rattle.luks_report.specs.declared.message.Message.TheVariants.{Done, OutOfMe
 pub takes_slot : (secret : List ℕ) → ConsumesLoaded secret (slot_outcome secret)
 takes_slot secret = record { loaded = λ segment opened loaded. omega arith; whole = λ segment opened loaded. refl }
 
-pub takes_payload : (image secret : List ℕ) → ConsumesLoaded secret (payload_outcome image secret)
-takes_payload image secret = record {
-  loaded = λ segment opened loaded. omega arith;
-  whole = λ segment opened loaded. refl;
-}
-
 -- a run that is prompt in one way is so in another that follows from it
 pub runs_at : (is_prompt is_prompt' : Promptness) (out : Outcome) (message : Message)
     (ConsumedImage ConsumedSecret : ℕ → Type 0) (Wrote : List ℕ → Type 0)

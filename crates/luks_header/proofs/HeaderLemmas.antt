@@ -1,5 +1,5 @@
 -- Reading a header.
-use Rattle.std.proofs.Common.{◌≡◌, ℕ, ◌+◌, ◌-◌, ◌<◌, ◌≤◌, List, [], ◌++◌, Option, Some, None, Result, Ok, Err, Bool}
+use Rattle.std.proofs.Common.{◌≡◌, ℕ, ◌+◌, ◌-◌, ◌<◌, ◌≤◌, List, [], ◌++◌, Option, Some, Ok, Err, Bool}
 use Rattle.std.proofs.Common.{true, false, ◌∙◌, ap, sym, subst, refl, inl, inr, lit≤, take, drop, length, min, take_all}
 use Rattle.std.proofs.Common.{arith}
 use Rattle.std.specs.Prelude.{nat_lt, IsTrue, ◌↔◌}
@@ -12,17 +12,12 @@ use Rattle.luks_area.specs.declared.fault.HeaderFault.{HeaderFault}
 use Rattle.luks_area.specs.declared.fault.HeaderFault.TheVariants.{NotLuks, Cut, Json, Read, Memory}
 use Rattle.luks1_header.specs.Header1.{header1_of, is_luks1}
 use Rattle.luks1_header.specs.declared.header.Header1.{Header1}
-use Rattle.luks2_binary.specs.Choice2.{header2_of}
 use Rattle.luks2_binary.specs.ReadLen2.{header2_read_len, reach2_of}
 use Rattle.luks2_binary.specs.Front2.{ConsumedUpToReadLen, ConsumedReadLen, ConsumedBeforeReach}
 use Rattle.luks2_binary.proofs.AbsentLemmas.{cost_least, cost_short, none_short}
 use Rattle.luks2_binary.proofs.ChoiceLemmas.{reach_some}
-use Rattle.luks2_binary.specs.Text2.{json_text_of}
-use Rattle.luks2_binary.specs.declared.header.Header2.{Header2}
-use Rattle.luks2_json.specs.Tree.{tree_of}
-use Rattle.serde_json.specs.Data.{Data}
 use Rattle.luks_header.specs.Header.{AbortsHeld, AbortsReading, ConsumedHeaderLen, header_read_len, falls_short}
-use Rattle.luks_header.specs.Header.{header_of, probe_len, with_metadata, with_text}
+use Rattle.luks_header.specs.Header.{header_of, probe_len}
 use Rattle.luks_header.specs.declared.header.Header.{Header}
 use Rattle.luks_header.specs.declared.header.Header.TheVariants.{V1}
 use Rattle.luks_header.proofs.HeldLemmas.{cost_other, header_missing, reach_other}
@@ -252,25 +247,6 @@ module _ (area image : List ℕ) (left : Option (List ℕ))
         by Json (none, took) = (none, (consumed_read_len took.0.1.0, took.1))
 
 -- ---- what a header costs
-
--- a header of LUKS2 is none of LUKS1
-not_first : (image : List ℕ) (found : Result Header2 HeaderFault) (header : Header1)
-    → with_text image found ≡ Ok (V1 header) → ⊥
-not_first image (Err fault) header is = cc
-not_first image (Ok second) header is = by (tree_of (json_text_of image second)) is
-  where
-    by : (tree : Option Data) → with_metadata second tree ≡ Ok (V1 header) → ⊥
-    by None wrong = cc
-    by (Some tree) wrong = cc
-
--- one of LUKS1 costs no more than its length
-pub cost_first : (image : List ℕ) (header : Header1) → header_of image ≡ Ok (V1 header) → header_read_len image ≤ 592
-unfolding header_read_len header_of
-cost_first image header found = by (is_luks1 image) refl
-  where
-    by : (b : Bool) → is_luks1 image ≡ b → header_read_len image ≤ 592
-    by true is = rw is (omega arith)
-    by false is = absurd (not_first image (header2_of image) header (rw is at found))
 
 below_cost2 : (image : List ℕ) (count : ℕ) → count < reach2_of image → count ≤ length image
     → count ≤ header2_read_len image

@@ -1,7 +1,7 @@
 -- What is known of the key slots and digests of a header, whatever its format.
 use Rattle.std.proofs.lemmas.Bool.{ltb-false}
 use Rattle.std.proofs.Common.{◌≡◌, ◌∙◌, ℕ, ◌≤◌, refl, sym, subst, Bool, true, false, List, length, Option, Some, None}
-use Rattle.std.proofs.Common.{Result, Ok, Err, arith}
+use Rattle.std.proofs.Common.{Result, Ok, Err}
 use Rattle.std.specs.Prelude.{nat_lt, if◌then◌else◌}
 use Rattle.luks_cipher.specs.Sector.{is_mode_key_length}
 use Rattle.luks_cipher.specs.declared.mode.Mode.{Mode}
@@ -11,7 +11,7 @@ use Rattle.luks_verdict.specs.declared.digest.KeyDigest.{KeyDigest}
 use Rattle.luks_verdict.specs.declared.segment.Segment.{Segment}
 use Rattle.luks_verdict.specs.declared.slot.Slot.{Slot}
 use Rattle.luks_verdict.specs.declared.slot.Verdict.TheVariants.{Usable}
-use Rattle.luks1_header.proofs.SegmentLemmas.{IsReadable-ok, digest_hash}
+use Rattle.luks1_header.proofs.SegmentLemmas.{IsReadable-ok}
 use Rattle.luks1_header.proofs.SlotLemmas.{slot_usable_at}
 use Rattle.luks_area.specs.Fields.{at}
 use Rattle.luks_area.specs.declared.fault.HeaderFault.{HeaderFault}
@@ -20,7 +20,6 @@ use Rattle.luks1_header.specs.Header1.{header1_len, header1_of, is_luks1}
 use Rattle.luks1_header.specs.Segment1.{is_key_length1}
 use Rattle.luks1_header.specs.Slot1.{payload1_start}
 use Rattle.luks2_binary.specs.Choice2.{header2_of}
-use Rattle.luks2_binary.specs.Header2.{end2_of}
 use Rattle.luks2_binary.specs.Text2.{json_text_of}
 use Rattle.luks2_binary.specs.declared.header.Header2.{Header2}
 use Rattle.luks2_binary.proofs.JsonLemmas.{read_attached}
@@ -28,7 +27,6 @@ use Rattle.luks2_json.specs.Encryption.{is_length_for}
 use Rattle.luks2_json.specs.Tree.{tree_of}
 use Rattle.serde_json.specs.Data.{Data}
 use Rattle.luks2_metadata.specs.Segment2.{payload2_of, payload_mode2_of}
-use Rattle.luks2_metadata.proofs.DigestLemmas.{digest2_hash}
 use Rattle.luks2_metadata.proofs.SegmentLemmas.{segment2-ok}
 use Rattle.luks2_metadata.proofs.SlotLemmas.{usable2_at}
 use Rattle.luks_verdict.specs.Rule.{exceeds}
@@ -111,16 +109,6 @@ known_usable (V2 header tree) segment limit number slot is_segment is =
       area = of_header.area;
     }
 
--- and so is the digest's
-pub known_digest : (header : Header) (segment : Segment) (number : ℕ) (digest : KeyDigest)
-    → segment_of header ≡ Ok segment
-    → digest_for header number ≡ Some digest → (hash : Hash) × (digest.hash ≡ Some hash)
-unfolding digest_for segment_of
-known_digest (V1 header) segment number digest is_segment is =
-    let readable = (IsReadable-ok header segment is_segment).1 in
-    (readable.hash.0, digest_hash header digest is ∙ readable.hash.1)
-known_digest (V2 header tree) segment number digest is_segment is = digest2_hash tree number digest is
-
 -- the header of an image is read as one that stands in the payload's image
 pub is_attached : (image : List ℕ) (header : Header) → header_of image ≡ Ok header → is_detached header ≡ false
 unfolding header_of is_detached header1_of
@@ -164,19 +152,3 @@ before_payload (V2 header tree) segment limit number slot attached is_segment is
     let read = segment2-ok tree (bounds2_of header) segment is_segment in
     ends_before (payload2_of tree (bounds2_of header)) segment.offset (material_end slot) (read.start attached)
     (usable2_at tree (bounds2_of header) limit number slot is).0.before_payload
-
--- the first byte behind a header
-abbrev pub header_end : Header → ℕ
-header_end (V1 header) = 592
-header_end (V2 header tree) = end2_of header
-
--- the payload of a volume starts behind its header, if it stands in the header's image
-pub behind_header : (header : Header) (segment : Segment) → is_detached header ≡ false
-    → segment_of header ≡ Ok segment
-    → header_end header ≤ segment.offset
-unfolding segment_of is_detached bounds2_of
-behind_header (V1 header) segment attached is =
-    let readable = IsReadable-ok header segment is in
-    omega (arith, readable.0.offset, readable.1.behind_header attached)
-behind_header (V2 header tree) segment attached is =
-    (segment2-ok tree (bounds2_of header) segment is).behind_header attached

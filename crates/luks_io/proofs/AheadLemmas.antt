@@ -1,11 +1,11 @@
 -- What is handed on of the bytes that are held, and what is taken of a source at most.
 use Rattle.std.proofs.Common.{◌≡◌, ℕ, ◌+◌, ◌-◌, ◌≤◌, List, ◌++◌, Option, Some, None, Result, Ok, Err, ap, sym, ◌∙◌}
-use Rattle.std.proofs.Common.{arith, drop, length, take, take_all, length-take, length-drop, ◌<◌, OnOk, IfErr, append_assoc}
+use Rattle.std.proofs.Common.{arith, drop, length, take, length-take, length-drop, ◌<◌, OnOk, IfErr, append_assoc}
 use Rattle.std.proofs.lemmas.List.{drop-drop}
 use Rattle.std.proofs.Math.Seq.{drop-append_seam, take-add, take-append_seam}
 use Rattle.std.specs.Io.{ReadsAtMost}
 use Rattle.std.specs.Io.KnownBytes.{Consumes, Keeps, ReadConsumes, prepend_known}
-use Rattle.luks_io.specs.Devices.{Appended, ConsumedAtMost, ConsumedExactly, IfKnown}
+use Rattle.luks_io.specs.Devices.{Appended, ConsumedAtMost, IfKnown}
 use Rattle.luks_io.specs.Forwarding.{ForwardEffect}
 use Rattle.luks_io.specs.declared.sink.WriteFault.{WriteFault}
 use Rattle.luks_io.proofs.Moves.{took-front}
@@ -28,13 +28,6 @@ kept_known : (a b : Option (List ℕ)) → Keeps a b → IfKnown a (λ known. b 
 kept_known None b kept known is = absurd cc
 kept_known (Some xs) None kept known is = absurd kept
 kept_known (Some xs) (Some ys) kept known is = cc
-
--- a piece that was consumed is the start of the bytes that were known
-pub consumed_piece : (a b : Option (List ℕ)) (piece known : List ℕ) → Consumes a b piece → a ≡ Some known
-    → ConsumedExactly known b (length piece)
-consumed_piece a b piece known took is =
-    (took-front a b piece (length piece) (omega arith)
-    (rw (take_all (length piece) piece (omega arith)) took) known is).0
 
 -- a read took no more than it had room for
 pub takes_at_most : {E : Type 0} (a b : Option (List ℕ)) (r : Result ℕ E) (buf : List ℕ) (most : ℕ) → length buf ≤ most

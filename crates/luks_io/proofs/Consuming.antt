@@ -1,9 +1,8 @@
 -- Bytes that are taken from a source, call after call.
 use Rattle.std.proofs.Common.{◌≡◌, ℕ, ◌+◌, ◌<◌, ◌≤◌, List, [], ◌++◌, Option, Some, ◌∙◌, ap, sym, subst, min, drop}
-use Rattle.std.proofs.Common.{length, length-drop, append-nil, append_assoc, nat_lt, refl, arith}
-use Rattle.std.proofs.lemmas.Bool.{le-ltb, lt-ltb}
+use Rattle.std.proofs.Common.{length, length-drop, append-nil, append_assoc, arith}
 use Rattle.std.proofs.lemmas.List.{drop-drop, drop_all}
-use Rattle.luks_io.specs.Devices.{Appended, ConsumedExactly, IfKnown, counted, saturating_inc}
+use Rattle.luks_io.specs.Devices.{Appended, ConsumedExactly, IfKnown}
 
 module _ (known : List ℕ) (r r' : Option (List ℕ)) where
   -- m bytes were taken, and then n more of those behind them
@@ -33,14 +32,6 @@ module _ (known : List ℕ) (r r' : Option (List ℕ)) where
       let whole : m + n
       ≡ length known = omega (arith, all (drop m known) before.left, length-drop m known, before.within) in
       (whole, consumed_sum m n (length known) whole before next)
-
--- where all came that was asked for, no end was found
-pub counted-whole : (got asked count : ℕ) → asked ≤ got → counted (nat_lt got asked) count ≡ count
-counted-whole got asked count all = rw (le-ltb got asked all) refl
-
--- where less came, one was
-pub counted-short : (got asked count : ℕ) → got < asked → counted (nat_lt got asked) count ≡ saturating_inc count
-counted-short got asked count few = rw (lt-ltb got asked few) refl
 
 -- before any byte is taken
 pub took-none : (known : List ℕ) (left : Option (List ℕ)) → left ≡ Some known → ConsumedExactly known left 0

@@ -1,5 +1,5 @@
 -- The steps of the loops that move bytes piece by piece.
-use Rattle.std.proofs.Common.{◌≡◌, ◌==◌, ◌&&◌, ℕ, ◌+◌, ◌-◌, ◌≤◌, nat_lt, refl, List, ◌++◌, Option, ◌∙◌, ap, sym, subst}
+use Rattle.std.proofs.Common.{◌≡◌, ◌==◌, ◌&&◌, ℕ, ◌+◌, ◌-◌, ◌≤◌, List, ◌++◌, Option, ◌∙◌, ap, sym, subst}
 use Rattle.std.proofs.Common.{take, drop, length, take_all, length-append, length-drop, length-take-le, append-nil}
 use Rattle.std.proofs.Common.{Some, None, [], min, arith}
 use Rattle.std.specs.Io.KnownBytes.{Appends, Consumes, Keeps}
@@ -7,8 +7,7 @@ use Rattle.std.proofs.KnownBytes.{Consumes-kept, Consumes-trans, Appends-trans}
 use Rattle.std.proofs.Transfers.{drop-appended}
 use Rattle.std.proofs.Math.Seq.{take-add, take-append-add}
 use Rattle.std.proofs.lemmas.List.{take-append-le}
-use Rattle.std.proofs.lemmas.Bool.{ne_eqb}
-use Rattle.luks_io.specs.Devices.{Appended, ConsumedInto, IfKnown, counted}
+use Rattle.luks_io.specs.Devices.{Appended, ConsumedInto, IfKnown}
 use borrow.Rule.Slice.PartMut.{post_of, put_mid}
 
 -- the rest of a list, read as a range, is the rest
@@ -94,7 +93,3 @@ pub adds-all : (a b : Option (List ℕ)) (xs : List ℕ) (at : ℕ) → length x
 adds-all None b xs at all p known is = absurd cc
 adds-all (Some old) None xs at all p known is = absurd p
 adds-all (Some old) (Some new) xs at all p known is = let whole = take_all at xs all in cc
-
--- a read that gave some bytes found no end
-pub counted-some : (got room count : ℕ) → (got ≡ 0 → ⊥) → counted (got == 0 && nat_lt 0 room) count ≡ count
-counted-some got room count some = rw (ne_eqb got 0 some) refl

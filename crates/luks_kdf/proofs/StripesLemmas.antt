@@ -10,7 +10,7 @@ use Rattle.std.specs.Int.{div_ceil, to_be_bytes, w32}
 use Rattle.luks_kdf.specs.declared.hash.Hash.{Hash}
 use Rattle.luks_kdf.specs.Bytes.{joined, xor}
 use Rattle.luks_kdf.specs.Hash.{hash_of, digest_len}
-use Rattle.luks_kdf.specs.Stripes.{AreStripes, AfSplitterModel, IsSplit, chain_after, chain_of, diffused}
+use Rattle.luks_kdf.specs.Stripes.{AfSplitterModel, IsSplit, chain_after, chain_of, diffused}
 use Rattle.luks_kdf.specs.Stripes.{diffused_piece, extended, merged, piece_of, stripe_at}
 use Rattle.luks_kdf.proofs.BytesLemmas.{cut_part, drop_front, joined_more, length-xor, xor-undone}
 use Rattle.luks_kdf.proofs.HashLemmas.{length-hash_of, digest_sizes}
@@ -221,19 +221,6 @@ one_left len bytes (suc m) some one all =
   where
     one_less : (m : ℕ) → suc m - 1 ≡ m
     one_less m = omega arith
-
--- n stripes of one length, as callers know them
-pub are_stripes : (len n : ℕ) (stripes : List ℕ) → 1 ≤ n → n ≤ 4000 → length stripes ≡ n * len
-    → AreStripes len stripes
-are_stripes len n stripes one room whole = (n, one, room, whole)
-
--- the stripes that were given one at a time, and what `last` wrote, are split
-pub split_last : (h : Hash) (random key d last : List ℕ) (before : ℕ)
-    → length random ≡ before * length key
-    → d ≡ chain_of h (length key) random before → last ≡ xor d key
-    → IsSplit h random key (random ++ last)
-split_last h random key d last before whole is_d is_last =
-    (before, whole, ap (λ (l : List ℕ). random ++ l) (is_last ∙ ap (λ (block : List ℕ). xor block key) is_d))
 
 -- a key and its random stripes have one split
 pub IsSplit-unique : (h : Hash) (random key stripes other : List ℕ) → 0 < length key

@@ -1,6 +1,6 @@
 -- Key entries that are tried one after the other.
 use Rattle.std.proofs.Common.{◌≡◌, ◌∙◌, ℕ, ◌+◌, ◌^◌, ◌<◌, ◌≤◌, List, [], ◌∷◌, length, drop, get_or, Option, Some, None}
-use Rattle.std.proofs.Common.{refl, sym, ap, arith}
+use Rattle.std.proofs.Common.{sym, ap, arith}
 use Rattle.std.specs.Prelude.{if◌then◌else◌, is_some, sum_by}
 use Rattle.std.proofs.lemmas.List.{drop_all, drop_more}
 use Rattle.std.proofs.lemmas.List.Sums.{sum_by-cons}
@@ -42,10 +42,6 @@ pub record GoesOn (entries : List Entry) (image pass : List ℕ) (i start now : 
   pub value : first_opening (drop i entries) image pass ≡ first_opening entries image pass
   pub work : capped (now + work_on (drop i entries) image pass) ≡ capped (start + work_on entries image pass)
   pub count : now ≡ capped now
-
-pub go_first : (entries : List Entry) (image pass : List ℕ) (start : ℕ) → start < 2 ^ 128
-    → GoesOn entries image pass 0 start start
-go_first entries image pass start few = record { value = refl; work = refl; count = omega arith }
 
 -- what is left of the key entries, from number i on
 from_entry : (entries : List Entry) (i : ℕ) (entry : Entry) → i < length entries → entry ≡ get_or entries i entry

@@ -136,12 +136,6 @@ usable_there header limit priority number is =
     let there = entry_there header limit number usable.0 usable.1 in
     rw (usable.1, eq-eqb usable.0.parts.priority priority usable.2, there.1) refl
 
--- a key slot that is named and judged one that can be tried is tried alone
-pub named_alone : (entry : Option Entry) (verdict : Option Verdict) (priority : ℕ)
-    → option_map verdict_kind_of verdict ≡ Some (Open priority)
-    → order_of_named entry verdict ≡ Ok record { slots = entries_of entry; skipped = [] }
-named_alone entry verdict priority is = rw (usable_from_open verdict priority is).1 refl
-
 -- ---- where the last of the key material ends
 
 -- what ends there one by one ends there together, and the other way round

@@ -134,8 +134,3 @@ by_ending P end tail short None z len =
     by_test P (len % z == 0) (Ok End) (Err (Tail (len % z))) end (tail (len % z))
 by_ending P end tail short (Some size) z len =
     by_test P (nat_lt len size) (Err (Short (size - len))) (Ok End) (short (size - len)) end
-
--- a payload ends where its image does or before
-pub end_there : (size : Option ℕ) (offset len : ℕ) → payload_end_in size offset len ≤ len
-end_there None offset len = omega arith
-end_there (Some size) offset len = omega arith

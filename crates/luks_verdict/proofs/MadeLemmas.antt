@@ -32,10 +32,6 @@ pub slot_from-yes : (parts : SlotParts) (is : are_in_range parts ≡ true) → s
 unfolding slot_from
 slot_from-yes parts is = ap (option_map (slot_of parts)) (evidence_if-yes (are_in_range parts) is)
 
-pub slot_from-no : (parts : SlotParts) → are_in_range parts ≡ false → slot_from parts ≡ None
-unfolding slot_from
-slot_from-no parts is = ap (option_map (slot_of parts)) (evidence_if-no (are_in_range parts) is)
-
 pub slot_made : (parts : SlotParts) (range : InRange parts.iterations parts.stripes (parts_end parts))
     → are_in_range parts ≡ true → Some (slot_with parts range) ≡ slot_from parts
 unfolding slot_of
@@ -83,13 +79,6 @@ segment_of_all-yes offset size iv_tweak sector_size mode is =
     ap (option_map (segment_by offset size iv_tweak sector_size mode))
     (evidence_if-yes (are_sectors size sector_size) is)
 
-pub segment_of_all-no : (offset : ℕ) (size : Option ℕ) (iv_tweak : ℕ) (sector_size : SectorSize) (mode : Mode)
-    → are_sectors size sector_size ≡ false
-    → segment_of_all (Some offset) (Some size) (Some iv_tweak) (Some sector_size) (Some mode) ≡ None
-segment_of_all-no offset size iv_tweak sector_size mode is =
-    ap (option_map (segment_by offset size iv_tweak sector_size mode))
-    (evidence_if-no (are_sectors size sector_size) is)
-
 pub segment_made : (offset : ℕ) (size : Option ℕ) (iv_tweak : ℕ) (sector_size : SectorSize) (mode : Mode)
     (whole : AreWhole size sector_size)
     → are_sectors size sector_size ≡ true
@@ -132,12 +121,3 @@ pub no_usable_digest-no : (limit : Option ℕ) (parts : DigestParts) → is_usab
     → has_no_usable_digest limit (digest_from parts) ≡ true
 unfolding has_no_usable_digest
 no_usable_digest-no limit parts is = ap (has_no_usable_digest limit) (digest_from-no parts is)
-
--- a digest that was made has the numbers that were read
-pub digest_from-some : (parts : DigestParts) (digest : KeyDigest) → digest_from parts ≡ Some digest
-    → (is : is_usable parts ≡ true) × (digest ≡ digest_of parts is)
-digest_from-some parts digest made = of_test (is_usable parts) refl
-  where
-    of_test : (test : Bool) → is_usable parts ≡ test → (is : is_usable parts ≡ true) × (digest ≡ digest_of parts is)
-    of_test true is = (is, same_Some digest (digest_of parts is) (sym made ∙ digest_from-yes parts is))
-    of_test false is = absurd (none-some digest (sym (digest_from-no parts is) ∙ made))

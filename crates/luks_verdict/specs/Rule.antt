@@ -18,10 +18,6 @@ max_stripes = 4000
 abbrev pub max_iteration_count : ℕ
 max_iteration_count = 4294967295
 
--- the longest key, in bytes, of which four bytes can say the length
-abbrev pub max_key_bytes : ℕ
-max_key_bytes = 4294967295
-
 -- the lengths in bytes of a digest
 abbrev pub min_digest_len : ℕ
 min_digest_len = 20
