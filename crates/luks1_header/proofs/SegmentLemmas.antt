@@ -11,6 +11,7 @@ use Rattle.luks_verdict.specs.declared.refusal.SegmentFault.TheVariants.{Hash as
 use Rattle.luks_verdict.specs.declared.segment.Segment.{Segment}
 use Rattle.luks_verdict.proofs.MadeLemmas.{refused_or-fault, refused_or-none, refused_or-ok}
 use Rattle.luks_verdict.proofs.TableLemmas.{first_not}
+use Rattle.luks_verdict.proofs.VerdictLemmas.{some_from_not_none, true_from_not}
 use Rattle.luks1_header.specs.Segment1.{fault1_of, is_key_length1, made1, segment1_of, segment_parts1_of}
 use Rattle.luks1_header.specs.Segment1.{overlaps_header1}
 use Rattle.luks1_header.specs.Slot1.{hash1_of, mode1_of}
@@ -22,14 +23,6 @@ pub record IsReadable (header : Header1) : Type 0 where
   pub hash : (hash : Hash) × (hash1_of header ≡ Some hash)
   pub key : is_key_length1 (mode1_of header) header.key_bytes ≡ true
   pub behind_header : header.detached ≡ false → 592 ≤ 512 * header.payload_offset
-
-not_false : (b : Bool) → not b ≡ false → b ≡ true
-not_false true h = refl
-not_false false h = cc
-
-some_from_not_none : {T : Type 0} (o : Option T) → is_none o ≡ false → (t : T) × (o ≡ Some t)
-some_from_not_none None h = cc
-some_from_not_none (Some t) h = (t, refl)
 
 -- a payload in the header's image that does not start inside the header starts behind it
 starts_behind : (header : Header1) → overlaps_header1 header ≡ false → header.detached ≡ false
@@ -51,7 +44,7 @@ IsReadable-none header none =
     record {
       mode = some_from_not_none (mode1_of header) mode.0;
       hash = some_from_not_none (hash1_of header) hash.0;
-      key = not_false (is_key_length1 (mode1_of header) header.key_bytes) key.0;
+      key = true_from_not (is_key_length1 (mode1_of header) header.key_bytes) key.0;
       behind_header = starts_behind header offset.0;
     }
 

@@ -11,6 +11,7 @@ use Rattle.luks_verdict.specs.Rule.{stripes_out_of_range, need_of}
 use Rattle.luks_verdict.specs.Slot.{are_in_range, material_end, verdict_by, verdict_kind_of, slot_of}
 use Rattle.luks_verdict.proofs.MadeLemmas.{slot_from-yes}
 use Rattle.luks_verdict.proofs.TableLemmas.{first_not}
+use Rattle.luks_verdict.proofs.VerdictLemmas.{digest_there}
 use Rattle.luks_verdict.specs.declared.digest.KeyDigest.{KeyDigest}
 use Rattle.luks_verdict.specs.declared.refusal.SkipReason.{SkipReason}
 use Rattle.luks_verdict.specs.declared.refusal.SkipReason.TheVariants.{State, Stripes, Iterations, Area, Digest}
@@ -91,12 +92,6 @@ pub record IsOf (header : Header1) (usable : Slot) : Type 0 where
   pub area_mode : usable.parts.area_mode ≡ mode1_of header
   pub before_payload : exceeds (payload1_start header) (material_end usable) ≡ false
   pub digest : (digest : KeyDigest) × (digest1_of header ≡ Some digest)
-
-digest_there : (limit : Option ℕ) (digest : Option KeyDigest) → has_no_usable_digest limit digest ≡ false
-    → (there : KeyDigest) × (digest ≡ Some there)
-unfolding has_no_usable_digest
-digest_there limit None is = absurd cc
-digest_there limit (Some digest) is = (digest, refl)
 
 -- a verdict that it can be tried says that there is no reason to skip it, and what it takes to open it
 of_verdict : (header : Header1) (limit : Option ℕ) (slot : KeySlot) (usable : Slot)

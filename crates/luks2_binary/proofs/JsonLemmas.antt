@@ -1,11 +1,11 @@
 -- The header that an image has stands, with its JSON area, within the bytes that were read to choose it.
 use Rattle.std.proofs.Common.{◌≡◌, ◌∙◌, ℕ, ◌+◌, ◌-◌, ◌≤◌, List, [], ◌∷◌, Option, Some, None, Bool, true, false, ap, sym}
-use Rattle.std.proofs.Common.{refl, take, drop, arith}
+use Rattle.std.proofs.Common.{refl, take, arith}
 use Rattle.std.specs.Prelude.{Ok, nat_lt, ok_or}
-use Rattle.std.proofs.lemmas.List.{drop-take, take-take}
 use Rattle.std.proofs.lemmas.Option.{option_and_then_some}
 use Rattle.luks_kdf.specs.declared.hash.Hash.{Hash}
 use Rattle.luks_area.specs.declared.fault.HeaderFault.TheVariants.{NotLuks}
+use Rattle.luks_area.proofs.FieldLemmas.{at_beginning}
 use Rattle.luks_area.specs.Fields.{at, text_of}
 use Rattle.luks2_binary.specs.Choice2.{with_valid_primary, binary_at, chosen2_of, found_at, header2_of, is_valid}
 use Rattle.luks2_binary.specs.Choice2.{least_valid, size_at}
@@ -169,13 +169,6 @@ json_within image header is =
     let it = stands image header is in
     let whole = valid_parts image it.0 it.1.valid in
     omega (arith, (size_range image header is).0, it.1.here, it.1.size, it.1.reached, whole.1)
-
--- bytes that stand before place n stand in the first n bytes
-at_beginning : (place len n : ℕ) (image : List ℕ) → place + len ≤ n → at place len (take n image) ≡ at place len image
-at_beginning place len n image before =
-    let count : n ≡ place + (n - place) = omega arith in
-    ap (take len) (ap (λ m. drop place (take m image)) count ∙ drop-take place (n - place) image)
-    ∙ take-take len (n - place) (drop place image) (omega arith)
 
 -- so those bytes say the header's JSON text
 pub json_beginning : (image : List ℕ) (header : Header2) → header2_of image ≡ Ok header

@@ -1,10 +1,9 @@
 -- The first bytes of an image, as many as its header costs, have the same header and the same cost.
-use Rattle.std.proofs.Common.{◌≡◌, ◌∙◌, ℕ, ◌+◌, ◌*◌, ◌<◌, ◌≤◌, List, [], ◌∷◌, Option, Some, None, Err, Bool, true}
+use Rattle.std.proofs.Common.{◌≡◌, ◌∙◌, ℕ, ◌+◌, ◌*◌, ◌<◌, ◌≤◌, List, [], ◌∷◌, Option, Some, None, Bool, true}
 use Rattle.std.proofs.Common.{false, ap, sym, refl, inl, inr, take, take_all, length, length-take-le, max, arith}
-use Rattle.std.specs.Prelude.{nat_lt, ok_or, option_and_then}
+use Rattle.std.specs.Prelude.{nat_lt, option_and_then}
 use Rattle.std.proofs.lemmas.Bool.{cases_lt, le-ltb}
-use Rattle.luks_area.specs.declared.fault.HeaderFault.TheVariants.{NotLuks}
-use Rattle.luks2_binary.specs.Choice2.{chosen2_of, found_at, header2_of, is_valid, least_valid, size_at}
+use Rattle.luks2_binary.specs.Choice2.{chosen2_of, found_at, is_valid, least_valid, size_at}
 use Rattle.luks2_binary.specs.ReadLen2.{header2_read_len, reach2_of, probe_end, search_reach}
 use Rattle.luks2_binary.specs.Front2.{IsPrefixOf}
 use Rattle.luks2_binary.specs.Header2.{header2_from, size_in, sizes}
@@ -14,7 +13,6 @@ use Rattle.luks2_binary.proofs.AgreeLemmas.{at-front, fits-front, reach_fit, rea
 use Rattle.luks2_binary.proofs.ChoiceLemmas.{beside_same, chosen_other, chosen_primary, reach_first, reach_other}
 use Rattle.luks2_binary.proofs.ChoiceLemmas.{reach_primary, reach_some}
 use Rattle.luks2_binary.proofs.SearchLemmas.{least_is, search_reach_is}
-use Rattle.luks2_binary.proofs.ValidLemmas.{short-fits, unfit-is_valid}
 use Rattle.luks2_binary.proofs.WalkLemmas.{first_valid, furthest}
 
 first_by : (valid : ℕ → Bool) (reach : ℕ → ℕ) (other : ℕ) (places : List ℕ) (place : ℕ) (b : Bool) → valid other ≡ b
@@ -33,13 +31,6 @@ unfolding first_valid furthest
 first_reach valid reach [] place is = absurd (cc)
 first_reach valid reach (other ∷ places) place is =
     first_by valid reach other places place (valid other) refl (first_reach valid reach places place) is
-
--- of places without a valid header none is the first
-first_none : (valid : ℕ → Bool) (places : List ℕ) → ((place : ℕ) → valid place ≡ false)
-    → first_valid valid places ≡ None
-unfolding first_valid
-first_none valid [] none = refl
-first_none valid (place ∷ places) none = rw (none place) (first_none valid places none)
 
 module _ (held image : List ℕ) (front : IsPrefixOf held false image) where
   reach_same : (place : ℕ) → place + 4096 ≤ length held → probe_end held place ≡ probe_end image place
@@ -156,16 +147,7 @@ module _ (image : List ℕ) where
         (same.0, omega (arith, same.1, long)))
   ]
 
-  -- the first bytes of an image, as many as its header costs, have the same header
-  pub header2_of-take : header2_of (take (header2_read_len image) image) ≡ header2_of image
-  unfolding header2_of
-  header2_of-take = ap (λ chosen. ok_or chosen NotLuks) is_stable.0
-
-  -- and the same cost
-  pub header2_read_len-take : header2_read_len (take (header2_read_len image) image) ≡ header2_read_len image
-  header2_read_len-take = is_stable.1
-
-  -- and end before all that is looked at where it does
+  -- the first bytes of an image, as many as its header costs, end before all that is looked at where it does
   pub falls_short-take : nat_lt (length (take (header2_read_len image) image)) (reach2_of (take
       (header2_read_len image) image))
       ≡ nat_lt (length image) (reach2_of image)
@@ -181,15 +163,3 @@ module _ (image : List ℕ) where
         (omega (arith, long)) in
         le-ltb _ _ (omega (arith, same.1, long)) ∙ sym (le-ltb _ _ enough))
   ]
-
-  -- an image that is shorter than a binary header has none, and is read whole
-  pub short_header2 : length image < 4096 → (header2_of image ≡ Err NotLuks) × (header2_read_len image ≡ length image)
-  unfolding header2_of header2_read_len
-  short_header2 short =
-      let none : (place : ℕ) → is_valid image place ≡ false =
-      λ place. unfit-is_valid image place (short-fits image place (omega arith)) in
-      let least = least_is image ∙ first_none (is_valid image) sizes none in (
-        ap (λ chosen. ok_or chosen NotLuks)
-            (chosen_other image (none 0) ∙ ap (option_and_then (found_at image)) least),
-        omega (arith, reach_some image),
-      )

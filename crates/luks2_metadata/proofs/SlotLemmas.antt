@@ -21,6 +21,7 @@ use Rattle.luks_kdf.specs.declared.hash.Hash.{Hash}
 use Rattle.luks_cipher.specs.Sector.{is_mode_key_length}
 use Rattle.luks2_json.specs.Numbered.{object_numbered}
 use Rattle.luks_verdict.proofs.TableLemmas.{none_holds}
+use Rattle.luks_verdict.proofs.VerdictLemmas.{digest_there, some_from_not_none, true_from_not}
 use Rattle.luks2_json.specs.Encryption.{is_length_for}
 use Rattle.luks2_json.specs.Member.{is_type}
 use Rattle.luks2_metadata.specs.Digest2.{digest2_for}
@@ -54,10 +55,6 @@ key_sizes_few mode slot is =
 pub stripes_few : (stripes : ℕ) → stripes_out_of_range stripes ≡ false → stripes ≤ 4000
 unfolding stripes_out_of_range
 stripes_few stripes is = grind (arith, nat_tests)
-
-not_not : (b : Bool) → not b ≡ false → b ≡ true
-not_not true is = refl
-not_not false is = absurd cc
 
 -- ---- none of the lines of its table holds
 
@@ -173,7 +170,7 @@ pub small_of : (tree : Data) (bounds : Bounds) (number : ℕ) (slot : Data)
 small_of tree bounds number slot none =
     let no = no_reason tree bounds None number slot none in
     let keys = key_sizes_few (payload_mode2_of tree bounds) slot
-    (not_not (are_key_sizes (payload_mode2_of tree bounds) slot) no.key_size) in
+    (true_from_not (are_key_sizes (payload_mode2_of tree bounds) slot) no.key_size) in
     record {
       iterations = iterations_few None (iterations_of_slot slot) no.iterations;
       stripes = stripes_few (stripes_member slot) no.stripes;
@@ -194,10 +191,6 @@ pub record IsOf2 (tree : Data) (bounds : Bounds) (number : ℕ) (usable : Slot) 
   pub behind_header : bounds.end ≤ usable.parts.area_offset
   pub before_payload : exceeds (payload2_of tree bounds) (material_end usable) ≡ false
   pub digest : (digest : KeyDigest) × (digest2_for tree number ≡ Some digest)
-
-some_from_not_none : {T : Type 0} (o : Option T) → is_none o ≡ false → (x : T) × (o ≡ Some x)
-some_from_not_none None is = absurd cc
-some_from_not_none (Some x) is = (x, refl)
 
 neither : (a b : Bool) → (a || b) ≡ false → (a ≡ false) × (b ≡ false)
 neither true b is = absurd cc
@@ -227,12 +220,6 @@ placed start payload offset size need is =
     let room = neither (nat_lt offset start) (nat_lt size need) before.0 in
     (ltb-false offset start room.0, before.1)
 
-digest_there : (limit : Option ℕ) (digest : Option KeyDigest) → has_no_usable_digest limit digest ≡ false
-    → (there : KeyDigest) × (digest ≡ Some there)
-unfolding has_no_usable_digest
-digest_there limit None is = absurd cc
-digest_there limit (Some digest) is = (digest, refl)
-
 -- a verdict that it can be tried says that there is no reason to skip it, and what it takes to open it
 of_verdict : (reason : Option SkipReason) (made : Option Slot) (usable : Slot) → verdict_by reason made ≡ Usable usable
     → (reason ≡ None) × (made ≡ Some usable)
@@ -250,7 +237,7 @@ usable_is tree bounds limit number slot usable is =
     let there = slot_there tree bounds limit number slot verdict.0 in
     let same : usable ≡ slot_of (slot_parts2_of slot) there.0 = same_Some _ _ (sym verdict.1 ∙ there.1) in
     let hashes = known_hashes slot no.hash in
-    let sizes = both _ _ (not_not _ no.key_size) in
+    let sizes = both _ _ (true_from_not _ no.key_size) in
     let place = placed bounds.end (payload2_of tree bounds) (area_offset_of slot) (area_size_of slot)
     (need_of (key_size_of slot) (stripes_member slot)) no.area in
     let known : IsOf2 tree bounds number (slot_of (slot_parts2_of slot) there.0) = record {

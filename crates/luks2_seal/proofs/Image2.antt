@@ -9,10 +9,9 @@ use Rattle.std.proofs.lemmas.List.{take_all}
 use Rattle.std.proofs.lemmas.List.Elements.{All-head, All-tail}
 use Rattle.luks_area.specs.Fields.{at}
 use Rattle.luks_cipher.proofs.ModeLemmas.{longest_mode_key}
+use Rattle.luks_verdict.proofs.SectorLemmas.{sector_blocks}
 use Rattle.luks_verdict.specs.Rule.{need_of}
 use Rattle.luks_verdict.specs.SectorSize.{bytes_of}
-use Rattle.luks_verdict.specs.declared.sector_size.SectorSize.{SectorSize}
-use Rattle.luks_verdict.specs.declared.sector_size.SectorSize.TheVariants.{B512, B1024, B2048, B4096}
 use Rattle.luks_seal.specs.Pieces.{encrypted_material, padded, stripes_of}
 use Rattle.luks_seal.specs.declared.parameters.Seal2.{Seal2}
 use Rattle.luks_seal.specs.declared.parameters.Slot2.{Slot2}
@@ -48,13 +47,6 @@ abbrev pub material2_of : Seal2 → Slot2 → List ℕ
 material2_of p slot =
     encrypted_material (p.area_mode, area_key_of p slot)
     (stripes_of slot.af_hash p.key.now slot.stripes slot.random.now)
-
--- each sector has whole blocks
-pub whole_blocks : (size : SectorSize) → bytes_of size % 16 ≡ 0
-whole_blocks B512 = refl
-whole_blocks B1024 = refl
-whole_blocks B2048 = refl
-whole_blocks B4096 = refl
 
 module _ (p : Seal2) (fits : AreParameters2 p) (json : FitsJson p) (typed : AreTyped2 p) where
   -- ---- lengths
@@ -124,7 +116,7 @@ module _ (p : Seal2) (fits : AreParameters2 p) (json : FitsJson p) (typed : AreT
   unfolding payload_of
   length-payload =
       length-sectors_encrypted (p.mode, p.key.now) p.iv_tweak (bytes_of p.sector_size / 512) (bytes_of p.sector_size)
-      p.plain.now (whole_blocks p.sector_size) fits.plain.0
+      p.plain.now (sector_blocks p.sector_size).blocks fits.plain.0
 
   pub length-image : length (image2_of p) ≡ p.offset + length p.plain.now
   unfolding image2_of

@@ -15,6 +15,7 @@ use Rattle.luks_header.specs.declared.header.Header.TheVariants.{V2}
 use Rattle.luks_seal.specs.Sealed.{EndsWith, GivesKey, Sealed, SealsKey, SealsPlain}
 use Rattle.luks_seal.specs.declared.parameters.Seal2.{Seal2}
 use Rattle.luks_seal.specs.declared.parameters.Slot2.{Slot2}
+use Rattle.luks_verdict.proofs.SectorLemmas.{sector_blocks}
 use Rattle.luks_seal.proofs.MaterialLemmas.{gives_key}
 use Rattle.luks_seal.proofs.SectorLemmas.{sectors_stand}
 use Rattle.luks2_seal.specs.Layout2.{area_key_of, image2_of, payload_of}
@@ -25,7 +26,6 @@ use Rattle.luks2_seal.specs.Ranges2.{AreParameters2, FitsSlot2}
 use Rattle.luks2_seal.specs.Typed2.{AreTyped2, IsTypedSlot2}
 use Rattle.luks2_seal.proofs.Digest2.{digest_is, digest_read, of_key}
 use Rattle.luks2_seal.proofs.Image2.{area_before, area_behind, drawn, image_material, image_payload, length-image}
-use Rattle.luks2_seal.proofs.Image2.{whole_blocks}
 use Rattle.luks2_seal.proofs.Keyslot2.{IsPlaced, parts_of}
 use Rattle.luks2_seal.proofs.Slots2.{numbered_each}
 use Rattle.luks2_seal.proofs.Read2.{bounds_there, header_is, header_read}
@@ -95,7 +95,7 @@ module _ (p : Seal2) (fits : AreParameters2 p) (json : FitsJson p) (back : Reads
       let long = length-image p fits json typed in
       record {
         stands = sectors_stand (p.mode, p.key.now) p.iv_tweak (bytes_of p.sector_size / 512) (bytes_of p.sector_size)
-            p.plain.now (whole_blocks p.sector_size) fits.plain.0 p.offset (image2_of p) typed.plain
+            p.plain.now (sector_blocks p.sector_size).blocks fits.plain.0 p.offset (image2_of p) typed.plain
             (omega (arith, long)) (image_payload p fits json typed);
         ends = ends_there p.fixed p.plain.now (image2_of p) (p.offset + length p.plain.now) long;
       }

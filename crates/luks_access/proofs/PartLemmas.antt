@@ -1,47 +1,22 @@
 -- Parts of what is joined, and sectors decrypted one after the other.
 use Rattle.std.proofs.Common.{◌≡◌, ℕ, zero, suc, ◌+◌, ◌-◌, ◌*◌, ◌/◌, ◌%◌, ◌<◌, ◌≤◌, List, [], ◌++◌, length, take, drop}
-use Rattle.std.proofs.Common.{length-append, length-drop, length-take-le, append-nil, append_assoc, add-one, arith}
-use Rattle.std.proofs.Common.{refl, sym, ap, ◌∙◌, Option, None, Some}
+use Rattle.std.proofs.Common.{length-drop, length-take-le, append-nil, append_assoc, add-one, arith}
+use Rattle.std.proofs.Common.{refl, sym, ap, ◌∙◌}
 use Rattle.std.proofs.lemmas.List.{drop-drop, drop-take, take-take, drop_all}
 use Rattle.std.proofs.Math.Nat.{div-mul-le_self, mod-eq-sub-div-mul, mul-le-mul_right}
-use Rattle.luks_cipher.proofs.ModeLemmas.{length-sector_decrypted}
+use Rattle.luks_cipher.proofs.UnitsUndone.{joined_same}
 use Rattle.luks_cipher.specs.Sector.{Cipher, sector_decrypted}
 use Rattle.luks_cipher.specs.Xts.{joined}
 use Rattle.luks_kdf.proofs.BytesLemmas.{take_front, drop_front}
-use Rattle.luks_header.specs.SectorSize.{bytes_of}
-use Rattle.luks_verdict.specs.declared.sector_size.SectorSize.{SectorSize}
-use Rattle.luks_verdict.specs.declared.sector_size.SectorSize.TheVariants.{B512, B1024, B2048, B4096}
 use Rattle.luks_verdict.specs.declared.segment.Segment.{Segment}
 use Rattle.luks_payload.specs.Plain.{payload_len, plain_of, sector_len, sector_plaintext, sector_start, sectors_of}
 use Rattle.luks_payload.specs.Plain.{unit_number, unit_plain, payload_bytes}
+use Rattle.luks_verdict.proofs.SectorLemmas.{sector_blocks}
+use Rattle.luks_payload.proofs.SectorLemmas.{one_more_fits}
+use Rattle.luks_runs.proofs.PayloadLemmas.{joined_length, unit_len, within_len}
 use Rattle.luks_access.specs.Sectors.{AreStored, plain_at, plain_in, sector_in}
 
-pub record IsSectorLen (z : ℕ) : Type 0 where
-  pub long : 512 ≤ z
-  pub short : z ≤ 4096
-  pub blocks : z % 16 ≡ 0
-
-pub sector_blocks : (size : SectorSize) → IsSectorLen (bytes_of size)
-sector_blocks B512 = record { long = omega arith; short = omega arith; blocks = refl }
-sector_blocks B1024 = record { long = omega arith; short = omega arith; blocks = refl }
-sector_blocks B2048 = record { long = omega arith; short = omega arith; blocks = refl }
-sector_blocks B4096 = record { long = omega arith; short = omega arith; blocks = refl }
-
--- below so many whole sectors there is one more
-pub one_more_fits : (n size z : ℕ) → n < size / z → n * z + z ≤ size
-one_more_fits n size z below =
-    let more : n + 1 ≤ size / z = omega arith in
-    let all = mul-le-mul_right z more in
-    omega (arith, div-mul-le_self size z, all)
-
 -- ---- pieces joined
-
-joined_length : (f : ℕ → List ℕ) (z n : ℕ) → ((j : ℕ) → j < n → length (f j) ≡ z) → length (joined f n) ≡ n * z
-unfolding joined
-joined_length f z zero sizes = omega arith
-joined_length f z (suc n) sizes =
-    let before = joined_length f z n (λ j low. sizes j (omega arith)) in
-    rw (length-append (joined f n) (f n), before, sizes n (omega arith)) (omega arith)
 
 -- the pieces before number a, and then n more
 joined_both : (f : ℕ → List ℕ) (a n : ℕ) → joined f (a + n) ≡ joined f a ++ joined (λ j. f (a + j)) n
@@ -54,12 +29,6 @@ joined_both f a (suc n) =
     rw e
     (ap (λ l. l ++ f (a + n)) (joined_both f a n)
     ∙ append_assoc (joined f a) (joined (λ j. f (a + j)) n) (f (a + n)))
-
-joined_same : (f g : ℕ → List ℕ) (n : ℕ) → ((j : ℕ) → j < n → f j ≡ g j) → joined f n ≡ joined g n
-unfolding joined
-joined_same f g zero same = refl
-joined_same f g (suc n) same =
-    rw (joined_same f g n (λ j low. same j (omega arith)), same n (omega arith)) refl
 
 -- n pieces from number a on are a part of what is joined
 pub joined_part : (f : ℕ → List ℕ) (z a n total : ℕ) → ((j : ℕ) → j < total → length (f j) ≡ z) → a + n ≤ total
@@ -77,11 +46,6 @@ joined_part f z a n total sizes few =
     ∙ take_front (n * z) (joined g n) (joined (λ j. g (n + j)) rest) middle)))
 
 -- ---- sectors decrypted in turn
-
-unit_len : (cipher : Cipher) (number : ℕ) (unit : List ℕ) → length unit % 16 ≡ 0
-    → length (unit_plain cipher number unit) ≡ length unit
-unfolding unit_plain
-unit_len cipher number unit whole = length-sector_decrypted cipher number unit whole
 
 -- a piece of a list that is there whole
 piece_len : (z j : ℕ) (l : List ℕ) → j * z + z ≤ length l → length (take z (drop (j * z) l)) ≡ z
@@ -152,10 +116,6 @@ module _ (s : Segment) (cipher : Cipher) (first : ℕ) (stored : List ℕ) where
           omega (arith, mod-eq-sub-div-mul len size, div-mul-le_self len size, product)
 
 -- ---- sectors of an image
-
-within_len : (size : Option ℕ) (len : ℕ) → payload_bytes size len ≤ len
-within_len None len = omega arith
-within_len (Some size) len = omega arith
 
 module _ (s : Segment) (cipher : Cipher) (image : List ℕ) where
   -- a sector of the payload has its length

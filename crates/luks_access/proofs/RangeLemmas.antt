@@ -13,31 +13,12 @@ use Rattle.luks_verdict.specs.declared.sector_size.SectorSize.{SectorSize}
 use Rattle.luks_verdict.specs.declared.sector_size.SectorSize.TheVariants.{B512, B1024, B2048, B4096}
 use Rattle.luks_verdict.specs.declared.segment.Segment.{Segment}
 use Rattle.luks_cipher.specs.Sector.{Cipher}
-use Rattle.luks_payload.specs.Plain.{plain_of, sector_len, sectors_of, payload_bytes}
-use Rattle.luks_access.specs.Image.{IsAt}
+use Rattle.luks_payload.specs.Plain.{plain_of, sector_len, payload_bytes}
 use Rattle.luks_access.specs.Range.{IsRangeOf, ReadsRange, text_len}
 use Rattle.luks_access.specs.declared.fault.RangeFault.{RangeFault}
 use Rattle.luks_access.specs.declared.fault.RangeFault.TheVariants.{PastEnd, Read, Shorter}
-use Rattle.luks_access.specs.Sectors.{AreStored}
 
 -- ---- numbers of sectors, at each of their lengths
-
--- from an offset at which a sector begins, so many bytes of whole sectors within a text of `len` bytes
-pub record AreSectors (z offset n total : ℕ) : Type 0 where
-  pub start : offset / z * z ≡ offset
-  pub within : offset / z + n / z ≤ total
-  pub few : offset / z + n / z ≤ offset + n
-
-pub are_stored_sectors : (size : SectorSize) (offset n total : ℕ) → offset % bytes_of size ≡ 0 → n % bytes_of size ≡ 0
-    → offset + n ≤ total * bytes_of size → AreSectors (bytes_of size) offset n total
-are_stored_sectors B512 offset n total start whole inside =
-    record { start = omega arith; within = omega arith; few = omega arith }
-are_stored_sectors B1024 offset n total start whole inside =
-    record { start = omega arith; within = omega arith; few = omega arith }
-are_stored_sectors B2048 offset n total start whole inside =
-    record { start = omega arith; within = omega arith; few = omega arith }
-are_stored_sectors B4096 offset n total start whole inside =
-    record { start = omega arith; within = omega arith; few = omega arith }
 
 -- the sector that a byte is in, of a text of `len` bytes, which is whole sectors
 pub record IsSector (z offset len : ℕ) : Type 0 where
@@ -76,22 +57,6 @@ range_joined text a b offset first second =
     ∙ ap (λ l. a ++ l)
     (ap (take (length b)) (drop-drop (length a) offset text ∙ ap (λ k. drop k text) (omega arith)) ∙ sym second)) in
     sym (ap (λ k. take k (drop offset text)) (length-append a b) ∙ joined)
-
--- ---- sectors of an image
-
-module _ (s : Segment) (known : List ℕ) (len : ℕ) (all : text_len s known ≡ len) where
-  -- stored bytes of whole sectors
-  pub stored_at : (offset : ℕ) (stored : List ℕ) → IsAt known (s.offset + offset) stored
-      → offset % sector_len s ≡ 0 → length stored % sector_len s ≡ 0 → offset + length stored ≤ len
-      → AreStored s known (offset / sector_len s) stored
-  stored_at offset stored at start whole inside =
-      let are = are_stored_sectors s.sector_size offset (length stored) (sectors_of s known) start whole (rw all inside)
-      in
-      record {
-        there = at.same
-            ∙ ap (λ k. take (length stored) (drop (s.offset + k) known)) (sym are.start);
-        within = are.within;
-      }
 
 -- ---- parts that were read
 

@@ -1,16 +1,14 @@
 -- What is read of a volume that C keeps is what was stored.
 use Rattle.std.proofs.Common.{◌≡◌, ◌∙◌, ℕ, ◌+◌, ◌-◌, ◌*◌, ◌/◌, ◌%◌, ◌^◌, ◌≤◌, Bool, true, false, List, length}
-use Rattle.std.proofs.Common.{Option, None, Some, Result, Err, sym, ap, arith, refl, drop, take}
-use Rattle.std.proofs.lemmas.Bool.Decides.{nat_tests}
+use Rattle.std.proofs.Common.{Option, None, Some, sym, ap, refl, drop, take}
 use Rattle.std.proofs.lemmas.Bool.{false≢true}
 use Rattle.std.proofs.lemmas.Option.{none-some, same_Some}
-use Rattle.std.specs.Prelude.{◌==◌, if◌then◌else◌, nat_lt, option_map}
+use Rattle.std.specs.Prelude.{◌==◌, if◌then◌else◌, option_map}
 use Rattle.luks_access.proofs.PartLemmas.{part_of_plain}
 use Rattle.luks_access.proofs.RangeLemmas.{text_is_long}
 use Rattle.luks_access.specs.Opens.{cipher_of, plaintext_of}
 use Rattle.luks_unlock.specs.declared.unlocked.UnlockedVolume.{UnlockedVolume}
 use Rattle.luks_access.specs.Sectors.{AreStored, plain_at, plain_in}
-use Rattle.luks_cipher.proofs.ModeLemmas.{key_length_of_mode}
 use Rattle.luks_cipher.specs.Sector.{Cipher, is_mode_key_length}
 use Rattle.luks_cipher.specs.declared.mode.Mode.{Mode}
 use Rattle.luks_cipher.specs.declared.mode.Mode.TheVariants.{XtsPlain64, XtsPlain, CbcEssivSha256, CbcPlain64}
@@ -21,10 +19,7 @@ use Rattle.luks_verdict.specs.declared.sector_size.SectorSize.{SectorSize}
 use Rattle.luks_verdict.specs.declared.sector_size.SectorSize.TheVariants.{B512, B1024, B2048, B4096}
 use Rattle.luks_verdict.specs.declared.segment.Segment.{Segment}
 use Rattle.luks_cipher.specs.Xts.{joined}
-use Rattle.luks_payload.specs.Plain.{ending_of, ending_of_len, sector_len, unit_plain, payload_bytes}
-use Rattle.luks_payload.specs.declared.fault.VolumeFault.{VolumeFault}
-use Rattle.luks_payload.specs.declared.fault.VolumeFault.TheVariants.{CutBeforePayload}
-use Rattle.luks_payload.specs.declared.state.Step.{Step}
+use Rattle.luks_payload.specs.Plain.{sector_len, unit_plain, payload_bytes}
 use Rattle.luks_c.specs.Answers.{decrypt_code, range_code, segment_code}
 use Rattle.luks_c.specs.Stored.{Stores, cipher_in, has_size_of, mode_in, mode_number, sector_size_in, segment_in}
 use Rattle.luks_c.specs.Stored.{size_stored_in, size_or_zero}
@@ -170,15 +165,6 @@ module _ (c : LuksrdVolume) (v : UnlockedVolume) (stored : Stores c v) (z : Sect
   len_for len is =
       text_is_long v.segment (cipher_of v) image image_len len long (rw (z_is, size_is_its, stored.offset) at is)
 
-  pub ending_for : (r : Result Step VolumeFault)
-      → r ≡ (if nat_lt image_len c.offset then Err CutBeforePayload
-      else ending_of_len size (bytes_of z) (image_len - c.offset))
-      → r ≡ ending_of v.segment image
-  ending_for r is =
-      let its = rw (z_is, size_is_its, stored.offset) at is in
-      its ∙ ap (λ n. if nat_lt n v.segment.offset then Err CutBeforePayload
-      else ending_of_len v.segment.size (sector_len v.segment) (n - v.segment.offset)) (sym long)
-
 -- stored sectors became that part of the plain text
 pub decrypted_for : (c : LuksrdVolume) (v : UnlockedVolume) (image : List ℕ) → Stores c v → (s : Segment)
     (cipher : Cipher) (first : ℕ) (old new : List ℕ) → Some s ≡ segment_in c → cipher ≡ cipher_in c s.mode
@@ -196,7 +182,3 @@ decrypted_for c v image stored s cipher first old new is_segment is_cipher whole
     ∙ (ap (λ (k : Cipher). plain_in s k first old) (is_cipher ∙ mode)
     ∙ (same_plain s v.segment (cipher_of v) first old (its.iv_is ∙ stored.iv_tweak) its.sector_is
     ∙ part_of_plain v.segment (cipher_of v) image first old sectors are))
-
--- a volume key has at most 64 bytes
-pub short_key : (mode : Mode) (n : ℕ) → is_mode_key_length mode n ≡ true → n ≤ 64
-short_key mode n is = let known = key_length_of_mode mode n is in grind (arith, nat_tests)

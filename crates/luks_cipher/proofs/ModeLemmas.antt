@@ -22,7 +22,7 @@ longest_mode_key mode n is =
     grind (arith, nat_tests)
 
 -- a unit of whole blocks is as long as before
-blocks_length : (f : ℕ → List ℕ) (unit : List ℕ) → ((j : ℕ) → length (f j) ≡ 16) → length unit % 16 ≡ 0
+pub blocks_length : (f : ℕ → List ℕ) (unit : List ℕ) → ((j : ℕ) → length (f j) ≡ 16) → length unit % 16 ≡ 0
     → length (joined f (length unit / 16)) ≡ length unit
 blocks_length f unit sizes whole = joined_length f (length unit / 16) (λ j low. sizes j) ∙ omega arith
 

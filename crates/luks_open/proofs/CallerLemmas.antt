@@ -1,15 +1,14 @@
 -- What callers know of the key material that is tried, and of what opens.
-use Rattle.std.proofs.Common.{◌≡◌, ◌∙◌, ℕ, false, zero, suc, ◌+◌, ◌-◌, ◌*◌, ◌/◌, ◌<◌, ◌≤◌, List, [], ◌∷◌, ◌++◌, take}
-use Rattle.std.proofs.Common.{drop, Option, Some, None, Ok, refl, ap, arith}
+use Rattle.std.proofs.Common.{◌≡◌, ◌∙◌, ℕ, false, ◌+◌, ◌-◌, ◌*◌, ◌/◌, ◌<◌, ◌≤◌, List, [], ◌∷◌, ◌++◌, take}
+use Rattle.std.proofs.Common.{Option, Some, None, Ok, refl, ap, arith}
 use Rattle.std.specs.List.{AllByRecursion}
-use Rattle.std.proofs.lemmas.List.{drop-take, take-take}
+use Rattle.luks_cipher.proofs.UnitsUndone.{joined_same}
 use Rattle.luks_cipher.specs.Sector.{Cipher, sector_decrypted}
-use Rattle.luks_cipher.specs.Xts.{joined}
 use Rattle.luks_cipher.specs.declared.mode.Mode.{Mode}
 use Rattle.luks_kdf.specs.Pbkdf2.{derived_key}
 use Rattle.luks_kdf.specs.Stripes.{merged}
 use Rattle.luks_kdf.specs.declared.hash.Hash.{Hash}
-use Rattle.luks_area.specs.Fields.{at}
+use Rattle.luks_area.proofs.FieldLemmas.{at_beginning}
 use Rattle.luks_header.specs.Header.{is_detached}
 use Rattle.luks_header.specs.HeaderSegment.{segment_of}
 use Rattle.luks_verdict.specs.Rule.{need_of}
@@ -40,21 +39,6 @@ held_before_payload header segment named limit order attached is_segment is_orde
       before_payload header segment limit entry.number entry.slot attached is_segment all.0.usable,
       of_entries entries all.1,
     )
-
--- bytes that stand before place n stand in the first n bytes
-at_beginning : (place len n : ℕ) (image : List ℕ) → place + len ≤ n → at place len (take n image) ≡ at place len image
-at_beginning place len n image before =
-    let count : n ≡ place + (n - place) = omega arith in
-    ap (take len) (ap (λ m. drop place (take m image)) count ∙ drop-take place (n - place) image)
-    ∙ take-take len (n - place) (drop place image) (omega arith)
-
--- pieces that are the same one by one are the same together
-joined_same : (f g : ℕ → List ℕ) (count : ℕ) → ((i : ℕ) → i < count → f i ≡ g i) → joined f count ≡ joined g count
-unfolding joined
-joined_same f g zero same = refl
-joined_same f g (suc i) same =
-    ap (λ l. l ++ f i) (joined_same f g i (λ j below. same j (omega arith)))
-    ∙ ap (λ l. joined g i ++ l) (same i (omega arith))
 
 -- key material that stands before place n stands in the first n bytes
 unlocked_beginning : (af : Hash) (cipher : Cipher) (image : List ℕ) (offset key_bytes stripes n : ℕ)

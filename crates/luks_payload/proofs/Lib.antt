@@ -1,3 +1,3 @@
 mod ForwardingLemmas
-mod SectorLemmas
+pub mod SectorLemmas
 mod StepLemmas

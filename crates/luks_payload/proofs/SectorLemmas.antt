@@ -7,27 +7,12 @@ use Rattle.std.proofs.lemmas.Bool.{le-ltb}
 use Rattle.std.proofs.lemmas.Nat.{div-mul-add}
 use Rattle.std.proofs.Math.Nat.{div-mul-le_self, mod-eq-sub-div-mul, le-div_iff_mul-le, mul-le-mul_right}
 use Rattle.std.proofs.Math.Nat.{mul-le-mul_left, zero-div}
-use Rattle.luks_verdict.specs.SectorSize.{bytes_of}
-use Rattle.luks_verdict.specs.declared.sector_size.SectorSize.{SectorSize}
-use Rattle.luks_verdict.specs.declared.sector_size.SectorSize.TheVariants.{B512, B1024, B2048, B4096}
 use Rattle.luks_payload.specs.SectorEffects.{max_sectors_of}
 use Rattle.luks_payload.specs.Plain.{payload_end_in, ending_of_len, payload_bytes}
 use Rattle.luks_payload.specs.declared.fault.VolumeFault.{VolumeFault}
 use Rattle.luks_payload.specs.declared.fault.VolumeFault.TheVariants.{Tail, Short}
 use Rattle.luks_payload.specs.declared.state.Step.{Step}
 use Rattle.luks_payload.specs.declared.state.Step.TheVariants.{End}
-
-pub at_least_512 : (size : SectorSize) → 512 ≤ bytes_of size
-at_least_512 B512 = omega arith
-at_least_512 B1024 = omega arith
-at_least_512 B2048 = omega arith
-at_least_512 B4096 = omega arith
-
-pub at_most_4096 : (size : SectorSize) → bytes_of size ≤ 4096
-at_most_4096 B512 = omega arith
-at_most_4096 B1024 = omega arith
-at_most_4096 B2048 = omega arith
-at_most_4096 B4096 = omega arith
 
 -- below so many whole sectors there is one more
 pub one_more_fits : (n size z : ℕ) → n < size / z → n * z + z ≤ size

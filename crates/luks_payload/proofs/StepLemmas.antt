@@ -17,6 +17,7 @@ use Rattle.luks_payload.specs.SectorEffects.{PositionedAt, AbortsDiscarding, Abo
 use Rattle.luks_payload.specs.SectorEffects.{is_cut, is_pump_write_failure, max_sectors}
 use Rattle.luks_payload.specs.Plain.{payload_end_in, ending_of_len, payload_end_of, payload_len, sector_len}
 use Rattle.luks_payload.specs.Plain.{sector_plaintext, sector_start, unit_number, unit_plain}
+use Rattle.luks_verdict.proofs.SectorLemmas.{sector_blocks}
 use Rattle.luks_payload.specs.PumpEffects.{EndEffect, EndsAt, MayAnswer, PumpModel, SkipEffect, SkipsAgain}
 use Rattle.luks_payload.specs.PumpEffects.{PositionedIn, StepEffect, ConsumesSector}
 use Rattle.luks_payload.specs.PumpEffects.{WritesSectors, hits_eof_at, is_running, consumed_by, state_after_skip}
@@ -26,7 +27,7 @@ use Rattle.luks_payload.specs.declared.fault.VolumeFault.{VolumeFault}
 use Rattle.luks_payload.specs.declared.fault.VolumeFault.TheVariants.{CutBeforePayload, Tail, Short, Read, Write}
 use Rattle.luks_payload.specs.declared.state.Step.{Step}
 use Rattle.luks_payload.specs.declared.state.Step.TheVariants.{Sector, End}
-use Rattle.luks_payload.proofs.SectorLemmas.{all_whole, at_least_512, at_limit, at_limit_end, before_end, by_ending}
+use Rattle.luks_payload.proofs.SectorLemmas.{all_whole, at_limit, at_limit_end, before_end, by_ending}
 use Rattle.luks_payload.proofs.SectorLemmas.{ends_at_end, ends_before, is_whole, is_within, none_whole}
 
 module _ (s : Segment) (image : List ℕ) (count : ℕ) where
@@ -59,7 +60,7 @@ module _ (s : Segment) (image : List ℕ) (count : ℕ) where
         → IfKnown left (λ rest. ConsumedExactly rest left' (sector_len s - length front))
         → ConsumesSector image s count (sector_start s count + length front) left'
     takes_sector left' below next =
-        let least = at_least_512 s.sector_size in
+        let least = (sector_blocks s.sector_size).long in
         let within = (next (drop (sector_start s count + length front) image) stands.took.left).within in
         record {
           is_one = is_whole (sector_len s) (omega arith) s.size count (payload_len s image) below
@@ -75,7 +76,7 @@ module _ (s : Segment) (image : List ℕ) (count : ℕ) where
         after fault)
         → StepEffect s cipher count (sector_start s count + length front) image (Err fault) left' before after
     steps_broken cipher left' b a Read below stops =
-        let least = at_least_512 s.sector_size in
+        let least = (sector_blocks s.sector_size).long in
         let (count', few, next) = stops (drop (sector_start s count + length front) image) stands.took.left in
         let within = next.within in
         let end = is_within (sector_len s) (omega arith) s.size count s.offset (length image)
@@ -114,7 +115,7 @@ module _ (s : Segment) (image : List ℕ) (count : ℕ) where
         → answer ≡ ending_of_len s.size (sector_len s) (count * sector_len s + got)
         → StepEffect s cipher count (sector_start s count + length front) image answer left' before after
     steps_torn cipher left' b a answer got below next torn is =
-        let least = at_least_512 s.sector_size in
+        let least = (sector_blocks s.sector_size).long in
         let some : 0 < sector_len s = omega arith in
         let rest = drop (sector_start s count + length front) image in
         let whole : length image ≡ s.offset + (count * sector_len s + got) =
@@ -140,7 +141,7 @@ module _ (s : Segment) (image : List ℕ) (count : ℕ) where
         → length image < 2 ^ 64
         → StepEffect s cipher count (sector_start s count + length front) image (Ok End) left before after
     steps_at_limit cipher b a is few =
-        let least = at_least_512 s.sector_size in
+        let least = (sector_blocks s.sector_size).long in
         let some : 0 < sector_len s = omega arith in
         let from : sector_start s count ≤ length image = omega (arith, there) in
         let behind : nat_lt (length image) s.offset ≡ false = le-ltb (length image) s.offset (omega (arith, there)) in

@@ -9,10 +9,8 @@ use Rattle.std.proofs.Math.Seq.{drop-nil, take-append-add}
 use Rattle.luks_cipher.proofs.ModeLemmas.{length-sector_decrypted}
 use Rattle.luks_cipher.specs.Sector.{Cipher}
 use Rattle.luks_cipher.specs.Xts.{joined}
-use Rattle.luks_header.specs.SectorSize.{bytes_of}
-use Rattle.luks_verdict.specs.declared.sector_size.SectorSize.{SectorSize}
-use Rattle.luks_verdict.specs.declared.sector_size.SectorSize.TheVariants.{B512, B1024, B2048, B4096}
 use Rattle.luks_verdict.specs.declared.segment.Segment.{Segment}
+use Rattle.luks_verdict.proofs.SectorLemmas.{sector_blocks}
 use Rattle.luks_io.proofs.Consuming.{adds-more, adds-none}
 use Rattle.luks_io.specs.Counts.{Reads, with_ahead}
 use Rattle.luks_io.specs.Devices.{Appended, ConsumedExactly}
@@ -34,18 +32,7 @@ use Rattle.luks_report.specs.declared.message.Message.TheVariants.{Done}
 
 -- ---- lengths
 
--- a sector is whole blocks of the cipher
-record IsSectorLen (z : ℕ) : Type 0 where
-  long : 512 ≤ z
-  blocks : z % 16 ≡ 0
-
-sector_blocks : (size : SectorSize) → IsSectorLen (bytes_of size)
-sector_blocks B512 = record { long = omega arith; blocks = refl }
-sector_blocks B1024 = record { long = omega arith; blocks = refl }
-sector_blocks B2048 = record { long = omega arith; blocks = refl }
-sector_blocks B4096 = record { long = omega arith; blocks = refl }
-
-joined_length : (f : ℕ → List ℕ) (z n : ℕ) → ((j : ℕ) → j < n → length (f j) ≡ z) → length (joined f n) ≡ n * z
+pub joined_length : (f : ℕ → List ℕ) (z n : ℕ) → ((j : ℕ) → j < n → length (f j) ≡ z) → length (joined f n) ≡ n * z
 unfolding joined
 joined_length f z zero sizes = omega arith
 joined_length f z (suc n) sizes =
@@ -80,12 +67,12 @@ take_whole f z n k sizes below = elim (cases_lt k n) [
       rw e (take_all (n * z) (joined f n) (omega (arith, joined_length f z n sizes)))
 ]
 
-unit_len : (cipher : Cipher) (number : ℕ) (unit : List ℕ) → length unit % 16 ≡ 0
+pub unit_len : (cipher : Cipher) (number : ℕ) (unit : List ℕ) → length unit % 16 ≡ 0
     → length (unit_plain cipher number unit) ≡ length unit
 unfolding unit_plain
 unit_len cipher number unit whole = length-sector_decrypted cipher number unit whole
 
-within_len : (size : Option ℕ) (len : ℕ) → payload_bytes size len ≤ len
+pub within_len : (size : Option ℕ) (len : ℕ) → payload_bytes size len ≤ len
 within_len None len = omega arith
 within_len (Some size) len = omega arith
 

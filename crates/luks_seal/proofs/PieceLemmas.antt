@@ -2,25 +2,18 @@
 use Rattle.std.proofs.Common.{◌≡◌, ◌∙◌, ℕ, ◌+◌, ◌-◌, ◌*◌, ◌≤◌, List, [], ◌++◌, length, take, drop, refl, sym, ap, arith}
 use Rattle.std.proofs.Common.{◌<◌, ◌/◌, ◌%◌, add-one}
 use Rattle.std.proofs.lemmas.Grind.{common_steps}
-use Rattle.std.proofs.Math.Seq.{take-append_seam}
 use Rattle.std.proofs.Math.Nat.{eq_of_mul-eq-mul_right}
 use Rattle.luks_cipher.specs.Sector.{Cipher, sector_encrypted}
 use Rattle.luks_cipher.specs.Xts.{joined}
+use Rattle.luks_kdf.proofs.BytesLemmas.{take_front}
 use Rattle.luks_kdf.specs.Bytes.{xor}
 use Rattle.luks_kdf.specs.Stripes.{IsSplit, chain_of}
 use Rattle.luks_kdf.specs.declared.hash.Hash.{Hash}
-use Rattle.luks_verdict.specs.SectorSize.{bytes_of}
-use Rattle.luks_verdict.specs.declared.sector_size.SectorSize.{SectorSize}
-use Rattle.luks_verdict.specs.declared.sector_size.SectorSize.TheVariants.{B512, B1024, B2048, B4096}
 use Rattle.luks_seal.specs.Pieces.{encrypted_sector, stripes_of, wrapping_number}
 
--- a vector of so many bytes that were all written anew has what was written
-pub written : (len : ℕ) (new rest : List ℕ) → length new ≡ len → take len (new ++ rest) ≡ new
-written len new rest is = ap (λ n. take n (new ++ rest)) (sym is) ∙ take-append_seam new rest
-
--- and so many bytes
+-- a vector of so many bytes that were all written anew has so many
 pub written_len : (len : ℕ) (new rest : List ℕ) → length new ≡ len → length (take len (new ++ rest)) ≡ len
-written_len len new rest is = ap length (written len new rest is) ∙ is
+written_len len new rest is = ap length (take_front len new rest is) ∙ is
 
 -- a split with so many random stripes is the stated one
 pub split_is : (hash : Hash) (random key stripes : List ℕ) (count : ℕ) → 1 ≤ length key
@@ -35,25 +28,6 @@ split_is hash random key stripes count some len (before, has, is) =
 pub piece_len : (i size : ℕ) (bytes : List ℕ) → i < length bytes / size
     → length (take (i * size + size - i * size) (drop (i * size) bytes)) ≡ size
 piece_len i size bytes below = grind (arith, common_steps)
-
--- sectors have whole blocks of 16 bytes
-pub whole_blocks : (size : SectorSize) → bytes_of size % 16 ≡ 0
-whole_blocks B512 = refl
-whole_blocks B1024 = refl
-whole_blocks B2048 = refl
-whole_blocks B4096 = refl
-
-pub shortest_sector : (size : SectorSize) → 16 ≤ bytes_of size
-shortest_sector B512 = omega arith
-shortest_sector B1024 = omega arith
-shortest_sector B2048 = omega arith
-shortest_sector B4096 = omega arith
-
-pub longest_sector : (size : SectorSize) → bytes_of size ≤ 4096
-longest_sector B512 = omega arith
-longest_sector B1024 = omega arith
-longest_sector B2048 = omega arith
-longest_sector B4096 = omega arith
 
 module _ (cipher : Cipher) (first step size : ℕ) (bytes : List ℕ) where
   -- no sector yet

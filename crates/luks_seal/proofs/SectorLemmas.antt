@@ -10,15 +10,10 @@ use Rattle.luks_cipher.specs.Cbc.{cbc_encrypted, chained}
 use Rattle.luks_cipher.specs.Sector.{Cipher, sector_encrypted}
 use Rattle.luks_cipher.specs.Xts.{block_encrypted, block_xor, joined, xts_encrypted}
 use Rattle.luks_cipher.specs.declared.mode.Mode.TheVariants.{XtsPlain64, XtsPlain, CbcEssivSha256, CbcPlain64}
-use Rattle.luks_cipher.proofs.UnitsUndone.{joined_length}
+use Rattle.luks_cipher.proofs.ModeLemmas.{blocks_length}
 use Rattle.luks_seal.specs.Pieces.{encrypted_sector, sector_at, sectors_encrypted, wrapping_number}
 use Rattle.luks_seal.specs.Sealed.{IsStoredEncrypted}
 use Rattle.luks_seal.proofs.SlicingLemmas.{at_at, at_first, at_second, length-at}
-
--- a unit of whole blocks is as long as before
-blocks_length : (f : ℕ → List ℕ) (unit : List ℕ) → ((j : ℕ) → length (f j) ≡ 16) → length unit % 16 ≡ 0
-    → length (joined f (length unit / 16)) ≡ length unit
-blocks_length f unit sizes whole = joined_length f (length unit / 16) (λ j low. sizes j) ∙ omega arith
 
 pub length-sector_encrypted : (cipher : Cipher) (number : ℕ) (unit : List ℕ) → length unit % 16 ≡ 0
     → length (sector_encrypted cipher.0 cipher.1 number unit) ≡ length unit

@@ -4,23 +4,14 @@ use Rattle.std.proofs.Common.{ap, arith}
 use Rattle.std.specs.Prelude.{nat_lt}
 use Rattle.std.proofs.lemmas.Bool.{le-ltb}
 use Rattle.luks_aes.specs.Bytes.{IsBytes}
-use Rattle.luks_verdict.specs.SectorSize.{bytes_of}
-use Rattle.luks_verdict.specs.declared.sector_size.SectorSize.{SectorSize}
-use Rattle.luks_verdict.specs.declared.sector_size.SectorSize.TheVariants.{B512, B1024, B2048, B4096}
 use Rattle.luks_verdict.specs.declared.segment.Segment.{Segment}
+use Rattle.luks_verdict.proofs.SectorLemmas.{sector_blocks}
 use Rattle.luks_seal.specs.Sealed.{EndsWith, SealsPlain}
 use Rattle.luks_payload.specs.Plain.{ending_of, ending_of_len, plain_of, sector_len, sector_plaintext}
 use Rattle.luks_payload.specs.Plain.{unit_number, unit_plain, payload_bytes}
 use Rattle.luks_payload.specs.declared.state.Step.TheVariants.{End}
 use Rattle.luks_cipher.specs.Xts.{joined}
 use Rattle.luks_unlock.proofs.SealedUnits.{units_undone}
-
--- sectors are whole blocks
-whole_blocks : (size : SectorSize) → bytes_of size % 16 ≡ 0
-whole_blocks B512 = refl
-whole_blocks B1024 = refl
-whole_blocks B2048 = refl
-whole_blocks B4096 = refl
 
 module _ (offset : ℕ) (plain image : List ℕ) (there : offset + length plain ≤ length image) where
   -- as many bytes as the plain text has are the payload's
@@ -48,7 +39,7 @@ module _ (segment : Segment) (image key plain : List ℕ) (seals : SealsPlain se
       ap (λ n. joined (sector_plaintext segment (segment.mode, key) image) (n / sector_len segment))
       (all_plain segment.offset plain image seals.stands.there segment.size seals.ends)
       ∙ units_undone (segment.mode, key) (unit_number segment) (sector_len segment) segment.offset plain image
-      seals.stands keys (whole_blocks segment.sector_size) (sector_plaintext segment (segment.mode, key) image)
+      seals.stands keys (sector_blocks segment.sector_size).blocks (sector_plaintext segment (segment.mode, key) image)
       (λ i. refl)
 
   pub ending_again : ending_of segment image ≡ Ok End

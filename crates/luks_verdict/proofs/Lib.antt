@@ -1,3 +1,4 @@
 pub mod MadeLemmas
+pub mod SectorLemmas
 pub mod TableLemmas
 pub mod VerdictLemmas

@@ -1,7 +1,9 @@
 -- What becomes of a key slot, with and without what it takes to open it.
-use Rattle.std.proofs.Common.{◌≡◌, ℕ, Option, Some, None, refl}
-use Rattle.std.specs.Prelude.{option_map}
+use Rattle.std.proofs.Common.{◌≡◌, ℕ, Bool, true, false, Option, Some, None, refl}
+use Rattle.std.specs.Prelude.{is_none, not, option_map}
+use Rattle.luks_verdict.specs.Digest.{has_no_usable_digest}
 use Rattle.luks_verdict.specs.Slot.{verdict_kind_of}
+use Rattle.luks_verdict.specs.declared.digest.KeyDigest.{KeyDigest}
 use Rattle.luks_verdict.specs.declared.slot.Slot.{Slot}
 use Rattle.luks_verdict.specs.declared.slot.Verdict.{Verdict}
 use Rattle.luks_verdict.specs.declared.slot.Verdict.TheVariants.{Usable, Disabled, Skipped}
@@ -38,3 +40,19 @@ skipped_from_shut None reason is = absurd cc
 pub none_from_none : (verdict : Option Verdict) → option_map verdict_kind_of verdict ≡ None → verdict ≡ None
 none_from_none (Some verdict) is = absurd cc
 none_from_none None is = refl
+
+-- ---- what there is if a reason to skip a slot does not hold
+
+pub true_from_not : (b : Bool) → not b ≡ false → b ≡ true
+true_from_not true is = refl
+true_from_not false is = absurd cc
+
+pub some_from_not_none : {T : Type 0} (o : Option T) → is_none o ≡ false → (t : T) × (o ≡ Some t)
+some_from_not_none None is = absurd cc
+some_from_not_none (Some t) is = (t, refl)
+
+pub digest_there : (limit : Option ℕ) (digest : Option KeyDigest) → has_no_usable_digest limit digest ≡ false
+    → (there : KeyDigest) × (digest ≡ Some there)
+unfolding has_no_usable_digest
+digest_there limit None is = absurd cc
+digest_there limit (Some digest) is = (digest, refl)

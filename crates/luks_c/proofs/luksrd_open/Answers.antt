@@ -1,11 +1,11 @@
 use Rattle.std.proofs.Common.{◌∙◌, Some, ap, sym}
 use Rattle.luks_io.specs.Memory.{MemSourceModel}
 use Rattle.luks_c.proofs.OpenLemmas.{no_read, opened_for, refused_for, some_code}
-use Rattle.luks_c.proofs.StoredLemmas.{short_key}
+use Rattle.luks_cipher.proofs.ModeLemmas.{longest_mode_key}
 use Rattle.luks_c.proofs.luksrd_open.Goals as goal
 
 pub store-requires : goal.store-requires
-store-requires c = short_key _ _ c.in-Ok.opened.key_length
+store-requires c = longest_mode_key _ _ c.in-Ok.opened.key_length
 
 pub returns-in-Ok-clause-opens : goal.returns-in-Ok-clause-opens
 returns-in-Ok-clause-opens c done =

@@ -1,6 +1,6 @@
 use Rattle.std.proofs.Common.{◌≡◌, ◌+◌, ◌%◌, ◌≤◌, ◌∙◌, length, length-take-le, arith}
 use Rattle.luks_payload.specs.Plain.{plain_of}
-use Rattle.luks_access.proofs.PartLemmas.{sector_blocks}
+use Rattle.luks_verdict.proofs.SectorLemmas.{sector_blocks}
 use Rattle.luks_access.proofs.RangeLemmas.{is_sector, part_read}
 use Rattle.luks_access.proofs.range.read_part.Goals as goal
 

@@ -1,5 +1,6 @@
 use Rattle.std.proofs.Common.{arith, length, refl}
-use Rattle.luks_access.proofs.PartLemmas.{all_decrypted, none_decrypted, one_decrypted, one_more_fits}
+use Rattle.luks_payload.proofs.SectorLemmas.{one_more_fits}
+use Rattle.luks_access.proofs.PartLemmas.{all_decrypted, none_decrypted, one_decrypted}
 use Rattle.luks_access.proofs.sectors.decrypt_all.Goals as goal
 
 pub sectors-init : goal.sectors-init

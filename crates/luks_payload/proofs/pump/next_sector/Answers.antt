@@ -1,9 +1,9 @@
 use Rattle.std.proofs.Common.{◌≡◌, ◌<◌, ◌∙◌, take, length, length-take-le, arith}
 use Rattle.std.proofs.lemmas.Result.{err_from_is_err_and}
+use Rattle.luks_verdict.proofs.SectorLemmas.{sector_blocks}
 use Rattle.luks_payload.specs.SectorEffects.{max_sectors}
 use Rattle.luks_payload.specs.Plain.{sector_len}
 use Rattle.luks_payload.proofs.ForwardingLemmas.{short_reads, whole_reads}
-use Rattle.luks_payload.proofs.SectorLemmas.{at_most_4096}
 use Rattle.luks_payload.proofs.StepLemmas.{adds_sector, broken_reads, broken_writes, may_be_torn, may_break}
 use Rattle.luks_payload.proofs.StepLemmas.{steps_at_limit, steps_broken, steps_torn, takes_sector, torn_reads}
 use Rattle.luks_payload.proofs.StepLemmas.{torn_writes, torn_writes_nothing, writes_no_sector}
@@ -19,7 +19,7 @@ pub returns-in_err-got : goal.returns-in_err-got
 returns-in_err-got g c =
     let p = err_from_is_err_and c.from_residual.result c.from_residual.ensures.1 in
     let below : c.args.count < max_sectors c.args.segment.now = omega arith in
-    let most = at_most_4096 c.args.segment.now.sector_size in
+    let most = (sector_blocks c.args.segment.now.sector_size).short in
     let sized : length (take c.bytes-size.result c.args.buffer.now) ≡ sector_len c.args.segment.now =
     length-take-le c.bytes-size.result c.args.buffer.now (omega arith) ∙ c.bytes-size.ensures in
     let broken = c.in_err-got.ensures in
@@ -38,7 +38,7 @@ returns-in_err-got g c =
 pub returns-then-got-size : goal.returns-then-got-size
 returns-then-got-size g c =
     let below : c.args.count < max_sectors c.args.segment.now = omega arith in
-    let most = at_most_4096 c.args.segment.now.sector_size in
+    let most = (sector_blocks c.args.segment.now.sector_size).short in
     let sized : length (take c.bytes-size.result c.args.buffer.now) ≡ sector_len c.args.segment.now =
     length-take-le c.bytes-size.result c.args.buffer.now (omega arith) ∙ c.bytes-size.ensures in
     let torn : c.in_ok-got.got < sector_len c.args.segment.now = omega arith in
@@ -61,7 +61,7 @@ returns-then-got-size g c =
 pub returns : goal.returns
 returns g c =
     let below : c.args.count < max_sectors c.args.segment.now = omega arith in
-    let most = at_most_4096 c.args.segment.now.sector_size in
+    let most = (sector_blocks c.args.segment.now.sector_size).short in
     let sized : length (take c.bytes-size.result c.args.buffer.now) ≡ sector_len c.args.segment.now =
     length-take-le c.bytes-size.result c.args.buffer.now (omega arith) ∙ c.bytes-size.ensures in
     let some = c.in_ok-got.ensures in

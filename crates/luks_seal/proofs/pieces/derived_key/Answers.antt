@@ -1,6 +1,7 @@
 use Rattle.std.proofs.Common.{◌∙◌, ap, arith}
 use Rattle.luks_kdf.specs.Pbkdf2.{derived_key}
-use Rattle.luks_seal.proofs.PieceLemmas.{written, written_len}
+use Rattle.luks_kdf.proofs.BytesLemmas.{take_front}
+use Rattle.luks_seal.proofs.PieceLemmas.{written_len}
 use Rattle.luks_seal.proofs.pieces.derived_key.Goals as goal
 
 pub pbkdf2-requires-clause-some : goal.pbkdf2-requires-clause-some
@@ -16,7 +17,7 @@ pbkdf2-requires-clause-room c =
 pub returns-clause-value : goal.returns-clause-value
 returns-clause-value c =
     let len = c.in_ok-key.ensures.len in
-    written _ _ _ (omega arith)
+    take_front _ _ _ (omega arith)
     ∙ c.pbkdf2.ensures.key
     ∙ ap (derived_key c.args.hash c.args.password.now c.args.salt.now c.args.iterations) (omega (arith, len))
 

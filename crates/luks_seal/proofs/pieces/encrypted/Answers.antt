@@ -1,8 +1,8 @@
 use Rattle.std.proofs.Common.{◌≡◌, ◌∙◌, ◌/◌, ◌%◌, ◌≤◌, ap, arith, length, subst, sym}
 use Rattle.luks_cipher.specs.Xts.{joined}
+use Rattle.luks_verdict.proofs.SectorLemmas.{sector_blocks}
 use Rattle.luks_seal.specs.Pieces.{encrypted_sector, sectors_encrypted}
-use Rattle.luks_seal.proofs.PieceLemmas.{longest_sector, piece_len, sectors_more, sectors_none}
-use Rattle.luks_seal.proofs.PieceLemmas.{shortest_sector, whole_blocks}
+use Rattle.luks_seal.proofs.PieceLemmas.{piece_len, sectors_more, sectors_none}
 use Rattle.luks_seal.proofs.pieces.encrypted.Goals as goal
 
 pub fill-init : goal.fill-init
@@ -30,8 +30,9 @@ pub push_sector-requires : goal.push_sector-requires
 push_sector-requires c =
     let size = c.args.size in
     let is = piece_len c.fill.i c.bytes-size.result c.args.plain.now c.fill-test.true ∙ c.bytes-size.ensures in
+    let len = sector_blocks size in
     record {
-      whole_blocks = ap (λ n. n % 16) is ∙ whole_blocks size;
-      shortest = subst (λ n. 16 ≤ n) (sym is) (shortest_sector size);
-      longest = subst (λ n. n ≤ 4096) (sym is) (longest_sector size);
+      whole_blocks = ap (λ n. n % 16) is ∙ len.blocks;
+      shortest = subst (λ n. 16 ≤ n) (sym is) (omega (arith, len.long));
+      longest = subst (λ n. n ≤ 4096) (sym is) len.short;
     }

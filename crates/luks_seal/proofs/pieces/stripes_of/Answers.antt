@@ -1,5 +1,6 @@
 use Rattle.std.proofs.Common.{◌∙◌, arith}
-use Rattle.luks_seal.proofs.PieceLemmas.{split_is, written, written_len}
+use Rattle.luks_kdf.proofs.BytesLemmas.{take_front}
+use Rattle.luks_seal.proofs.PieceLemmas.{split_is, written_len}
 use Rattle.luks_seal.proofs.pieces.stripes_of.Goals as goal
 
 pub af_split-requires-clause-out : goal.af_split-requires-clause-out
@@ -11,7 +12,7 @@ pub returns-clause-value : goal.returns-clause-value
 returns-clause-value c =
     let split = split_is c.args.hash c.args.random.now c.args.key.now _ c.args.count c.requires.some c.requires.random
     c.af_split.ensures.split in
-    written _ _ _ (omega arith) ∙ split
+    take_front _ _ _ (omega arith) ∙ split
 
 pub returns-clause-len : goal.returns-clause-len
 returns-clause-len c =
