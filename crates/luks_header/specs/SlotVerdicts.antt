@@ -18,9 +18,9 @@ verdict_at (V1 header) limit number = verdict1_at header limit number
 verdict_at (V2 header tree) limit number = verdict2_at tree (bounds2_of header) limit number
 
 -- a key slot with this verdict can be tried
-abbrev pub is_usable : Option Verdict → Bool
-is_usable (Some (Usable slot)) = true
-is_usable verdict = false
+abbrev pub can_be_tried : Option Verdict → Bool
+can_be_tried (Some (Usable slot)) = true
+can_be_tried verdict = false
 
 -- what is needed to open the key slot of this number: in LUKS1 if it is there and its numbers are in range, whatever
 -- its state and its digest; in LUKS2 if it is there and there is no reason to skip it but a limit on iterations

@@ -3,7 +3,7 @@
 ghost use Rattle.std.specs.Prelude.{◌≡◌, ◌≤◌, true, IfOk, OnErr, option_map, vec_len};
 ghost use Rattle.luks_verdict.specs.Rule.{max_slots};
 ghost use Rattle.luks_verdict.specs.Slot.{verdict_kind_of};
-ghost use Rattle.luks_header.specs.SlotVerdicts.{has_name_out_of_range, is_usable, slot_at};
+ghost use Rattle.luks_header.specs.SlotVerdicts.{can_be_tried, has_name_out_of_range, slot_at};
 ghost use Rattle.luks_header.specs.SlotVerdicts.{verdict_at, verdicts_of};
 
 use crate::header::{Header, bounds};
@@ -59,7 +59,7 @@ pub fn verdict(
     number: u8,
 ) -> Result<Option<Verdict>, AllocError>
     ensures value { IfOk result (λ verdict. verdict ≡ verdict_at header.now limit number) }
-    ensures err { OnErr result (is_usable (verdict_at header.now limit number) ≡ true) }
+    ensures err { OnErr result (can_be_tried (verdict_at header.now limit number) ≡ true) }
 {
     match verdict_kind(header, limit, number) {
         None => Ok(None),
